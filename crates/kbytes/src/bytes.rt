@@ -1,0 +1,85 @@
+ghost use Rattle.std.specs.Prelude.{◌≡◌, [], ◌∷◌, ◌++◌, length, OnOk, OnErr, IsTrue, ◌↔◌, slice_get};
+ghost use Rattle.std.specs.Option.{option_copied};
+ghost use Rattle.std.specs.Borrow.{sem};
+
+use crate::no_memory::NoMemory;
+use std::alloc::Global;
+use std::marker::Model;
+
+/// Bytes that grow at their end. A contract sees the list of them.
+#[derive(Debug, Drop)]
+pub struct Bytes {
+    bytes: Vec<u8>,
+}
+
+impl Model for Bytes {
+    ghost use Rattle.std.specs.Prelude.{List, ℕ};
+
+    ghost Value = { List ℕ };
+
+    ghost view = { λ b. b.bytes.items };
+}
+
+impl Bytes {
+    ghost use Rattle.kbytes.specs.Lends.{lends_bytes};
+
+    /// No bytes. It takes no memory.
+    pub fn new(alloc: Global) -> Bytes
+        ensures { result ≡ [] }
+    {
+        Bytes {
+            bytes: Vec::new(alloc),
+        }
+    }
+
+    /// Puts the part at the end.
+    pub fn extend(&mut self, part: &[u8]) -> Result<(), NoMemory>
+        ensures ok { OnOk result (self.new ≡ self.old ++ part.now) }
+        ensures err { OnErr result (self.new ≡ self.old) }
+    {
+        self.bytes.extend_from_slice(part)?;
+        Ok(())
+    }
+
+    /// Puts one byte at the end.
+    pub fn push(&mut self, byte: u8) -> Result<(), NoMemory>
+        ensures ok { OnOk result (self.new ≡ self.old ++ byte ∷ []) }
+        ensures err { OnErr result (self.new ≡ self.old) }
+    {
+        self.bytes.push(byte)?;
+        Ok(())
+    }
+
+    /// The byte at a place, counted from 0, and `None` past the end.
+    pub fn get(&self, at: usize) -> Option<&u8>
+        ensures { option_copied result ≡ slice_get self.now at }
+    {
+        self.bytes.get(at)
+    }
+
+    pub fn len(&self) -> usize
+        ensures { result ≡ length self.now }
+    {
+        self.bytes.len()
+    }
+
+    pub fn is_empty(&self) -> bool
+        ensures { IsTrue result ↔ (self.now ≡ []) }
+    {
+        self.bytes.is_empty()
+    }
+
+    pub fn as_slice(&self) -> &[u8]
+        ensures { result.now ≡ self.now }
+    {
+        self.bytes.as_slice()
+    }
+
+    /// The bytes, for writing. Their number stays.
+    pub fn as_mut_slice(&mut self) -> &mut [u8]
+        ensures* writes_back { sem 𝓛 (lends_bytes self.entry result) }
+        ensures value { result.now ≡ self.old }
+    {
+        self.bytes.as_mut_slice()
+    }
+}
