@@ -1,1 +1,8 @@
+-- what a list ends as, where a `&mut` to its items was lent
 pub mod Lends
+-- the fields, from values to bytes
+pub mod Field
+-- bytes, and the place up to which they were read
+pub mod Cursor
+-- fields read from the left, and the first fault
+pub mod Reading

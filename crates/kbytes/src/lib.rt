@@ -4,9 +4,13 @@
 #![tactic(auto)]
 
 mod bytes;
+mod fault;
 mod list;
 mod no_memory;
+mod reader;
 
 pub use bytes::Bytes;
+pub use fault::ByteFault;
 pub use list::List;
 pub use no_memory::NoMemory;
+pub use reader::Reader;
