@@ -2,6 +2,8 @@
 pub mod Lends
 -- the fields, from values to bytes
 pub mod Field
+-- which values have a spelling
+pub mod FitsField
 -- bytes, and the place up to which they were read
 pub mod Cursor
 -- fields read from the left, and the first fault
