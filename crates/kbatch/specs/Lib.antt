@@ -1,0 +1,2 @@
+-- CRC-32C, bit by bit
+pub mod Crc
