@@ -1,5 +1,7 @@
 -- what a list ends as, where a `&mut` to its items was lent
 pub mod Lends
+-- numbers that are bytes
+pub mod Octets
 -- the fields, from values to bytes
 pub mod Field
 -- which values have a spelling

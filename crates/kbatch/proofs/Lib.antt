@@ -1,0 +1,2 @@
+-- a message's bits, a byte at a time
+pub mod Bits
