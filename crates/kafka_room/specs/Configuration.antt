@@ -1,0 +1,40 @@
+-- The configuration: the port that metadata tells, and the topics in the order in which they were declared. Partitions are
+-- numbered from 0 over all topics.
+use Rattle.std.specs.Prelude.{ℕ, zero, suc, ◌+◌, ◌<◌, ◌≤◌, ◌≡◌, ◌≢◌, ℤ, pos, negsuc, Bool, ◌&&◌, ◌||◌, not, List, [], ◌∷◌, ◌++◌, length, map, sum_by, replicate, codes, nat_lt, nat_le, ◌==◌, if◌then◌else◌, Option, Some, None, option_map, All, Contains, ◌⊎◌, IsTrue}
+use Rattle.std.specs.List.{flat_map, list_all}
+use Rattle.kafka_room.specs.declared.kwire.config.Topic.{Topic}
+
+pub record Configuration : Type 0 where
+  pub port : ℕ
+  pub topics : List Topic
+
+-- a letter, a digit, `.`, `_` or `-`
+abbrev pub is_name_byte : ℕ → Bool
+is_name_byte c =
+    (nat_le 97 c && nat_le c 122) || (nat_le 65 c && nat_le c 90) || (nat_le 48 c && nat_le c 57) || c == 46 || c == 95 || c == 45
+
+-- 1 to 249 such bytes, and neither `.` nor `..`
+pub record IsTopicName (name : List ℕ) : Type 0 where
+  pub some : 0 < length name
+  pub short : length name ≤ 249
+  pub bytes : IsTrue (list_all is_name_byte name)
+  pub no_dot : name ≢ codes "."
+  pub no_dots : name ≢ codes ".."
+
+abbrev pub names_of : List Topic → List (List ℕ)
+names_of topics = map (λ topic. topic.name) topics
+
+abbrev pub partitions_of : List Topic → ℕ
+partitions_of topics = sum_by (λ topic. topic.partitions) topics
+
+-- the number of followers of each partition, in order
+abbrev pub followers_of : List Topic → List ℕ
+followers_of topics = flat_map (λ topic. replicate topic.partitions topic.followers) topics
+
+-- what may be declared beside these topics
+pub record IsNewTopic (topics : List Topic) (called : List ℕ) (partitions followers : ℕ) : Type 0 where
+  pub named : IsTopicName called
+  pub once : ¬ Contains (names_of topics) called
+  pub some : 0 < partitions
+  pub few : partitions_of topics + partitions ≤ 64
+  pub replicas : followers ≤ 8

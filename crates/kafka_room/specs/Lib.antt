@@ -1,0 +1,32 @@
+-- the port and the topics
+pub mod Configuration
+-- requests and their bodies
+pub mod IsRequest
+-- frames of a stream
+pub mod Frames
+-- the bytes of replies
+pub mod Spelling
+-- what a request that waits needs
+pub mod Operation
+-- what becomes of each named partition, and the entry that it leaves
+pub mod Accepting
+-- whether a request waits, and as what
+pub mod Delayed
+-- the reply to a request
+pub mod Answer
+-- who left each entry of an account, and the states at its points
+pub mod Histories
+-- what a lawful call is
+pub mod Handled
+-- a lawful account
+pub mod IsLawful
+-- which bodies are no request, and why
+pub mod Refusal
+-- a transcript fits its input, and the bytes sent
+pub mod Fits
+-- the printed lines
+pub mod Printed
+-- what the account of a trace's run is to the trace
+pub mod RunOf
+-- the traces that are built so far
+pub mod FirstForm

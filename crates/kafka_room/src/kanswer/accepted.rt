@@ -1,0 +1,26 @@
+use kbytes::Bytes;
+use partlog::Numbers;
+
+/// What became of one named partition of a request as it was accepted.
+#[derive(Clone, Copy, Debug, PartialEq, Eq)]
+pub enum Accepted {
+    Refused { code: i16 },
+    /// A batch of `count` records was put at the end of the partition's log, at the offset `base`.
+    Appended { part: u32, base: u64, count: u32 },
+    /// The partition is read from the byte place `start` of its log on.
+    Seen { part: u32, start: u64 },
+}
+
+/// What was read of one named partition.
+#[derive(Debug, Drop)]
+pub struct Reading {
+    pub numbers: Numbers,
+    pub records: Bytes,
+}
+
+/// How many bytes a reply may still take, and whether it holds a batch yet.
+#[derive(Clone, Copy, Debug, PartialEq, Eq)]
+pub struct Budget {
+    pub left: u64,
+    pub any: bool,
+}

@@ -1,0 +1,11 @@
+//! Requests, replies, frames and topics.
+
+pub mod config;
+pub mod frame;
+pub mod reply;
+pub mod request;
+
+pub use config::{Config, ConfigFault, Topic};
+pub use frame::{Frame, WireFault};
+pub use reply::{FetchedPart, FetchedTopic, ProducedPart, ProducedTopic, Reply, Told, TopicInfo};
+pub use request::{Ask, FetchPart, FetchTopic, ProducePart, ProduceTopic, Request};

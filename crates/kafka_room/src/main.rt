@@ -1,0 +1,9 @@
+//! The request purgatory of a Kafka broker.
+#![tactic(auto)]
+
+mod audit;
+mod kanswer;
+mod kwire;
+mod trace_file;
+
+fn main() {}
