@@ -6,3 +6,11 @@ pub mod Told
 pub mod NewLink
 -- what an accept does to the links given and to their end
 pub mod Accepting
+-- which calls of an object in memory are to fail, and how many were made and failed
+pub mod Plan
+-- a source in memory
+pub mod Supply
+-- a sink in memory
+pub mod Store
+-- a reader or writer with a count of its faults
+pub mod Counted
