@@ -1,24 +1,31 @@
--- The numbers of a partition: its log end offset, its high watermark, and how many bytes a consumer and a follower may read.
-use Rattle.std.specs.Prelude.{ℕ, ◌+◌, List, length, sum_by, nat_le, if◌then◌else◌}
+-- What can be read off a partition's state as numbers.
+use Rattle.std.specs.Prelude.{ℕ, List, length, filter, sum_by, nat_le}
 use Rattle.partlog.specs.declared.numbers.Numbers.{Numbers}
-use Rattle.partlog.specs.State.{Stored, State}
+use Rattle.partlog.specs.Batches.{StoredBatch, next_offset}
+use Rattle.partlog.specs.State.{PartState, high_of}
 
--- a batch lies wholly below an offset
-abbrev pub bytes_below : ℕ → Stored → ℕ
-bytes_below offset batch = if nat_le (batch.base + batch.count) offset then length batch.bytes else 0
+-- the bytes of these batches
+abbrev pub bytes_in : List StoredBatch → ℕ
+bytes_in batches = sum_by (λ b. length b.bytes) batches
 
--- the bytes of the batches wholly below the high watermark
-abbrev pub visible_of : State → ℕ
-visible_of state = sum_by (bytes_below state.high) state.batches
+-- the batches wholly below an offset
+abbrev pub batches_below : ℕ → List StoredBatch → List StoredBatch
+batches_below offset batches = filter (λ b. nat_le (next_offset b) offset) batches
 
--- the bytes of all batches
-abbrev pub end_bytes_of : State → ℕ
-end_bytes_of state = sum_by (λ batch. length batch.bytes) state.batches
+-- The high watermark, the visible bytes, which are those of the batches wholly below it, and the end bytes, which are
+-- those of all batches.
+pub record Gauges : Type 0 where
+  pub high : ℕ
+  pub visible : ℕ
+  pub bytes : ℕ
 
-abbrev pub numbers_of : State → Numbers
-numbers_of state = record {
-  end = state.log_end;
-  high = state.high;
-  visible = visible_of state;
-  bytes = end_bytes_of state;
+abbrev pub gauges_of : PartState → Gauges
+gauges_of s = record {
+  high = high_of s;
+  visible = bytes_in (batches_below (high_of s) s.batches);
+  bytes = bytes_in s.batches;
 }
+
+-- the log end and the gauges
+abbrev pub numbers_of : PartState → Numbers
+numbers_of s = record { end = s.log_end; high = (gauges_of s).high; visible = (gauges_of s).visible; bytes = (gauges_of s).bytes }

@@ -1,9 +1,12 @@
--- The clock's moment after a history: its greatest tick, or 0.
-use Rattle.std.specs.Prelude.{ℕ, max, List, [], ◌∷◌}
-use Rattle.partlog.specs.declared.event.ClockEvent.{ClockEvent}
-use Rattle.partlog.specs.declared.event.ClockEvent.TheVariants.{Tick, Look}
+-- The clock's moment is the greatest Tick of its history, or 0.
+use Rattle.std.specs.Prelude.{ℕ, List, Option, Some, None, max, fold}
+use Rattle.std.specs.List.{filter_map}
+use Rattle.partlog.specs.declared.clock_event.ClockEvent.{ClockEvent}
+use Rattle.partlog.specs.declared.clock_event.ClockEvent.TheVariants.{Tick, Look}
+
+abbrev pub tick_of : ClockEvent → Option ℕ
+tick_of (Tick t) = Some t
+tick_of (Look by seq) = None
 
 abbrev pub moment_of : List ClockEvent → ℕ
-moment_of [] = 0
-moment_of (Tick t ∷ events) = max t (moment_of events)
-moment_of (Look by seq ∷ events) = moment_of events
+moment_of events = fold max 0 (filter_map tick_of events)

@@ -1,13 +1,18 @@
-//! One partition's log and the history of what was done to it, and the history of the clock.
-//!
-//! The layer above may use a log as its bytes, its number of followers and its list of entries: every number that it
-//! answers is that of the whole history.
+//! One partition's log and history, and the clock's.
 #![tactic(auto)]
 
+mod clock_event;
 mod event;
 mod fault;
 mod numbers;
+mod part_log;
+mod placed;
+mod who;
 
-pub use event::{ClockEvent, PartEvent, Who};
+pub use clock_event::ClockEvent;
+pub use event::PartEvent;
 pub use fault::{FollowFault, LogFault};
-pub use numbers::{Numbers, Placed};
+pub use numbers::Numbers;
+pub use part_log::PartLog;
+pub use placed::Placed;
+pub use who::Who;
