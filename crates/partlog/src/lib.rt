@@ -7,6 +7,7 @@ mod fault;
 mod numbers;
 mod part_log;
 mod placed;
+mod scan;
 mod who;
 
 pub use clock_event::ClockEvent;

@@ -1,6 +1,8 @@
-ghost use Rattle.std.specs.Prelude.{◌≡◌, [], length, IfOk};
+ghost use Rattle.std.specs.Prelude.{◌≡◌, ◌≤◌, [], length, IfOk};
 
 use crate::event::PartEvent;
+use crate::numbers::Numbers;
+use crate::scan::{high_watermark, log_end, visible_bytes};
 use kbytes::{Bytes, List, NoMemory};
 use std::alloc::Global;
 use std::marker::Model;
@@ -27,6 +29,8 @@ impl Model for PartLog {
 
 impl PartLog {
     ghost use Rattle.partlog.specs.Added.{bytes_of};
+    ghost use Rattle.partlog.specs.Gauges.{numbers_of};
+    ghost use Rattle.partlog.specs.State.{state_of};
 
     /// An empty log with so many followers.
     pub fn new(alloc: Global, followers: u32) -> Result<PartLog, NoMemory>
@@ -46,6 +50,25 @@ impl PartLog {
     {
         let _events = &self.events;
         self.log.as_slice()
+    }
+
+    /// The log end and the gauges, each at most 67,108,864. It takes no memory.
+    pub fn numbers(&self) -> Numbers
+        ensures numbers { result ≡ numbers_of (state_of self.now) }
+        ensures end { result.end ≤ 67108864 }
+        ensures high { result.high ≤ result.end }
+        ensures visible { result.visible ≤ result.bytes }
+        ensures bytes { result.bytes ≤ 67108864 }
+    {
+        let events = self.events.as_slice();
+        let end = log_end(events);
+        let high = high_watermark(events, self.followers, end);
+        Numbers {
+            end,
+            high,
+            visible: visible_bytes(events, high),
+            bytes: self.log.len() as u64,
+        }
     }
 
     /// The history.
