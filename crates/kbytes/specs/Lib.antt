@@ -8,3 +8,5 @@ pub mod Field
 pub mod Cursor
 -- fields read from the left, and the first fault
 pub mod Reading
+-- what stands at the front of bytes where a varint is read
+pub mod Fronts
