@@ -27,6 +27,14 @@ impl Model for Batch {
     ghost invariant = { λ b. (records : List Record) × IsBatch b.bytes records };
 }
 
+#[tactic(auto, unfolding(crate::specs::Kept::count_of))]
+fn count_in(bytes: &[u8]) -> u32
+    requires { 61 ≤ length bytes.now }
+    ensures { result ≡ count_of bytes.now }
+{
+    u32_at(bytes, 57)
+}
+
 // Writes the base offset and the leader epoch 0.
 fn write_stamp(bytes: &mut [u8], base: u64)
     requires { 61 ≤ length bytes.old }
@@ -44,7 +52,7 @@ impl Batch {
         ensures some_record { 1 ≤ result }
         ensures below { result < length self.now }
     {
-        u32_at(self.bytes.as_slice(), 57)
+        count_in(self.bytes.as_slice())
     }
 
     /// The bytes of the batch.

@@ -6,6 +6,7 @@ mod crc;
 mod fault;
 mod head;
 mod record;
+mod walk;
 
 pub use batch::Batch;
 pub use crc::crc32c;
