@@ -1,7 +1,7 @@
 -- Reading a field from the left: its value and the place after it, or the first fault. That this is the field's
 -- spelling read backwards is said by `Spells` in the contract of each reader.
-use Rattle.std.specs.Prelude.{◌≡◌, ◌<◌, ℕ, zero, suc, ◌+◌, ◌-◌, ◌*◌, ◌^◌, ◌/◌, ◌%◌, ℤ, pos, negsuc, List, [], ◌∷◌, ◌++◌, length, take, drop, Option, Some, None, Result, Ok, Err, nat_lt, ◌==◌, if◌then◌else◌}
-use Rattle.std.specs.Int.{Width, w8, w16, w32, w64, byte_len, from_be_bytes, cast_signed}
+use Rattle.std.specs.Prelude.{◌≡◌, ℕ, zero, suc, ◌+◌, ◌-◌, ◌*◌, ◌^◌, ◌/◌, ◌%◌, ℤ, pos, negsuc, List, [], ◌∷◌, ◌++◌, length, take, Option, Some, None, Result, Ok, Err, nat_lt, ◌==◌, if◌then◌else◌}
+use Rattle.std.specs.Int.{Width, w16, w32, byte_len, from_be_bytes, cast_signed}
 use Rattle.kbytes.specs.declared.fault.ByteFault.{ByteFault}
 use Rattle.kbytes.specs.declared.fault.ByteFault.TheVariants.{Short, BadLength, LongVarint}
 use Rattle.kbytes.specs.Cursor.{Cursor, rest_of, moved}
@@ -72,8 +72,12 @@ groups_at place (suc more) (b ∷ bs) =
 abbrev pub in_range : ℕ → Cursor → ℕ × ℕ → Result (ℤ × Cursor) ByteFault
 in_range limit c number = if nat_lt number.0 limit then Ok (unzigzag number.0, moved c number.1) else Err (LongVarint c.at)
 
+-- a number below the limit in groups, at most `more` + 1 bytes
+abbrev pub grouped_at : ℕ → ℕ → Cursor → Result (ℤ × Cursor) ByteFault
+grouped_at more limit c = groups_at c.at more (rest_of c) >>= in_range limit c
+
 unfoldable pub varint_at : Cursor → Result (ℤ × Cursor) ByteFault
-varint_at c = groups_at c.at 4 (rest_of c) >>= in_range (2 ^ 32) c
+varint_at c = grouped_at 4 (2 ^ 32) c
 
 unfoldable pub varlong_at : Cursor → Result (ℤ × Cursor) ByteFault
-varlong_at c = groups_at c.at 9 (rest_of c) >>= in_range (2 ^ 64) c
+varlong_at c = grouped_at 9 (2 ^ 64) c

@@ -1,0 +1,16 @@
+-- CRC-32C, bit by bit
+pub mod Crc
+-- a record, and records one after the other, as bytes
+pub mod Record
+-- the header's fields
+pub mod Head
+-- a batch: the header and the records behind it
+pub mod Batch
+-- the header's numbers by place
+pub mod Kept
+-- what is wrong with bytes that are no batch, and what is wrong first
+pub mod Fault
+-- the base offset and the leader epoch written into a batch
+pub mod Stamp
+-- where a record ends, read from the left
+pub mod Walk
