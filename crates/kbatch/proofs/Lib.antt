@@ -1,2 +1,8 @@
 -- a message's bits, a byte at a time
 pub mod Bits
+-- the header's fields, and its numbers by place
+pub mod Places
+-- how many bytes there are at least
+pub mod Lengths
+-- what follows for a batch's bytes
+pub mod Batches

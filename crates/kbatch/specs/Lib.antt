@@ -12,3 +12,5 @@ pub mod Kept
 pub mod Fault
 -- the base offset and the leader epoch written into a batch
 pub mod Stamp
+-- where a record ends, read from the left
+pub mod Walk

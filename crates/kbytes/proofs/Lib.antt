@@ -1,3 +1,6 @@
 pub mod Octets
 pub mod Places
 pub mod Integers
+pub mod Groups
+pub mod Varints
+pub mod Grouped

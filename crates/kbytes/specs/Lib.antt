@@ -10,3 +10,5 @@ pub mod FitsField
 pub mod Cursor
 -- fields read from the left, and the first fault
 pub mod Reading
+-- what stands at the front of bytes where a varint is read
+pub mod Fronts

@@ -72,8 +72,12 @@ groups_at place (suc more) (b ∷ bs) =
 abbrev pub in_range : ℕ → Cursor → ℕ × ℕ → Result (ℤ × Cursor) ByteFault
 in_range limit c number = if nat_lt number.0 limit then Ok (unzigzag number.0, moved c number.1) else Err (LongVarint c.at)
 
+-- a number below the limit in groups, at most `more` + 1 bytes
+abbrev pub grouped_at : ℕ → ℕ → Cursor → Result (ℤ × Cursor) ByteFault
+grouped_at more limit c = groups_at c.at more (rest_of c) >>= in_range limit c
+
 unfoldable pub varint_at : Cursor → Result (ℤ × Cursor) ByteFault
-varint_at c = groups_at c.at 4 (rest_of c) >>= in_range (2 ^ 32) c
+varint_at c = grouped_at 4 (2 ^ 32) c
 
 unfoldable pub varlong_at : Cursor → Result (ℤ × Cursor) ByteFault
-varlong_at c = groups_at c.at 9 (rest_of c) >>= in_range (2 ^ 64) c
+varlong_at c = grouped_at 9 (2 ^ 64) c

@@ -8,6 +8,7 @@ mod fault;
 mod list;
 mod no_memory;
 mod reader;
+mod varint;
 
 pub use bytes::Bytes;
 pub use fault::ByteFault;

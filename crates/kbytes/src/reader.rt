@@ -1,10 +1,11 @@
 //! Reading fields from the left.
 
-ghost use Rattle.std.specs.Prelude.{◌≡◌, ◌<◌, ◌≤◌, take, length, IfOk, IfErr, OnErr, IsErr, ◌↔◌};
+ghost use Rattle.std.specs.Prelude.{◌≡◌, ◌<◌, ◌≤◌, ◌^◌, ◌⊎◌, take, length, Err, IfOk, IfErr, OnErr, IsErr, ◌↔◌};
 ghost use Rattle.std.specs.Int.{w8, w16, w32, w64};
-ghost use Rattle.kbytes.specs.declared.fault.ByteFault.TheVariants.{Short};
+ghost use Rattle.kbytes.specs.declared.fault.ByteFault.TheVariants.{Short, LongVarint};
 
 use crate::fault::ByteFault;
+use crate::varint::{groups, signed};
 use std::marker::Model;
 
 /// Bytes, and the place up to which they were read. A refused read leaves it as it was.
@@ -29,8 +30,9 @@ impl<'a> Model for Reader<'a> {
 impl<'a> Reader<'a> {
     ghost use Rattle.kbytes.specs.Cursor.{rest_of, moved};
     ghost use Rattle.kbytes.specs.Octets.{IsBytes};
-    ghost use Rattle.kbytes.specs.Field.{Int8, Int16, Int32, Uint32, Int64};
-    ghost use Rattle.kbytes.specs.Reading.{Gives, Spells, integer_at, unsigned_at};
+    ghost use Rattle.kbytes.specs.Field.{Int8, Int16, Int32, Uint32, Int64, Varint, Varlong, zigzag};
+    ghost use Rattle.kbytes.specs.Fronts.{EndWithinVarint, BeginWith};
+    ghost use Rattle.kbytes.specs.Reading.{Gives, Spells, integer_at, unsigned_at, grouped_at, varint_at, varlong_at};
 
     /// A reader at the front of the bytes.
     pub fn new(bytes: &'a [u8]) -> Reader<'a>
@@ -133,5 +135,49 @@ impl<'a> Reader<'a> {
         Ok(i64::from_be_bytes([
             part[0], part[1], part[2], part[3], part[4], part[5], part[6], part[7],
         ]))
+    }
+
+    // A number in groups of seven bits, below the limit. `last` is the index of the last byte that it may have.
+    fn grouped(&mut self, last: usize, limit: u128) -> Result<i64, ByteFault>
+        requires last { last < 10 }
+        requires limit { limit ≤ 2 ^ 64 }
+        ensures exact { Gives (λ v. v) self.old self.new result (grouped_at last limit self.old) }
+        ensures range { IfOk result (λ v. zigzag v < limit) }
+        ensures bytes { IsBytes (rest_of self.old) }
+    {
+        let (number, count) = groups(&self.bytes[self.at..], self.at, last)?;
+        if number >= limit {
+            return Err(ByteFault::LongVarint { at: self.at });
+        }
+        self.at += count;
+        Ok(signed(number as u64))
+    }
+
+    /// A signed integer in one to five bytes: its zigzag number in groups of seven bits, the lowest group first. Only the
+    /// shortest form is read.
+    pub fn varint(&mut self) -> Result<i32, ByteFault>
+        ensures exact { Gives (λ v. v) self.old self.new result (varint_at self.old) }
+        ensures read { IfOk result (λ v. Spells self.old self.new (Varint v)) }
+        ensures short { (result ≡ Err (Short self.old.at)) ↔ EndWithinVarint 5 (rest_of self.old) }
+        ensures long { (result ≡ Err (LongVarint self.old.at))
+            ↔ ((EndWithinVarint 5 (rest_of self.old) → ⊥) × (BeginWith w32 Varint (rest_of self.old) → ⊥)) }
+        ensures place { IfErr result (λ e. (e ≡ Short self.old.at) ⊎ (e ≡ LongVarint self.old.at)) }
+        ensures unchanged { OnErr result (self.new ≡ self.old) }
+    {
+        let value = self.grouped(4, 1 << 32)?;
+        Ok(value as i32)
+    }
+
+    /// The same for 64 bits, in one to ten bytes.
+    pub fn varlong(&mut self) -> Result<i64, ByteFault>
+        ensures exact { Gives (λ v. v) self.old self.new result (varlong_at self.old) }
+        ensures read { IfOk result (λ v. Spells self.old self.new (Varlong v)) }
+        ensures short { (result ≡ Err (Short self.old.at)) ↔ EndWithinVarint 10 (rest_of self.old) }
+        ensures long { (result ≡ Err (LongVarint self.old.at))
+            ↔ ((EndWithinVarint 10 (rest_of self.old) → ⊥) × (BeginWith w64 Varlong (rest_of self.old) → ⊥)) }
+        ensures place { IfErr result (λ e. (e ≡ Short self.old.at) ⊎ (e ≡ LongVarint self.old.at)) }
+        ensures unchanged { OnErr result (self.new ≡ self.old) }
+    {
+        self.grouped(9, 1 << 64)
     }
 }

@@ -1,0 +1,76 @@
+use crate::head::u32_at;
+use byteorder::{BigEndian, ByteOrder};
+use kbytes::Bytes;
+use std::marker::Model;
+
+ghost use Rattle.std.specs.Prelude.{◌≡◌, ◌<◌, ◌≤◌, ◌^◌, List, length};
+ghost use Rattle.kbatch.specs.declared.record.Record.{Record};
+ghost use Rattle.kbatch.specs.Batch.{IsBatch, most_bytes};
+ghost use Rattle.kbatch.specs.Kept.{count_of};
+ghost use Rattle.kbatch.specs.Stamp.{stamped};
+
+/// The bytes of a record batch that were read and found whole, or were written so. A contract sees the bytes.
+#[derive(Debug, Drop)]
+pub struct Batch {
+    bytes: Bytes,
+}
+
+impl Model for Batch {
+    ghost use Rattle.std.specs.Prelude.{List, ℕ};
+    ghost use Rattle.kbatch.specs.declared.record.Record.{Record};
+    ghost use Rattle.kbatch.specs.Batch.{IsBatch};
+
+    ghost Value = { List ℕ };
+
+    ghost view = { λ b. b.bytes };
+
+    ghost invariant = { λ b. (records : List Record) × IsBatch b.bytes records };
+}
+
+#[tactic(auto, unfolding(crate::specs::Kept::count_of))]
+fn count_in(bytes: &[u8]) -> u32
+    requires { 61 ≤ length bytes.now }
+    ensures { result ≡ count_of bytes.now }
+{
+    u32_at(bytes, 57)
+}
+
+// Writes the base offset and the leader epoch 0.
+fn write_stamp(bytes: &mut [u8], base: u64)
+    requires { 61 ≤ length bytes.old }
+    ensures { bytes.new ≡ stamped base bytes.old }
+{
+    BigEndian::write_u64(bytes, base);
+    BigEndian::write_u32(&mut bytes[12..], 0);
+}
+
+impl Batch {
+    /// The number of records.
+    pub fn count(&self) -> u32
+        ensures kept { result ≡ count_of self.now }
+        ensures records { (records : List Record) → IsBatch self.now records → result ≡ length records }
+        ensures some_record { 1 ≤ result }
+        ensures below { result < length self.now }
+    {
+        count_in(self.bytes.as_slice())
+    }
+
+    /// The bytes of the batch.
+    pub fn bytes(&self) -> &[u8]
+        ensures bytes { result.now ≡ self.now }
+        ensures batch { (records : List Record) × IsBatch self.now records }
+        ensures least { 61 < length self.now }
+        ensures most { length self.now ≤ most_bytes }
+    {
+        self.bytes.as_slice()
+    }
+
+    /// Writes the base offset, and the leader epoch 0. The crc doesn't cover them. It takes no memory.
+    pub fn stamp(&mut self, base: u64)
+        requires { base < 2 ^ 63 }
+        ensures bytes { self.new ≡ stamped base self.old }
+        ensures records { (records : List Record) → IsBatch self.old records → IsBatch self.new records }
+    {
+        write_stamp(self.bytes.as_mut_slice(), base);
+    }
+}

@@ -1,0 +1,2 @@
+-- what a copy from a place in a list consumes
+pub mod Consuming

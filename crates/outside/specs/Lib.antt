@@ -1,0 +1,16 @@
+-- a count of faults, and what rose in it
+pub mod Causes
+-- bytes and lists that are known where an object tells them
+pub mod Told
+-- a link as it was accepted
+pub mod NewLink
+-- what an accept does to the links given and to their end
+pub mod Accepting
+-- which calls of an object in memory are to fail, and how many were made and failed
+pub mod Plan
+-- a source in memory
+pub mod Supply
+-- a sink in memory
+pub mod Store
+-- a reader or writer with a count of its faults
+pub mod Counted

@@ -1,0 +1,6 @@
+-- the batches of a history that goes on
+pub mod Appending
+-- bounds on the numbers of a history
+pub mod Bounds
+-- the numbers of a history, from what the scans give
+pub mod Gathered

@@ -1,0 +1,16 @@
+-- what contracts see of a partition's log: its bytes, its followers and its history
+pub mod History
+-- what an entry of the history adds to the log: records and bytes
+pub mod Added
+-- the batches of a history, with their base offsets
+pub mod Batches
+-- how far a replica has fetched
+pub mod Position
+-- the state of a history: batches, log end, positions and high watermark; also at a place of it
+pub mod State
+-- the high watermark, the visible bytes and the end bytes
+pub mod Gauges
+-- the moment of the clock's history
+pub mod Moment
+-- what holds of every log
+pub mod Kept

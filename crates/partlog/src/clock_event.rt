@@ -1,0 +1,8 @@
+/// One entry of the clock's history.
+#[derive(Clone, Copy, Debug, PartialEq, Eq)]
+pub enum ClockEvent {
+    /// The moment rose to this one, in milliseconds.
+    Tick { t: u64 },
+    /// A call looked at the moment.
+    Look { by: u32, seq: u32 },
+}

@@ -1,0 +1,48 @@
+use std::error::Error;
+use std::fmt;
+
+/// Why a batch isn't put into a log. The log is as it was.
+#[derive(Clone, Copy, Debug, PartialEq, Eq)]
+pub enum LogFault {
+    /// The log would have more than 67,108,864 bytes.
+    LogFull,
+    /// No memory was left.
+    NoMemory,
+}
+
+impl fmt::Display for LogFault {
+    fn fmt<W: fmt::Write>(&self, f: &mut fmt::Formatter<W>) -> fmt::Result {
+        match self {
+            LogFault::LogFull => write!(f, "the log would have more than 67,108,864 bytes"),
+            LogFault::NoMemory => write!(f, "no memory was left"),
+        }
+    }
+}
+
+impl Error for LogFault {}
+
+/// Why a follower's fetch isn't entered. The log is as it was.
+#[derive(Clone, Copy, Debug, PartialEq, Eq)]
+pub enum FollowFault {
+    /// The replica isn't one of the followers, which are numbered from 1.
+    NoReplica,
+    /// The offset is below 0 or above the log end.
+    OutOfRange { log_end: u64 },
+    /// No memory was left.
+    NoMemory,
+}
+
+impl fmt::Display for FollowFault {
+    fn fmt<W: fmt::Write>(&self, f: &mut fmt::Formatter<W>) -> fmt::Result {
+        match self {
+            FollowFault::NoReplica => write!(f, "the replica isn't one of the followers"),
+            FollowFault::OutOfRange { log_end } => write!(
+                f,
+                "the offset isn't between 0 and the log end {log_end}"
+            ),
+            FollowFault::NoMemory => write!(f, "no memory was left"),
+        }
+    }
+}
+
+impl Error for FollowFault {}

@@ -1,0 +1,91 @@
+//! The numbers of a history, by going over the whole of it.
+ghost use Rattle.std.specs.Prelude.{◌≡◌, ◌<◌, ◌^◌, List, ℕ, pos, min, fold, length};
+ghost use Rattle.partlog.specs.Added.{added_count, added_bytes, log_end_of, bytes_of};
+ghost use Rattle.partlog.specs.Batches.{batches_of};
+ghost use Rattle.partlog.specs.Gauges.{bytes_in, batches_below};
+ghost use Rattle.partlog.specs.Position.{offset_by, position_of, positions_of};
+
+use crate::event::PartEvent;
+
+impl PartEvent {
+    /// The records that it added.
+    fn added_count(&self) -> u64
+        ensures { result ≡ added_count self.now }
+    {
+        match self {
+            PartEvent::Append { count, .. } => u64::from(*count),
+            _ => 0,
+        }
+    }
+
+    /// The bytes that it added.
+    fn added_bytes(&self) -> u64
+        ensures { result ≡ added_bytes self.now }
+    {
+        match self {
+            PartEvent::Append { len, .. } => u64::from(*len),
+            _ => 0,
+        }
+    }
+
+    /// The offset that the replica fetched.
+    fn offset_by(&self, replica: u32) -> Option<u64>
+        ensures { result ≡ offset_by (pos replica) self.now }
+    {
+        match self {
+            PartEvent::Follow {
+                replica: other,
+                offset,
+                ..
+            } => (i64::from(*other) == i64::from(replica)).then_some(*offset),
+            _ => None,
+        }
+    }
+}
+
+/// The log end.
+pub(crate) fn log_end(events: &[PartEvent]) -> u64
+    requires { log_end_of events.now < 2 ^ 64 }
+    ensures { result ≡ log_end_of events.now }
+{
+    events.iter().map(|event| event.added_count()).sum()
+}
+
+/// How far the replica has fetched.
+fn position(events: &[PartEvent], replica: u32) -> u64
+    ensures { result ≡ position_of events.now (pos replica) }
+{
+    events
+        .iter()
+        .filter_map(|event| event.offset_by(replica))
+        .fold(0, |greatest, offset| greatest.max(offset))
+}
+
+/// The least of the log end and all positions.
+pub(crate) fn high_watermark(events: &[PartEvent], followers: u32, end: u64) -> u64
+    ensures { result ≡ fold min end (positions_of followers events.now) }
+{
+    let mut high = end;
+    for below in 0..followers {
+        high = high.min(position(events, below + 1));
+    }
+    high
+}
+
+/// The bytes of the batches wholly below an offset.
+pub(crate) fn visible_bytes(events: &[PartEvent], high: u64) -> u64
+    requires counts { log_end_of events.now < 2 ^ 64 }
+    requires bytes { bytes_of events.now < 2 ^ 64 }
+    ensures { (log : List ℕ) → bytes_of events.now ≡ length log
+        → result ≡ bytes_in (batches_below high (batches_of events.now log)) }
+{
+    let mut next = 0;
+    let mut visible = 0;
+    for event in events {
+        next += event.added_count();
+        if next <= high {
+            visible += event.added_bytes();
+        }
+    }
+    visible
+}
