@@ -4,8 +4,8 @@ use Rattle.std.specs.List.{flat_map, AllZip}
 use Rattle.std.specs.Cmp.Lexicographic.{pointwise}
 use Rattle.std.specs.Ordering.{int_eq}
 use Rattle.std.specs.Bool.{nat_eq}
-use Rattle.partlog.specs.State.{State}
-use Rattle.partlog.specs.Gauges.{bytes_below, end_bytes_of}
+use Rattle.partlog.specs.State.{PartState as State}
+use Rattle.partlog.specs.Gauges.{gauges_of, bytes_in, batches_below}
 use Rattle.kbatch.specs.declared.fault.BatchFault.{BatchFault}
 use Rattle.kbatch.specs.declared.fault.BatchFault.TheVariants.{TooLarge, Short, Length, Magic, Crc, Compressed, Control, Count, Records, NoMemory}
 use Rattle.kbatch.specs.declared.record.Record.{Record}
@@ -67,7 +67,7 @@ look result = record { result = result; entry = Looked }
 -- a batch is put at the end, where the log keeps at most 67,108,864 bytes
 abbrev pub append_outcome : ℕ → ℕ → List ℕ → State → Outcome
 append_outcome part count batch state =
-    if nat_lt 67108864 (end_bytes_of state + length batch) then look (Refused (pos 6))
+    if nat_lt 67108864 ((gauges_of state).bytes + length batch) then look (Refused (pos 6))
     else record { result = Appended part state.log_end count; entry = Put count batch }
 
 abbrev pub is_acks : ℤ → Bool
@@ -87,7 +87,7 @@ ProduceDecides config None acks named decision =
 
 -- the byte place of the first batch whose last offset is at least this one
 abbrev pub start_of : ℕ → State → ℕ
-start_of offset state = sum_by (bytes_below offset) state.batches
+start_of offset state = bytes_in (batches_below offset state.batches)
 
 abbrev pub in_range_outcome : ℕ → ℤ → Entry → State → Outcome
 in_range_outcome part (negsuc n) entry state = look (Refused (pos 1))

@@ -5,7 +5,8 @@ use Rattle.std.specs.List.{flat_map, find}
 use Rattle.std.specs.Cmp.Lexicographic.{pointwise}
 use Rattle.std.specs.Ordering.{int_eq}
 use Rattle.std.specs.Bool.{nat_eq}
-use Rattle.partlog.specs.State.{State, Stored}
+use Rattle.partlog.specs.State.{PartState as State, high_of}
+use Rattle.partlog.specs.Batches.{StoredBatch as Stored, next_offset}
 use Rattle.kafka_room.specs.declared.kwire.config.Topic.{Topic}
 use Rattle.kafka_room.specs.declared.kwire.request.Request.{Request}
 use Rattle.kafka_room.specs.declared.kwire.request.Ask.{Ask}
@@ -31,7 +32,7 @@ use Rattle.kafka_room.specs.Delayed.{Shown, at_least_zero, reply_limit, is_consu
 -- with acks -1 every follower has to have the batch; else the time has run out, which is code 7
 abbrev pub produced_code : ℤ → ℕ → State → ℤ
 produced_code acks behind state =
-    if int_eq acks (negsuc 0) then (if nat_le behind state.high then pos 0 else pos 7) else pos 0
+    if int_eq acks (negsuc 0) then (if nat_le behind (high_of state) then pos 0 else pos 7) else pos 0
 
 -- a refused partition has the base offset -1
 abbrev pub produced_as : ℤ → ℤ → Accepted → State → ProducedPart
@@ -60,7 +61,7 @@ batches_past place (batch ∷ batches) =
 
 -- a consumer reads below the high watermark, a follower to the log's end
 abbrev pub is_readable : ℤ → State → Stored → Bool
-is_readable replica state batch = if is_consumer replica then nat_le (batch.base + batch.count) state.high else true
+is_readable replica state batch = if is_consumer replica then nat_le (next_offset batch) (high_of state) else true
 
 -- whole batches from the front, as many as fit together
 abbrev pub fitting : ℕ → List Stored → List Stored
@@ -95,7 +96,7 @@ abbrev pub fetched_as : FetchPart → Accepted → State → List Stored → Fet
 fetched_as asked (Refused code) state batches = record { index = asked.index; code = code; high = negsuc 0; records = [] }
 fetched_as asked (Appended part base count) state batches = record { index = asked.index; code = pos 0; high = negsuc 0; records = [] }
 fetched_as asked (Seen part start) state batches =
-    record { index = asked.index; code = pos 0; high = pos state.high; records = bytes_of batches }
+    record { index = asked.index; code = pos 0; high = pos (high_of state); records = bytes_of batches }
 
 abbrev pub fetched_parts : ℤ → List FetchPart → List Shown → Budget → List FetchedPart
 fetched_parts replica [] shown budget = []

@@ -2,8 +2,8 @@
 use Rattle.std.specs.Prelude.{ℕ, ◌+◌, ◌-◌, ◌*◌, ◌%◌, min, ℤ, pos, negsuc, Bool, true, false, ◌&&◌, ◌||◌, not, List, [], ◌∷◌, length, map, nat_lt, ◌==◌, if◌then◌else◌, Option, Some, None, option_map, is_some}
 use Rattle.std.specs.List.{filter_map, list_any, zip}
 use Rattle.std.specs.Ordering.{int_eq}
-use Rattle.partlog.specs.State.{State}
-use Rattle.partlog.specs.Gauges.{visible_of, end_bytes_of}
+use Rattle.partlog.specs.State.{PartState as State}
+use Rattle.partlog.specs.Gauges.{gauges_of}
 use Rattle.kafka_room.specs.declared.kwire.request.Ask.{Ask}
 use Rattle.kafka_room.specs.declared.kwire.request.Ask.TheVariants.{Produce, Fetch, Metadata, Versions}
 use Rattle.kafka_room.specs.declared.kwire.request.FetchPart.{FetchPart}
@@ -54,7 +54,7 @@ needs_by_part (Versions version) results = []
 -- the value of a partition's gauge in a state
 abbrev pub gauge_value : ℕ → State → ℕ
 gauge_value gauge state =
-    if gauge % 3 == 0 then state.high else (if gauge % 3 == 1 then visible_of state else end_bytes_of state)
+    if gauge % 3 == 0 then (gauges_of state).high else (if gauge % 3 == 1 then (gauges_of state).visible else (gauges_of state).bytes)
 
 abbrev pub value_of : Option Need × State → Option ℕ
 value_of (None, state) = None

@@ -4,8 +4,8 @@ use Rattle.std.specs.Prelude.{ℕ, ◌+◌, ◌≡◌, ◌≤◌, ◌<◌, ◌�
 use Rattle.std.specs.List.{filter_map, AllZip, AllByRecursion}
 use Rattle.partlog.specs.declared.event.PartEvent.{PartEvent}
 use Rattle.partlog.specs.declared.event.PartEvent.TheVariants.{Append, Follow, Look}
-use Rattle.partlog.specs.declared.event.ClockEvent.TheVariants as clocks
-use Rattle.partlog.specs.State.{State, Stored}
+use Rattle.partlog.specs.declared.clock_event.ClockEvent.TheVariants as clocks
+use Rattle.partlog.specs.State.{PartState as State}
 use Rattle.partlog.specs.Moment.{moment_of}
 use Rattle.kbatch.specs.Stamp.{stamped}
 use Rattle.kafka_room.specs.declared.audit.account.Account.{Account}

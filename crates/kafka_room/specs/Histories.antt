@@ -3,9 +3,10 @@ use Rattle.std.specs.Prelude.{ℕ, ◌+◌, ◌≡◌, List, [], ◌∷◌, ◌+
 use Rattle.std.specs.List.{flat_map, filter_map}
 use Rattle.partlog.specs.declared.event.PartEvent.{PartEvent}
 use Rattle.partlog.specs.declared.event.PartEvent.TheVariants.{Append, Follow, Look}
-use Rattle.partlog.specs.declared.event.ClockEvent.{ClockEvent}
-use Rattle.partlog.specs.declared.event.ClockEvent.TheVariants as clocks
-use Rattle.partlog.specs.State.{State, state_of, state_before, state_at}
+use Rattle.partlog.specs.declared.clock_event.ClockEvent.{ClockEvent}
+use Rattle.partlog.specs.declared.clock_event.ClockEvent.TheVariants as clocks
+use Rattle.partlog.specs.History.{History}
+use Rattle.partlog.specs.State.{PartState as State, state_of, state_before, state_at}
 use Rattle.partlog.specs.Moment.{moment_of}
 use Rattle.kafka_room.specs.declared.audit.account.Account.{Account}
 use Rattle.kafka_room.specs.declared.audit.account.PartAccount.{PartAccount}
@@ -65,19 +66,22 @@ points_of call = call.accept ++ call.finish
 
 -- a partition of which nothing is known
 abbrev pub no_state : State
-no_state = record { batches = []; log_end = 0; high = 0 }
+no_state = record { batches = []; log_end = 0; positions = [] }
+
+abbrev pub history_of : PartAccount → History
+history_of part = record { log = part.log; followers = part.followers; events = part.events }
 
 abbrev pub before_in : Option PartAccount → ℕ → State
 before_in None place = no_state
-before_in (Some part) place = state_before part.followers part.log part.events place
+before_in (Some part) place = state_before (history_of part) place
 
 abbrev pub at_in : Option PartAccount → ℕ → State
 at_in None place = no_state
-at_in (Some part) place = state_at part.followers part.log part.events place
+at_in (Some part) place = state_at (history_of part) place
 
 abbrev pub final_in : Option PartAccount → State
 final_in None = no_state
-final_in (Some part) = state_of part.followers part.log part.events
+final_in (Some part) = state_of (history_of part)
 
 -- the state of a point's partition before the entry there, just after it, and at the end
 abbrev pub before_point : Account → Point → State

@@ -2,7 +2,7 @@
 use Rattle.std.specs.Prelude.{ℕ, zero, suc, ◌+◌, ◌≡◌, ◌<◌, ◌&&◌, Bool, true, false, List, [], ◌∷◌, ◌++◌, length, map, filter, take, sum_by, count_by, ◌==◌, Option, Some, None, unwrap_or, slice_get}
 use Rattle.std.specs.List.{flat_map, AllByRecursion}
 use Rattle.std.specs.List.Sorted.{IsStrictlyIncreasing}
-use Rattle.partlog.specs.State.{bytes_put}
+use Rattle.partlog.specs.Added.{bytes_of}
 use Rattle.kafka_room.specs.declared.audit.account.Account.{Account}
 use Rattle.kafka_room.specs.declared.audit.account.PartAccount.{PartAccount}
 use Rattle.kafka_room.specs.declared.audit.account.Transcript.{Transcript}
@@ -26,7 +26,7 @@ places_in part points = map (λ point. point.place) (filter (λ point. point.par
 
 -- the log is the bytes of its appends, and nothing stands behind them
 abbrev pub IsWholeLog : PartAccount → Type 0
-IsWholeLog part = length part.log ≡ sum_by bytes_put part.events
+IsWholeLog part = length part.log ≡ bytes_of part.events
 
 -- whether a call was completed by this winner
 abbrev pub is_won_as : ℕ → CallHow → Bool

@@ -30,3 +30,5 @@ pub mod Printed
 pub mod RunOf
 -- the traces that are built so far
 pub mod FirstForm
+-- the words of such a trace, read from the left
+pub mod Parts

@@ -3,7 +3,7 @@ use Rattle.std.specs.Prelude.{ℕ, zero, suc, ◌+◌, ◌≡◌, Bool, true, fa
 use Rattle.std.specs.List.{flat_map, zip, AllZip}
 use Rattle.std.specs.Fmt.{decimal, signed_decimal}
 use Rattle.hex.specs.Hex.{encode_lower}
-use Rattle.partlog.specs.State.{State, state_of}
+use Rattle.partlog.specs.State.{PartState as State, high_of, state_of}
 use Rattle.kafka_room.specs.declared.audit.account.Account.{Account}
 use Rattle.kafka_room.specs.declared.audit.account.PartAccount.{PartAccount}
 use Rattle.kafka_room.specs.declared.audit.account.Transcript.{Transcript}
@@ -16,6 +16,7 @@ use Rattle.kafka_room.specs.declared.kwire.frame.WireFault.{WireFault}
 use Rattle.kafka_room.specs.declared.kwire.frame.WireFault.TheVariants as refusals
 use Rattle.kafka_room.specs.declared.kwire.reply.Reply.{Reply}
 use Rattle.kafka_room.specs.Spelling.{spelling}
+use Rattle.kafka_room.specs.Histories.{history_of}
 use Rattle.kafka_room.specs.Fits.{HasReplies, answered_of}
 
 -- a word, a space and a number
@@ -56,12 +57,12 @@ end_line session None = []
 end_line session (Some end) = line_of (codes "end" ∷ decimal session ∷ end_words end)
 
 abbrev pub final_of : PartAccount → State
-final_of part = state_of part.followers part.log part.events
+final_of part = state_of (history_of part)
 
 -- `part P end E high H batches B bytes Y`
 abbrev pub part_line : ℕ × PartAccount → List ℕ
 part_line (number, part) =
-    line_of (codes "part" ∷ decimal number ∷ codes "end" ∷ decimal (final_of part).log_end ∷ codes "high" ∷ decimal (final_of part).high
+    line_of (codes "part" ∷ decimal number ∷ codes "end" ∷ decimal (final_of part).log_end ∷ codes "high" ∷ decimal (high_of (final_of part))
     ∷ codes "batches" ∷ decimal (length (final_of part).batches) ∷ codes "bytes" ∷ decimal (length part.log) ∷ [])
 
 -- the same without the high watermark

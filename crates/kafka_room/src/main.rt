@@ -2,6 +2,7 @@
 #![tactic(auto)]
 
 mod audit;
+mod first_form;
 mod kanswer;
 mod kwire;
 mod trace_file;
