@@ -4,3 +4,4 @@ pub mod Integers
 pub mod Groups
 pub mod Varints
 pub mod Grouped
+pub mod Sized
