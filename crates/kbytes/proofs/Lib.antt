@@ -5,3 +5,4 @@ pub mod Groups
 pub mod Varints
 pub mod Grouped
 pub mod Sized
+pub mod Written

@@ -9,9 +9,14 @@ mod list;
 mod no_memory;
 mod reader;
 mod varint;
+mod writing;
 
 pub use bytes::Bytes;
 pub use fault::ByteFault;
 pub use list::List;
 pub use no_memory::NoMemory;
 pub use reader::Reader;
+pub use writing::{
+    put_array, put_i8, put_i16, put_i32, put_i64, put_nullable_string, put_records, put_string,
+    put_u32, put_varint, put_varlong,
+};
