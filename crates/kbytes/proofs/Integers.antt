@@ -11,7 +11,7 @@ use Rattle.std.proofs.Math.Facts.{Fits-of_z}
 use borrow.Author.Gap.{read_sfits}
 use Rattle.kbytes.specs.declared.fault.ByteFault.TheVariants.{Short}
 use Rattle.kbytes.specs.Fronts.{Leads}
-use Rattle.kbytes.specs.Reading.{Spells, integer_at}
+use Rattle.kbytes.specs.Reading.{Spells, integer_at, unsigned_at}
 use Rattle.kbytes.proofs.Octets.{IsBytes-take}
 use Rattle.kbytes.specs.Octets.{IsBytes}
 use Rattle.kbytes.specs.Cursor.{Cursor, rest_of, moved}
@@ -117,3 +117,11 @@ Leads-spells w wide c z f text leads =
       at = ap (λ (n : ℕ). c.at + n) (sym len);
       parts = leads.parts ∙ ap (λ (t : List ℕ). t ++ rest_of (moved c (byte_len w))) (sym text);
     }
+
+pub unsigned_again : (w : Width) → IsWide w → (c : Cursor) (n : ℕ) (after : List ℕ) → n < 2 ^ bits w → rest_of c ≡ to_be_bytes w n ++ after → unsigned_at w c ≡ Ok (n, moved c (byte_len w))
+unsigned_again w wide c n after small parts =
+    let len : length (to_be_bytes w n) ≡ byte_len w = wide.len n in
+    let all : length (rest_of c) ≡ byte_len w + length after = ap length parts ∙ length-append (to_be_bytes w n) after ∙ ap (λ (k : ℕ). k + length after) len in
+    let enough : ltb (length (rest_of c)) (byte_len w) ≡ false = le-ltb (length (rest_of c)) (byte_len w) (omega (arith, all)) in
+    let front : take (byte_len w) (rest_of c) ≡ to_be_bytes w n = ap (take (byte_len w)) parts ∙ take_at (to_be_bytes w n) after (byte_len w) len in
+    rw (enough, front, wide.again n small) refl

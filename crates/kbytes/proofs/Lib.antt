@@ -6,3 +6,4 @@ pub mod Varints
 pub mod Grouped
 pub mod Sized
 pub mod Written
+pub mod RoundTrips

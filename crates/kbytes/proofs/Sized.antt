@@ -15,7 +15,7 @@ use Rattle.kbytes.specs.Reading.{◌>>=◌, Gives, Spells, integer_at, not_null,
 use Rattle.kbytes.proofs.Integers.{IsWide, wide_16, cut, whole, front_of, integer_again, Leads-spells}
 
 -- what a reader gave, so that its type shows
-abbrev Read : Type 0 → Type 0
+abbrev pub Read : Type 0 → Type 0
 Read A = Result (A × Cursor) ByteFault
 
 abbrev got : {A : Type 0} → A → Cursor → Read A
@@ -125,7 +125,7 @@ bad_again w wide c (pos n) has lt = absurd (omega (arith, ints, lt))
 bad_again w wide c (negsuc zero) has lt = absurd (omega (arith, ints, lt))
 bad_again w wide c (negsuc (suc k)) has lt = rw ((integer_again w wide c (negsuc (suc k)) has.0 has.1).0) refl
 
-null_again : (w : Width) → IsWide w → (c : Cursor) → HasLength w (negsuc 0) (rest_of c) → sized_at w c ≡ Ok (None, moved c (byte_len w))
+pub null_again : (w : Width) → IsWide w → (c : Cursor) → HasLength w (negsuc 0) (rest_of c) → sized_at w c ≡ Ok (None, moved c (byte_len w))
 unfolding sized_at
 null_again w wide c has = rw ((integer_again w wide c (negsuc 0) has.0 has.1).0) refl
 
@@ -161,10 +161,10 @@ sized_bad w wide c fits v = (
 
 -- ---- strings, where null isn't allowed
 
-abbrev then_not_null : Cursor → Read (Option (List ℕ)) → Read (List ℕ)
+abbrev pub then_not_null : Cursor → Read (Option (List ℕ)) → Read (List ℕ)
 then_not_null c read = read >>= not_null c
 
-string_from : (c : Cursor) (read : Read (Option (List ℕ))) → sized_at w16 c ≡ read → string_at c ≡ then_not_null c read
+pub string_from : (c : Cursor) (read : Read (Option (List ℕ))) → sized_at w16 c ≡ read → string_at c ≡ then_not_null c read
 unfolding string_at
 string_from c read is = rw is refl
 

@@ -3,6 +3,7 @@
 //! The layer above may use `List` and `Bytes` as lists of known length, and read or write one field at a time.
 #![tactic(auto)]
 
+mod again;
 mod bytes;
 mod fault;
 mod list;
@@ -11,6 +12,7 @@ mod reader;
 mod varint;
 mod writing;
 
+pub use again::reads_again;
 pub use bytes::Bytes;
 pub use fault::ByteFault;
 pub use list::List;
