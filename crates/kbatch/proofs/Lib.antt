@@ -6,3 +6,5 @@ pub mod Places
 pub mod Lengths
 -- what follows for a batch's bytes
 pub mod Batches
+-- headers one after the other
+pub mod HeadersLoop
