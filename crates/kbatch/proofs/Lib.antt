@@ -8,3 +8,5 @@ pub mod Lengths
 pub mod Batches
 -- headers one after the other
 pub mod HeadersLoop
+-- what is read of a record is spelled so, and what is spelled so is read
+pub mod Parts

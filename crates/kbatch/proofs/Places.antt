@@ -86,7 +86,7 @@ parts : (bytes : List ℕ) (p n : ℕ) → drop p bytes ≡ take n (drop p bytes
 parts bytes p n = sym (take-append-drop n (drop p bytes)) ∙ ap (λ (xs : List ℕ). take n (drop p bytes) ++ xs) (drop-drop n p bytes)
 
 -- a signed integer at a place, and what stands behind it
-signed_piece : (w : Width) → IsWide w → (bytes : List ℕ) (p : ℕ) (rest : List ℕ) → IsBytes bytes → p + byte_len w ≤ length bytes → drop (p + byte_len w) bytes ≡ rest → drop p bytes ≡ integer w (kept_integer w p bytes) ++ rest
+pub signed_piece : (w : Width) → IsWide w → (bytes : List ℕ) (p : ℕ) (rest : List ℕ) → IsBytes bytes → p + byte_len w ≤ length bytes → drop (p + byte_len w) bytes ≡ rest → drop p bytes ≡ integer w (kept_integer w p bytes) ++ rest
 signed_piece w wide bytes p rest fits le e =
     rw (integer_back w wide (take (byte_len w) (drop p bytes)) (part_len bytes p (byte_len w) le) (part_fits bytes p (byte_len w) fits)) (parts bytes p (byte_len w) ∙ ap (λ (xs : List ℕ). take (byte_len w) (drop p bytes) ++ xs) e)
 
@@ -111,7 +111,7 @@ head_stands bytes fits le =
     let p8 = signed_piece w32 wide_32 bytes 8 _ fits (omega arith) p12 in
     signed_piece w64 wide_64 bytes 0 _ fits (omega arith) p8
 
-fits_at : (w : Width) → IsWide w → (bytes : List ℕ) (p : ℕ) → IsBytes bytes → FitsSigned w (kept_integer w p bytes)
+pub fits_at : (w : Width) → IsWide w → (bytes : List ℕ) (p : ℕ) → IsBytes bytes → FitsSigned w (kept_integer w p bytes)
 fits_at w wide bytes p fits = sfits_to_z (record { fits = wide.below (take (byte_len w) (drop p bytes)) (part_fits bytes p (byte_len w) fits) })
 
 pub head_fits : (bytes : List ℕ) → IsBytes bytes → IsHead (head_of bytes)
