@@ -10,3 +10,5 @@ pub mod Batches
 pub mod HeadersLoop
 -- what is read of a record is spelled so, and what is spelled so is read
 pub mod Parts
+-- records one after the other
+pub mod Records

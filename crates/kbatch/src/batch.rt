@@ -45,6 +45,14 @@ fn write_stamp(bytes: &mut [u8], base: u64)
 }
 
 impl Batch {
+    // The batch with these bytes.
+    pub(crate) fn whole(bytes: Bytes) -> Batch
+        requires { (records : List Record) × IsBatch bytes records }
+        ensures { result ≡ bytes }
+    {
+        Batch { bytes }
+    }
+
     /// The number of records.
     pub fn count(&self) -> u32
         ensures kept { result ≡ count_of self.now }
