@@ -1,5 +1,5 @@
 -- Headers one after the other, as a loop skips them.
-use Rattle.std.proofs.Common.{◌≡◌, ℕ, suc, ◌+◌, ◌-◌, ◌<◌, ◌≤◌, List, Option, Some, None, refl, arith}
+use Rattle.std.proofs.Common.{◌≡◌, ℕ, suc, ◌+◌, ◌-◌, ◌<◌, ◌≤◌, List, Option, Some, None, arith}
 use Rattle.kbatch.specs.Walk.{after_header, after_headers}
 
 pub goes_on : (count i : ℕ) (bytes after : List ℕ) (total : Option (List ℕ)) → i < count → after_header bytes ≡ Some after → after_headers (count - i) bytes ≡ total → after_headers (count - (i + 1)) after ≡ total

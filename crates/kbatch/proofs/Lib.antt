@@ -12,3 +12,5 @@ pub mod HeadersLoop
 pub mod Parts
 -- records one after the other
 pub mod Records
+-- bytes are a batch or have one first fault
+pub mod Faults

@@ -1,19 +1,18 @@
 -- The parts of a record: what is read is spelled so, and what is spelled so is read.
-use Rattle.std.proofs.Common.{◌≡◌, ℕ, zero, suc, ◌+◌, ◌*◌, ◌-◌, ◌^◌, ◌<◌, ◌≤◌, ℤ, pos, negsuc, Bool, true, false, cond, ltb, eqb, List, [], ◌∷◌, ◌++◌, length, get_or, take, drop, Option, Some, None, Result, Ok, Err, refl, sym, ap, subst, ◌∙◌, append_assoc, arith, inl, inr, lit≤}
+use Rattle.std.proofs.Common.{◌≡◌, ℕ, zero, suc, ◌+◌, ◌^◌, ◌<◌, ◌≤◌, ℤ, pos, negsuc, Bool, true, false, cond, ltb, eqb, List, [], ◌∷◌, ◌++◌, length, take, drop, Option, Some, None, Result, Ok, Err, refl, sym, ap, subst, ◌∙◌, append_assoc, arith}
 use Rattle.std.specs.Prelude.{FitsSigned}
 use Rattle.std.specs.List.{flat_map}
 use Rattle.std.specs.Int.{w8, w32, w64}
 use Rattle.std.proofs.lemmas.Bool.{ltb-false, le-ltb, eqb-true, eq-eqb}
 use Rattle.std.proofs.lemmas.List.{append-nil, length-take-le, take-append-drop, take_at, drop_at, length-append, length-take}
-use Rattle.std.proofs.lemmas.List.Concat.{flat_map-cons}
 use Rattle.kbytes.specs.declared.fault.ByteFault.{ByteFault}
 use Rattle.kbytes.specs.Octets.{IsBytes}
-use Rattle.kbytes.specs.Cursor.{Cursor, rest_of, moved}
-use Rattle.kbytes.specs.Field.{field, Int8, Varint, Varlong, groups, zigzag}
-use Rattle.kbytes.specs.Reading.{varint_at, varlong_at, grouped_at}
+use Rattle.kbytes.specs.Cursor.{Cursor, rest_of}
+use Rattle.kbytes.specs.Field.{field, Int8, Varint, Varlong}
+use Rattle.kbytes.specs.Reading.{varint_at, varlong_at}
 use Rattle.kbytes.proofs.Octets.{IsBytes-drop, IsBytes-take}
 use Rattle.kbytes.proofs.Integers.{wide_8}
-use Rattle.kbytes.proofs.Grouped.{IsVarint, grouped_again, grouped_read, varint_kind, varlong_kind}
+use Rattle.kbytes.proofs.Grouped.{grouped_again, grouped_read, varint_kind, varlong_kind}
 use Rattle.kbatch.specs.declared.record.Record.{Record}
 use Rattle.kbatch.specs.declared.record.Header.{Header}
 use Rattle.kbatch.specs.Kept.{kept_integer}
@@ -300,7 +299,7 @@ body_again delta r rest delta_lt is lt =
     let lt5 = tail_below (2 ^ 31) value (hs ++ rest) lt4 in
     ap (after_body delta) regrouped
     ∙ rw (bytes_again at (time ++ (number ++ (key ++ (value ++ (hs ++ rest))))), varlong_again r.time (number ++ (key ++ (value ++ (hs ++ rest)))) is.time, delta_again delta (key ++ (value ++ (hs ++ rest))) delta_lt, value_again r.key (value ++ (hs ++ rest)) lt3, value_again r.value (hs ++ rest) lt4)
-      (counted_again r.headers rest lt5)
+    (counted_again r.headers rest lt5)
 
 -- ---- a record
 

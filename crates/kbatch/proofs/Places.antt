@@ -4,7 +4,7 @@ use Rattle.std.specs.Prelude.{FitsSigned}
 use Rattle.std.specs.Int.{Width, w8, w16, w32, w64, byte_len, from_be_bytes, to_be_bytes, cast_signed, cast_unsigned}
 use mir.Val.{bits}
 use Rattle.std.proofs.Math.Facts.{Fits-of_z, sfits_to_z}
-use Rattle.std.proofs.lemmas.Int.{to_z-of_z}
+use Rattle.std.proofs.lemmas.Int.{to_z-of_z, of_z-to_z}
 use Rattle.std.proofs.lemmas.List.{length-take, length-drop, take-append-drop, drop-drop}
 use Rattle.kbytes.specs.Octets.{IsBytes}
 use Rattle.kbytes.specs.Field.{integer}
@@ -59,7 +59,7 @@ head_len h rest = omega arith
 
 -- ---- the numbers at their places are a header that is spelled so
 
-pub head_of : List ℕ → Head
+unfoldable pub head_of : List ℕ → Head
 head_of bytes = record {
   base_offset = kept_integer w64 0 bytes;
   batch_length = kept_integer w32 8 bytes;
@@ -131,3 +131,7 @@ head_fits bytes fits = record {
   base_sequence = fits_at w32 wide_32 bytes 53 fits;
   count = fits_at w32 wide_32 bytes 57 fits;
 }
+
+pub attributes_are : (bytes : List ℕ) → IsBytes bytes → cast_unsigned w16 (kept_integer w16 21 bytes) ≡ kept_attributes bytes
+unfolding kept_attributes
+attributes_are bytes fits = of_z-to_z w16 (kept_number w16 21 bytes) (wide_16.below (take 2 (drop 21 bytes)) (part_fits bytes 21 2 fits))

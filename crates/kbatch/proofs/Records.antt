@@ -1,5 +1,5 @@
 -- Records one after the other, as they are read.
-use Rattle.std.proofs.Common.{◌≡◌, ℕ, suc, ◌+◌, ◌-◌, ◌^◌, ◌<◌, ◌≤◌, List, [], ◌∷◌, ◌++◌, length, take, drop, Option, Some, None, refl, sym, ap, subst, ◌∙◌, append_assoc, arith, inl, inr}
+use Rattle.std.proofs.Common.{◌≡◌, ℕ, suc, ◌+◌, ◌-◌, ◌^◌, ◌<◌, ◌≤◌, List, [], ◌∷◌, ◌++◌, length, drop, Some, None, refl, sym, ap, subst, ◌∙◌, append_assoc, arith, inl, inr}
 use Rattle.std.specs.List.{AllByRecursion}
 use Rattle.std.proofs.lemmas.List.{append-nil, length-append, length-drop}
 use Rattle.kbytes.specs.Octets.{IsBytes}
@@ -42,7 +42,7 @@ one_read bytes n rest after fits so_far e =
     let r = record_takes n rest after fits_rest e in
     let place : 0 + length so_far.before ≡ n = omega (arith, so_far.number) in
     let more : records_from 0 (so_far.before ++ r.0 ∷ []) ≡ records_from 0 so_far.before ++ record_bytes n r.0 =
-      records_more 0 so_far.before r.0 ∙ ap (λ (k : ℕ). records_from 0 so_far.before ++ record_bytes k r.0) place in
+    records_more 0 so_far.before r.0 ∙ ap (λ (k : ℕ). records_from 0 so_far.before ++ record_bytes k r.0) place in
     record {
       before = so_far.before ++ r.0 ∷ [];
       each = each_more so_far.before r.0 so_far.each r.1;
@@ -58,9 +58,9 @@ pub not_read : (bytes : List ℕ) (count n : ℕ) (rest : List ℕ) → 61 ≤ l
 not_read bytes count n rest le most number fits lt so_far e =
     let len = left_len bytes rest so_far.before le so_far.parts in
     let none : NoRecord n rest = λ r after is spelled.
-      let short : length (record_bytes n r ++ after) < 2 ^ 31 = omega (arith, ap length spelled, len) in
-      let read : after_record n rest ≡ Some after = ap (after_record n) spelled ∙ record_again n r after (omega arith) is short in
-      absurd cc in
+    let short : length (record_bytes n r ++ after) < 2 ^ 31 = omega (arith, ap length spelled, len) in
+    let read : after_record n rest ≡ Some after = ap (after_record n) spelled ∙ record_again n r after (omega arith) is short in
+    absurd cc in
     record {
       before = so_far.before;
       each = so_far.each;

@@ -10,7 +10,9 @@ ghost use Rattle.kbatch.specs.Fault.{NoneBefore, IsFirstFault};
 
 use crate::batch::Batch;
 use crate::fault::BatchFault;
-use crate::head::{HEAD, check_attributes, check_count, check_crc, check_length, check_magic, check_size};
+use crate::head::{
+    HEAD, check_attributes, check_count, check_crc, check_length, check_magic, check_size,
+};
 use crate::walk::after_record;
 use kbytes::Bytes;
 use std::alloc::Global;

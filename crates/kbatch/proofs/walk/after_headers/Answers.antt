@@ -1,4 +1,3 @@
-use Rattle.std.proofs.Common.{◌≡◌}
 use Rattle.kbatch.proofs.HeadersLoop.{goes_on, fails, is_done}
 use Rattle.kbatch.proofs.walk.after_headers.Goals as goal
 
