@@ -14,3 +14,6 @@ pub use crc::crc32c;
 pub use fault::BatchFault;
 pub use read::read_batch;
 pub use record::{Header, Record};
+
+#[cfg(test)]
+mod tests;
