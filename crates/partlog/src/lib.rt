@@ -8,6 +8,7 @@ mod numbers;
 mod part_log;
 mod placed;
 mod scan;
+mod stamp;
 mod who;
 
 pub use clock_event::ClockEvent;
