@@ -22,3 +22,6 @@ pub use numbers::Numbers;
 pub use part_log::PartLog;
 pub use placed::Placed;
 pub use who::Who;
+
+#[cfg(test)]
+mod tests;
