@@ -1,10 +1,10 @@
 -- What follows for the bytes of a batch, and that a stamped batch is one.
-use Rattle.std.proofs.Common.{◌≡◌, ℕ, ◌+◌, ◌^◌, ◌<◌, ◌≤◌, List, ◌++◌, length, take, drop, refl, sym, ap, subst, ◌∙◌, arith, pos}
-use Rattle.std.specs.Int.{w16, w32, cast_unsigned}
+use Rattle.std.proofs.Common.{◌≡◌, ℕ, ◌+◌, ◌^◌, ◌<◌, ◌≤◌, List, ◌++◌, length, drop, refl, sym, ap, ◌∙◌, arith, pos}
+use Rattle.std.specs.Int.{w32, cast_unsigned}
 use Rattle.kbatch.specs.declared.record.Record.{Record}
 use Rattle.kbatch.specs.Head.{Head, IsHead, head_bytes}
 use Rattle.kbatch.specs.Record.{records_from}
-use Rattle.kbatch.specs.Batch.{IsBatch, most_bytes}
+use Rattle.kbatch.specs.Batch.{IsBatch}
 use Rattle.kbatch.specs.Kept.{count_of}
 use Rattle.kbatch.specs.Stamp.{stamped}
 use Rattle.kbatch.specs.Crc.{crc32c_of}

@@ -1,7 +1,7 @@
 -- How many bytes there are at least.
-use Rattle.std.proofs.Common.{◌≡◌, ℕ, zero, suc, ◌+◌, ◌%◌, ◌/◌, ◌<◌, ◌≤◌, Bool, true, false, cond, ltb, List, [], ◌∷◌, ◌++◌, length, arith, pos, Some}
+use Rattle.std.proofs.Common.{ℕ, zero, suc, ◌+◌, ◌%◌, ◌/◌, ◌<◌, ◌≤◌, true, false, cond, ltb, List, [], ◌∷◌, length, arith, pos, Some}
 use Rattle.std.proofs.lemmas.List.{length-append}
-use Rattle.kbytes.specs.Field.{field, Varint, groups, zigzag}
+use Rattle.kbytes.specs.Field.{groups, zigzag}
 use Rattle.kbatch.specs.declared.record.Record.{Record}
 use Rattle.kbatch.specs.Record.{sized, record_bytes, records_from, body_bytes}
 

@@ -6,3 +6,11 @@ pub mod Places
 pub mod Lengths
 -- what follows for a batch's bytes
 pub mod Batches
+-- headers one after the other
+pub mod HeadersLoop
+-- what is read of a record is spelled so, and what is spelled so is read
+pub mod Parts
+-- records one after the other
+pub mod Records
+-- bytes are a batch or have one first fault
+pub mod Faults

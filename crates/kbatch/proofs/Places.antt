@@ -4,7 +4,7 @@ use Rattle.std.specs.Prelude.{FitsSigned}
 use Rattle.std.specs.Int.{Width, w8, w16, w32, w64, byte_len, from_be_bytes, to_be_bytes, cast_signed, cast_unsigned}
 use mir.Val.{bits}
 use Rattle.std.proofs.Math.Facts.{Fits-of_z, sfits_to_z}
-use Rattle.std.proofs.lemmas.Int.{to_z-of_z}
+use Rattle.std.proofs.lemmas.Int.{to_z-of_z, of_z-to_z}
 use Rattle.std.proofs.lemmas.List.{length-take, length-drop, take-append-drop, drop-drop}
 use Rattle.kbytes.specs.Octets.{IsBytes}
 use Rattle.kbytes.specs.Field.{integer}
@@ -59,7 +59,7 @@ head_len h rest = omega arith
 
 -- ---- the numbers at their places are a header that is spelled so
 
-pub head_of : List ℕ → Head
+unfoldable pub head_of : List ℕ → Head
 head_of bytes = record {
   base_offset = kept_integer w64 0 bytes;
   batch_length = kept_integer w32 8 bytes;
@@ -86,7 +86,7 @@ parts : (bytes : List ℕ) (p n : ℕ) → drop p bytes ≡ take n (drop p bytes
 parts bytes p n = sym (take-append-drop n (drop p bytes)) ∙ ap (λ (xs : List ℕ). take n (drop p bytes) ++ xs) (drop-drop n p bytes)
 
 -- a signed integer at a place, and what stands behind it
-signed_piece : (w : Width) → IsWide w → (bytes : List ℕ) (p : ℕ) (rest : List ℕ) → IsBytes bytes → p + byte_len w ≤ length bytes → drop (p + byte_len w) bytes ≡ rest → drop p bytes ≡ integer w (kept_integer w p bytes) ++ rest
+pub signed_piece : (w : Width) → IsWide w → (bytes : List ℕ) (p : ℕ) (rest : List ℕ) → IsBytes bytes → p + byte_len w ≤ length bytes → drop (p + byte_len w) bytes ≡ rest → drop p bytes ≡ integer w (kept_integer w p bytes) ++ rest
 signed_piece w wide bytes p rest fits le e =
     rw (integer_back w wide (take (byte_len w) (drop p bytes)) (part_len bytes p (byte_len w) le) (part_fits bytes p (byte_len w) fits)) (parts bytes p (byte_len w) ∙ ap (λ (xs : List ℕ). take (byte_len w) (drop p bytes) ++ xs) e)
 
@@ -111,7 +111,7 @@ head_stands bytes fits le =
     let p8 = signed_piece w32 wide_32 bytes 8 _ fits (omega arith) p12 in
     signed_piece w64 wide_64 bytes 0 _ fits (omega arith) p8
 
-fits_at : (w : Width) → IsWide w → (bytes : List ℕ) (p : ℕ) → IsBytes bytes → FitsSigned w (kept_integer w p bytes)
+pub fits_at : (w : Width) → IsWide w → (bytes : List ℕ) (p : ℕ) → IsBytes bytes → FitsSigned w (kept_integer w p bytes)
 fits_at w wide bytes p fits = sfits_to_z (record { fits = wide.below (take (byte_len w) (drop p bytes)) (part_fits bytes p (byte_len w) fits) })
 
 pub head_fits : (bytes : List ℕ) → IsBytes bytes → IsHead (head_of bytes)
@@ -131,3 +131,7 @@ head_fits bytes fits = record {
   base_sequence = fits_at w32 wide_32 bytes 53 fits;
   count = fits_at w32 wide_32 bytes 57 fits;
 }
+
+pub attributes_are : (bytes : List ℕ) → IsBytes bytes → cast_unsigned w16 (kept_integer w16 21 bytes) ≡ kept_attributes bytes
+unfolding kept_attributes
+attributes_are bytes fits = of_z-to_z w16 (kept_number w16 21 bytes) (wide_16.below (take 2 (drop 21 bytes)) (part_fits bytes 21 2 fits))

@@ -1,7 +1,7 @@
 -- The header of a record batch: 61 bytes (Kafka's record batch format, version 2).
 use Rattle.std.specs.Prelude.{ℕ, ◌<◌, ◌^◌, ℤ, List, [], ◌∷◌, FitsSigned}
 use Rattle.std.specs.Int.{w8, w16, w32, w64}
-use Rattle.kbytes.specs.Field.{Field, fields, Int8, Int16, Int32, Uint32, Int64}
+use Rattle.kbytes.specs.Field.{fields, Int8, Int16, Int32, Uint32, Int64}
 
 pub record Head : Type 0 where
   pub base_offset : ℤ

@@ -1,13 +1,13 @@
-use crate::head::u32_at;
-use byteorder::{BigEndian, ByteOrder};
-use kbytes::Bytes;
-use std::marker::Model;
-
 ghost use Rattle.std.specs.Prelude.{◌≡◌, ◌<◌, ◌≤◌, ◌^◌, List, length};
 ghost use Rattle.kbatch.specs.declared.record.Record.{Record};
 ghost use Rattle.kbatch.specs.Batch.{IsBatch, most_bytes};
 ghost use Rattle.kbatch.specs.Kept.{count_of};
 ghost use Rattle.kbatch.specs.Stamp.{stamped};
+
+use crate::head::u32_at;
+use byteorder::{BigEndian, ByteOrder};
+use kbytes::Bytes;
+use std::marker::Model;
 
 /// The bytes of a record batch that were read and found whole, or were written so. A contract sees the bytes.
 #[derive(Debug, Drop)]
@@ -45,6 +45,14 @@ fn write_stamp(bytes: &mut [u8], base: u64)
 }
 
 impl Batch {
+    // The batch with these bytes.
+    pub(crate) fn whole(bytes: Bytes) -> Batch
+        requires { (records : List Record) × IsBatch bytes records }
+        ensures { result ≡ bytes }
+    {
+        Batch { bytes }
+    }
+
     /// The number of records.
     pub fn count(&self) -> u32
         ensures kept { result ≡ count_of self.now }

@@ -1,6 +1,6 @@
 //! The header, check by check.
 
-ghost use Rattle.std.specs.Prelude.{◌≡◌, ◌≤◌, ◌+◌, ◌-◌, length, pos, ◌+ℤ◌, OnOk, IfOk, IfErr, drop};
+ghost use Rattle.std.specs.Prelude.{◌≡◌, ◌<◌, ◌≤◌, ◌+◌, ◌^◌, length, pos, ◌+ℤ◌, OnOk, IfOk, IfErr, drop};
 ghost use Rattle.std.specs.Int.{w8, w16, w32, IsBitSet};
 ghost use Rattle.kbatch.specs.Crc.{crc32c_of};
 ghost use Rattle.kbatch.specs.Batch.{most_bytes, codec_of};
@@ -35,7 +35,7 @@ fn i32_at(bytes: &[u8], place: usize) -> i32
     i32::from_be_bytes([part[0], part[1], part[2], part[3]])
 }
 
-fn check_size(bytes: &[u8]) -> Result<(), BatchFault>
+pub(crate) fn check_size(bytes: &[u8]) -> Result<(), BatchFault>
     ensures most { OnOk result (length bytes.now ≤ most_bytes) }
     ensures least { OnOk result (61 ≤ length bytes.now) }
     ensures before { OnOk result (NoneBefore 3 bytes.now) }
@@ -51,7 +51,7 @@ fn check_size(bytes: &[u8]) -> Result<(), BatchFault>
 }
 
 #[tactic(auto, unfolding(crate::specs::Kept::kept_length))]
-fn check_length(bytes: &[u8]) -> Result<(), BatchFault>
+pub(crate) fn check_length(bytes: &[u8]) -> Result<(), BatchFault>
     requires most { length bytes.now ≤ most_bytes }
     requires least { 61 ≤ length bytes.now }
     requires before { NoneBefore 3 bytes.now }
@@ -67,7 +67,7 @@ fn check_length(bytes: &[u8]) -> Result<(), BatchFault>
 }
 
 #[tactic(auto, unfolding(crate::specs::Kept::kept_magic))]
-fn check_magic(bytes: &[u8]) -> Result<(), BatchFault>
+pub(crate) fn check_magic(bytes: &[u8]) -> Result<(), BatchFault>
     requires least { 61 ≤ length bytes.now }
     requires before { NoneBefore 4 bytes.now }
     ensures stands { OnOk result (kept_magic bytes.now ≡ pos 2) }
@@ -83,7 +83,7 @@ fn check_magic(bytes: &[u8]) -> Result<(), BatchFault>
 }
 
 #[tactic(auto, unfolding(crate::specs::Kept::kept_crc))]
-fn check_crc(bytes: &[u8]) -> Result<(), BatchFault>
+pub(crate) fn check_crc(bytes: &[u8]) -> Result<(), BatchFault>
     requires least { 61 ≤ length bytes.now }
     requires before { NoneBefore 5 bytes.now }
     ensures stands { OnOk result (kept_crc bytes.now ≡ crc32c_of (drop 21 bytes.now)) }
@@ -100,7 +100,7 @@ fn check_crc(bytes: &[u8]) -> Result<(), BatchFault>
 }
 
 #[tactic(auto, unfolding(crate::specs::Kept::kept_attributes))]
-fn check_attributes(bytes: &[u8]) -> Result<(), BatchFault>
+pub(crate) fn check_attributes(bytes: &[u8]) -> Result<(), BatchFault>
     requires least { 61 ≤ length bytes.now }
     requires before { NoneBefore 6 bytes.now }
     ensures plain { OnOk result (codec_of (kept_attributes bytes.now) ≡ 0) }
@@ -121,12 +121,14 @@ fn check_attributes(bytes: &[u8]) -> Result<(), BatchFault>
     Ok(())
 }
 
-#[tactic(auto, unfolding(crate::specs::Kept::kept_last, crate::specs::Kept::kept_count))]
-fn check_count(bytes: &[u8]) -> Result<u32, BatchFault>
+#[tactic(auto, unfolding(crate::specs::Kept::kept_last, crate::specs::Kept::kept_count, crate::specs::Kept::count_of))]
+pub(crate) fn check_count(bytes: &[u8]) -> Result<u32, BatchFault>
     requires least { 61 ≤ length bytes.now }
     requires before { NoneBefore 8 bytes.now }
     ensures count { IfOk result (λ count. kept_count bytes.now ≡ pos count) }
     ensures some_record { IfOk result (λ count. 1 ≤ count) }
+    ensures number { IfOk result (λ count. count ≡ count_of bytes.now) }
+    ensures fits { IfOk result (λ count. count < 2 ^ 31) }
     ensures last { IfOk result (λ count. kept_last bytes.now +ℤ pos 1 ≡ pos count) }
     ensures before { OnOk result (NoneBefore 9 bytes.now) }
     ensures fault { IfErr result (λ f. IsFirstFault bytes.now f) }

@@ -1,6 +1,5 @@
 //! Where a record ends. Nothing of it is kept.
 
-ghost use Rattle.std.specs.Option.{option_map};
 ghost use Rattle.kbatch.specs.Walk.{Gives, after_varint, after_varlong, after_bytes, after_key, after_value, after_header, after_headers, after_all_headers, after_delta, after_body, after_record};
 
 use kbytes::Reader;
@@ -17,12 +16,12 @@ fn after_varint(bytes: &[u8]) -> Option<(i32, &[u8])>
 }
 
 #[tactic(auto, unfolding(crate::specs::Walk::after_varlong))]
-fn after_varlong(bytes: &[u8]) -> Option<&[u8]>
-    ensures { Gives (λ x. x) (option_map (λ rest. rest.now) result) (option_map (λ x. x.1) (after_varlong bytes.now)) }
+fn after_varlong(bytes: &[u8]) -> Option<(i64, &[u8])>
+    ensures { Gives (λ x. (x.0, x.1.now)) result (after_varlong bytes.now) }
 {
     let mut reader = Reader::new(bytes);
     match reader.varlong() {
-        Ok(_) => Some(reader.rest()),
+        Ok(value) => Some((value, reader.rest())),
         Err(_) => None,
     }
 }
@@ -107,7 +106,7 @@ fn after_body(delta: u32, bytes: &[u8]) -> Option<&[u8]>
     ensures { Gives (λ rest. rest.now) result (after_body delta bytes.now) }
 {
     let time = after_bytes(1, bytes)?;
-    let offset = after_varlong(time)?;
+    let (_, offset) = after_varlong(time)?;
     let key = after_delta(delta, offset)?;
     let value = after_value(key)?;
     let headers = after_value(value)?;

@@ -1,4 +1,4 @@
-use Rattle.std.proofs.Common.{List, length, ap, arith}
+use Rattle.std.proofs.Common.{length, ap, arith}
 use Rattle.kbatch.proofs.Batches.{batch_len}
 use Rattle.kbatch.proofs.batch.Batch.bytes.Goals as goal
 

@@ -1,5 +1,4 @@
-use Rattle.std.proofs.Common.{◌≡◌, List, ℕ, length, ap, ◌∙◌, sym, subst, arith}
-use Rattle.kbatch.specs.Batch.{IsBatch}
+use Rattle.std.proofs.Common.{◌≡◌, length, ap, ◌∙◌, arith}
 use Rattle.kbatch.specs.Kept.{count_of}
 use Rattle.kbatch.proofs.Batches.{batch_len, batch_count}
 use Rattle.kbatch.proofs.batch.Batch.count.Goals as goal

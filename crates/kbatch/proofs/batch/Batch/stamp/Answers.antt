@@ -27,4 +27,4 @@ pub returns-clause-records : goal.returns-clause-records
 returns-clause-records c records is =
     let len : length c.write_stamp.new.bytes ≡ length c.self.inside.bytes = c.write_stamp.auto.bytes ∙ ap length c.as_mut_slice.ensures.value in
     written_back c.args.base c.self.inside.bytes c.write_stamp.new.bytes records c.requires len (c.write_stamp.ensures ∙ ap (stamped c.args.base) c.as_mut_slice.ensures.value)
-      (subst (λ (bytes : List ℕ). IsBatch bytes records) (sym c.self.view_is) is)
+    (subst (λ (bytes : List ℕ). IsBatch bytes records) (sym c.self.view_is) is)

@@ -1,0 +1,79 @@
+ghost use Rattle.std.specs.Prelude.{◌≡◌, ◌≢◌, ◌<◌, ◌≤◌, ◌^◌, ◌↔◌, List, length, drop, OnOk, IfOk, IfErr, IsErrOf};
+ghost use Rattle.std.specs.List.{AllByRecursion};
+ghost use Rattle.kbatch.specs.declared.fault.BatchFault.{BatchFault};
+ghost use Rattle.kbatch.specs.declared.fault.BatchFault.TheVariants.{NoMemory};
+ghost use Rattle.kbatch.specs.declared.record.Record.{Record};
+ghost use Rattle.kbatch.specs.Record.{IsRecord, records_from};
+ghost use Rattle.kbatch.specs.Batch.{IsBatch, most_bytes};
+ghost use Rattle.kbatch.specs.Kept.{count_of};
+ghost use Rattle.kbatch.specs.Fault.{NoneBefore, IsFirstFault};
+
+use crate::batch::Batch;
+use crate::fault::BatchFault;
+use crate::head::{
+    HEAD, check_attributes, check_count, check_crc, check_length, check_magic, check_size,
+};
+use crate::walk::after_record;
+use kbytes::Bytes;
+use std::alloc::Global;
+
+// The bytes behind the header are this many records and nothing more.
+fn check_records(bytes: &[u8], count: u32) -> Result<(), BatchFault>
+    requires most { length bytes.now ≤ most_bytes }
+    requires least { 61 ≤ length bytes.now }
+    requires count { count ≡ count_of bytes.now }
+    requires count_fits { count < 2 ^ 31 }
+    requires before { NoneBefore 9 bytes.now }
+    ensures stands { OnOk result ((records : List Record) × AllByRecursion IsRecord records × (length records ≡ count) × (drop 61 bytes.now ≡ records_from 0 records)) }
+    ensures fault { IfErr result (λ f. IsFirstFault bytes.now f) }
+{
+    let (_, records) = bytes.split_at(HEAD);
+    let mut rest = records;
+    for delta in 0..count {
+        let Some(after) = after_record(delta, rest) else {
+            return Err(BatchFault::Records {
+                at: bytes.len() - rest.len(),
+            });
+        };
+        rest = after;
+    }
+    if !rest.is_empty() {
+        return Err(BatchFault::Records {
+            at: bytes.len() - rest.len(),
+        });
+    }
+    Ok(())
+}
+
+// Each fault in its order.
+fn check(bytes: &[u8]) -> Result<(), BatchFault>
+    ensures batch { OnOk result ((records : List Record) × IsBatch bytes.now records) }
+    ensures fault { IfErr result (λ f. IsFirstFault bytes.now f) }
+{
+    check_size(bytes)?;
+    check_length(bytes)?;
+    check_magic(bytes)?;
+    check_crc(bytes)?;
+    check_attributes(bytes)?;
+    let count = check_count(bytes)?;
+    check_records(bytes, count)
+}
+
+/// The batch with exactly these bytes, which are copied once. The faults come in the order of `BatchFault`, and want of
+/// memory after all of them.
+pub fn read_batch(alloc: Global, bytes: &[u8]) -> Result<Batch, BatchFault>
+    ensures bytes { IfOk result (λ batch. batch ≡ bytes.now) }
+    // Whatever is read is a batch.
+    ensures batch { OnOk result ((records : List Record) × IsBatch bytes.now records) }
+    // A batch is refused for want of memory alone.
+    ensures only { (records : List Record) → IsBatch bytes.now records → IfErr result (λ f. f ≡ NoMemory) }
+    // Each other fault comes exactly where it is the first.
+    ensures fault { (f : BatchFault) → f ≢ NoMemory → (IsErrOf result f ↔ IsFirstFault bytes.now f) }
+    // Want of memory comes after all faults.
+    ensures memory { IsErrOf result NoMemory → (records : List Record) × IsBatch bytes.now records }
+{
+    check(bytes)?;
+    let mut kept = Bytes::new(alloc);
+    kept.extend(bytes)?;
+    Ok(Batch::whole(kept))
+}
