@@ -17,5 +17,8 @@ pub enum PartEvent {
         offset: u64,
     },
     /// The log was looked at, and nothing changed.
-    Look { by: u32, seq: u32 },
+    Look {
+        by: u32,
+        seq: u32,
+    },
 }
