@@ -1,3 +1,5 @@
+-- counts that stand still at the end of 64 bits
+pub mod Count
 -- a count of faults, and what rose in it
 pub mod Causes
 -- bytes and lists that are known where an object tells them

@@ -1,6 +1,7 @@
 -- The calls of an object in memory that are to fail, by their numbers, which count from 0.
-use Rattle.std.specs.Prelude.{ℕ, ◌+◌, ◌-◌, ◌^◌, ◌==◌, Bool, min, List}
+use Rattle.std.specs.Prelude.{ℕ, ◌==◌, Bool, List}
 use Rattle.std.specs.List.{list_any}
+use Rattle.outside.specs.Count.{one_more}
 
 -- the numbers of the calls that are to fail, how many calls were made, and how many faults were counted
 pub record Plan : Type 0 where
@@ -15,10 +16,6 @@ planned fails = record { fails = fails; calls = 0; faults = 0 }
 -- the next call is to fail
 abbrev pub is_due : Plan → Bool
 is_due plan = list_any (λ number. number == plan.calls) plan.fails
-
--- one more, which stands still at the end of 64 bits
-abbrev pub one_more : ℕ → ℕ
-one_more n = min (n + 1) (2 ^ 64 - 1)
 
 -- after a call that didn't fail
 abbrev pub called : Plan → Plan

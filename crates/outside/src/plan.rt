@@ -1,5 +1,6 @@
-ghost use Rattle.std.specs.Prelude.{◌≡◌, ◌+◌, ◌-◌, ◌^◌, ◌≤◌, min};
-ghost use Rattle.outside.specs.Plan.{planned, is_due, one_more};
+ghost use Rattle.std.specs.Prelude.{◌≡◌, ◌≤◌};
+ghost use Rattle.outside.specs.Count.{one_more};
+ghost use Rattle.outside.specs.Plan.{planned, is_due};
 
 use crate::failed::Failed;
 use kbytes::List;
@@ -14,6 +15,7 @@ pub(crate) struct FaultPlan {
 }
 
 impl Model for FaultPlan {
+    ghost use Rattle.outside.specs.Count.{one_more};
     ghost use Rattle.outside.specs.Plan.{Plan};
 
     ghost Value = { Plan };

@@ -1,6 +1,7 @@
-ghost use Rattle.std.specs.Prelude.{◌≡◌, List, Option, ℕ, ◌+◌, Bool, Some, OnOk, OnErr, IfOk, IfSome};
+ghost use Rattle.std.specs.Prelude.{◌≡◌, List, Option, ℕ, Bool, Some, OnOk, OnErr, IfOk, IfSome};
 ghost use Rattle.outside.specs.Accepting.{Accepts};
 ghost use Rattle.outside.specs.Causes.{HasCause};
+ghost use Rattle.outside.specs.Count.{one_more};
 ghost use Rattle.outside.specs.NewLink.{IsNewLink};
 ghost use Rattle.outside.specs.Told.{Gains};
 
@@ -51,7 +52,7 @@ pub trait Port {
 
     /// Takes a link back under its number. It has no fault.
     fn retire(&mut self, number: u64, link: Self::Link)
-        ensures count { retired_count self.new ≡ retired_count self.old + 1 }
+        ensures count { retired_count self.new ≡ one_more (retired_count self.old) }
         ensures retired { Gains (retired self.old) (retired self.new) (number, link) }
         ensures opened { opened_with self.new ≡ opened_with self.old }
         ensures given { given self.new ≡ given self.old }

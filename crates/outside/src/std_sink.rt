@@ -1,4 +1,7 @@
-ghost use Rattle.std.specs.Prelude.{◌≡◌};
+ghost use Rattle.std.specs.Prelude.{◌≡◌, ◌<◌, length, IfOk, OnOk};
+ghost use Rattle.std.specs.Io.{WritesAtMost};
+ghost use Rattle.std.specs.Io.KnownBytes.{WriteAppends};
+ghost use Rattle.outside.specs.Causes.{HasCause};
 
 use crate::failed::Failed;
 use crate::sink::Sink;
@@ -36,7 +39,13 @@ impl<W: Write> Sink for StdSink<W> {
     ghost faults = { λ s. s.faults };
 
     /// One write to the writer. Each error of it, and a write that took nothing of a part that isn't empty, is counted.
-    fn write(&mut self, part: &[u8]) -> Result<usize, Failed> {
+    fn write(&mut self, part: &[u8]) -> Result<usize, Failed>
+        ensures bound { WritesAtMost result part.now }
+        ensures some { IfOk result (λ n. 0 < length part.now → 0 < n) }
+        ensures bytes { WriteAppends (W.contents self.old.inner) (W.contents self.new.inner) result part.now }
+        ensures cause { HasCause self.old.faults self.new.faults result }
+        ensures quiet { OnOk result (self.new.faults ≡ self.old.faults) }
+    {
         match self.inner.write(part) {
             Ok(0) if !part.is_empty() => {
                 self.faults = self.faults.saturating_add(1);

@@ -4,3 +4,5 @@ pub mod Appending
 pub mod Bounds
 -- the numbers of a history, from what the scans give
 pub mod Gathered
+-- a batch that is put at the end of a log and stamped there
+pub mod Stamping

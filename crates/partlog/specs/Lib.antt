@@ -8,6 +8,8 @@ pub mod Batches
 pub mod Position
 -- the state of a history: batches, log end, positions and high watermark; also at a place of it
 pub mod State
+-- a batch put at the end of a log
+pub mod Appended
 -- the high watermark, the visible bytes and the end bytes
 pub mod Gauges
 -- the moment of the clock's history

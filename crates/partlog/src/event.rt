@@ -1,16 +1,15 @@
-/// One entry of a partition's history, with the pass and the call that left it.
+/// One entry of a partition's history. `by` is the number of the pass that left it, and `seq` the number of the call among
+/// those of the pass.
 #[derive(Clone, Copy, Debug, PartialEq, Eq)]
 pub enum PartEvent {
-    /// A batch was put at the end of the log.
+    /// A batch of `count` records in `len` bytes was put at the end of the log.
     Append {
         by: u32,
         seq: u32,
-        /// Its records.
         count: u32,
-        /// Its bytes.
         len: u32,
     },
-    /// A follower fetched from an offset in range.
+    /// A follower fetched from an offset between 0 and the log end.
     Follow {
         by: u32,
         seq: u32,

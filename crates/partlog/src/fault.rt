@@ -1,3 +1,6 @@
+ghost use Rattle.std.specs.Prelude.{◌≡◌};
+
+use kbytes::NoMemory;
 use std::error::Error;
 use std::fmt;
 
@@ -20,6 +23,16 @@ impl fmt::Display for LogFault {
 }
 
 impl Error for LogFault {}
+
+impl From<NoMemory> for LogFault {
+    ghost use Rattle.partlog.specs.declared.fault.LogFault.TheVariants.{NoMemory as OutOfMemory};
+
+    ghost from_gives = { λ _ fault. fault ≡ OutOfMemory };
+
+    fn from(_refused: NoMemory) -> LogFault {
+        LogFault::NoMemory
+    }
+}
 
 /// Why a follower's fetch isn't entered. The log is as it was.
 #[derive(Clone, Copy, Debug, PartialEq, Eq)]

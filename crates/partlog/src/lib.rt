@@ -1,4 +1,8 @@
-//! One partition's log and history, and the clock's.
+//! One partition's log and history, and the entries of the clock's history.
+//!
+//! The layer above sees a `PartLog` as its log's bytes, its number of followers and its whole history. It appends batches,
+//! reads the numbers that follow from the history, and hands both lists out. Each entry names the pass and the call that
+//! left it, so that a call's answer can be recomputed from the entries before it.
 #![tactic(auto)]
 
 mod clock_event;
@@ -8,6 +12,7 @@ mod numbers;
 mod part_log;
 mod placed;
 mod scan;
+mod stamp;
 mod who;
 
 pub use clock_event::ClockEvent;
@@ -17,3 +22,6 @@ pub use numbers::Numbers;
 pub use part_log::PartLog;
 pub use placed::Placed;
 pub use who::Who;
+
+#[cfg(test)]
+mod tests;

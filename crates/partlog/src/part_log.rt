@@ -1,11 +1,19 @@
-ghost use Rattle.std.specs.Prelude.{◌≡◌, ◌≤◌, [], length, IfOk};
+ghost use Rattle.std.specs.Prelude.{◌≡◌, ◌↔◌, ◌+◌, ◌<◌, ◌≤◌, [], length, IfOk, OnOk, OnErr, IsErrOf};
 
 use crate::event::PartEvent;
+use crate::fault::LogFault;
 use crate::numbers::Numbers;
+use crate::placed::Placed;
 use crate::scan::{high_watermark, log_end, visible_bytes};
+use crate::stamp::stamp;
+use crate::who::Who;
+use kbatch::Batch;
 use kbytes::{Bytes, List, NoMemory};
 use std::alloc::Global;
 use std::marker::Model;
+
+/// The most bytes that a log has.
+const LOG_LIMIT: usize = 67_108_864;
 
 /// One partition's log and its history.
 #[derive(Debug, Drop)]
@@ -28,7 +36,8 @@ impl Model for PartLog {
 }
 
 impl PartLog {
-    ghost use Rattle.partlog.specs.Added.{bytes_of};
+    ghost use Rattle.partlog.specs.Added.{log_end_of, bytes_of};
+    ghost use Rattle.partlog.specs.Appended.{appended};
     ghost use Rattle.partlog.specs.Gauges.{numbers_of};
     ghost use Rattle.partlog.specs.State.{state_of};
 
@@ -41,6 +50,38 @@ impl PartLog {
             followers,
             events: List::new(alloc),
         })
+    }
+
+    /// Puts a batch at the end of the log, with the log end as its base offset and leader epoch 0, and enters it. It
+    /// answers the base offset and the place of the entry. `LogFull` comes exactly where the log would have more than
+    /// 67,108,864 bytes. After a refusal the log is as it was.
+    pub fn append(&mut self, who: Who, batch: &Batch) -> Result<Placed, LogFault>
+        ensures appended { OnOk result (self.new ≡ appended self.old who.by who.seq batch.now) }
+        ensures base { IfOk result (λ placed. placed.base ≡ log_end_of self.old.events) }
+        ensures limit { IfOk result (λ placed. placed.base ≤ 67108864) }
+        ensures place { IfOk result (λ placed. placed.place ≡ length self.old.events) }
+        ensures full { IsErrOf result LogFault.LogFull ↔ (67108864 < length self.old.log + length batch.now) }
+        ensures refused { OnErr result (self.new ≡ self.old) }
+    {
+        let bytes = batch.bytes();
+        let start = self.log.len();
+        if bytes.len() > LOG_LIMIT - start {
+            return Err(LogFault::LogFull);
+        }
+        let base = log_end(self.events.as_slice());
+        let place = self.events.len() as u64;
+        self.events.push(PartEvent::Append {
+            by: who.by,
+            seq: who.seq,
+            count: batch.count(),
+            len: bytes.len() as u32,
+        })?;
+        if self.log.extend(bytes).is_err() {
+            self.events.pop();
+            return Err(LogFault::NoMemory);
+        }
+        stamp(&mut self.log.as_mut_slice()[start..], base);
+        Ok(Placed { base, place })
     }
 
     /// The log's bytes: those of the batches that were appended, and nothing after them.
