@@ -60,7 +60,7 @@ bind_some : {A B : Type 0} (o : Option A) (f : A → Option B) (y : B) → optio
 bind_some None f y e = absurd cc
 bind_some (Some x) f y e = (x, refl, e)
 
-pointwise-same : (xs : List ℕ) → pointwise nat_eq xs xs ≡ true
+pub pointwise-same : (xs : List ℕ) → pointwise nat_eq xs xs ≡ true
 pointwise-same [] = refl
 pointwise-same (x ∷ xs) = rw (eq-eqb x x refl, pointwise-same xs) refl
 
@@ -81,7 +81,7 @@ behind_word-found : (word text rest : List ℕ) → behind_word word text ≡ So
 unfolding behind_word
 behind_word-found word text rest e = behind_by_test word text rest (pointwise nat_eq (take (length word) text) word) refl e
 
-some_is : {A : Type 0} (x y : A) → Some x ≡ Some y → x ≡ y
+pub some_is : {A : Type 0} (x y : A) → Some x ≡ Some y → x ≡ y
 some_is x y e = cc
 
 onto_found : (byte c : ℕ) (cs name rest : List ℕ) (found : Option (List ℕ × List ℕ)) → ((n r : List ℕ) → found ≡ Some (n, r) → cs ≡ n ++ byte ∷ r)

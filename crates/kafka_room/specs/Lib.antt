@@ -32,3 +32,10 @@ pub mod RunOf
 pub mod FirstForm
 -- the words of such a trace, read from the left
 pub mod Parts
+-- what was read of a source
+pub mod Streams
+-- the account of such a trace
+pub mod OneAccount
+-- the fields of such a produce, read from the left
+pub mod ProduceFields
+pub mod AskedView

@@ -1,4 +1,5 @@
 //! The traces that are built so far: one topic with one partition and no followers, one session with one produce of one
 //! batch, and the end.
 
+pub mod asked;
 pub mod parts;

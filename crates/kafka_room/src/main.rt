@@ -5,6 +5,7 @@ mod audit;
 mod first_form;
 mod kanswer;
 mod kwire;
+mod streams;
 mod trace_file;
 
 fn main() {}

@@ -1,4 +1,8 @@
-use kbytes::{Bytes, List};
+ghost use Rattle.std.specs.Prelude.{◌≡◌, ◌↔◌, ◌+◌, Contains, IsTrue, Err, OnOk, OnErr};
+ghost use Rattle.kafka_room.specs.Configuration.{is_name_byte, IsTopicName, names_of};
+ghost use Rattle.kafka_room.specs.declared.kwire.config.ConfigFault.TheVariants.{NoMemory as OutOfMemory};
+
+use kbytes::{Bytes, List, NoMemory};
 use std::alloc::Global;
 use std::error::Error;
 use std::fmt;
@@ -39,17 +43,115 @@ impl fmt::Display for ConfigFault {
 
 impl Error for ConfigFault {}
 
+impl From<NoMemory> for ConfigFault {
+    ghost from_gives = { λ _ e. e ≡ OutOfMemory };
+
+    fn from(_refused: NoMemory) -> ConfigFault {
+        ConfigFault::NoMemory
+    }
+}
+
 /// The port that metadata tells, and the declared topics.
 #[derive(Debug, Drop)]
 pub struct Config {
+    alloc: Global,
     port: u16,
     topics: List<Topic>,
+    parts: u32,
 }
 
 impl Model for Config {
-    ghost use Rattle.kafka_room.specs.Configuration.{Configuration};
+    ghost use Rattle.std.specs.Prelude.{◌≡◌, ◌≤◌};
+    ghost use Rattle.kafka_room.specs.Configuration.{Configuration, partitions_of};
 
     ghost Value = { Configuration };
 
     ghost view = { λ c. record { port = c.port; topics = c.topics } };
+
+    ghost invariant = { λ c. (c.parts ≡ partitions_of c.topics) × (c.parts ≤ 64) };
+}
+
+// A letter, a digit, `.`, `_` or `-`.
+fn is_name_byte(byte: u8) -> bool
+    ensures { result ≡ is_name_byte byte }
+{
+    matches!(byte, b'a'..=b'z' | b'A'..=b'Z' | b'0'..=b'9' | b'.' | b'_' | b'-')
+}
+
+// 1 to 249 such bytes, and neither `.` nor `..`.
+fn is_topic_name(name: &[u8]) -> bool
+    ensures { IsTrue result ↔ IsTopicName name.now }
+{
+    if name.is_empty() || name.len() > 249 {
+        return false;
+    }
+    if name == b".".as_slice() || name == b"..".as_slice() {
+        return false;
+    }
+    name.iter().all(|byte| is_name_byte(*byte))
+}
+
+fn is_declared(topics: &[Topic], name: &[u8]) -> bool
+    ensures { IsTrue result ↔ Contains (names_of topics.now) name.now }
+{
+    for topic in topics {
+        if topic.name.as_slice() == name {
+            return true;
+        }
+    }
+    false
+}
+
+impl Config {
+    ghost use Rattle.std.specs.Prelude.{[], ◌∷◌, ◌++◌, ◌<◌, ◌⊎◌};
+    ghost use Rattle.kafka_room.specs.Configuration.{IsTopicName, IsNewTopic, names_of, partitions_of};
+
+    /// A configuration without topics. It takes no memory.
+    pub fn new(alloc: Global, port: u16) -> Config
+        ensures { result ≡ record { port = port; topics = [] } }
+    {
+        Config {
+            alloc,
+            port,
+            topics: List::new(alloc),
+            parts: 0,
+        }
+    }
+
+    /// Declares a topic behind the others. `BadName` comes exactly where the name isn't one of a topic, then `TopicTwice`
+    /// exactly where it is declared, then `BadCount` exactly where the number of partitions or followers is out of range.
+    /// After a refusal the configuration is as before.
+    pub fn add(&mut self, name: &[u8], partitions: u32, followers: u32) -> Result<(), ConfigFault>
+        ensures added { OnOk result (self.new ≡ record self.old {
+          topics = self.old.topics
+              ++ record { name = name.now; partitions = partitions; followers = followers } ∷ [];
+        }) }
+        ensures allowed { OnOk result (IsNewTopic self.old.topics name.now partitions followers) }
+        ensures bad_name { (result ≡ Err ConfigFault.BadName) ↔ (IsTopicName name.now → ⊥) }
+        ensures twice { (result ≡ Err ConfigFault.TopicTwice)
+            ↔ (IsTopicName name.now × Contains (names_of self.old.topics) name.now) }
+        ensures bad_count { (result ≡ Err ConfigFault.BadCount)
+            ↔ (IsTopicName name.now × (Contains (names_of self.old.topics) name.now → ⊥)
+            × ((partitions ≡ 0) ⊎ (64 < partitions_of self.old.topics + partitions) ⊎ (8 < followers))) }
+        ensures refused { OnErr result (self.new ≡ self.old) }
+    {
+        if !is_topic_name(name) {
+            return Err(ConfigFault::BadName);
+        }
+        if is_declared(self.topics.as_slice(), name) {
+            return Err(ConfigFault::TopicTwice);
+        }
+        if partitions == 0 || partitions > 64 - self.parts || followers > 8 {
+            return Err(ConfigFault::BadCount);
+        }
+        let mut kept = Bytes::new(self.alloc);
+        kept.extend(name)?;
+        self.topics.push(Topic {
+            name: kept,
+            partitions,
+            followers,
+        })?;
+        self.parts += partitions;
+        Ok(())
+    }
 }

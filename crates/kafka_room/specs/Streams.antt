@@ -1,0 +1,10 @@
+-- What was read of a source.
+use Rattle.std.specs.Prelude.{ℕ, ◌≡◌, List, length, Option}
+use Rattle.std.specs.Io.KnownBytes.{Consumes, IsAtEnd}
+use Rattle.kafka_room.specs.declared.streams.Input.{Input}
+use Rattle.kafka_room.specs.declared.streams.Input.TheVariants.{Whole, TooLong}
+
+-- all that the source had, or one byte more than a text may have
+abbrev pub IsInput : Option (List ℕ) → Option (List ℕ) → Input → Type 0
+IsInput old new (Whole text) = Consumes old new text × IsAtEnd new
+IsInput old new TooLong = (text : List ℕ) × Consumes old new text × (length text ≡ 67108865)

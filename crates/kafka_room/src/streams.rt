@@ -1,0 +1,108 @@
+//! Reading a source to its end and writing to a sink whole.
+
+ghost use Rattle.std.specs.Prelude.{◌≡◌, ◌<◌, ◌≤◌, ◌++◌, ℕ, List, length, take, vec_len, IfOk, OnOk, OnErr, IsErrOf};
+ghost use Rattle.std.specs.Io.KnownBytes.{Appends, Consumes, IsAtEnd};
+ghost use Rattle.outside.specs.Causes.{Rose};
+ghost use Rattle.kafka_room.specs.Streams.{IsInput};
+ghost use Rattle.kafka_room.specs.declared.streams.Unread.TheVariants.{NoMemory as OutOfMemory};
+
+use kbytes::{Bytes, NoMemory};
+use outside::{Failed, Sink, Source};
+use std::alloc::{AllocError, Global};
+
+/// The most bytes that a text may have.
+const LIMIT: usize = 67_108_864;
+
+/// The most bytes that are read at a time.
+const PIECE: usize = 65_536;
+
+/// Why a source wasn't read to its end.
+#[derive(Clone, Copy, Debug, PartialEq, Eq)]
+pub enum Unread {
+    /// A read failed, and the source counted it.
+    Failed,
+    NoMemory,
+}
+
+impl From<NoMemory> for Unread {
+    ghost from_gives = { λ _ e. e ≡ OutOfMemory };
+
+    fn from(_refused: NoMemory) -> Unread {
+        Unread::NoMemory
+    }
+}
+
+impl From<AllocError> for Unread {
+    ghost from_gives = { λ _ e. e ≡ OutOfMemory };
+
+    fn from(_refused: AllocError) -> Unread {
+        Unread::NoMemory
+    }
+}
+
+/// What a source gave.
+#[derive(Debug, Drop)]
+pub enum Input {
+    /// All that it had left.
+    Whole(Bytes),
+    /// More bytes than a text may have: it wasn't read on.
+    TooLong,
+}
+
+// One read, put behind the text. It answers how many bytes came.
+fn read_piece<S: Source>(source: &mut S, room: &mut [u8], text: &mut Bytes) -> Result<usize, Unread>
+    requires { 0 < length room.old }
+    ensures came { IfOk result (λ n. (piece : List ℕ) × (length piece ≡ n) × (n ≤ length room.old)
+        × (text.new ≡ text.old ++ piece) × Consumes (S.left source.old) (S.left source.new) piece) }
+    ensures end { IfOk result (λ n. n ≡ 0 → IsAtEnd (S.left source.new)) }
+    ensures later { S.faults source.old ≤ S.faults source.new }
+    ensures failed { IsErrOf result Unread.Failed → Rose (S.faults source.old) (S.faults source.new) }
+{
+    match source.read(room) {
+        Err(_) => Err(Unread::Failed),
+        Ok(count) => {
+            text.extend(&room[..count])?;
+            Ok(count)
+        }
+    }
+}
+
+fn make_room(alloc: Global) -> Result<Vec<u8>, AllocError>
+    ensures { IfOk result (λ room. vec_len room ≡ PIECE) }
+{
+    vec![in alloc; 0u8; PIECE]
+}
+
+/// Reads the source until it ends, fails, or has given one byte more than a text may have.
+pub fn read_all<S: Source>(alloc: Global, source: &mut S) -> Result<Input, Unread>
+    ensures input { IfOk result (IsInput (S.left source.old) (S.left source.new)) }
+    ensures later { S.faults source.old ≤ S.faults source.new }
+    ensures failed { IsErrOf result Unread.Failed → Rose (S.faults source.old) (S.faults source.new) }
+{
+    let mut text = Bytes::new(alloc);
+    let mut room = make_room(alloc)?;
+    while text.len() <= LIMIT {
+        let want = PIECE.min(LIMIT + 1 - text.len());
+        let came = read_piece(source, &mut room[..want], &mut text)?;
+        if came == 0 {
+            return Ok(Input::Whole(text));
+        }
+    }
+    Ok(Input::TooLong)
+}
+
+/// Writes the whole part. Where a write fails, the front of the part was written.
+pub fn write_all<K: Sink>(sink: &mut K, part: &[u8]) -> Result<(), Failed>
+    ensures written { OnOk result (Appends (K.written sink.old) (K.written sink.new) part.now) }
+    ensures front { OnErr result ((n : ℕ) × (n ≤ length part.now)
+        × Appends (K.written sink.old) (K.written sink.new) (take n part.now)) }
+    ensures later { K.faults sink.old ≤ K.faults sink.new }
+    ensures failed { OnErr result (Rose (K.faults sink.old) (K.faults sink.new)) }
+{
+    let mut done = 0;
+    while done < part.len() {
+        let count = sink.write(&part[done..])?;
+        done += count;
+    }
+    Ok(())
+}
