@@ -2,4 +2,7 @@
 //! batch, and the end.
 
 pub mod asked;
+pub mod found;
+pub mod law;
 pub mod parts;
+pub mod play;

@@ -2,9 +2,12 @@
 #![tactic(auto)]
 
 mod audit;
+mod exit;
 mod first_form;
 mod kanswer;
 mod kwire;
+mod replay;
+mod run;
 mod streams;
 mod trace_file;
 
