@@ -149,7 +149,7 @@ module _ (w : Width) (kind : ℤ → Field) (more limit : ℕ) (v : IsVarint w k
 
 -- ---- the two kinds
 
-below_32 : (z : ℤ) → FitsSigned w32 z → zigzag z < 2 ^ 32
+pub below_32 : (z : ℤ) → FitsSigned w32 z → zigzag z < 2 ^ 32
 below_32 (pos n) fits = omega (arith, fits.sfits)
 below_32 (negsuc n) fits = omega (arith, fits.sfits)
 
@@ -157,7 +157,7 @@ fits_32 : (z : ℤ) → zigzag z < 2 ^ 32 → FitsSigned w32 z
 fits_32 (pos n) lt = record { sfits = omega arith }
 fits_32 (negsuc n) lt = record { sfits = omega arith }
 
-below_64 : (z : ℤ) → FitsSigned w64 z → zigzag z < 2 ^ 64
+pub below_64 : (z : ℤ) → FitsSigned w64 z → zigzag z < 2 ^ 64
 below_64 (pos n) fits = omega (arith, fits.sfits)
 below_64 (negsuc n) fits = omega (arith, fits.sfits)
 

@@ -4,3 +4,6 @@ pub mod Integers
 pub mod Groups
 pub mod Varints
 pub mod Grouped
+pub mod Sized
+pub mod Written
+pub mod RoundTrips

@@ -33,12 +33,12 @@ unzigzag-zigzag (negsuc n) =
 
 -- ---- groups that are written and read again
 
-groups-last : (more n : ℕ) → n < 128 → groups more n ≡ n ∷ []
+pub groups-last : (more n : ℕ) → n < 128 → groups more n ≡ n ∷ []
 unfolding groups
 groups-last zero n lt = refl
 groups-last (suc more) n lt = rw (lt-ltb n 128 lt) refl
 
-groups-more : (more n : ℕ) → 128 ≤ n → groups (suc more) n ≡ (n % 128 + 128) ∷ groups more (n / 128)
+pub groups-more : (more n : ℕ) → 128 ≤ n → groups (suc more) n ≡ (n % 128 + 128) ∷ groups more (n / 128)
 unfolding groups
 groups-more more n le = rw (le-ltb n 128 le) refl
 

@@ -10,3 +10,5 @@ pub mod Cursor
 pub mod Reading
 -- what stands at the front of bytes where a varint is read
 pub mod Fronts
+-- what is written is read again
+pub mod Again

@@ -46,6 +46,9 @@ abbrev pub not_null : Cursor → Option (List ℕ) × Cursor → Result (List �
 not_null c (None, d) = Err (BadLength c.at (negsuc 0))
 not_null c (Some bytes, d) = Ok (bytes, d)
 
+abbrev pub counted_after : Cursor → ℤ × Cursor → Result (List ℕ × Cursor) ByteFault
+counted_after c led = after_length c led >>= not_null c
+
 unfoldable pub string_at : Cursor → Result (List ℕ × Cursor) ByteFault
 string_at c = sized_at w16 c >>= not_null c
 

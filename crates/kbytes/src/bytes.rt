@@ -41,6 +41,20 @@ impl Bytes {
         Ok(())
     }
 
+    // Puts two parts at the end, or neither.
+    pub(crate) fn extend_twice(&mut self, front: &[u8], back: &[u8]) -> Result<(), NoMemory>
+        ensures ok { OnOk result (self.new ≡ self.old ++ (front.now ++ back.now)) }
+        ensures err { OnErr result (self.new ≡ self.old) }
+    {
+        let before = self.bytes.len();
+        self.bytes.extend_from_slice(front)?;
+        if let Err(refused) = self.bytes.extend_from_slice(back) {
+            self.bytes.truncate(before);
+            return Err(NoMemory::from(refused));
+        }
+        Ok(())
+    }
+
     /// Puts one byte at the end.
     pub fn push(&mut self, byte: u8) -> Result<(), NoMemory>
         ensures ok { OnOk result (self.new ≡ self.old ++ byte ∷ []) }

@@ -1,8 +1,9 @@
 //! Reading fields from the left.
 
-ghost use Rattle.std.specs.Prelude.{◌≡◌, ◌<◌, ◌≤◌, ◌^◌, ◌⊎◌, take, length, Err, IfOk, IfErr, OnErr, IsErr, ◌↔◌};
+ghost use Rattle.std.specs.Prelude.{◌≡◌, ◌<◌, ◌≤◌, ◌^◌, ◌⊎◌, ℤ, pos, negsuc, ◌<ℤ◌, take, length, Err, IfOk, IfErr, OnErr, IsErr, ◌↔◌};
+ghost use Rattle.std.specs.Option.{option_copied};
 ghost use Rattle.std.specs.Int.{w8, w16, w32, w64};
-ghost use Rattle.kbytes.specs.declared.fault.ByteFault.TheVariants.{Short, LongVarint};
+ghost use Rattle.kbytes.specs.declared.fault.ByteFault.TheVariants.{Short, BadLength, LongVarint};
 
 use crate::fault::ByteFault;
 use crate::varint::{groups, signed};
@@ -30,9 +31,9 @@ impl<'a> Model for Reader<'a> {
 impl<'a> Reader<'a> {
     ghost use Rattle.kbytes.specs.Cursor.{rest_of, moved};
     ghost use Rattle.kbytes.specs.Octets.{IsBytes};
-    ghost use Rattle.kbytes.specs.Field.{Int8, Int16, Int32, Uint32, Int64, Varint, Varlong, zigzag};
-    ghost use Rattle.kbytes.specs.Fronts.{EndWithinVarint, BeginWith};
-    ghost use Rattle.kbytes.specs.Reading.{Gives, Spells, integer_at, unsigned_at, grouped_at, varint_at, varlong_at};
+    ghost use Rattle.kbytes.specs.Field.{Int8, Int16, Int32, Uint32, Int64, String, NullableString, Records, Array, Varint, Varlong, zigzag};
+    ghost use Rattle.kbytes.specs.Fronts.{EndWithinVarint, BeginWith, HasLength, EndWithinSized};
+    ghost use Rattle.kbytes.specs.Reading.{Gives, Spells, integer_at, unsigned_at, after_length, counted_after, sized_at, string_at, array_at, grouped_at, varint_at, varlong_at};
 
     /// A reader at the front of the bytes.
     pub fn new(bytes: &'a [u8]) -> Reader<'a>
@@ -179,5 +180,122 @@ impl<'a> Reader<'a> {
         ensures unchanged { OnErr result (self.new ≡ self.old) }
     {
         self.grouped(9, 1 << 64)
+    }
+
+    // A reader at the same place.
+    fn ahead(&self) -> Reader<'a>
+        ensures same { result ≡ self.now }
+        ensures bytes { IsBytes (rest_of self.now) }
+    {
+        Reader {
+            bytes: self.bytes,
+            at: self.at,
+        }
+    }
+
+    // So many bytes behind a length that was read ahead.
+    fn counted(&mut self, ahead: Reader<'a>, length: i64) -> Result<&'a [u8], ByteFault>
+        ensures exact { Gives (λ part. part.now) self.old self.new result (counted_after self.old (length, ahead.entry)) }
+    {
+        if length < 0 {
+            return Err(ByteFault::BadLength {
+                at: self.at,
+                value: length,
+            });
+        }
+        let mut ahead = ahead;
+        match ahead.next(length as usize) {
+            Err(_) => Err(ByteFault::Short { at: self.at }),
+            Ok(part) => {
+                *self = ahead;
+                Ok(part)
+            }
+        }
+    }
+
+    // The same where the length -1 stands for null.
+    fn nullable(&mut self, ahead: Reader<'a>, length: i64) -> Result<Option<&'a [u8]>, ByteFault>
+        ensures exact { Gives option_copied self.old self.new result (after_length self.old (length, ahead.entry)) }
+    {
+        if length == -1 {
+            *self = ahead;
+            return Ok(None);
+        }
+        let part = self.counted(ahead, length)?;
+        Ok(Some(part))
+    }
+
+    /// The bytes behind a length of two bytes, which is 0 or more.
+    #[tactic(auto, unfolding(crate::specs::Reading::string_at, crate::specs::Reading::sized_at))]
+    pub fn string(&mut self) -> Result<&'a [u8], ByteFault>
+        ensures exact { Gives (λ v. v.now) self.old self.new result (string_at self.old) }
+        ensures read { IfOk result (λ v. Spells self.old self.new (String v.now)) }
+        ensures short { (result ≡ Err (Short self.old.at)) ↔ EndWithinSized w16 (rest_of self.old) }
+        ensures bad_length { (n : ℤ) → (result ≡ Err (BadLength self.old.at n))
+            ↔ (HasLength w16 n (rest_of self.old) × (n <ℤ pos 0)) }
+        ensures place { IfErr result (λ e. (e ≡ Short self.old.at) ⊎ ((n : ℤ) × (e ≡ BadLength self.old.at n))) }
+        ensures unchanged { OnErr result (self.new ≡ self.old) }
+    {
+        let mut ahead = self.ahead();
+        let length = ahead.i16()?;
+        self.counted(ahead, i64::from(length))
+    }
+
+    /// The same, or `None` for the length -1.
+    #[tactic(auto, unfolding(crate::specs::Reading::sized_at))]
+    pub fn nullable_string(&mut self) -> Result<Option<&'a [u8]>, ByteFault>
+        ensures exact { Gives option_copied self.old self.new result (sized_at w16 self.old) }
+        ensures read { IfOk result (λ v. Spells self.old self.new (NullableString (option_copied v))) }
+        ensures short { (result ≡ Err (Short self.old.at)) ↔ EndWithinSized w16 (rest_of self.old) }
+        ensures bad_length { (n : ℤ) → (result ≡ Err (BadLength self.old.at n))
+            ↔ (HasLength w16 n (rest_of self.old) × (n <ℤ negsuc 0)) }
+        ensures place { IfErr result (λ e. (e ≡ Short self.old.at) ⊎ ((n : ℤ) × (e ≡ BadLength self.old.at n))) }
+        ensures unchanged { OnErr result (self.new ≡ self.old) }
+    {
+        let mut ahead = self.ahead();
+        let length = ahead.i16()?;
+        self.nullable(ahead, i64::from(length))
+    }
+
+    /// The bytes behind a length of four bytes, or `None` for the length -1.
+    #[tactic(auto, unfolding(crate::specs::Reading::sized_at))]
+    pub fn records(&mut self) -> Result<Option<&'a [u8]>, ByteFault>
+        ensures exact { Gives option_copied self.old self.new result (sized_at w32 self.old) }
+        ensures read { IfOk result (λ v. Spells self.old self.new (Records (option_copied v))) }
+        ensures short { (result ≡ Err (Short self.old.at)) ↔ EndWithinSized w32 (rest_of self.old) }
+        ensures bad_length { (n : ℤ) → (result ≡ Err (BadLength self.old.at n))
+            ↔ (HasLength w32 n (rest_of self.old) × (n <ℤ negsuc 0)) }
+        ensures place { IfErr result (λ e. (e ≡ Short self.old.at) ⊎ ((n : ℤ) × (e ≡ BadLength self.old.at n))) }
+        ensures unchanged { OnErr result (self.new ≡ self.old) }
+    {
+        let mut ahead = self.ahead();
+        let length = ahead.i32()?;
+        self.nullable(ahead, i64::from(length))
+    }
+
+    /// The count of four bytes that stands before the items of an array, or `None` for the count -1.
+    #[tactic(auto, unfolding(crate::specs::Reading::array_at))]
+    pub fn array(&mut self) -> Result<Option<u32>, ByteFault>
+        ensures exact { Gives (λ v. v) self.old self.new result (array_at self.old) }
+        ensures read { IfOk result (λ v. Spells self.old self.new (Array v)) }
+        ensures short { (result ≡ Err (Short self.old.at)) ↔ (length (rest_of self.old) < 4) }
+        ensures bad_length { (n : ℤ) → (result ≡ Err (BadLength self.old.at n))
+            ↔ (HasLength w32 n (rest_of self.old) × (n <ℤ negsuc 0)) }
+        ensures place { IfErr result (λ e. (e ≡ Short self.old.at) ⊎ ((n : ℤ) × (e ≡ BadLength self.old.at n))) }
+        ensures unchanged { OnErr result (self.new ≡ self.old) }
+    {
+        let mut ahead = self.ahead();
+        let count = ahead.i32()?;
+        if count < -1 {
+            return Err(ByteFault::BadLength {
+                at: self.at,
+                value: i64::from(count),
+            });
+        }
+        *self = ahead;
+        if count == -1 {
+            return Ok(None);
+        }
+        Ok(Some(count as u32))
     }
 }

@@ -1,0 +1,32 @@
+use Rattle.std.proofs.Common.{refl, rules}
+use Rattle.std.specs.Option.{option_copied}
+use Rattle.std.specs.Int.{w32}
+use Rattle.kbytes.specs.declared.fault.ByteFault.TheVariants.{Short, BadLength}
+use Rattle.kbytes.specs.Field.{Records}
+use Rattle.kbytes.specs.Reading.{Spells, sized_at}
+use Rattle.kbytes.proofs.Integers.{wide_32}
+use Rattle.kbytes.proofs.Sized.{reads, refuses, both, sized_spells, sized_short, sized_bad}
+use Rattle.kbytes.proofs.reader.Reader.records.Goals as goal
+
+pub returns-clause-exact : goal.returns-clause-exact
+unfolding sized_at
+returns-clause-exact c = search rules
+
+pub returns-clause-read : goal.returns-clause-read
+returns-clause-read c =
+    let old = c.args.self.now in
+    let new = c.nullable.new.self in
+    let bytes = c.ahead-ahead.ensures.bytes in
+    reads option_copied old new c.nullable.result (sized_at w32 old) (λ part. Spells old new (Records part)) (returns-clause-exact c) (λ part is. sized_spells w32 wide_32 old new part (Records part) refl bytes is)
+
+pub returns-clause-short : goal.returns-clause-short
+returns-clause-short c =
+    let old = c.args.self.now in
+    let new = c.nullable.new.self in
+    both (refuses option_copied old new c.nullable.result (sized_at w32 old) (Short old.at) (returns-clause-exact c)) (sized_short w32 wide_32 old c.ahead-ahead.ensures.bytes)
+
+pub returns-clause-bad_length : goal.returns-clause-bad_length
+returns-clause-bad_length c =
+    let old = c.args.self.now in
+    let new = c.nullable.new.self in
+    λ n. both (refuses option_copied old new c.nullable.result (sized_at w32 old) (BadLength old.at n) (returns-clause-exact c)) (sized_bad w32 wide_32 old c.ahead-ahead.ensures.bytes n)
