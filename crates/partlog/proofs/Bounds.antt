@@ -11,10 +11,10 @@ use Rattle.partlog.specs.Kept.{IsDense}
 use Rattle.partlog.specs.Position.{position_of, positions_of}
 
 -- the least of the log end and the positions of one replica more
-pub high-more : (events : List PartEvent) (end below high position : ℕ) → high ≡ fold min end (positions_of below events) → position ≡ position_of events (pos (below + 1)) → min high position ≡ fold min end (positions_of (below + 1) events)
-high-more events end below high position so_far next =
+pub high_more : (events : List PartEvent) (end below : ℕ) → fold min end (positions_of (below + 1) events) ≡ min (fold min end (positions_of below events)) (position_of events (pos (below + 1)))
+high_more events end below =
     let f = λ (replica : ℕ). position_of events (pos replica) in
-    ap (λ h. min h position) so_far ∙ ap (λ p. min (fold min end (positions_of below events)) p) next ∙ sym (fold_push min end (map f (range_with_len 1 below)) (f (below + 1))) ∙ ap (λ ps. fold min end ps) (sym (map-range_with_len_more f 1 below (below + 1) (omega arith)))
+    ap (λ ps. fold min end ps) (map-range_with_len_more f 1 below (below + 1) (omega arith)) ∙ fold_push min end (map f (range_with_len 1 below)) (f (below + 1))
 
 pub fold-min-le : (a : ℕ) (xs : List ℕ) → fold min a xs ≤ a
 fold-min-le a [] = omega arith
