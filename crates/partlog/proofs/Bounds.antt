@@ -20,10 +20,6 @@ pub fold-min-le : (a : ℕ) (xs : List ℕ) → fold min a xs ≤ a
 fold-min-le a [] = omega arith
 fold-min-le a (x ∷ xs) = omega (arith, fold-min-le (min a x) xs)
 
-filter-le-at : (here rest kept total : ℕ) (keeps : Bool) → kept ≤ rest → cond keeps (here + kept) kept ≤ here + rest
-filter-le-at here rest kept total true le = omega arith
-filter-le-at here rest kept total false le = omega arith
-
 pub sum_by-filter-le : {X : Type 0} (f : X → ℕ) (p : X → Bool) (xs : List X) → sum_by f (filter p xs) ≤ sum_by f xs
 sum_by-filter-le f p [] = omega arith
 sum_by-filter-le f p (x ∷ xs) =
