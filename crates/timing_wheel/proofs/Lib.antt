@@ -1,0 +1,6 @@
+-- what `put` and `take` leave of the rings
+pub mod Rings
+-- the level of a deadline
+pub mod Levels
+-- the bucket of each entry, and how many entries there are
+pub mod Slots
