@@ -4,3 +4,7 @@ pub mod Rings
 pub mod Levels
 -- the bucket of each entry, and how many entries there are
 pub mod Slots
+-- what a turn makes of an entry, and the parts of a turn
+pub mod Turns
+-- a whole level passed, and a whole turn
+pub mod Passes

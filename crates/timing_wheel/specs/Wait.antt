@@ -1,4 +1,4 @@
-use Rattle.std.specs.Prelude.{◌≡◌, ℕ, ◌+◌, ◌*◌, ◌/◌, ◌^◌, ◌<◌, ◌≤◌, List, Option, Some, None, slice_index_or}
+use Rattle.std.specs.Prelude.{◌≡◌, ℕ, ◌+◌, ◌*◌, ◌/◌, ◌^◌, ◌<◌, ◌≤◌, ◌⊎◌, List, Option, Some, None, slice_index_or}
 use Rattle.std.specs.Option.{option_map}
 use Rattle.timing_wheel.specs.declared.place.Place.{Place}
 use Rattle.timing_wheel.specs.declared.timer.Timer.{Timer}
@@ -24,6 +24,15 @@ pub record HasCome (moment : ℕ) (timer : Timer) : Type 0 where
 -- each entry waits
 unfoldable pub AllWait : ℕ → List (Option Timer) → Type 0
 AllWait moment slots = (id : ℕ) (timer : Timer) → slice_index_or slots id None ≡ Some timer → Waits moment timer
+
+-- in a turn from one moment to a later one that has done the levels below one: those entries wait at the later moment
+abbrev pub IsTurnedBelow : ℕ → ℕ → ℕ → Timer → Type 0
+IsTurnedBelow level now t timer = ((level ≤ level_of timer) × Waits now timer) ⊎ ((level_of timer < level) × Waits t timer)
+
+-- that of each entry
+unfoldable pub AllTurnedBelow : ℕ → ℕ → ℕ → List (Option Timer) → Type 0
+AllTurnedBelow level now t slots =
+    (id : ℕ) (timer : Timer) → slice_index_or slots id None ≡ Some timer → IsTurnedBelow level now t timer
 
 -- the buckets of all levels, one after another
 abbrev pub number_of : Place → ℕ

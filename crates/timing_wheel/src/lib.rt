@@ -6,8 +6,13 @@ mod entries;
 mod place;
 mod timer;
 mod turn;
+mod wheels;
 
 pub use due::Due;
 pub use place::Place;
 pub use timer::Timer;
+pub use wheels::Wheels;
 
+
+#[cfg(test)]
+mod tests;
