@@ -8,3 +8,7 @@ pub mod Slots
 pub mod Turns
 -- a whole level passed, and a whole turn
 pub mod Passes
+-- entries that wait, under an insert and a removal
+pub mod Waiting
+-- the due ids: who is among them, and their order
+pub mod DueIds

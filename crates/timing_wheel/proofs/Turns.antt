@@ -96,10 +96,10 @@ part-then t a b c x y z p q = record {
 count_push : (ids : List ℕ) (id q : ℕ) → count_by (λ x. x == q) (ids ++ id ∷ []) ≡ count_by (λ x. x == q) ids + cond (id == q) 1 0
 count_push ids id q = sum_by-append (λ (x : ℕ). cond (x == q) 1 0) ids (id ∷ []) ∙ ap (λ k. count_by (λ x. x == q) ids + k) (zero-add (cond (id == q) 1 0))
 
-counts_one : (id q : ℕ) → id ≡ q → cond {A = ℕ} (id == q) 1 0 ≡ 1
+pub counts_one : (id q : ℕ) → id ≡ q → cond {A = ℕ} (id == q) 1 0 ≡ 1
 counts_one id q e = grind (arith, nat_tests)
 
-counts_none : (id q : ℕ) → id ≢ q → cond {A = ℕ} (id == q) 1 0 ≡ 0
+pub counts_none : (id q : ℕ) → id ≢ q → cond {A = ℕ} (id == q) 1 0 ≡ 0
 counts_none id q e = grind (arith, nat_tests)
 
 -- a due entry is handed out

@@ -18,7 +18,7 @@ use std::marker::Model;
 /// Ids with deadlines, in buckets of eight wheels. Moments and deadlines are in milliseconds.
 #[derive(Debug, Drop)]
 pub struct Wheels {
-    now: u64,
+    moment: u64,
     entries: Entries,
 }
 
@@ -28,9 +28,9 @@ impl Model for Wheels {
 
     ghost Value = { Timers };
 
-    ghost view = { λ w. record { moment = w.now; slots = w.entries } };
+    ghost view = { λ w. record { moment = w.moment; slots = w.entries } };
 
-    ghost invariant = { λ w. AllWait w.now w.entries };
+    ghost invariant = { λ w. AllWait w.moment w.entries };
 }
 
 impl Wheels {
@@ -39,7 +39,7 @@ impl Wheels {
         ensures { IfOk result (λ w. w ≡ record { moment = 0; slots = replicate entries None }) }
     {
         let entries = Entries::new(alloc, entries)?;
-        Ok(Wheels { now: 0, entries })
+        Ok(Wheels { moment: 0, entries })
     }
 
     /// Lists an id with a deadline less than 2^31 ms ahead, in place of an older entry of the id. False where the deadline has
@@ -52,12 +52,12 @@ impl Wheels {
         ensures none { OnFalse result (self.new ≡ with_entry self.old id None) }
     {
         self.entries.take(id);
-        if deadline <= self.now {
+        if deadline <= self.moment {
             return false;
         }
         self.entries.put(id, Timer {
             deadline,
-            put: self.now,
+            put: self.moment,
         });
         true
     }
@@ -82,8 +82,8 @@ impl Wheels {
         ensures due { (id : ℕ) → Contains due.new.ids id ↔ IsDue t self.old id }
         ensures room { due.new.room ≡ due.old.room }
     {
-        turn(&mut self.entries, self.now, t, due);
-        self.now = t;
+        turn(&mut self.entries, self.moment, t, due);
+        self.moment = t;
         due.sort();
     }
 
@@ -91,7 +91,7 @@ impl Wheels {
     pub fn now(&self) -> u64
         ensures { result ≡ self.now.moment }
     {
-        self.now
+        self.moment
     }
 
     /// The place of an id, `None` exactly where it isn't listed.
