@@ -1,8 +1,8 @@
 -- The due ids: who is among them, and their order.
-use Rattle.std.proofs.Common.{⊎_elim, ◌≡◌, ◌≢◌, ◌==◌, ℕ, ◌+◌, ◌<◌, ◌≤◌, List, Option, Some, None, [], ◌∷◌, length, get_or, take, cond, zero, suc, count_by, Contains, IsSomeAnd, sym, ap, ◌∙◌, refl, arith, zero-add, length-take}
+use Rattle.std.proofs.Common.{⊎_elim, ◌≡◌, ◌≢◌, ◌==◌, ℕ, ◌+◌, ◌<◌, ◌≤◌, List, Option, Some, None, [], ◌∷◌, get_or, take, cond, suc, count_by, Contains, IsSomeAnd, ap, ◌∙◌, arith, zero-add, length-take}
 use Rattle.std.specs.List.{sum_by}
 use Rattle.std.specs.List.Sorted.{IsNonDecreasing, IsStrictlyIncreasing}
-use Rattle.std.proofs.lemmas.List.{get_or-take, get_or_default}
+use Rattle.std.proofs.lemmas.List.{get_or-take}
 use Rattle.std.proofs.lemmas.List.Sums.{sum_by-cons, get_or-le-sum_by, sum_by_more_le}
 use Rattle.std.proofs.lemmas.Bool.{cases_eq, cases_lt}
 use Rattle.timing_wheel.specs.declared.timer.Timer.{Timer}
@@ -20,9 +20,9 @@ contains_counted (x ∷ ids) q h =
     ⊎_elim
     (λ (same : x ≡ q). (0, omega arith, same))
     (λ (other : x ≢ q).
-        let none : is_it q x ≡ 0 = counts_none x q other in
-        let r = contains_counted ids q (omega arith) in
-        (suc r.0, let l = r.1 in omega arith, r.2))
+    let none : is_it q x ≡ 0 = counts_none x q other in
+    let r = contains_counted ids q (omega arith) in
+    (suc r.0, let l = r.1 in omega arith, r.2))
     (cases_eq x q)
 
 pub counted_contains : (ids : List ℕ) (q : ℕ) → Contains ids q → 0 < count_by (λ x. x == q) ids
@@ -38,15 +38,15 @@ rising_once ids up once k l =
     let le : q ≤ get_or ids (k + 1) 0 = up k (k + 1) 0 (omega arith) l in
     ⊎_elim
     (λ (same : get_or ids (k + 1) 0 ≡ q).
-        let front = take (k + 1) ids in
-        let long = length-take (k + 1) ids in
-        let first : get_or front k 0 ≡ q = get_or-take (k + 1) ids k 0 (omega arith) in
-        let a : is_it q (get_or front k 0) ≤ sum_by (is_it q) front = get_or-le-sum_by (is_it q) front k 0 (omega arith) in
-        let b : sum_by (is_it q) front + is_it q (get_or ids (k + 1) 0) ≤ count_by (λ x. x == q) ids = sum_by_more_le (is_it q) ids (k + 1) 0 l in
-        let one = counts_one (get_or front k 0) q first in
-        let two = counts_one (get_or ids (k + 1) 0) q same in
-        let most = once q in
-        absurd (omega arith))
+    let front = take (k + 1) ids in
+    let long = length-take (k + 1) ids in
+    let first : get_or front k 0 ≡ q = get_or-take (k + 1) ids k 0 (omega arith) in
+    let a : is_it q (get_or front k 0) ≤ sum_by (is_it q) front = get_or-le-sum_by (is_it q) front k 0 (omega arith) in
+    let b : sum_by (is_it q) front + is_it q (get_or ids (k + 1) 0) ≤ count_by (λ x. x == q) ids = sum_by_more_le (is_it q) ids (k + 1) 0 l in
+    let one = counts_one (get_or front k 0) q first in
+    let two = counts_one (get_or ids (k + 1) 0) q same in
+    let most = once q in
+    absurd (omega arith))
     (λ (other : get_or ids (k + 1) 0 ≢ q). omega arith)
     (cases_eq (get_or ids (k + 1) 0) q)
 

@@ -1,10 +1,10 @@
 -- The level of a deadline: it reaches it, no lower level does, and the bucket starts later than the moment of putting.
-use Rattle.std.proofs.Common.{⊎_elim, zero, suc, ◌^◌, ◌≡◌, ◌≢◌, ℕ, ◌+◌, ◌-◌, ◌*◌, ◌/◌, ◌%◌, ◌<◌, ◌≤◌, ◌⊎◌, sym, ap, ◌∙◌, refl, arith}
+use Rattle.std.proofs.Common.{⊎_elim, zero, suc, ◌^◌, ◌≡◌, ◌≢◌, ℕ, ◌+◌, ◌-◌, ◌*◌, ◌/◌, ◌%◌, ◌<◌, ◌≤◌, sym, ap, ◌∙◌, refl, arith}
 use Rattle.std.proofs.Math.Nat.{pow-suc, mul-le-mul_right, one-le-pow, div-one}
 use Rattle.std.proofs.lemmas.Nat.{div_below, le-div, div-add-mod'}
 use Rattle.std.proofs.lemmas.Bool.{cases_eq, cases_lt, cond_below, cond_above}
 use Rattle.timing_wheel.specs.declared.timer.Timer.{Timer}
-use Rattle.timing_wheel.specs.Place.{tick_of, end_of, least_from, level_of, span_of}
+use Rattle.timing_wheel.specs.Place.{tick_of, end_of, least_from, level_of}
 use Rattle.timing_wheel.specs.Wait.{IsNear, Waits, HasCome}
 
 -- the end of a wheel, in quotients
@@ -42,8 +42,8 @@ least_reaches (suc count) level d p k low high h =
     ⊎_elim
     (λ (here : d < end_of level p). rw (least_here count level d p here) (low, here))
     (λ (on : end_of level p ≤ d).
-        let other : level ≢ k = λ e. let same = ap (λ l. end_of l p) e in absurd (omega arith) in
-        rw (least_on count level d p on) (least_reaches count (level + 1) d p k (omega arith) (omega arith) h))
+    let other : level ≢ k = λ e. let same = ap (λ l. end_of l p) e in absurd (omega arith) in
+    rw (least_on count level d p on) (least_reaches count (level + 1) d p k (omega arith) (omega arith) h))
     (cases_lt d (end_of level p))
 
 pub least_not : (count level d p k : ℕ) → level ≤ k → k < least_from count level d p → end_of k p ≤ d
@@ -52,11 +52,11 @@ least_not (suc count) level d p k low high =
     ⊎_elim
     (λ (here : d < end_of level p). let e = least_here count level d p here in absurd (omega arith))
     (λ (on : end_of level p ≤ d).
-        let e = least_on count level d p on in
-        ⊎_elim
-        (λ (q : level ≡ k). rw (← q) on)
-        (λ (q : level ≢ k). least_not count (level + 1) d p k (omega arith) (omega arith))
-        (cases_eq level k))
+    let e = least_on count level d p on in
+    ⊎_elim
+    (λ (q : level ≡ k). rw (← q) on)
+    (λ (q : level ≢ k). least_not count (level + 1) d p k (omega arith) (omega arith))
+    (cases_eq level k))
     (cases_lt d (end_of level p))
 
 pub level_is : (timer : Timer) → level_of timer ≡ least_from 8 0 timer.deadline timer.put
@@ -92,18 +92,20 @@ search_goes_on timer level low near is h =
     let p = timer.put in
     let more : suc (8 - (level + 1)) ≡ 8 - level = omega arith in
     let beyond : end_of level p ≤ d =
-        ⊎_elim
-        (λ (t : d < end_of level p). let q = quotient_before (tick_of level) d p (tick_positive level) t in absurd (omega arith))
-        (λ (t : end_of level p ≤ d). t)
-        (cases_lt d (end_of level p)) in
+    ⊎_elim
+    (λ (t : d < end_of level p). let q = quotient_before (tick_of level) d p (tick_positive level) t in absurd (omega arith))
+    (λ (t : end_of level p ≤ d). t)
+    (cases_lt d (end_of level p)) in
     let next : level_of timer ≡ least_from (8 - (level + 1)) (level + 1) d p = is ∙ ap (λ n. least_from n level d p) (sym more) ∙ least_on (8 - (level + 1)) level d p beyond in
-    let low' = (near_level timer near).0 in
-    (⊎_elim
-      (λ (q : level ≡ 7).
+    let low' = (near_level timer near).0 in (
+      ⊎_elim
+          (λ (q : level ≡ 7).
           let none : least_from (8 - (level + 1)) (level + 1) d p ≡ 8 = ap (λ n. least_from (8 - (n + 1)) (n + 1) d p) q ∙ least_none 8 d p in
           absurd (omega arith))
-      (λ (q : level ≢ 7). omega arith)
-      (cases_eq level 7), next)
+          (λ (q : level ≢ 7). omega arith)
+          (cases_eq level 7),
+      next,
+    )
 
 -- the bucket starts later than the moment of putting
 
@@ -126,7 +128,7 @@ pub waits_when_put : (timer : Timer) → IsNear timer → Waits timer.put timer
 waits_when_put timer near = record {
   near = near;
   was_put = omega arith;
-  ahead = ahead_at timer (level_of timer) refl near
+  ahead = ahead_at timer (level_of timer) refl near;
 }
 
 -- an entry whose bucket has started, put again, goes to a lower level

@@ -1,5 +1,5 @@
 -- What `put` and `take` leave of the rings.
-use Rattle.std.proofs.Common.{⊎_elim, zero, suc, ◌^◌, eqb, ◌≡◌, ◌≢◌, ℕ, ◌+◌, ◌-◌, ◌<◌, ◌≤◌, ◌⊎◌, List, Option, Some, None, length, get_or, set, replicate, inl, inr, sym, ap, ◌∙◌, refl, arith, get_or-set_same, get_or-set_other, length-set, cond, ltb}
+use Rattle.std.proofs.Common.{⊎_elim, zero, suc, ◌^◌, eqb, ◌≡◌, ◌≢◌, ℕ, ◌+◌, ◌-◌, ◌<◌, ◌≤◌, ◌⊎◌, List, Option, Some, None, length, get_or, set, inl, inr, sym, ap, ◌∙◌, arith, get_or-set_same, get_or-set_other, length-set, cond}
 use Rattle.std.proofs.lemmas.List.{get_or_past}
 use Rattle.std.proofs.lemmas.Bool.{cases_eq, cases_lt}
 use Rattle.std.proofs.lemmas.Bool.Decides.{nat_tests}
@@ -48,13 +48,13 @@ module _ (n : ℕ) (f g : ℕ → ℕ) (h : ℕ → Option ℕ) (pn : (y : ℕ) 
         ⊎_elim
         (λ q. let r = ro l other in let t : rank' (g' y) < rank' y = rw q (rw gx (omega arith)) in inr t)
         (λ q.
-            let same_g = go y q (omega arith) in
-            let old = falls y low_y (λ z. some (ho y q ∙ z)) in
-            let np_y = np y (omega arith) in
-            let apart : g y ≢ x = λ z. q (sym np_y ∙ ap f z ∙ e) in
-            let r = ro y q in
-            let r' = ro (g y) apart in
-            ⊎_elim (λ (t : n ≤ g y). let u : n ≤ g' y = rw same_g t in inl u) (λ (t : rank (g y) < rank y). let u : rank' (g' y) < rank' y = rw same_g (omega arith) in inr u) old)
+        let same_g = go y q (omega arith) in
+        let old = falls y low_y (λ z. some (ho y q ∙ z)) in
+        let np_y = np y (omega arith) in
+        let apart : g y ≢ x = λ z. q (sym np_y ∙ ap f z ∙ e) in
+        let r = ro y q in
+        let r' = ro (g y) apart in
+        ⊎_elim (λ (t : n ≤ g y). let u : n ≤ g' y = rw same_g t in inl u) (λ (t : rank (g y) < rank y). let u : rank' (g' y) < rank' y = rw same_g (omega arith) in inr u) old)
         (cases_eq y x)
 
     pub put_all : (rank : ℕ → ℕ) → ((y : ℕ) → y < n → (h y ≢ None) → (n ≤ g y) ⊎ (rank (g y) < rank y)) → (rank' : ℕ → ℕ) → rank' x ≡ rank l + 1 → ((y : ℕ) → y ≢ x → rank' y ≡ rank y) → (h s ≢ None) → ((y : ℕ) → y < n + 160 → g' (f' y) ≡ y) × ((y : ℕ) → y < n + 160 → f' (g' y) ≡ y) × ((y : ℕ) → y < n + 160 → h' (f' y) ≡ h' y) × ((y : ℕ) → y < n → h' y ≡ None → f' y ≡ y) × ((y : ℕ) → y < n → (h' y ≢ None) → (n ≤ g' y) ⊎ (rank' (g' y) < rank' y))
@@ -104,14 +104,14 @@ module _ (n : ℕ) (f g : ℕ → ℕ) (h : ℕ → Option ℕ) (pn : (y : ℕ) 
         let old = falls y low_y (λ z. is (ho y no ∙ z)) in
         ⊎_elim
         (λ q.
-            let gy : g y ≡ x = ap g (q ∙ sym after) ∙ pn x (omega arith) in
-            let is_b : g' y ≡ b = ap g' q ∙ ga in
-            ⊎_elim (λ (t : n ≤ g y). absurd (omega arith))
-            (λ (t : rank (g y) < rank y).
-                ⊎_elim (λ (u : n ≤ g x). let v : n ≤ g' y = omega arith in inl v)
-                (λ (u : rank (g x) < rank x). let v : rank (g' y) < rank y = rw is_b (let w = ap rank gy in let z = ap rank before in omega arith) in inr v)
-                (falls x inside some))
-            old)
+        let gy : g y ≡ x = ap g (q ∙ sym after) ∙ pn x (omega arith) in
+        let is_b : g' y ≡ b = ap g' q ∙ ga in
+        ⊎_elim (λ (t : n ≤ g y). absurd (omega arith))
+        (λ (t : rank (g y) < rank y).
+        ⊎_elim (λ (u : n ≤ g x). let v : n ≤ g' y = omega arith in inl v)
+        (λ (u : rank (g x) < rank x). let v : rank (g' y) < rank y = rw is_b (let w = ap rank gy in let z = ap rank before in omega arith) in inr v)
+        (falls x inside some))
+        old)
         (λ q. let e = go y no q in ⊎_elim (λ (t : n ≤ g y). let v : n ≤ g' y = omega arith in inl v) (λ (t : rank (g y) < rank y). let v : rank (g' y) < rank y = rw e t in inr v) old)
         (cases_eq y a)
 
@@ -153,10 +153,10 @@ two_sets_within xs i j a b n h long la lb y l =
     ⊎_elim
     (λ (q : y ≡ j). rw (q, two_sets_second xs i j a b (omega arith)) lb)
     (λ (q : y ≢ j).
-        ⊎_elim
-        (λ (p : y ≡ i). rw (p, two_sets_first xs i j a b (λ z. q (p ∙ z)) (omega arith)) la)
-        (λ (p : y ≢ i). rw (two_sets xs i j a b y p q) (h y l))
-        (cases_eq y i))
+    ⊎_elim
+    (λ (p : y ≡ i). rw (p, two_sets_first xs i j a b (λ z. q (p ∙ z)) (omega arith)) la)
+    (λ (p : y ≢ i). rw (two_sets xs i j a b y p q) (h y l))
+    (cases_eq y i))
     (cases_eq y j)
 
 not_none : {o : Option ℕ} {v : ℕ} → o ≡ Some v → o ≢ None
@@ -188,13 +188,13 @@ IsRings-put homes next prev id bucket head last r within low free is_head is_las
     let next_long = r.next_length in
     let prev_long = r.prev_length in
     let all = put_all n f g h r.prev_next r.next_prev r.same_home r.alone id within f' g' h' head last (omega arith) (omega arith) is_last last_low is_free other
-        (two_sets_second next last id id head (omega arith))
-        (two_sets_first next last id id head other (omega arith))
-        (λ y p q. two_sets next last id id head y q p)
-        (two_sets_first prev id head last id (λ q. absurd (omega arith)) (omega arith))
-        (two_sets_second prev id head last id (omega arith))
-        (λ y p q. two_sets prev id head last id y p q)
-        hx ho r.rank r.falls rank' rank_id rank_other (not_none head_home) in
+    (two_sets_second next last id id head (omega arith))
+    (two_sets_first next last id id head other (omega arith))
+    (λ y p q. two_sets next last id id head y q p)
+    (two_sets_first prev id head last id (λ q. absurd (omega arith)) (omega arith))
+    (two_sets_second prev id head last id (omega arith))
+    (λ y p q. two_sets prev id head last id y p q)
+    hx ho r.rank r.falls rank' rank_id rank_other (not_none head_home) in
     record {
       next_length = length-set _ _ _ ∙ length-set _ _ _ ∙ next_long ∙ ap (λ k. k + 160) (sym long);
       prev_length = length-set _ _ _ ∙ length-set _ _ _ ∙ prev_long ∙ ap (λ k. k + 160) (sym long);
@@ -211,7 +211,7 @@ IsRings-put homes next prev id bucket head last r within low free is_head is_las
           ⊎_elim
           (λ (q : y ≡ id). let two : Some b ≡ Some bucket = sym e ∙ ap h' q ∙ hx ∙ head_home in let same : b ≡ bucket = cc in omega arith)
           (λ (q : y ≢ id). r.homes_within y b (omega arith) (sym (ho y q) ∙ e))
-          (cases_eq y id)
+          (cases_eq y id);
     }
 
 -- an id taken out of its ring
@@ -234,18 +234,18 @@ IsRings-take homes next prev id before after r within listed is_before is_after 
     let next_long = r.next_length in
     let prev_long = r.prev_length in
     let other : before ≢ id = λ q.
-        ⊎_elim (λ (t : n ≤ get_or prev id 0). absurd (omega arith))
-        (λ (t : r.rank (get_or prev id 0) < r.rank id). let e : r.rank (get_or prev id 0) ≡ r.rank id = ap r.rank (is_before ∙ q) in absurd (omega arith))
-        (r.falls id within some) in
+    ⊎_elim (λ (t : n ≤ get_or prev id 0). absurd (omega arith))
+    (λ (t : r.rank (get_or prev id 0) < r.rank id). let e : r.rank (get_or prev id 0) ≡ r.rank id = ap r.rank (is_before ∙ q) in absurd (omega arith))
+    (r.falls id within some) in
     let other_after : after ≢ id = λ q. other (sym is_before ∙ ap g (sym (is_after ∙ q)) ∙ r.prev_next id (omega arith)) in
     let all = take_all n f g h r.prev_next r.next_prev r.same_home r.alone id within f' g' h' before after is_before is_after before_low after_low
-        (two_sets_second next before id after id (omega arith))
-        (two_sets_first next before id after id other (omega arith))
-        (λ y p q. two_sets next before id after id y q p)
-        (two_sets_second prev after id before id (omega arith))
-        (two_sets_first prev after id before id other_after (omega arith))
-        (λ y p q. two_sets prev after id before id y q p)
-        hx ho r.rank r.falls some other in
+    (two_sets_second next before id after id (omega arith))
+    (two_sets_first next before id after id other (omega arith))
+    (λ y p q. two_sets next before id after id y q p)
+    (two_sets_second prev after id before id (omega arith))
+    (two_sets_first prev after id before id other_after (omega arith))
+    (λ y p q. two_sets prev after id before id y q p)
+    hx ho r.rank r.falls some other in
     record {
       next_length = length-set _ _ _ ∙ length-set _ _ _ ∙ next_long ∙ ap (λ k. k + 160) (sym long);
       prev_length = length-set _ _ _ ∙ length-set _ _ _ ∙ prev_long ∙ ap (λ k. k + 160) (sym long);
@@ -262,7 +262,7 @@ IsRings-take homes next prev id before after r within listed is_before is_after 
           ⊎_elim
           (λ (q : y ≡ id). absurd (not_none e (ap h' q ∙ hx)))
           (λ (q : y ≢ id). r.homes_within y b (omega arith) (sym (ho y q) ∙ e))
-          (cases_eq y id)
+          (cases_eq y id);
     }
 
 -- where a head follows itself, no id is in its bucket
@@ -285,16 +285,16 @@ module _ (homes : List (Option ℕ)) (next prev : List ℕ) (r : IsRings homes n
       let back_low = r.prev_within node (omega arith) in
       let home_back : home_of homes back ≡ Some bucket = sym (r.same_home back back_low) ∙ ap (λ y. home_of homes y) (r.next_prev node (omega arith)) ∙ e in
       let at_head : n ≤ back → ⊥ = λ t.
-          let a = home_of-head homes back t in
-          let c : back - n ≡ bucket = let d : Some (back - n) ≡ Some bucket = sym a ∙ home_back in cc in
-          let is_head : back ≡ n + bucket = omega arith in
-          let q : get_or next back 0 ≡ n + bucket = ap (λ y. get_or next y 0) is_head ∙ head_closed in
-          let u = r.next_prev node (omega arith) in
-          omega arith in
+      let a = home_of-head homes back t in
+      let c : back - n ≡ bucket = let d : Some (back - n) ≡ Some bucket = sym a ∙ home_back in cc in
+      let is_head : back ≡ n + bucket = omega arith in
+      let q : get_or next back 0 ≡ n + bucket = ap (λ y. get_or next y 0) is_head ∙ head_closed in
+      let u = r.next_prev node (omega arith) in
+      omega arith in
       ⊎_elim
       at_head
       (λ (t : r.rank back < r.rank node).
-          ⊎_elim (λ (u : back < n). none_below fuel back (omega arith) u home_back) (λ (u : n ≤ back). at_head u) (cases_lt back n))
+      ⊎_elim (λ (u : back < n). none_below fuel back (omega arith) u home_back) (λ (u : n ≤ back). at_head u) (cases_lt back n))
       (r.falls node l (not_none e))
 
   pub none_in_closed : (id : ℕ) → get_or homes id None ≡ Some bucket → ⊥
@@ -324,5 +324,5 @@ IsRings-new homes next prev empty fits a b f g = record {
   alone = λ y l e. f y (omega arith);
   rank = λ y. 0;
   falls = λ y l some. absurd (some (home_of-id homes y l ∙ empty y l));
-  homes_within = λ y v l e. absurd (not_none e (home_of-id homes y l ∙ empty y l))
+  homes_within = λ y v l e. absurd (not_none e (home_of-id homes y l ∙ empty y l));
 }

@@ -1,10 +1,9 @@
 -- The bucket of each entry, and how many entries there are.
-use Rattle.std.proofs.Common.{⊎_elim, ◌≡◌, ◌≢◌, ℕ, ◌+◌, ◌-◌, ◌<◌, ◌≤◌, List, Option, Some, None, [], ◌∷◌, length, get_or, set, map, replicate, is_some, cond, true, zero, suc, sym, ap, ◌∙◌, refl, arith}
-use Rattle.std.specs.List.{sum_by}
+use Rattle.std.proofs.Common.{⊎_elim, ◌≡◌, ℕ, ◌+◌, ◌<◌, ◌≤◌, List, Option, Some, None, ◌∷◌, length, get_or, set, map, replicate, is_some, cond, true, zero, suc, sym, ap, ◌∙◌, refl, arith}
 use Rattle.std.specs.Option.{IfNone}
 use Rattle.std.proofs.Math.Nat.{mul-zero}
 use Rattle.std.proofs.lemmas.List.Folds.{sum_by-replicate}
-use Rattle.std.proofs.lemmas.List.{get_or-map, get_or_past, length-map, map-set}
+use Rattle.std.proofs.lemmas.List.{get_or-map, get_or_past, length-map}
 use Rattle.std.proofs.lemmas.List.Sums.{sum_by-set, count_by-le-length}
 use Rattle.std.proofs.lemmas.Bool.{cases_lt}
 use Rattle.timing_wheel.specs.declared.timer.Timer.{Timer}
@@ -26,8 +25,8 @@ bucket_at slots id =
     ⊎_elim
     (λ (l : id < length slots). get_or-map bucket_of slots id None None l)
     (λ (l : length slots ≤ id).
-        get_or_past (map bucket_of slots) id None (rw length-map l)
-        ∙ sym (ap bucket_of (get_or_past slots id None l) ∙ bucket_of-none))
+    get_or_past (map bucket_of slots) id None (rw length-map l)
+    ∙ sym (ap bucket_of (get_or_past slots id None l) ∙ bucket_of-none))
     (cases_lt id (length slots))
 
 -- an entry has a bucket

@@ -1,9 +1,9 @@
 -- What a turn makes of an entry, and the parts of a turn.
-use Rattle.std.proofs.Common.{⊎_elim, ◌≡◌, ◌≢◌, ◌==◌, ℕ, ◌+◌, ◌-◌, ◌*◌, ◌/◌, ◌%◌, ◌<◌, ◌≤◌, ◌⊎◌, ◌^◌, inl, inr, List, Option, Some, None, [], ◌∷◌, ◌++◌, length, get_or, set, map, is_some, cond, true, false, zero, suc, count_by, sym, ap, ◌∙◌, refl, zero-add, subst, ◌&&◌, arith, length-append, length-set, get_or-set_same, get_or-set_other, eqb, leb}
+use Rattle.std.proofs.Common.{⊎_elim, ◌≡◌, ◌≢◌, ◌==◌, ℕ, ◌+◌, ◌*◌, ◌/◌, ◌<◌, ◌≤◌, ◌⊎◌, inl, inr, List, Option, Some, None, [], ◌∷◌, ◌++◌, length, get_or, set, is_some, cond, zero, suc, count_by, sym, ap, ◌∙◌, refl, zero-add, subst, ◌&&◌, arith, length-append, get_or-set_same, get_or-set_other, leb}
 use Rattle.std.specs.List.{sum_by}
 use Rattle.std.proofs.Math.Nat.{mul-le-mul_right, div-one}
 use Rattle.std.proofs.Math.Seq.{map-set_same}
-use Rattle.std.proofs.lemmas.Nat.{le-div, div-add-mod'}
+use Rattle.std.proofs.lemmas.Nat.{div-add-mod'}
 use Rattle.std.proofs.lemmas.List.Sums.{sum_by-append, sum_by-set}
 use Rattle.std.proofs.lemmas.Bool.{cases_eq, cases_lt}
 use Rattle.std.proofs.lemmas.Bool.Decides.{nat_tests}
@@ -14,8 +14,8 @@ use Rattle.timing_wheel.specs.Timers.{listed}
 use Rattle.timing_wheel.specs.Turn.{turned, bucket_start}
 use Rattle.timing_wheel.specs.DueList.{DueList}
 use Rattle.timing_wheel.specs.Wait.{IsNear, Waits, HasCome, bucket_of, number_of}
-use Rattle.timing_wheel.specs.Handover.{owed, handed, IsPartOfTurn}
-use Rattle.timing_wheel.proofs.Levels.{tick_positive, near_level, waits_when_put, lower_when_come}
+use Rattle.timing_wheel.specs.Handover.{owed, IsPartOfTurn}
+use Rattle.timing_wheel.proofs.Levels.{tick_positive, waits_when_put, lower_when_come}
 use Rattle.timing_wheel.proofs.Slots.{listed-take, bucket_of-none, bucket_of-some}
 
 -- the entry put again at moment t
@@ -51,6 +51,10 @@ upper_level t d (suc level) h past = omega arith
 pub turned-again : (t : ℕ) (timer : Timer) → HasCome t timer → t < timer.deadline → turned t (Some timer) ≡ Some (put_again t timer)
 unfolding turned
 turned-again t timer come past = by_tests_again t timer.deadline (bucket_start timer) (level_of timer) _ _ past (upper_level t timer.deadline (level_of timer) come.started past) (quotient_start timer.deadline t (span_of timer) come.started)
+
+-- the bucket of a waiting entry starts later
+pub waits_ahead : (t : ℕ) (timer : Timer) → Waits t timer → t < bucket_start timer
+waits_ahead t timer w = quotient_past timer.deadline t (span_of timer) (tick_positive (level_of timer)) w.ahead
 
 pub waits_past : (t : ℕ) (timer : Timer) → Waits t timer → t < timer.deadline
 waits_past t timer w =
@@ -90,7 +94,7 @@ part-then t a b c x y z p q = record {
   turns = q.turns ∙ p.turns;
   hands = λ id. q.hands id ∙ p.hands id;
   together = q.together ∙ p.together;
-  room = q.room ∙ p.room
+  room = q.room ∙ p.room;
 }
 
 count_push : (ids : List ℕ) (id q : ℕ) → count_by (λ x. x == q) (ids ++ id ∷ []) ≡ count_by (λ x. x == q) ids + cond (id == q) 1 0
@@ -111,17 +115,17 @@ part-due t slots id timer due l is h = record {
       let before : owed t (get_or slots id None) ≡ 1 = ap (owed t) is ∙ owed-due t timer h in
       ⊎_elim
       (λ (e : id ≡ q).
-          let after : owed t (get_or (set slots id None) q None) ≡ 0 = ap (owed t) (ap (λ k. get_or (set slots id None) k None) (sym e) ∙ get_or-set_same slots id None None l) ∙ owed-none t in
-          let here : owed t (get_or slots q None) ≡ 1 = ap (λ k. owed t (get_or slots k None)) (sym e) ∙ before in
-          let test = counts_one id q e in
-          omega arith)
+      let after : owed t (get_or (set slots id None) q None) ≡ 0 = ap (owed t) (ap (λ k. get_or (set slots id None) k None) (sym e) ∙ get_or-set_same slots id None None l) ∙ owed-none t in
+      let here : owed t (get_or slots q None) ≡ 1 = ap (λ k. owed t (get_or slots k None)) (sym e) ∙ before in
+      let test = counts_one id q e in
+      omega arith)
       (λ (e : id ≢ q).
-          let after : owed t (get_or (set slots id None) q None) ≡ owed t (get_or slots q None) = ap (owed t) (get_or-set_other slots id q None None (λ z. e (sym z))) in
-          let test = counts_none id q e in
-          omega arith)
+      let after : owed t (get_or (set slots id None) q None) ≡ owed t (get_or slots q None) = ap (owed t) (get_or-set_other slots id q None None (λ z. e (sym z))) in
+      let test = counts_none id q e in
+      omega arith)
       (cases_eq id q);
   together = let a = listed-take slots id l (ap is_some is) in let b = length-append due.ids (id ∷ []) in omega arith;
-  room = refl
+  room = refl;
 }
 
 abbrev one : Option Timer → ℕ
@@ -137,18 +141,18 @@ part-again t slots id timer due l is come past =
       hands = λ q.
           ⊎_elim
           (λ (e : id ≡ q).
-              let after : owed t (get_or (set slots id again) q None) ≡ 0 = ap (owed t) (ap (λ k. get_or (set slots id again) k None) (sym e) ∙ get_or-set_same slots id again None l) ∙ owed-past t (put_again t timer) past in
-              let here : owed t (get_or slots q None) ≡ 0 = ap (λ k. owed t (get_or slots k None)) (sym e) ∙ ap (owed t) is ∙ owed-past t timer past in
-              omega arith)
+          let after : owed t (get_or (set slots id again) q None) ≡ 0 = ap (owed t) (ap (λ k. get_or (set slots id again) k None) (sym e) ∙ get_or-set_same slots id again None l) ∙ owed-past t (put_again t timer) past in
+          let here : owed t (get_or slots q None) ≡ 0 = ap (λ k. owed t (get_or slots k None)) (sym e) ∙ ap (owed t) is ∙ owed-past t timer past in
+          omega arith)
           (λ (e : id ≢ q).
-              let after : owed t (get_or (set slots id again) q None) ≡ owed t (get_or slots q None) = ap (owed t) (get_or-set_other slots id q again None (λ z. e (sym z))) in
-              omega arith)
+          let after : owed t (get_or (set slots id again) q None) ≡ owed t (get_or slots q None) = ap (owed t) (get_or-set_other slots id q again None (λ z. e (sym z))) in
+          omega arith)
           (cases_eq id q);
       together =
           let e : listed (set slots id again) + one (get_or slots id None) ≡ listed slots + 1 = sum_by-set one slots id again None l in
           let f : one (get_or slots id None) ≡ 1 = ap one is in
           omega arith;
-      room = refl
+      room = refl;
     }
 
 -- what stands after an entry was turned: what stood there, or an entry that waits on a lower level
@@ -157,15 +161,15 @@ after_turned t slots id timer l come q x is =
     let slot = turned t (Some timer) in
     ⊎_elim
     (λ (e : id ≡ q).
-        let there : slot ≡ Some x = sym (get_or-set_same slots id slot None l) ∙ ap (λ k. get_or (set slots id slot) k None) e ∙ is in
-        ⊎_elim
-        (λ (past : t < timer.deadline).
-            let same : Some (put_again t timer) ≡ Some x = sym (turned-again t timer come past) ∙ there in
-            let is_again : put_again t timer ≡ x = cc in
-            let near = near_again t timer come past in
-            inr (subst (λ (y : Timer). (level_of y < level_of timer) × Waits t y) is_again (lower_when_come t timer come past, waits_when_put (put_again t timer) near)))
-        (λ (due : timer.deadline ≤ t). let no : None ≡ Some x = sym (turned-due t timer due) ∙ there in absurd cc)
-        (cases_lt t timer.deadline))
+    let there : slot ≡ Some x = sym (get_or-set_same slots id slot None l) ∙ ap (λ k. get_or (set slots id slot) k None) e ∙ is in
+    ⊎_elim
+    (λ (past : t < timer.deadline).
+    let same : Some (put_again t timer) ≡ Some x = sym (turned-again t timer come past) ∙ there in
+    let is_again : put_again t timer ≡ x = cc in
+    let near = near_again t timer come past in
+    inr (subst (λ (y : Timer). (level_of y < level_of timer) × Waits t y) is_again (lower_when_come t timer come past, waits_when_put (put_again t timer) near)))
+    (λ (due : timer.deadline ≤ t). let no : None ≡ Some x = sym (turned-due t timer due) ∙ there in absurd cc)
+    (cases_lt t timer.deadline))
     (λ (e : id ≢ q). inl (sym (get_or-set_other slots id q slot None (λ z. e (sym z))) ∙ is))
     (cases_eq id q)
 
@@ -207,12 +211,12 @@ in_bucket-turned : (t number : ℕ) (timer : Timer) → HasCome t timer → numb
 in_bucket-turned t number timer come e =
     ⊎_elim
     (λ (past : t < timer.deadline).
-        let lower = lower_when_come t timer come past in
-        let other : number_of (place_of (put_again t timer)) ≢ number = λ z. absurd (omega arith) in
-        ap (in_bucket number) (turned-again t timer come past)
-        ∙ ap (stands_in number) (bucket_of-some (put_again t timer))
-        ∙ stands_in-some number (number_of (place_of (put_again t timer)))
-        ∙ counts_none _ number other)
+    let lower = lower_when_come t timer come past in
+    let other : number_of (place_of (put_again t timer)) ≢ number = λ z. absurd (omega arith) in
+    ap (in_bucket number) (turned-again t timer come past)
+    ∙ ap (stands_in number) (bucket_of-some (put_again t timer))
+    ∙ stands_in-some number (number_of (place_of (put_again t timer)))
+    ∙ counts_none _ number other)
     (λ (due : timer.deadline ≤ t). ap (in_bucket number) (turned-due t timer due) ∙ ap (stands_in number) bucket_of-none ∙ stands_in-none number)
     (cases_lt t timer.deadline)
 
@@ -228,10 +232,12 @@ size_falls t number slots id timer l is come e =
 pub first_come : (old slots : List (Option Timer)) (place : Place) (t number id : ℕ) → number ≡ number_of place → place.bucket < 20 → ((q : ℕ) (x : Timer) → get_or old q None ≡ Some x → number_of (place_of x) ≡ number_of place → HasCome t x) → ((q : ℕ) (x : Timer) → get_or slots q None ≡ Some x → (get_or old q None ≡ Some x) ⊎ ((level_of x < place.level) × Waits t x)) → bucket_of (get_or slots id None) ≡ Some number → (timer : Timer) × (get_or slots id None ≡ Some timer) × (HasCome t timer) × (number_of (place_of timer) ≡ number_of place)
 first_come old slots place t number id same low come rest in_it =
     let b = bucket_timer (get_or slots id None) number in_it in
-    let e : number_of (place_of b.0) ≡ number_of place = b.2 ∙ same in
-    (b.0, b.1,
+    let e : number_of (place_of b.0) ≡ number_of place = b.2 ∙ same in (
+      b.0,
+      b.1,
       ⊎_elim
-      (λ (o : get_or old id None ≡ Some b.0). come id b.0 o e)
-      (λ (w : (level_of b.0 < place.level) × Waits t b.0). let l = number_on_level b.0 place w.0 in absurd (omega arith))
-      (rest id b.0 b.1),
-      e)
+          (λ (o : get_or old id None ≡ Some b.0). come id b.0 o e)
+          (λ (w : (level_of b.0 < place.level) × Waits t b.0). let l = number_on_level b.0 place w.0 in absurd (omega arith))
+          (rest id b.0 b.1),
+      e,
+    )

@@ -1,5 +1,5 @@
 -- Entries that wait, under an insert and a removal.
-use Rattle.std.proofs.Common.{⊎_elim, ◌≡◌, ◌≢◌, ℕ, ◌<◌, ◌≤◌, List, Option, Some, None, length, get_or, set, replicate, sym, ap, ◌∙◌, refl, subst, arith, get_or-set_same, get_or-set_other, length-set}
+use Rattle.std.proofs.Common.{⊎_elim, ◌≡◌, ◌≢◌, ℕ, ◌<◌, ◌≤◌, List, Option, Some, None, length, get_or, set, replicate, sym, ap, ◌∙◌, subst, arith, get_or-set_same, get_or-set_other, length-set}
 use Rattle.std.proofs.lemmas.List.{get_or_past, get_or-replicate, length-replicate}
 use Rattle.std.proofs.lemmas.Bool.{cases_eq, cases_lt}
 use Rattle.timing_wheel.specs.declared.timer.Timer.{Timer}
@@ -10,10 +10,10 @@ unfolding AllWait
 AllWait-take m slots id h = λ q e is.
     ⊎_elim
     (λ (same : q ≡ id).
-        ⊎_elim
-        (λ (l : id < length slots). let no : None ≡ Some e = sym (get_or-set_same slots id None None l) ∙ ap (λ k. get_or (set slots id None) k None) (sym same) ∙ is in absurd cc)
-        (λ (l : length slots ≤ id). let no : None ≡ Some e = sym (get_or_past (set slots id None) q None (rw length-set (omega arith))) ∙ is in absurd cc)
-        (cases_lt id (length slots)))
+    ⊎_elim
+    (λ (l : id < length slots). let no : None ≡ Some e = sym (get_or-set_same slots id None None l) ∙ ap (λ k. get_or (set slots id None) k None) (sym same) ∙ is in absurd cc)
+    (λ (l : length slots ≤ id). let no : None ≡ Some e = sym (get_or_past (set slots id None) q None (rw length-set (omega arith))) ∙ is in absurd cc)
+    (cases_lt id (length slots)))
     (λ (other : q ≢ id). h q e (sym (get_or-set_other slots id q None None other) ∙ is))
     (cases_eq q id)
 
@@ -22,9 +22,9 @@ unfolding AllWait
 AllWait-put m slots id timer l w h = λ q e is.
     ⊎_elim
     (λ (same : q ≡ id).
-        let there : Some timer ≡ Some e = sym (get_or-set_same slots id (Some timer) None l) ∙ ap (λ k. get_or (set slots id (Some timer)) k None) (sym same) ∙ is in
-        let it : timer ≡ e = cc in
-        subst (Waits m) it w)
+    let there : Some timer ≡ Some e = sym (get_or-set_same slots id (Some timer) None l) ∙ ap (λ k. get_or (set slots id (Some timer)) k None) (sym same) ∙ is in
+    let it : timer ≡ e = cc in
+    subst (Waits m) it w)
     (λ (other : q ≢ id). h q e (sym (get_or-set_other slots id q (Some timer) None other) ∙ is))
     (cases_eq q id)
 

@@ -1,6 +1,6 @@
 -- Nodes in rings: the nodes are the ids, and after them a head for each of the 160 buckets. Each ring has one head, and the ids of its
 -- bucket; an id in no bucket is a ring of its own.
-use Rattle.std.specs.Prelude.{◌≡◌, ◌≢◌, ℕ, ◌+◌, ◌-◌, ◌<◌, ◌≤◌, ◌⊎◌, ◌^◌, List, Option, Some, None, length, slice_index, slice_index_or, nat_lt, if◌then◌else◌}
+use Rattle.std.specs.Prelude.{◌≡◌, ℕ, ◌+◌, ◌-◌, ◌<◌, ◌≤◌, ◌⊎◌, ◌^◌, List, Option, Some, None, length, slice_index, slice_index_or, nat_lt, if◌then◌else◌}
 
 -- the bucket of a node
 unfoldable pub home_of : List (Option ℕ) → ℕ → Option ℕ
@@ -19,5 +19,5 @@ pub record IsRings (homes : List (Option ℕ)) (next prev : List ℕ) : Type 0 w
   pub alone : (node : ℕ) → node < length homes → home_of homes node ≡ None → slice_index next node ≡ node
   pub rank : ℕ → ℕ
   pub falls : (node : ℕ) → node < length homes → (home_of homes node ≡ None → ⊥)
-    → (length homes ≤ slice_index prev node) ⊎ (rank (slice_index prev node) < rank node)
+      → (length homes ≤ slice_index prev node) ⊎ (rank (slice_index prev node) < rank node)
   pub homes_within : (node : ℕ) (bucket : ℕ) → node < length homes → home_of homes node ≡ Some bucket → bucket < 160

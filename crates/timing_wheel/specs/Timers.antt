@@ -1,5 +1,6 @@
 -- The wheels as a caller sees them: a moment, and for each id its entry, if it is listed.
 use Rattle.std.specs.Prelude.{ℕ, List, Option, None, slice_index_or, slice_set, count_by, is_some, length}
+use Rattle.std.specs.Option.{option_map}
 use Rattle.timing_wheel.specs.declared.timer.Timer.{Timer}
 
 pub record Timers : Type 0 where
@@ -15,6 +16,10 @@ ids_of timers = length timers.slots
 -- the entry of an id, if it is listed
 abbrev pub entry_of : Timers → ℕ → Option Timer
 entry_of timers id = slice_index_or timers.slots id None
+
+-- the deadline of an id, if it is listed
+abbrev pub deadline_of : Timers → ℕ → Option ℕ
+deadline_of timers id = option_map (λ entry. entry.deadline) (entry_of timers id)
 
 -- the wheels with this entry, or none, for the id
 abbrev pub with_entry : Timers → ℕ → Option Timer → Timers

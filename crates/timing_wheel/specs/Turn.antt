@@ -14,8 +14,8 @@ turned t None = None
 turned t (Some timer) =
     if nat_le timer.deadline t then None
     else (if nat_le 1 (level_of timer) && nat_le (bucket_start timer) t
-      then Some (record { deadline = timer.deadline; put = t })
-      else Some timer)
+    then Some (record { deadline = timer.deadline; put = t })
+    else Some timer)
 
 -- the wheels turned to moment t
 abbrev pub turned_to : ℕ → Timers → Timers

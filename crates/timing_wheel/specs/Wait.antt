@@ -1,5 +1,4 @@
 use Rattle.std.specs.Prelude.{◌≡◌, ℕ, ◌+◌, ◌*◌, ◌/◌, ◌^◌, ◌<◌, ◌≤◌, ◌⊎◌, List, Option, Some, None, slice_index_or}
-use Rattle.std.specs.Option.{option_map}
 use Rattle.timing_wheel.specs.declared.place.Place.{Place}
 use Rattle.timing_wheel.specs.declared.timer.Timer.{Timer}
 use Rattle.timing_wheel.specs.Place.{level_of, span_of, place_of}

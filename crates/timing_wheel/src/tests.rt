@@ -1,24 +1,38 @@
 use super::*;
-use std::alloc::Global;
 use std::test::*;
-
-fn wheels(alloc: Global, entries: u32) -> Result<(Wheels, Due), Fail> {
-    let wheels = Wheels::new(alloc, entries).ok().ok_or("memory for the wheels")?;
-    let due = Due::new(alloc, entries).ok().ok_or("memory for the due ids")?;
-    Ok((wheels, due))
-}
 
 #[test]
 fn a_deadline_on_each_level(rt: HostRuntime) -> Result<(), Fail> {
-    let (mut wheels, mut due) = wheels(rt.alloc(), 8)?;
-    let deadlines = [19u64, 399, 7_999, 159_999, 3_199_999, 63_999_999, 1_279_999_999, 2_147_483_647];
-    for (id, deadline) in (0u32..8).zip(deadlines) {
-        assert!(rt; wheels.insert(id, deadline));
+    let mut wheels = Wheels::new(rt.alloc(), 8)
+        .ok()
+        .ok_or("memory for the wheels")?;
+    let mut due = Due::new(rt.alloc(), 8)
+        .ok()
+        .ok_or("memory for the due ids")?;
+    assert!(rt; wheels.insert(0, 19));
+    assert!(rt; wheels.insert(1, 399));
+    assert!(rt; wheels.insert(2, 7_999));
+    assert!(rt; wheels.insert(3, 159_999));
+    assert!(rt; wheels.insert(4, 3_199_999));
+    assert!(rt; wheels.insert(5, 63_999_999));
+    assert!(rt; wheels.insert(6, 1_279_999_999));
+    assert!(rt; wheels.insert(7, 2_147_483_647));
+    for id in 0u32..7 {
+        assert_eq!(rt;
+            wheels.where_is(id),
+            Some(Place {
+                level: id,
+                bucket: 19
+            })
+        );
     }
-    for id in 0u32..8 {
-        let bucket = if id == 7 { 1 } else { 19 };
-        assert_eq!(rt; wheels.where_is(id), Some(Place { level: id, bucket }));
-    }
+    assert_eq!(rt;
+        wheels.where_is(7),
+        Some(Place {
+            level: 7,
+            bucket: 1
+        })
+    );
     assert_eq!(rt; wheels.len(), 8);
     wheels.pop_due(2_147_483_648, &mut due);
     assert_eq!(rt; due.ids(), [0u32, 1, 2, 3, 4, 5, 6, 7].as_slice());
@@ -31,12 +45,29 @@ fn a_deadline_on_each_level(rt: HostRuntime) -> Result<(), Fail> {
 
 #[test]
 fn an_entry_is_put_again(rt: HostRuntime) -> Result<(), Fail> {
-    let (mut wheels, mut due) = wheels(rt.alloc(), 8)?;
+    let mut wheels = Wheels::new(rt.alloc(), 8)
+        .ok()
+        .ok_or("memory for the wheels")?;
+    let mut due = Due::new(rt.alloc(), 8)
+        .ok()
+        .ok_or("memory for the due ids")?;
     assert!(rt; wheels.insert(3, 25));
-    assert_eq!(rt; wheels.where_is(3), Some(Place { level: 1, bucket: 1 }));
+    assert_eq!(rt;
+        wheels.where_is(3),
+        Some(Place {
+            level: 1,
+            bucket: 1
+        })
+    );
     wheels.pop_due(20, &mut due);
     assert_eq!(rt; due.ids().len(), 0);
-    assert_eq!(rt; wheels.where_is(3), Some(Place { level: 0, bucket: 5 }));
+    assert_eq!(rt;
+        wheels.where_is(3),
+        Some(Place {
+            level: 0,
+            bucket: 5
+        })
+    );
     assert!(rt; !wheels.insert(3, 20));
     assert_eq!(rt; wheels.len(), 0);
     assert_eq!(rt; wheels.where_is(3), None);
@@ -45,15 +76,43 @@ fn an_entry_is_put_again(rt: HostRuntime) -> Result<(), Fail> {
 }
 
 #[test]
-fn a_removed_entry_is_not_due(rt: HostRuntime) -> Result<(), Fail> {
-    let (mut wheels, mut due) = wheels(rt.alloc(), 3)?;
-    assert!(rt; wheels.insert(2, 500));
-    assert!(rt; wheels.insert(0, 500));
-    assert!(rt; wheels.insert(1, 500));
-    assert!(rt; wheels.remove(0));
-    wheels.pop_due(499, &mut due);
+fn a_deadline_falls_through_three_levels(rt: HostRuntime) -> Result<(), Fail> {
+    let mut wheels = Wheels::new(rt.alloc(), 2)
+        .ok()
+        .ok_or("memory for the wheels")?;
+    let mut due = Due::new(rt.alloc(), 2)
+        .ok()
+        .ok_or("memory for the due ids")?;
+    assert!(rt; wheels.insert(1, 1_234));
+    assert_eq!(rt;
+        wheels.where_is(1),
+        Some(Place {
+            level: 2,
+            bucket: 3
+        })
+    );
+    wheels.pop_due(1_200, &mut due);
+    due.clear();
+    assert_eq!(rt;
+        wheels.where_is(1),
+        Some(Place {
+            level: 1,
+            bucket: 1
+        })
+    );
+    wheels.pop_due(1_220, &mut due);
+    due.clear();
+    assert_eq!(rt;
+        wheels.where_is(1),
+        Some(Place {
+            level: 0,
+            bucket: 14
+        })
+    );
+    wheels.pop_due(1_233, &mut due);
     assert_eq!(rt; due.ids().len(), 0);
-    wheels.pop_due(500, &mut due);
-    assert_eq!(rt; due.ids(), [1u32, 2].as_slice());
+    due.clear();
+    wheels.pop_due(1_234, &mut due);
+    assert_eq!(rt; due.ids(), [1u32].as_slice());
     Ok(())
 }

@@ -24,10 +24,13 @@ fn turn_entry(entries: &mut Entries, id: u32, t: u64, due: &mut Due)
         if timer.deadline <= t {
             due.push(id);
         } else {
-            entries.put(id, Timer {
-                deadline: timer.deadline,
-                put: t,
-            });
+            entries.put(
+                id,
+                Timer {
+                    deadline: timer.deadline,
+                    put: t,
+                },
+            );
         }
     }
 }
@@ -42,7 +45,7 @@ fn turn_bucket(entries: &mut Entries, place: Place, t: u64, due: &mut Due)
     ensures part { IsPartOfTurn t entries.old entries.new due.old due.new }
     ensures rest { (id : ℕ) (e : Entry) → slice_index_or entries.new id None ≡ Some e
         → ((slice_index_or entries.old id None ≡ Some e) × (number_of (place_of e) ≢ number_of place))
-            ⊎ ((level_of e < place.level) × Waits t e) }
+        ⊎ ((level_of e < place.level) × Waits t e) }
 {
     let number = place.number();
     while let Some(id) = entries.first(number) {

@@ -2,9 +2,10 @@ ghost use Rattle.std.specs.Prelude.{◌≡◌, ◌+◌, ◌^◌, ◌<◌, ◌≤
 ghost use Rattle.std.specs.Bool.{OnFalse, OnTrue};
 ghost use Rattle.std.specs.List.Sorted.{IsStrictlyIncreasing};
 ghost use Rattle.std.specs.Option.{option_map};
+ghost use Rattle.timing_wheel.specs.declared.timer.Timer.{Timer as Entry};
 ghost use Rattle.timing_wheel.specs.Place.{place_of};
-ghost use Rattle.timing_wheel.specs.Timers.{entry_of, ids_of, listed, with_entry};
-ghost use Rattle.timing_wheel.specs.Turn.{IsDue, turned_to};
+ghost use Rattle.timing_wheel.specs.Timers.{deadline_of, entry_of, ids_of, listed, with_entry};
+ghost use Rattle.timing_wheel.specs.Turn.{IsDue, bucket_start, turned_to};
 
 use crate::due::Due;
 use crate::entries::Entries;
@@ -55,10 +56,13 @@ impl Wheels {
         if deadline <= self.moment {
             return false;
         }
-        self.entries.put(id, Timer {
-            deadline,
-            put: self.moment,
-        });
+        self.entries.put(
+            id,
+            Timer {
+                deadline,
+                put: self.moment,
+            },
+        );
         true
     }
 
@@ -80,6 +84,8 @@ impl Wheels {
         ensures rest { self.new ≡ turned_to t self.old }
         ensures rising { IsStrictlyIncreasing due.new.ids }
         ensures due { (id : ℕ) → Contains due.new.ids id ↔ IsDue t self.old id }
+        ensures others { (id : ℕ) (deadline : ℕ) → (deadline_of self.new id ≡ Some deadline)
+            ↔ ((deadline_of self.old id ≡ Some deadline) × (t < deadline)) }
         ensures room { due.new.room ≡ due.old.room }
     {
         turn(&mut self.entries, self.moment, t, due);
@@ -101,6 +107,14 @@ impl Wheels {
     {
         let timer = self.entries.get(id)?;
         Some(timer.place())
+    }
+
+    /// Law: between calls each deadline is past the moment, and no bucket of a higher level that holds an entry has started.
+    pub fn entries_wait(&self)
+        ensures past { (id : ℕ) (e : Entry) → entry_of self.now id ≡ Some e → self.now.moment < e.deadline }
+        ensures ahead { (id : ℕ) (e : Entry) → entry_of self.now id ≡ Some e → self.now.moment < bucket_start e }
+    {
+        let _moment = self.moment;
     }
 
     /// How many ids are listed.

@@ -1,7 +1,4 @@
-use Rattle.std.proofs.Common.{◌≡◌, ◌+◌, ◌≤◌, ap, sym, ◌∙◌, ℕ, None, get_or, arith, Option, List, refl, subst, suc}
-use Rattle.timing_wheel.specs.declared.timer.Timer.{Timer}
-use Rattle.timing_wheel.specs.Place.{tick_of}
-use Rattle.timing_wheel.specs.Wait.{AllWait, AllTurnedBelow}
+use Rattle.std.proofs.Common.{◌≡◌, sym, ◌∙◌, arith, refl}
 use Rattle.timing_wheel.proofs.Turns.{part-none}
 use Rattle.timing_wheel.proofs.Passes.{none_turned_yet, all_turned, turned_stays, nothing_owed, tick_fits}
 use Rattle.timing_wheel.proofs.turn.turn.Goals as goal
@@ -10,7 +7,7 @@ pub loop-level-init : goal.loop-level-init
 loop-level-init c = record {
   tick = refl;
   part = part-none c.args.t c.args.entries.now c.args.due.now;
-  below = none_turned_yet c.args.now c.args.t c.args.entries.now c.requires.wait
+  below = none_turned_yet c.args.now c.args.t c.args.entries.now c.requires.wait;
 }
 
 pub overflow_mul-tick : goal.overflow_mul-tick

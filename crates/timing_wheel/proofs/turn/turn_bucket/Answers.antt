@@ -1,10 +1,9 @@
-use Rattle.std.proofs.Common.{◌≡◌, ◌≢◌, ◌<◌, ◌⊎◌, ⊎_elim, inl, inr, ap, sym, ◌∙◌, ℕ, None, Some, get_or, set, arith, Option, List, IfSome}
-use Rattle.timing_wheel.specs.declared.timer.Timer.{Timer}
-use Rattle.timing_wheel.specs.Place.{level_of, place_of}
+use Rattle.std.proofs.Common.{◌≡◌, ◌<◌, ⊎_elim, inl, inr, ap, sym, ◌∙◌, None, Some, get_or, set, arith}
+use Rattle.timing_wheel.specs.Place.{level_of}
 use Rattle.timing_wheel.specs.Turn.{turned}
-use Rattle.timing_wheel.specs.Wait.{HasCome, Waits, number_of, bucket_of}
+use Rattle.timing_wheel.specs.Wait.{Waits, bucket_of}
 use Rattle.timing_wheel.proofs.Slots.{bucket_of-some}
-use Rattle.timing_wheel.proofs.Turns.{part-then, first_come, size_falls, size_of, after_turned, level_from_number}
+use Rattle.timing_wheel.proofs.Turns.{part-then, first_come, size_falls, after_turned, level_from_number}
 use Rattle.timing_wheel.proofs.turn.turn_bucket.Goals as goal
 
 pub turn_entry-requires-clause-come : goal.turn_entry-requires-clause-come
@@ -29,13 +28,13 @@ loop-id-preserved c =
           ⊎_elim
           (λ (o : get_or c.loop-id.entries q None ≡ Some x). c.loop-id.invariant.rest q x o)
           (λ (w : (level_of x < level_of f.0) × Waits c.args.t x). inr (omega (arith, w.0), w.1))
-          (after_turned c.args.t c.loop-id.entries c.in-Some.id f.0 c.in-Some.ensures.within f.2 q x (ap (λ slots. get_or slots q None) (sym new) ∙ e))
+          (after_turned c.args.t c.loop-id.entries c.in-Some.id f.0 c.in-Some.ensures.within f.2 q x (ap (λ slots. get_or slots q None) (sym new) ∙ e));
     }
 
 pub returns-clause-rest : goal.returns-clause-rest
 returns-clause-rest c = λ q x e.
     ⊎_elim
     (λ (o : get_or c.args.entries.now q None ≡ Some x).
-        inl (o, λ same. c.in_default.ensures.none q (ap bucket_of e ∙ bucket_of-some x ∙ ap Some (same ∙ sym c.number-number.ensures.same))))
+    inl (o, λ same. c.in_default.ensures.none q (ap bucket_of e ∙ bucket_of-some x ∙ ap Some (same ∙ sym c.number-number.ensures.same))))
     (λ (w : (level_of x < c.args.place.level) × Waits c.args.t x). inr w)
     (c.loop-id.invariant.rest q x e)

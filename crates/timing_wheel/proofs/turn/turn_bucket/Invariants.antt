@@ -9,7 +9,7 @@ use Rattle.timing_wheel.proofs.turn.turn_bucket.Given as goal
 abbrev pub invariant-loop-id : goal.invariant-loop-id
 invariant-loop-id l = record {
   part : IsPartOfTurn l.t l.initial.entries l.entries l.initial.due l.due;
-  rest : (id : ℕ) (e : Timer) → get_or l.entries id None ≡ Some e → (get_or l.initial.entries id None ≡ Some e) ⊎ ((level_of e < l.fn.place.level) × Waits l.t e)
+  rest : (id : ℕ) (e : Timer) → get_or l.entries id None ≡ Some e → (get_or l.initial.entries id None ≡ Some e) ⊎ ((level_of e < l.fn.place.level) × Waits l.t e);
 }
 
 abbrev pub decreases-loop-id : goal.decreases-loop-id

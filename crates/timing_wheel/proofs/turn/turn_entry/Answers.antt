@@ -1,9 +1,7 @@
-use Rattle.std.proofs.Common.{◌≡◌, ap, sym, ◌∙◌, None, Some, get_or, set, arith, Option, List, IfSome}
-use Rattle.std.proofs.lemmas.List.{set-set, set-get_or}
-use Rattle.timing_wheel.specs.declared.timer.Timer.{Timer}
+use Rattle.std.proofs.Common.{◌≡◌, ap, sym, ◌∙◌, None, Some, get_or, set}
+use Rattle.std.proofs.lemmas.List.{set-set}
 use Rattle.timing_wheel.specs.Turn.{turned}
 use Rattle.timing_wheel.specs.Wait.{HasCome}
-use Rattle.timing_wheel.specs.Handover.{IsPartOfTurn}
 use Rattle.timing_wheel.proofs.Turns.{put_again, part-due, part-again, turned-due, turned-again, turned-none}
 use Rattle.timing_wheel.proofs.turn.turn_entry.Goals as goal
 
@@ -41,4 +39,3 @@ returns-in_default-clause-entry c =
     let old = c.args.entries.now in
     let is : get_or old c.args.id None ≡ None = sym c.take.ensures.entry ∙ c.in_default.is in
     c.take.ensures.rest ∙ ap (set old c.args.id) (sym (ap (turned c.args.t) is ∙ turned-none c.args.t))
-

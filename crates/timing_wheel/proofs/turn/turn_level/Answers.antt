@@ -1,9 +1,8 @@
-use Rattle.std.proofs.Common.{◌≡◌, ◌≢◌, ◌+◌, ◌/◌, ◌%◌, ◌<◌, ◌≤◌, ◌⊎◌, ⊎_elim, inl, inr, ap, sym, ◌∙◌, ℕ, None, Some, get_or, arith, Option, List, min, refl, ◌-◌}
+use Rattle.std.proofs.Common.{◌≡◌, ◌≢◌, ◌+◌, ◌/◌, ◌%◌, ◌<◌, ◌≤◌, ⊎_elim, inl, inr, ap, sym, ◌∙◌, arith}
 use Rattle.std.proofs.lemmas.Bool.{cases_eq}
-use Rattle.timing_wheel.specs.declared.timer.Timer.{Timer}
 use Rattle.timing_wheel.specs.declared.place.Place.{Place}
 use Rattle.timing_wheel.specs.Place.{tick_of, level_of, span_of}
-use Rattle.timing_wheel.specs.Wait.{HasCome, Waits, AllTurnedBelow}
+use Rattle.timing_wheel.specs.Wait.{Waits, AllTurnedBelow}
 use Rattle.timing_wheel.proofs.Levels.{tick_positive}
 use Rattle.timing_wheel.proofs.Turns.{part-none, level_from_number}
 use Rattle.timing_wheel.proofs.Passes.{come_from_bucket, waits_after}
@@ -22,13 +21,17 @@ loop-step-init c = record {
   below = λ id e is.
       ⊎_elim
       (λ (l : (c.args.level ≤ level_of e) × Waits c.args.now e).
-          inl (l.0, l.1, (λ same.
+      inl (
+        l.0,
+        l.1,
+        (λ same.
             let tick = c.requires.tick ∙ ap tick_of (sym same) in
             let n : c.args.now / c.args.tick ≡ c.args.now / span_of e = ap (λ u. c.args.now / u) tick in
             let ahead = l.1.ahead in
-            omega arith)))
+            omega arith),
+      ))
       (λ (w : (level_of e < c.args.level) × Waits c.args.t e). inr w)
-      (c.requires.below id e is)
+      (c.requires.below id e is);
 }
 
 pub turn_bucket-requires-clause-come : goal.turn_bucket-requires-clause-come
@@ -40,7 +43,7 @@ turn_bucket-requires-clause-come c = λ id e is number.
     let test = c.loop-step-test.true in
     ⊎_elim
     (λ (l : (c.args.level ≤ level_of e) × Waits c.args.now e × (level_of e ≡ c.args.level → c.args.now / c.args.tick + c.loop-step.step < e.deadline / span_of e)).
-        come_from_bucket c.args.now c.args.t c.args.tick c.loop-step.step e c.requires.later tick (omega arith) (omega arith) (omega arith) l.1 (l.2 same))
+    come_from_bucket c.args.now c.args.t c.args.tick c.loop-step.step e c.requires.later tick (omega arith) (omega arith) (omega arith) l.1 (l.2 same))
     (λ (w : (level_of e < c.args.level) × Waits c.args.t e). let low = w.0 in absurd (omega arith))
     (c.loop-step.invariant.below id e is)
 
@@ -51,11 +54,11 @@ returns-clause-below c = λ id e is.
     let test = c.loop-step-test.false in
     ⊎_elim
     (λ (l : (c.args.level ≤ level_of e) × Waits c.args.now e × (level_of e ≡ c.args.level → c.args.now / c.args.tick + c.loop-step.step < e.deadline / span_of e)).
-        ⊎_elim
-        (λ (same : level_of e ≡ c.args.level).
-            let tick = c.requires.tick ∙ ap tick_of (sym same) in
-            inr (omega arith, waits_after c.args.now c.args.t c.args.tick c.loop-step.step e c.requires.later tick (omega arith) l.1 (l.2 same)))
-        (λ (other : level_of e ≢ c.args.level). let low = l.0 in inl (omega arith, l.1))
-        (cases_eq (level_of e) c.args.level))
+    ⊎_elim
+    (λ (same : level_of e ≡ c.args.level).
+    let tick = c.requires.tick ∙ ap tick_of (sym same) in
+    inr (omega arith, waits_after c.args.now c.args.t c.args.tick c.loop-step.step e c.requires.later tick (omega arith) l.1 (l.2 same)))
+    (λ (other : level_of e ≢ c.args.level). let low = l.0 in inl (omega arith, l.1))
+    (cases_eq (level_of e) c.args.level))
     (λ (w : (level_of e < c.args.level) × Waits c.args.t e). let low = w.0 in inr (omega arith, w.1))
     (c.loop-step.invariant.below id e is)

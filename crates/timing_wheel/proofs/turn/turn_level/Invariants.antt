@@ -8,5 +8,5 @@ use Rattle.timing_wheel.proofs.turn.turn_level.Given as goal
 abbrev pub invariant-loop-step : goal.invariant-loop-step
 invariant-loop-step l = record {
   part : IsPartOfTurn l.t l.initial.entries l.entries l.initial.due l.due;
-  below : (id : ℕ) (e : Timer) → get_or l.entries id None ≡ Some e → ((l.level ≤ level_of e) × (Waits l.fn.now e) × (level_of e ≡ l.level → l.start + l.step < e.deadline / span_of e)) ⊎ ((level_of e < l.level) × Waits l.t e)
+  below : (id : ℕ) (e : Timer) → get_or l.entries id None ≡ Some e → ((l.level ≤ level_of e) × (Waits l.fn.now e) × (level_of e ≡ l.level → l.start + l.step < e.deadline / span_of e)) ⊎ ((level_of e < l.level) × Waits l.t e);
 }

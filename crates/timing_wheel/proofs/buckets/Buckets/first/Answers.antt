@@ -1,4 +1,4 @@
-use Rattle.std.proofs.Common.{rules, ap, ◌∙◌, sym, arith, ◌+◌, ◌≡◌, ◌<◌, length, List, Option, ℕ, get_or, refl}
+use Rattle.std.proofs.Common.{arith, ◌+◌, ◌≡◌, length, get_or}
 use Rattle.std.proofs.lemmas.List.{get_or_read}
 use Rattle.timing_wheel.proofs.Rings.{home_of_first, none_in_closed}
 use Rattle.timing_wheel.proofs.buckets.Buckets.first.Goals as goal

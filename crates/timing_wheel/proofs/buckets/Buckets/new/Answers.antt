@@ -1,5 +1,4 @@
-use Rattle.std.proofs.Common.{rules, ap, ◌∙◌, sym, arith, ◌+◌, ◌≡◌, length, replicate, None, Option, ℕ, List, Some}
-use Rattle.std.proofs.lemmas.Grind.{common_steps, elements}
+use Rattle.std.proofs.Common.{rules, arith, ◌≡◌, length, replicate, None}
 use Rattle.std.proofs.lemmas.List.{get_or-replicate}
 use Rattle.timing_wheel.proofs.Rings.{IsRings-new}
 use Rattle.timing_wheel.proofs.buckets.Buckets.new.Goals as goal

@@ -1,4 +1,4 @@
-use Rattle.std.proofs.Common.{rules, ap, ◌∙◌, sym, arith, ◌+◌, ◌≡◌, length, List, Option, ℕ}
+use Rattle.std.proofs.Common.{ap, sym, arith, ◌≡◌, length}
 use Rattle.std.proofs.lemmas.List.{get_or_read}
 use Rattle.timing_wheel.proofs.Rings.{IsRings-take}
 use Rattle.timing_wheel.proofs.buckets.Buckets.take.Goals as goal

@@ -1,4 +1,3 @@
-use Rattle.std.proofs.Common.{◌≡◌, ℕ}
 use Rattle.std.proofs.lemmas.List.Sorted.{IsNonDecreasingBy-from_sort}
 use Rattle.timing_wheel.proofs.due.Due.sort.Goals as goal
 

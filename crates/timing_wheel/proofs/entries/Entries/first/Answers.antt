@@ -1,4 +1,4 @@
-use Rattle.std.proofs.Common.{◌≡◌, ap, sym, ◌∙◌, get_or, None, map, ℕ, Option, List}
+use Rattle.std.proofs.Common.{◌≡◌, ap, ◌∙◌, get_or, None, ℕ, Option, List}
 use Rattle.timing_wheel.specs.declared.timer.Timer.{Timer}
 use Rattle.timing_wheel.specs.Wait.{bucket_of}
 use Rattle.timing_wheel.proofs.Slots.{bucket_at, IfNone-weaker}

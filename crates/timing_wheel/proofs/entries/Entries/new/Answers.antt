@@ -1,5 +1,4 @@
-use Rattle.std.proofs.Common.{rules, ◌≡◌, ap, sym, ◌∙◌, replicate, None, map, length, arith, ℕ, Option, List}
-use Rattle.timing_wheel.specs.declared.timer.Timer.{Timer}
+use Rattle.std.proofs.Common.{rules, ◌≡◌, ap, sym, ◌∙◌, replicate, None, map, length, arith}
 use Rattle.timing_wheel.specs.Timers.{listed}
 use Rattle.timing_wheel.specs.Wait.{bucket_of}
 use Rattle.timing_wheel.proofs.Slots.{map_none, listed-none}
@@ -12,5 +11,5 @@ invariant_of-result c =
     record {
       filed = c.in_ok-buckets.ensures ∙ map_none c.args.ids ∙ ap (map bucket_of) (sym timers);
       counted = sym (ap listed timers ∙ listed-none c.args.ids);
-      fits = omega arith
+      fits = omega arith;
     }

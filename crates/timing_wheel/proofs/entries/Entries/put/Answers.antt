@@ -1,7 +1,6 @@
-use Rattle.std.proofs.Common.{◌≡◌, ap, sym, ◌∙◌, None, Some, map, length, get_or, set, is_some, arith, ℕ, Option, List, true, length-set}
+use Rattle.std.proofs.Common.{◌≡◌, ap, sym, ◌∙◌, None, Some, map, length, get_or, set, arith, Option, List, length-set}
 use Rattle.std.proofs.lemmas.List.{map-set}
 use Rattle.timing_wheel.specs.declared.timer.Timer.{Timer}
-use Rattle.timing_wheel.specs.Place.{place_of}
 use Rattle.timing_wheel.specs.Wait.{bucket_of, number_of}
 use Rattle.timing_wheel.proofs.Slots.{bucket_at, bucket_of-none, bucket_of-some, listed-put, listed-le}
 use Rattle.timing_wheel.proofs.entries.Entries.put.Goals as goal
@@ -35,5 +34,5 @@ invariant_of-self c =
     record {
       filed = c.put.ensures ∙ ap (λ xs. set xs c.args.id (Some c.number.result)) c.self.invariant.filed ∙ ap (set (map bucket_of timers) c.args.id) number ∙ sym (map-set bucket_of timers c.args.id (Some c.args.timer));
       counted = omega arith;
-      fits = rw length-set c.self.invariant.fits
+      fits = rw length-set c.self.invariant.fits;
     }

@@ -1,8 +1,8 @@
-use Rattle.std.proofs.Common.{rules, arith, ◌≡◌, ◌<◌, ◌≤◌, ◌-◌, ◌/◌, ◌%◌, ◌*◌, ◌+◌, suc, ap, sym, refl, ◌∙◌, ℕ}
+use Rattle.std.proofs.Common.{arith, ◌/◌, ◌%◌, ◌*◌, suc, ap, sym, refl, ◌∙◌, ℕ}
 use Rattle.timing_wheel.specs.declared.place.Place.{Place}
-use Rattle.timing_wheel.specs.Place.{tick_of, level_of, least_from}
+use Rattle.timing_wheel.specs.Place.{tick_of}
 use Rattle.std.proofs.Math.Nat.{pow-suc}
-use Rattle.timing_wheel.proofs.Levels.{near_level, tick_positive, search_stops, search_goes_on, level_is}
+use Rattle.timing_wheel.proofs.Levels.{tick_positive, search_stops, search_goes_on, level_is}
 use Rattle.timing_wheel.proofs.timer.Timer.place.Goals as goal
 
 pub loop-tick-init : goal.loop-tick-init
@@ -33,5 +33,5 @@ returns c =
     record {
       place = ap (λ (t : ℕ). let p : Place = record { level = c.loop-tick.level; bucket = (c.args.self.deadline / t) % 20 } in p) i.tick ∙ ap place (sym e);
       level = i.low;
-      bucket = omega arith
+      bucket = omega arith;
     }

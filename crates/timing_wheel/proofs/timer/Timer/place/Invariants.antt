@@ -1,4 +1,4 @@
-use Rattle.std.proofs.Common.{◌≡◌, ◌+◌, ◌-◌, ◌<◌}
+use Rattle.std.proofs.Common.{◌≡◌, ◌-◌, ◌<◌}
 use Rattle.timing_wheel.specs.Place.{tick_of, least_from, level_of}
 use Rattle.timing_wheel.proofs.timer.Timer.place.Given as goal
 

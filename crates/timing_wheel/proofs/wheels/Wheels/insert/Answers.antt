@@ -1,8 +1,7 @@
-use Rattle.std.proofs.Common.{◌≡◌, ℕ, ◌+◌, ◌^◌, ◌<◌, List, Option, None, Some, set, length, ap, sym, ◌∙◌, arith, length-set}
+use Rattle.std.proofs.Common.{List, Option, None, Some, set, length, ap, ◌∙◌, arith}
 use Rattle.std.proofs.lemmas.List.{set-set}
 use Rattle.timing_wheel.specs.declared.timer.Timer.{Timer}
 use Rattle.timing_wheel.specs.Timers.{Timers, with_entry}
-use Rattle.timing_wheel.specs.Wait.{IsNear}
 use Rattle.timing_wheel.proofs.Levels.{waits_when_put}
 use Rattle.timing_wheel.proofs.Waiting.{AllWait-take, AllWait-put}
 use Rattle.timing_wheel.proofs.wheels.Wheels.insert.Goals as goal

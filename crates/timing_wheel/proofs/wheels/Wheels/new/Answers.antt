@@ -1,4 +1,3 @@
-use Rattle.std.proofs.Common.{rules}
 use Rattle.timing_wheel.proofs.Waiting.{AllWait-none}
 use Rattle.timing_wheel.proofs.wheels.Wheels.new.Goals as goal
 
