@@ -1,0 +1,4 @@
+-- the watchers of each key, as a caller sees them
+pub mod Watches
+-- what a shard's rows keep: rising ids below a limit, each under its key
+pub mod Row
