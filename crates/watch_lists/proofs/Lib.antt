@@ -1,0 +1,2 @@
+-- rows in rising order of id: a place, and what stands before and after it
+pub mod Rows

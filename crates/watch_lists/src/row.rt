@@ -26,6 +26,13 @@ fn place_in(row: &[Watch], id: u32) -> usize
     low
 }
 
+/// Whether the watcher at a place is of this id.
+fn has_id(row: &[Watch], place: usize, id: u32) -> bool
+    ensures { IsTrue result ↔ ((place < length row.now) × ((d : Watcher) → (slice_index_or row.now place d).id ≡ id)) }
+{
+    place < row.len() && row[place].id == id
+}
+
 /// Puts a watcher in its place, instead of another of its id.
 pub(crate) fn put(row: &mut Vec<Watch>, watch: Watch, ids: u32)
     requires row { IsRow watch.key ids row.old.items }
@@ -37,7 +44,7 @@ pub(crate) fn put(row: &mut Vec<Watch>, watch: Watch, ids: u32)
     ensures room { ids ≤ vec_capacity row.new }
 {
     let place = place_in(row, watch.id);
-    if place < row.len() && row[place].id == watch.id {
+    if has_id(row, place, watch.id) {
         row[place] = watch;
     } else {
         let _ = row.insert(place, watch);
@@ -52,11 +59,20 @@ pub(crate) fn take(row: &mut Vec<Watch>, id: u32, generation: u32) -> bool
     ensures room { vec_capacity row.new ≡ vec_capacity row.old }
 {
     let place = place_in(row, id);
-    if place < row.len() && row[place].id == id && row[place].generation == generation {
-        row.remove(place);
-        return true;
+    if !has_id(row, place, id) {
+        return false;
     }
-    false
+    if row[place].generation != generation {
+        return false;
+    }
+    row.remove(place);
+    true
+}
+
+fn is_live(watch: &Watch, live: &[u32]) -> bool
+    ensures { result ≡ is_live live.now watch.now }
+{
+    watch.generation == live.get(watch.id as usize).copied().unwrap_or(0)
 }
 
 /// Keeps the live watchers, and answers how many went.
@@ -65,7 +81,15 @@ pub(crate) fn keep_live(row: &mut Vec<Watch>, live: &[u32]) -> usize
     ensures count { result + length row.new.items ≡ length row.old.items }
     ensures room { vec_capacity row.new ≡ vec_capacity row.old }
 {
-    let before = row.len();
-    row.retain(|watch| live.get(watch.id as usize).copied().unwrap_or(0) == watch.generation);
-    before - row.len()
+    let len = row.len();
+    let mut kept = 0;
+    for at in 0..len {
+        let watch = row[at];
+        if is_live(&watch, live) {
+            row[kept] = watch;
+            kept += 1;
+        }
+    }
+    row.truncate(kept);
+    len - kept
 }
