@@ -9,6 +9,11 @@
 #![tactic(auto)]
 
 mod row;
+mod shard;
 mod watch;
 
+pub use shard::Shard;
 pub use watch::Watch;
+
+#[cfg(test)]
+mod tests;
