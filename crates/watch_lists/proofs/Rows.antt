@@ -1,10 +1,8 @@
 -- Rows in rising order of id: a place, and what stands before and after it.
-use Rattle.std.proofs.Common.{⊎_elim, ◌≡◌, ◌≢◌, ◌==◌, ℕ, ◌+◌, ◌-◌, ◌<◌, ◌≤◌, ◌⊎◌, ◌↔◌, inl, inr, List, [], ◌∷◌, ◌++◌, Bool, true, false, All, Any, AllPairs, filter, length, get_or, set, take, drop, insert, remove, cond, zero, suc, sym, ap, ◌∙◌, refl, arith, leb, ltb, not, ◌&&◌}
+use Rattle.std.proofs.Common.{⊎_elim, ◌≡◌, ◌≢◌, ℕ, ◌<◌, ◌≤◌, List, [], ◌∷◌, ◌++◌, Bool, true, false, All, Any, AllPairs, filter, length, get_or, set, take, drop, insert, remove, zero, suc, sym, ap, ◌∙◌, refl, arith, ltb, not}
 use Rattle.std.proofs.Math.Seq.{take-nil, drop-nil}
-use Rattle.std.proofs.lemmas.List.{get_or_default}
 use Rattle.std.proofs.lemmas.List.Elements.{All-cons, All-head, All-tail, All-append, All-filter, filter_passes}
 use Rattle.std.proofs.lemmas.List.Kept.{AllPairs-cons, AllPairs-filter}
-use Rattle.std.proofs.lemmas.List.Edits.{length-insert}
 use Rattle.std.proofs.lemmas.Bool.{cases_eq, cases_lt, lt-ltb, le-ltb, ltb-true}
 use Rattle.std.proofs.lemmas.Bool.Decides.{nat_tests}
 use Rattle.watch_lists.specs.declared.watch.Watch.{Watch}
@@ -55,29 +53,29 @@ module _ (row : List Watch) (watch : Watch) (place : ℕ) (rising : AllPairs (λ
   pub listing_insert : ((d : Watch) → place < length row → (get_or row place d).id ≢ watch.id) → insert row place watch ≡ listing watch row
   listing_insert other =
       let higher : filter (λ w. ltb watch.id w.id) row ≡ drop place row = filter_back (λ (w : Watch). ltb watch.id w.id) row place
-          (λ k d l m. let b = before k d l in le-ltb _ _ (omega arith))
-          (λ k d low l.
-            let a = after k d low l in
-            let up : watch.id < (get_or row k d).id =
-                ⊎_elim
-                (λ (e : k ≡ place). let o : (get_or row k d).id ≢ watch.id = rw e (other d (omega arith)) in omega arith)
-                (λ (e : k ≢ place). let r = rising place k d (omega arith) l in let b = after place d (omega arith) (omega arith) in omega arith)
-                (cases_eq k place) in
-            lt-ltb _ _ up) in
+      (λ k d l m. let b = before k d l in le-ltb _ _ (omega arith))
+      (λ k d low l.
+      let a = after k d low l in
+      let up : watch.id < (get_or row k d).id =
+      ⊎_elim
+      (λ (e : k ≡ place). let o : (get_or row k d).id ≢ watch.id = rw e (other d (omega arith)) in omega arith)
+      (λ (e : k ≢ place). let r = rising place k d (omega arith) l in let b = after place d (omega arith) (omega arith) in omega arith)
+      (cases_eq k place) in
+      lt-ltb _ _ up) in
       rw (lower, higher) refl
 
   -- in the place of another watcher of the id
   pub listing_set : place < length row → ((d : Watch) → (get_or row place d).id ≡ watch.id) → set row place watch ≡ listing watch row
   listing_set l same =
       let higher : filter (λ w. ltb watch.id w.id) row ≡ drop (suc place) row = filter_back (λ (w : Watch). ltb watch.id w.id) row (suc place)
-          (λ k d low m.
-            let le : (get_or row k d).id ≤ watch.id =
-                ⊎_elim
-                (λ (e : k ≡ place). let o : (get_or row k d).id ≡ watch.id = rw e (same d) in omega arith)
-                (λ (e : k ≢ place). let b = before k d (omega arith) in omega arith)
-                (cases_eq k place) in
-            le-ltb _ _ le)
-          (λ k d low m. let r = rising place k d (omega arith) m in let s = same d in let up : watch.id < (get_or row k d).id = omega arith in lt-ltb _ _ up) in
+      (λ k d low m.
+      let le : (get_or row k d).id ≤ watch.id =
+      ⊎_elim
+      (λ (e : k ≡ place). let o : (get_or row k d).id ≡ watch.id = rw e (same d) in omega arith)
+      (λ (e : k ≢ place). let b = before k d (omega arith) in omega arith)
+      (cases_eq k place) in
+      le-ltb _ _ le)
+      (λ k d low m. let r = rising place k d (omega arith) m in let s = same d in let up : watch.id < (get_or row k d).id = omega arith in lt-ltb _ _ up) in
       rw (lower, higher) (set_parts row place watch l)
 
 AllPairs-middle : (xs : List Watch) (y : Watch) (ys : List Watch) → AllPairs (λ a b. a.id < b.id) xs → AllPairs (λ a b. a.id < b.id) ys → All (λ a. a.id < y.id) xs → All (λ b. y.id < b.id) ys → AllPairs (λ a b. a.id < b.id) (xs ++ y ∷ ys)
@@ -105,7 +103,7 @@ IsRow-listing ids watch row r low numbered =
           (λ k d l. ltb-true _ _ (filter_passes above row k d l));
       keyed = All-listing (λ (w : Watch). w.key ≡ watch.key) watch row refl r.keyed;
       below = All-listing (λ (w : Watch). w.id < ids) watch row low r.below;
-      numbered = All-listing (λ (w : Watch). 1 ≤ w.generation) watch row numbered r.numbered
+      numbered = All-listing (λ (w : Watch). 1 ≤ w.generation) watch row numbered r.numbered;
     }
 
 -- a row that is filtered is one
@@ -114,7 +112,7 @@ IsRow-filter p key ids row r = record {
   rising = AllPairs-filter (λ (a b : Watch). a.id < b.id) p row r.rising;
   keyed = All-filter p (λ (w : Watch). w.key ≡ key) row r.keyed;
   below = All-filter p (λ (w : Watch). w.id < ids) row r.below;
-  numbered = All-filter p (λ (w : Watch). 1 ≤ w.generation) row r.numbered
+  numbered = All-filter p (λ (w : Watch). 1 ≤ w.generation) row r.numbered;
 }
 
 -- a row has no more watchers than there are ids
@@ -153,16 +151,16 @@ module _ (row : List Watch) (id place : ℕ) (rising : AllPairs (λ a b. a.id < 
   pub take_none : (generation : ℕ) → ((d : Watch) → place < length row → (get_or row place d).id ≡ id → (get_or row place d).generation ≡ generation → ⊥) → row ≡ filter (λ w. not (is_of id generation w)) row
   take_none generation no_one =
       sym (filter_whole (λ (w : Watch). not (is_of id generation w)) row (λ k d m. of_differs id generation (get_or row k d) (λ e f.
-        ⊎_elim
-        (λ (q : k ≡ place). no_one d (omega arith) (ap (λ n. (get_or row n d).id) (sym q) ∙ e) (ap (λ n. (get_or row n d).generation) (sym q) ∙ f))
-        (λ (q : k ≢ place). elsewhere k d q m e)
-        (cases_eq k place))))
+      ⊎_elim
+      (λ (q : k ≡ place). no_one d (omega arith) (ap (λ n. (get_or row n d).id) (sym q) ∙ e) (ap (λ n. (get_or row n d).generation) (sym q) ∙ f))
+      (λ (q : k ≢ place). elsewhere k d q m e)
+      (cases_eq k place))))
 
   pub no_watcher : (generation : ℕ) → ((d : Watch) → place < length row → (get_or row place d).id ≡ id → (get_or row place d).generation ≡ generation → ⊥) → Any (λ w. (w.id ≡ id) × (w.generation ≡ generation)) row → ⊥
   no_watcher generation no_one (k, w, l, is, of) =
       ⊎_elim
       (λ (q : k ≡ place).
-          let at : get_or row place w ≡ w = ap (λ n. get_or row n w) (sym q) ∙ is in
-          no_one w (omega arith) (ap (λ (x : Watch). x.id) at ∙ of.0) (ap (λ (x : Watch). x.generation) at ∙ of.1))
+      let at : get_or row place w ≡ w = ap (λ n. get_or row n w) (sym q) ∙ is in
+      no_one w (omega arith) (ap (λ (x : Watch). x.id) at ∙ of.0) (ap (λ (x : Watch). x.generation) at ∙ of.1))
       (λ (q : k ≢ place). elsewhere k w q l (ap (λ (x : Watch). x.id) is ∙ of.0))
       (cases_eq k place)

@@ -1,14 +1,14 @@
 -- The rows of a shard, one changed.
-use Rattle.std.proofs.Common.{⊎_elim, ◌≡◌, ◌≢◌, ℕ, ◌+◌, ◌*◌, ◌^◌, ◌<◌, ◌≤◌, ◌↔◌, List, [], ◌∷◌, ◌++◌, Vec, Global, Any, Contains, All, filter, length, get_or, set, take, drop, map, replicate, sum_by, vec_capacity, zero, suc, sym, ap, ◌∙◌, refl, subst, arith, length-set, get_or-set_same, get_or-set_other}
-use Rattle.std.proofs.lemmas.List.{get_or-map, get_or_default, get_or_past, length-map, map-set}
+use Rattle.std.proofs.Common.{⊎_elim, ◌≡◌, ◌≢◌, ℕ, ◌+◌, ◌*◌, ◌^◌, ◌<◌, ◌≤◌, ◌↔◌, List, [], ◌∷◌, ◌++◌, Vec, Global, Any, Contains, All, filter, length, get_or, set, take, drop, map, replicate, sum_by, vec_capacity, suc, sym, ap, ◌∙◌, refl, subst, arith, length-set, get_or-set_same, get_or-set_other}
+use Rattle.std.proofs.lemmas.List.{get_or-map, get_or_default, length-map, map-set}
 use Rattle.std.proofs.lemmas.List.Sums.{sum_by-le, sum_by-set, sum_by-cons}
 use Rattle.std.proofs.lemmas.List.Edits.{map_over_more}
-use Rattle.std.proofs.lemmas.Bool.{cases_eq, cases_lt}
+use Rattle.std.proofs.lemmas.Bool.{cases_eq}
 use Rattle.watch_lists.specs.declared.watch.Watch.{Watch}
 use Rattle.watch_lists.specs.Row.{IsRow}
 use Rattle.watch_lists.specs.Rows.{AreRows}
 use Rattle.watch_lists.specs.Watches.{Watches, row_of, with_row, is_live}
-use Rattle.watch_lists.proofs.Rows.{length-IsRow, IsRow-filter}
+use Rattle.watch_lists.proofs.Rows.{length-IsRow}
 
 -- what a shard's lists mean
 abbrev pub lists_of : List (Vec Watch Global) → List (List Watch)
@@ -47,7 +47,7 @@ AreRows-set ids rows key new are l ok room =
           (λ (e : k ≡ key). subst (λ (n : ℕ). ids ≤ vec_capacity (get_or (set rows key new) n d)) (sym e) (subst (λ (v : Vec Watch Global). ids ≤ vec_capacity v) (sym (get_or-set_same rows key new d l)) room))
           (λ (e : k ≢ key). subst (λ (v : Vec Watch Global). ids ≤ vec_capacity v) (sym (get_or-set_other rows key k new d e)) (are.room k d (omega arith)))
           (cases_eq k key);
-      small = rw long are.small
+      small = rw long are.small;
     }
 
 -- a watcher of an id and a generation is one with the row's key
@@ -56,12 +56,13 @@ same_watch : (a b : Watch) → a.key ≡ b.key → a.id ≡ b.id → a.generatio
 same_watch a b e f g = λ i. record { key = e i; id = f i; generation = g i }
 
 pub any_contains : (key ids id generation : ℕ) (row : List Watch) → IsRow key ids row → Any (λ w. (w.id ≡ id) × (w.generation ≡ generation)) row ↔ Contains row (record { key = key; id = id; generation = generation })
-any_contains key ids id generation row r =
-    ((λ (k, x, l, is, of).
-        let watch : Watch = record { key = key; id = id; generation = generation } in
-        let keyed : x.key ≡ key = ap (λ (w : Watch). w.key) (sym is) ∙ r.keyed k x l in
-        (k, l, get_or_default row k watch x l ∙ is ∙ same_watch x watch keyed of.0 of.1)),
-      (λ (k, l, is). let watch : Watch = record { key = key; id = id; generation = generation } in (k, watch, l, is, (refl, refl))))
+any_contains key ids id generation row r = (
+  (λ (k, x, l, is, of).
+      let watch : Watch = record { key = key; id = id; generation = generation } in
+      let keyed : x.key ≡ key = ap (λ (w : Watch). w.key) (sym is) ∙ r.keyed k x l in
+      (k, l, get_or_default row k watch x l ∙ is ∙ same_watch x watch keyed of.0 of.1)),
+  (λ (k, l, is). let watch : Watch = record { key = key; id = id; generation = generation } in (k, watch, l, is, (refl, refl))),
+)
 
 -- how many watchers there can be
 
@@ -109,14 +110,14 @@ IsRow-none key ids = record {
   rising = λ i j d l m. absurd (omega arith);
   keyed = λ k d l. absurd (omega arith);
   below = λ k d l. absurd (omega arith);
-  numbered = λ k d l. absurd (omega arith)
+  numbered = λ k d l. absurd (omega arith);
 }
 
 pub AreRows-new : (ids : ℕ) (rows : List (Vec Watch Global)) → ((k : ℕ) (d : Vec Watch Global) → k < length rows → (get_or rows k d).items ≡ []) → ((k : ℕ) (d : Vec Watch Global) → k < length rows → ids ≤ vec_capacity (get_or rows k d)) → length rows * ids ≤ 2 ^ 20 → AreRows ids rows
 AreRows-new ids rows none room small = record {
   row = λ k d l. subst (IsRow k ids) (sym (none k d l)) (IsRow-none k ids);
   room = room;
-  small = small
+  small = small;
 }
 
 -- each key's watchers are a row

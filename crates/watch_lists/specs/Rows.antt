@@ -1,4 +1,4 @@
-use Rattle.std.specs.Prelude.{◌≡◌, ℕ, ◌*◌, ◌<◌, ◌≤◌, ◌^◌, List, Vec, length, slice_index_or, vec_capacity}
+use Rattle.std.specs.Prelude.{ℕ, ◌*◌, ◌<◌, ◌≤◌, ◌^◌, List, Vec, length, slice_index_or, vec_capacity}
 use Rattle.std.specs.declared.alloc.Global.{Global}
 use Rattle.watch_lists.specs.declared.watch.Watch.{Watch}
 use Rattle.watch_lists.specs.Row.{IsRow}

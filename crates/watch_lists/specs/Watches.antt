@@ -1,5 +1,5 @@
 -- A shard of Kafka's purgatory keeps, for each key, who watches it.
-use Rattle.std.specs.Prelude.{◌≡◌, ℕ, List, [], ◌∷◌, ◌++◌, Bool, ◌==◌, ◌&&◌, nat_lt, not, filter, map, length, slice_index_or, slice_set, sum_by}
+use Rattle.std.specs.Prelude.{ℕ, List, [], ◌∷◌, ◌++◌, Bool, ◌==◌, ◌&&◌, nat_lt, filter, length, slice_index_or, slice_set, sum_by}
 use Rattle.watch_lists.specs.declared.watch.Watch.{Watch}
 
 pub record Watches : Type 0 where

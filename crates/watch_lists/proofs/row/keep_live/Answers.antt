@@ -1,8 +1,5 @@
-use Rattle.std.proofs.Common.{◌≡◌, ◌+◌, ◌≤◌, ap, sym, ◌∙◌, refl, arith, get_or, set, length, length-set, true, false, Vec, vec_capacity, vec_len, Global}
-use Rattle.std.proofs.lemmas.List.Filters.{FiltersInPlace, FiltersInPlace-more_no, FiltersInPlace-more_set}
-use Rattle.std.specs.Vec.{with_item}
-use Rattle.watch_lists.specs.declared.watch.Watch.{Watch}
-use Rattle.watch_lists.specs.Watches.{is_live}
+use Rattle.std.proofs.Common.{sym, ◌∙◌, arith, length-set}
+use Rattle.std.proofs.lemmas.List.Filters.{FiltersInPlace-more_no, FiltersInPlace-more_set}
 use Rattle.watch_lists.proofs.row.keep_live.Goals as goal
 use Rattle.watch_lists.proofs.row.keep_live.Goals.{then-is_live, else-is_live}
 
@@ -18,13 +15,13 @@ loop-at-preserved c =
             behind = omega arith;
             long = length-set _ _ _ ∙ i.long;
             room = i.room;
-            filters = FiltersInPlace-more_set i.filters (omega arith) (sym c.is_live.ensures ∙ w.if-is_live.true) c.index.ensures
+            filters = FiltersInPlace-more_set i.filters (omega arith) (sym c.is_live.ensures ∙ w.if-is_live.true) c.index.ensures;
           })
       | else-is_live w ↦
           rw (w.row-is, w.kept-is) (record {
             behind = omega arith;
             long = i.long;
             room = i.room;
-            filters = FiltersInPlace-more_no i.filters (omega arith) (sym c.is_live.ensures ∙ w.if-is_live.false) c.index.ensures
+            filters = FiltersInPlace-more_no i.filters (omega arith) (sym c.is_live.ensures ∙ w.if-is_live.false) c.index.ensures;
           })
     ]

@@ -1,4 +1,4 @@
-use Rattle.std.proofs.Common.{⊎_elim, ◌≡◌, ◌≢◌, ℕ, ◌+◌, ◌-◌, ◌/◌, ◌<◌, ◌≤◌, get_or, length, ap, ◌∙◌, arith}
+use Rattle.std.proofs.Common.{⊎_elim, ◌≡◌, ◌≢◌, ◌+◌, ◌-◌, ◌/◌, get_or, ap, ◌∙◌, arith}
 use Rattle.std.proofs.lemmas.Bool.{cases_eq}
 use Rattle.std.proofs.lemmas.List.{get_or_default}
 use Rattle.watch_lists.specs.declared.watch.Watch.{Watch}
@@ -24,7 +24,7 @@ loop-low-preserved-then-row-middle c =
           (λ (e : k ≡ middle). let at = ap (λ n. (get_or row n d).id) e ∙ there d in omega arith)
           (λ (e : k ≢ middle). let r = c.requires k middle d (omega arith) (omega arith) in let at = there d in omega arith)
           (cases_eq k middle);
-      after = i.after
+      after = i.after;
     }
 
 pub loop-low-preserved : goal.loop-low-preserved
@@ -47,5 +47,5 @@ loop-low-preserved c =
           ⊎_elim
           (λ (e : k ≡ middle). let at = ap (λ n. (get_or row n d).id) e ∙ there d in omega arith)
           (λ (e : k ≢ middle). let r = c.requires middle k d (omega arith) (omega arith) in let at = there d in omega arith)
-          (cases_eq k middle)
+          (cases_eq k middle);
     }

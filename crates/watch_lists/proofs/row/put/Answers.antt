@@ -1,9 +1,8 @@
-use Rattle.std.proofs.Common.{◌≡◌, ◌≢◌, ℕ, ◌+◌, ◌<◌, ◌≤◌, List, AllPairs, length, get_or, set, insert, ap, sym, ◌∙◌, refl, subst, arith, false, true, is_ok, IsOk, Result, Ok, Err, cond, Vec, vec_len, vec_capacity}
+use Rattle.std.proofs.Common.{◌≡◌, ◌≢◌, ◌<◌, List, AllPairs, length, get_or, set, insert, ap, sym, ◌∙◌, refl, subst, arith, false, true, cond}
 use Rattle.std.proofs.lemmas.List.{get_or_default}
 use Rattle.std.proofs.lemmas.List.Edits.{length-insert}
 use Rattle.watch_lists.specs.declared.watch.Watch.{Watch}
 use Rattle.watch_lists.specs.Watches.{listing}
-use Rattle.watch_lists.specs.Row.{IsRow}
 use Rattle.watch_lists.proofs.Rows.{listing_set, listing_insert, IsRow-listing, length-IsRow}
 use Rattle.watch_lists.proofs.row.put.Goals as goal
 use Rattle.watch_lists.proofs.row.put.Goals.{After-insert}
@@ -30,8 +29,8 @@ put_in c =
     let rising = subst (AllPairs (λ (a b : Watch). a.id < b.id)) (sym same) c.requires.row.rising in
     let long = ap length (same ∙ sym same') in
     let other : (d : Watch) → place < length c.deref.result.now → (get_or c.deref.result.now place d).id ≢ c.args.watch.id = λ d l e.
-        let no : false ≡ true = c.if-has_id.ensures.1 (omega arith, λ d'. ap (λ (r : List Watch). (get_or r place d').id) (same' ∙ sym same) ∙ ap (λ (w : Watch). w.id) (get_or_default c.deref.result.now place d' d l) ∙ e) in
-        absurd cc in
+    let no : false ≡ true = c.if-has_id.ensures.1 (omega arith, λ d'. ap (λ (r : List Watch). (get_or r place d').id) (same' ∙ sym same) ∙ ap (λ (w : Watch). w.id) (get_or_default c.deref.result.now place d' d l) ∙ e) in
+    absurd cc in
     subst (λ (r : List Watch). insert r place c.args.watch ≡ listing c.args.watch r) same
     (listing_insert c.deref.result.now c.args.watch place rising c.place_in-place.ensures.before c.place_in-place.ensures.after other)
 

@@ -1,4 +1,4 @@
-use Rattle.std.proofs.Common.{◌≡◌, ◌≢◌, ℕ, ◌+◌, ◌<◌, ◌≤◌, List, AllPairs, Any, filter, not, length, get_or, remove, ap, sym, ◌∙◌, refl, subst, arith, false, true}
+use Rattle.std.proofs.Common.{◌≡◌, ◌<◌, List, AllPairs, Any, filter, not, length, get_or, remove, ap, sym, ◌∙◌, refl, subst, arith, false, true}
 use Rattle.std.proofs.lemmas.List.{get_or_default, get_or_read}
 use Rattle.watch_lists.specs.declared.watch.Watch.{Watch}
 use Rattle.watch_lists.specs.Watches.{is_of}

@@ -1,4 +1,4 @@
-use Rattle.std.proofs.Common.{◌≡◌, ◌<◌, ◌∙◌, List, filter, not, length, get_or, ap, sym, subst, arith, Any, Contains}
+use Rattle.std.proofs.Common.{◌∙◌, List, filter, not, ap, sym, subst, arith, Contains}
 use Rattle.watch_lists.specs.declared.watch.Watch.{Watch}
 use Rattle.watch_lists.specs.Watches.{Watches, is_of, row_of, with_row}
 use Rattle.watch_lists.proofs.Rows.{IsRow-filter}
@@ -29,9 +29,10 @@ returns-clause-listed c =
     let row = row_ok s.ids s.rows.items c.self.invariant c.args.key l c.index_mut.result.now c.index_mut.ensures.value in
     let same = row_is s.ids s.rows.items c.self.invariant c.args.key l c.index_mut.result.now c.index_mut.ensures.value ∙ ap (λ (w : Watches). row_of w c.args.key) c.self.view_is in
     let watch : Watch = record { key = c.args.key; id = c.args.id; generation = c.args.generation } in
-    let both = any_contains c.args.key s.ids c.args.id c.args.generation c.index_mut.result.now.items row in
-    ((λ t. subst (λ (r : List Watch). Contains r watch) same (both.0 (c.take.ensures.listed.0 t))),
-      (λ in_it. c.take.ensures.listed.1 (both.1 (subst (λ (r : List Watch). Contains r watch) (sym same) in_it))))
+    let both = any_contains c.args.key s.ids c.args.id c.args.generation c.index_mut.result.now.items row in (
+      (λ t. subst (λ (r : List Watch). Contains r watch) same (both.0 (c.take.ensures.listed.0 t))),
+      (λ in_it. c.take.ensures.listed.1 (both.1 (subst (λ (r : List Watch). Contains r watch) (sym same) in_it))),
+    )
 
 pub returns-clause-rest : goal.returns-clause-rest
 returns-clause-rest c =

@@ -1,4 +1,4 @@
-use Rattle.std.proofs.Common.{◌≡◌, ◌<◌, ◌∙◌, List, length, get_or, ap, sym, subst, arith}
+use Rattle.std.proofs.Common.{◌∙◌, ap, arith}
 use Rattle.watch_lists.specs.declared.watch.Watch.{Watch}
 use Rattle.watch_lists.specs.Watches.{Watches, listing, row_of, with_row}
 use Rattle.watch_lists.proofs.Shards.{row_ok, row_room, changed, key_within, AreRows-set}
@@ -14,7 +14,7 @@ put-requires c =
       row = row_ok s.ids s.rows.items c.self.invariant c.args.key l c.index_mut.result.now c.index_mut.ensures.value;
       id = omega arith;
       generation = c.requires.generation;
-      room = row_room s.ids s.rows.items c.self.invariant c.args.key l c.index_mut.result.now c.index_mut.ensures.value
+      room = row_room s.ids s.rows.items c.self.invariant c.args.key l c.index_mut.result.now c.index_mut.ensures.value;
     }
 
 pub invariant_of-self : goal.invariant_of-self

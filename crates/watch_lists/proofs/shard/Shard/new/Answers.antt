@@ -1,7 +1,7 @@
-use Rattle.std.proofs.Common.{◌≡◌, ◌<◌, List, [], length, replicate, ap, ◌∙◌, arith, ℕ}
+use Rattle.std.proofs.Common.{◌≡◌, List, [], length, replicate, ap, ◌∙◌, arith, ℕ}
 use Rattle.watch_lists.specs.declared.watch.Watch.{Watch}
 use Rattle.watch_lists.specs.Watches.{Watches}
-use Rattle.watch_lists.proofs.Shards.{lists_none, AreRows-new}
+use Rattle.watch_lists.proofs.Shards.{lists_none}
 use Rattle.watch_lists.proofs.shard.Shard.new.Goals as goal
 
 pub returns : goal.returns

@@ -6,5 +6,5 @@ abbrev pub invariant-loop-key : goal.invariant-loop-key
 invariant-loop-key l = record {
   long : length l.rows.items ≡ l._key;
   none : (k : ℕ) (d : Vec Watch Global) → k < length l.rows.items → (get_or l.rows.items k d).items ≡ [];
-  room : (k : ℕ) (d : Vec Watch Global) → k < length l.rows.items → l.ids ≤ vec_capacity (get_or l.rows.items k d)
+  room : (k : ℕ) (d : Vec Watch Global) → k < length l.rows.items → l.ids ≤ vec_capacity (get_or l.rows.items k d);
 }

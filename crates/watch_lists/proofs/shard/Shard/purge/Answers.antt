@@ -1,10 +1,8 @@
-use Rattle.std.proofs.Common.{◌≡◌, ◌+◌, ◌≤◌, length, filter, ap, sym, ◌∙◌, arith, length-set, sum_by}
-use Rattle.watch_lists.specs.declared.watch.Watch.{Watch}
+use Rattle.std.proofs.Common.{◌∙◌, arith, length-set}
 use Rattle.watch_lists.specs.Watches.{is_live}
 use Rattle.watch_lists.proofs.Rows.{IsRow-filter}
 use Rattle.watch_lists.proofs.Shards.{row_ok, row_room, AreRows-set, filtered_so_far, sizes-set, size_small}
 use Rattle.watch_lists.proofs.shard.Shard.purge.Goals as goal
-
 
 -- the count so far is at most the size at the start
 pub overflow_add-removed : goal.overflow_add-removed
@@ -35,7 +33,7 @@ loop-key-preserved c =
       ids = i.ids;
       long = length-set _ _ _ ∙ i.long;
       live = filtered_so_far c.args.live.now s.rows.items c.self.inside.rows.items c.loop-key.key c.index_mut.result.now c.keep_live-removed.new.row (omega arith) i.live c.index_mut.ensures.value i.long c.keep_live-removed.ensures.items;
-      count = omega arith
+      count = omega arith;
     }
 
 pub overflow_cast-result : goal.overflow_cast-result

@@ -1,6 +1,4 @@
-use Rattle.std.proofs.Common.{◌≡◌, ◌<◌, List, [], Vec, Global, length, get_or, ap, sym, ◌∙◌, subst, arith, ℕ}
-use Rattle.std.proofs.lemmas.List.{get_or-map}
-use Rattle.watch_lists.specs.declared.watch.Watch.{Watch}
+use Rattle.std.proofs.Common.{subst}
 use Rattle.watch_lists.specs.Row.{IsRow}
 use Rattle.watch_lists.specs.Watches.{Watches, row_of}
 use Rattle.watch_lists.proofs.Shards.{key_within, rows_rise}
