@@ -11,7 +11,8 @@ const BUCKETS: usize = 160;
 #[derive(Debug, Drop)]
 pub(crate) struct Buckets {
     homes: Vec<Option<u8>>,
-    /// The nodes are the ids, and after them a head for each bucket: the buckets are rings, so no end is a case of its own.
+    /// The nodes are the ids, and after them a head for each bucket: the buckets are rings, so no
+    /// end is a case of its own.
     next: Vec<usize>,
     prev: Vec<usize>,
 }

@@ -59,8 +59,10 @@ impl Entries {
     pub(crate) fn first(&self, bucket: u8) -> Option<u32>
         requires { bucket < 160 }
         ensures within { IfSome result (λ id. id < length self.now) }
-        ensures some { IfSome result (λ id. bucket_of (slice_index_or self.now id None) ≡ Some bucket) }
-        ensures none { IfNone result ((id : ℕ) → bucket_of (slice_index_or self.now id None) ≢ Some bucket) }
+        ensures some { IfSome result
+            (λ id. bucket_of (slice_index_or self.now id None) ≡ Some bucket) }
+        ensures none { IfNone result
+            ((id : ℕ) → bucket_of (slice_index_or self.now id None) ≢ Some bucket) }
     {
         self.buckets.first(bucket)
     }

@@ -3,7 +3,8 @@ ghost use Rattle.timing_wheel.specs.Place.{end_of, level_of};
 
 use crate::timer::Timer;
 
-/// Law: a deadline less than 2^31 ms ahead has a level. Its wheel ends past the deadline, and no lower one does.
+/// Law: a deadline less than 2^31 ms ahead has a level. Its wheel ends past the deadline, and no
+/// lower one does.
 pub fn level_exists(timer: Timer)
     requires past { timer.put < timer.deadline }
     requires near { timer.deadline < timer.put + 2 ^ 31 }

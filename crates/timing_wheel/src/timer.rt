@@ -4,7 +4,8 @@ ghost use Rattle.timing_wheel.specs.Wait.{IsNear};
 
 use crate::place::Place;
 
-/// One entry of the wheels: its deadline, and the moment at which it was last put into a bucket, both in milliseconds.
+/// One entry of the wheels: its deadline, and the moment at which it was last put into a bucket,
+/// both in milliseconds.
 #[derive(Clone, Copy, Debug, PartialEq, Eq)]
 pub struct Timer {
     pub deadline: u64,
@@ -12,7 +13,8 @@ pub struct Timer {
 }
 
 impl Timer {
-    /// The least level whose wheel, at the moment of putting, ends past the deadline, and in it the bucket of the deadline.
+    /// The least level whose wheel, at the moment of putting, ends past the deadline, and in it the
+    /// bucket of the deadline.
     pub(crate) fn place(self) -> Place
         requires { IsNear self }
         ensures place { result ≡ place_of self }

@@ -17,7 +17,8 @@ fn turn_entry(entries: &mut Entries, id: u32, t: u64, due: &mut Due)
     requires within { id < length entries.old }
     requires come { IfSome (slice_index_or entries.old id None) (λ e. HasCome t e) }
     requires room { length due.old.ids + listed entries.old ≤ due.old.room }
-    ensures entry { entries.new ≡ slice_set entries.old id (turned t (slice_index_or entries.old id None)) }
+    ensures entry { entries.new
+        ≡ slice_set entries.old id (turned t (slice_index_or entries.old id None)) }
     ensures part { IsPartOfTurn t entries.old entries.new due.old due.new }
 {
     if let Some(timer) = entries.take(id) {
@@ -53,7 +54,8 @@ fn turn_bucket(entries: &mut Entries, place: Place, t: u64, due: &mut Due)
     }
 }
 
-/// Empties the buckets of a level that start after `now` and by `t`. A wheel has 20: a longer way passes each of them once.
+/// Empties the buckets of a level that start after `now` and by `t`. A wheel has 20: a longer way
+/// passes each of them once.
 fn turn_level(entries: &mut Entries, level: u32, tick: u64, now: u64, t: u64, due: &mut Due)
     requires level { level < 8 }
     requires tick { tick ≡ tick_of level }
@@ -71,14 +73,16 @@ fn turn_level(entries: &mut Entries, level: u32, tick: u64, now: u64, t: u64, du
     }
 }
 
-/// Turns the wheels from `now` to `t`: the lowest first, so that what is put again goes where the turn has been.
+/// Turns the wheels from `now` to `t`: the lowest first, so that what is put again goes where the
+/// turn has been.
 pub(crate) fn turn(entries: &mut Entries, now: u64, t: u64, due: &mut Due)
     requires later { now ≤ t }
     requires wait { AllWait now entries.old }
     requires room { length due.old.ids + listed entries.old ≤ due.old.room }
     ensures turned { entries.new ≡ map (turned t) entries.old }
     ensures wait { AllWait t entries.new }
-    ensures hands { (id : ℕ) → count_by (λ x. x == id) due.new.ids ≡ handed t entries.old due.old id }
+    ensures hands { (id : ℕ) → count_by (λ x. x == id) due.new.ids
+        ≡ handed t entries.old due.old id }
     ensures room { due.new.room ≡ due.old.room }
 {
     let mut tick: u64 = 1;

@@ -35,7 +35,8 @@ impl Model for Wheels {
 }
 
 impl Wheels {
-    /// Wheels at moment 0, with nothing listed, for the ids below `entries`. Nothing takes memory after this.
+    /// Wheels at moment 0, with nothing listed, for the ids below `entries`. Nothing takes memory
+    /// after this.
     pub fn new(alloc: Global, entries: u32) -> Result<Wheels, NoMemory>
         ensures { IfOk result (λ w. w ≡ record { moment = 0; slots = replicate entries None }) }
     {
@@ -43,13 +44,14 @@ impl Wheels {
         Ok(Wheels { moment: 0, entries })
     }
 
-    /// Lists an id with a deadline less than 2^31 ms ahead, in place of an older entry of the id. False where the deadline has
-    /// come: then the id isn't listed.
+    /// Lists an id with a deadline less than 2^31 ms ahead, in place of an older entry of the id.
+    /// False where the deadline has come: then the id isn't listed.
     pub fn insert(&mut self, id: u32, deadline: u64) -> bool
         requires id { id < ids_of self.old }
         requires near { self.old.moment < deadline → deadline < self.old.moment + 2 ^ 31 }
         ensures listed { IsTrue result ↔ (self.old.moment < deadline) }
-        ensures entry { OnTrue result (self.new ≡ with_entry self.old id (Some (record { deadline = deadline; put = self.old.moment }))) }
+        ensures entry { OnTrue result (self.new
+            ≡ with_entry self.old id (Some (record { deadline = deadline; put = self.old.moment }))) }
         ensures none { OnFalse result (self.new ≡ with_entry self.old id None) }
     {
         self.entries.take(id);
@@ -75,8 +77,9 @@ impl Wheels {
         self.entries.take(id).is_some()
     }
 
-    /// Turns the wheels to moment t. The ids that are due move to `due`, in rising order; an entry of a higher level whose bucket
-    /// has started is put again at t, and every other entry stays where it is.
+    /// Turns the wheels to moment t. The ids that are due move to `due`, in rising order; an entry
+    /// of a higher level whose bucket has started is put again at t, and every other entry stays
+    /// where it is.
     pub fn pop_due(&mut self, t: u64, due: &mut Due)
         requires later { self.old.moment ≤ t }
         requires empty { due.old.ids ≡ [] }
@@ -109,10 +112,13 @@ impl Wheels {
         Some(timer.place())
     }
 
-    /// Law: between calls each deadline is past the moment, and no bucket of a higher level that holds an entry has started.
+    /// Law: between calls each deadline is past the moment, and no bucket of a higher level that
+    /// holds an entry has started.
     pub fn entries_wait(&self)
-        ensures past { (id : ℕ) (e : Entry) → entry_of self.now id ≡ Some e → self.now.moment < e.deadline }
-        ensures ahead { (id : ℕ) (e : Entry) → entry_of self.now id ≡ Some e → self.now.moment < bucket_start e }
+        ensures past { (id : ℕ) (e : Entry) → entry_of self.now id ≡ Some e
+            → self.now.moment < e.deadline }
+        ensures ahead { (id : ℕ) (e : Entry) → entry_of self.now id ≡ Some e
+            → self.now.moment < bucket_start e }
     {
         let _moment = self.moment;
     }
