@@ -11,7 +11,8 @@ fn place_in(row: &[Watch], id: u32) -> usize
     requires { AllPairs (λ a b. a.id < b.id) row.now }
     ensures within { result ≤ length row.now }
     ensures before { (k : ℕ) (d : Watcher) → k < result → (slice_index_or row.now k d).id < id }
-    ensures after { (k : ℕ) (d : Watcher) → result ≤ k → k < length row.now → id ≤ (slice_index_or row.now k d).id }
+    ensures after { (k : ℕ) (d : Watcher) → result ≤ k → k < length row.now
+        → id ≤ (slice_index_or row.now k d).id }
 {
     let mut low = 0;
     let mut high = row.len();
@@ -28,7 +29,8 @@ fn place_in(row: &[Watch], id: u32) -> usize
 
 /// Whether the watcher at a place is of this id.
 fn has_id(row: &[Watch], place: usize, id: u32) -> bool
-    ensures { IsTrue result ↔ ((place < length row.now) × ((d : Watcher) → (slice_index_or row.now place d).id ≡ id)) }
+    ensures { IsTrue result ↔ ((place < length row.now)
+        × ((d : Watcher) → (slice_index_or row.now place d).id ≡ id)) }
 {
     place < row.len() && row[place].id == id
 }
@@ -54,7 +56,8 @@ pub(crate) fn put(row: &mut Vec<Watch>, watch: Watch, ids: u32)
 /// Takes the watcher of an id out, where it has this generation.
 pub(crate) fn take(row: &mut Vec<Watch>, id: u32, generation: u32) -> bool
     requires { AllPairs (λ a b. a.id < b.id) row.old.items }
-    ensures listed { IsTrue result ↔ Any (λ w. (w.id ≡ id) × (w.generation ≡ generation)) row.old.items }
+    ensures listed { IsTrue result
+        ↔ Any (λ w. (w.id ≡ id) × (w.generation ≡ generation)) row.old.items }
     ensures items { row.new.items ≡ filter (λ w. not (is_of id generation w)) row.old.items }
     ensures room { vec_capacity row.new ≡ vec_capacity row.old }
 {

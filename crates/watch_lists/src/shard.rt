@@ -28,7 +28,8 @@ impl Model for Shard {
 }
 
 impl Shard {
-    /// A shard with nothing listed, for the keys below `keys` and the ids below `ids`. Nothing takes memory after this.
+    /// A shard with nothing listed, for the keys below `keys` and the ids below `ids`. Nothing
+    /// takes memory after this.
     pub fn new(alloc: Global, keys: u32, ids: u32) -> Result<Shard, NoMemory>
         requires { keys * ids ≤ 2 ^ 20 }
         ensures { IfOk result (λ shard. shard ≡ record { ids = ids; rows = replicate keys [] }) }
@@ -41,7 +42,8 @@ impl Shard {
         Ok(Shard { ids, rows })
     }
 
-    /// Lists an id under a key with a generation, in place of an older one. Generations are 1 or more.
+    /// Lists an id under a key with a generation, in place of an older one. Generations are 1 or
+    /// more.
     pub fn list(&mut self, key: u32, id: u32, generation: u32)
         requires key { key < keys_of self.old }
         requires id { id < self.old.ids }
@@ -58,7 +60,8 @@ impl Shard {
         put(&mut self.rows[key as usize], watch, ids);
     }
 
-    /// The watcher at a place of a key, in rising order of id. `None` exactly where there are no more.
+    /// The watcher at a place of a key, in rising order of id. `None` exactly where there are no
+    /// more.
     pub fn each(&self, key: u32, at: u32) -> Option<Watch>
         requires { key < keys_of self.now }
         ensures { result ≡ slice_get (row_of self.now key) at }
@@ -70,17 +73,20 @@ impl Shard {
     pub fn drop_stale(&mut self, key: u32, id: u32, generation: u32) -> bool
         requires key { key < keys_of self.old }
         requires id { id < self.old.ids }
-        ensures listed { IsTrue result ↔ Contains (row_of self.old key) (record { key = key; id = id; generation = generation }) }
-        ensures rest { self.new ≡ with_row self.old key (filter (λ w. not (is_of id generation w)) (row_of self.old key)) }
+        ensures listed { IsTrue result ↔ Contains (row_of self.old key)
+            (record { key = key; id = id; generation = generation }) }
+        ensures rest { self.new ≡ with_row self.old key
+            (filter (λ w. not (is_of id generation w)) (row_of self.old key)) }
     {
         take(&mut self.rows[key as usize], id, generation)
     }
 
-    /// Takes out every watcher whose generation isn't the live one of its id, and answers how many. `live` has a generation for each
-    /// id, 0 where the id isn't open.
+    /// Takes out every watcher whose generation isn't the live one of its id, and answers how many.
+    /// `live` has a generation for each id, 0 where the id isn't open.
     pub fn purge(&mut self, live: &[u32]) -> u32
         requires { length live.now ≡ self.old.ids }
-        ensures live { self.new ≡ record self.old { rows = map (filter (is_live live.now)) self.old.rows } }
+        ensures live { self.new
+            ≡ record self.old { rows = map (filter (is_live live.now)) self.old.rows } }
         ensures count { result + size_of self.new ≡ size_of self.old }
     {
         let mut removed = 0;
@@ -101,7 +107,8 @@ impl Shard {
         count as u32
     }
 
-    /// Law: the watchers of a key are in rising order of id, each with the key, an id below the limit and a generation of 1 or more.
+    /// Law: the watchers of a key are in rising order of id, each with the key, an id below the
+    /// limit and a generation of 1 or more.
     pub fn watchers_rise(&self)
         ensures { (key : ℕ) → key < keys_of self.now → IsRow key self.now.ids (row_of self.now key) }
     {
