@@ -1,4 +1,5 @@
 pub mod Cuts
+pub mod AskedLaws
 pub mod Names
 pub mod Writes
 pub mod OneLawful
