@@ -1,6 +1,7 @@
 -- The fields of a produce: read one after the other, spelled so, and read again.
 use Rattle.std.proofs.Common.{◌≡◌, ◌≢◌, ℕ, zero, suc, ◌+◌, ◌<◌, ◌≤◌, ◌^◌, ltb, ℤ, pos, negsuc, Bool, true, false, cond, List, [], ◌∷◌, ◌++◌, length, take, drop, Option, Some, None, Result, Ok, Err, refl, sym, ap, subst, ◌∙◌, append_assoc, arith}
 use Rattle.std.specs.Prelude.{FitsSigned, IfSome}
+use Rattle.std.specs.List.{AllByRecursion}
 use Rattle.std.specs.Int.{Width, w16, w32, byte_len, from_be_bytes, cast_signed, cast_unsigned}
 use mir.Val.{hbits}
 use borrow.Author.Gap.{read_sfits}
@@ -9,8 +10,11 @@ use Rattle.kbytes.specs.declared.fault.ByteFault.{ByteFault}
 use Rattle.kbytes.specs.declared.fault.ByteFault.TheVariants.{Short, BadLength}
 use Rattle.kbytes.specs.Cursor.{Cursor, rest_of, moved}
 use Rattle.kbytes.specs.Reading.{◌>>=◌, Spells, integer_at, after_length, sized_at, not_null, string_at, count_from, array_at}
-use Rattle.kbytes.specs.Field.{Field, field, fields}
-use Rattle.kafka_room.specs.ProduceFields.{ProduceFields, produce_fields_at, front_of}
+use Rattle.kbytes.specs.Field.{Field, Int16, Int32, String, NullableString, Records, Array, field, fields}
+use Rattle.kbytes.specs.FitsField.{FitsField}
+use Rattle.kbytes.proofs.Integers.{wide_16, wide_32}
+use Rattle.kbytes.proofs.RoundTrips.{integer_reads, nullable_string_reads, records_reads, string_reads, array_reads}
+use Rattle.kafka_room.specs.ProduceFields.{ProduceFields, fields_in, produce_fields_at, front_of}
 
 -- ---- what is read lies in its range
 
@@ -108,3 +112,58 @@ front_field c f fs rest is = is ∙ append_assoc (field f) (fields fs) rest
 next_field : (c : Cursor) (f : Field) (fs : List Field) (rest : List ℕ) → rest_of c ≡ fields (f ∷ fs) ++ rest → rest_of (behind c f) ≡ fields fs ++ rest
 next_field c f fs rest is =
     sym (drop-drop (length (field f)) c.at c.bytes) ∙ ap (drop (length (field f))) (front_field c f fs rest is) ∙ drop_at (field f) (fields fs ++ rest) (length (field f)) refl
+
+pub fields_again : (body : List ℕ) (f : ProduceFields) → body ≡ fields (fields_in f) ++ f.rest → AllByRecursion FitsField (fields_in f) → produce_fields_at body ≡ Ok f
+fields_again body f is fits =
+    let fs12 : List Field = [] in
+    let fs11 = Records f.records ∷ fs12 in
+    let fs10 = Int32 f.index ∷ fs11 in
+    let fs9 = Array f.parts ∷ fs10 in
+    let fs8 = String f.topic ∷ fs9 in
+    let fs7 = Array f.topics ∷ fs8 in
+    let fs6 = Int32 f.timeout ∷ fs7 in
+    let fs5 = Int16 f.acks ∷ fs6 in
+    let fs4 = NullableString f.transactional ∷ fs5 in
+    let fs3 = NullableString f.client ∷ fs4 in
+    let fs2 = Int32 f.correlation ∷ fs3 in
+    let fs1 = Int16 f.version ∷ fs2 in
+    let c0 = front_of body in
+    let at0 : rest_of c0 ≡ fields (fields_in f) ++ f.rest = is in
+    let c1 = behind c0 (Int16 f.key) in
+    let e1 = integer_reads w16 wide_16 f.key c0 (fields fs1 ++ f.rest) fits.0 (front_field c0 (Int16 f.key) fs1 f.rest at0) in
+    let at1 = next_field c0 (Int16 f.key) fs1 f.rest at0 in
+    let c2 = behind c1 (Int16 f.version) in
+    let e2 = integer_reads w16 wide_16 f.version c1 (fields fs2 ++ f.rest) fits.1.0 (front_field c1 (Int16 f.version) fs2 f.rest at1) in
+    let at2 = next_field c1 (Int16 f.version) fs2 f.rest at1 in
+    let c3 = behind c2 (Int32 f.correlation) in
+    let e3 = integer_reads w32 wide_32 f.correlation c2 (fields fs3 ++ f.rest) fits.1.1.0 (front_field c2 (Int32 f.correlation) fs3 f.rest at2) in
+    let at3 = next_field c2 (Int32 f.correlation) fs3 f.rest at2 in
+    let c4 = behind c3 (NullableString f.client) in
+    let e4 = nullable_string_reads f.client c3 (fields fs4 ++ f.rest) fits.1.1.1.0 (front_field c3 (NullableString f.client) fs4 f.rest at3) in
+    let at4 = next_field c3 (NullableString f.client) fs4 f.rest at3 in
+    let c5 = behind c4 (NullableString f.transactional) in
+    let e5 = nullable_string_reads f.transactional c4 (fields fs5 ++ f.rest) fits.1.1.1.1.0 (front_field c4 (NullableString f.transactional) fs5 f.rest at4) in
+    let at5 = next_field c4 (NullableString f.transactional) fs5 f.rest at4 in
+    let c6 = behind c5 (Int16 f.acks) in
+    let e6 = integer_reads w16 wide_16 f.acks c5 (fields fs6 ++ f.rest) fits.1.1.1.1.1.0 (front_field c5 (Int16 f.acks) fs6 f.rest at5) in
+    let at6 = next_field c5 (Int16 f.acks) fs6 f.rest at5 in
+    let c7 = behind c6 (Int32 f.timeout) in
+    let e7 = integer_reads w32 wide_32 f.timeout c6 (fields fs7 ++ f.rest) fits.1.1.1.1.1.1.0 (front_field c6 (Int32 f.timeout) fs7 f.rest at6) in
+    let at7 = next_field c6 (Int32 f.timeout) fs7 f.rest at6 in
+    let c8 = behind c7 (Array f.topics) in
+    let e8 = array_reads f.topics c7 (fields fs8 ++ f.rest) fits.1.1.1.1.1.1.1.0 (front_field c7 (Array f.topics) fs8 f.rest at7) in
+    let at8 = next_field c7 (Array f.topics) fs8 f.rest at7 in
+    let c9 = behind c8 (String f.topic) in
+    let e9 = string_reads f.topic c8 (fields fs9 ++ f.rest) fits.1.1.1.1.1.1.1.1.0 (front_field c8 (String f.topic) fs9 f.rest at8) in
+    let at9 = next_field c8 (String f.topic) fs9 f.rest at8 in
+    let c10 = behind c9 (Array f.parts) in
+    let e10 = array_reads f.parts c9 (fields fs10 ++ f.rest) fits.1.1.1.1.1.1.1.1.1.0 (front_field c9 (Array f.parts) fs10 f.rest at9) in
+    let at10 = next_field c9 (Array f.parts) fs10 f.rest at9 in
+    let c11 = behind c10 (Int32 f.index) in
+    let e11 = integer_reads w32 wide_32 f.index c10 (fields fs11 ++ f.rest) fits.1.1.1.1.1.1.1.1.1.1.0 (front_field c10 (Int32 f.index) fs11 f.rest at10) in
+    let at11 = next_field c10 (Int32 f.index) fs11 f.rest at10 in
+    let c12 = behind c11 (Records f.records) in
+    let e12 = records_reads f.records c11 (fields fs12 ++ f.rest) fits.1.1.1.1.1.1.1.1.1.1.1.0 (front_field c11 (Records f.records) fs12 f.rest at11) in
+    let at12 = next_field c11 (Records f.records) fs12 f.rest at11 in
+    fields_found body c1 c2 c3 c4 c5 c6 c7 c8 c9 c10 c11 c12 f.key f.version f.correlation f.client f.transactional f.acks f.timeout f.topics f.topic f.parts f.index f.records e1 e2 e3 e4 e5 e6 e7 e8 e9 e10 e11 e12
+    ∙ ap (λ (r : List ℕ). Ok (record f { rest = r })) at12
