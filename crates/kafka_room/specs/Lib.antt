@@ -39,3 +39,8 @@ pub mod OneAccount
 -- the fields of such a produce, read from the left
 pub mod ProduceFields
 pub mod AskedView
+pub mod OneAsked
+-- what a fault in its reading tells
+pub mod Tells
+-- what was read of such a trace
+pub mod IsFound

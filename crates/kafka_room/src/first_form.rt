@@ -2,4 +2,8 @@
 //! batch, and the end.
 
 pub mod asked;
+pub mod fault;
+pub mod found;
 pub mod parts;
+pub mod produce;
+pub mod steps;
