@@ -124,7 +124,7 @@ or_cases : (a b : Bool) → (a || b) ≡ true → (a ≡ true) ⊎ (b ≡ true)
 or_cases true b e = inl refl
 or_cases false b e = inr e
 
-is_end_found : (last : List ℕ) → is_end last ≡ true → (last ≡ codes "end") ⊎ (last ≡ codes "end" ++ 10 ∷ [])
+pub is_end_found : (last : List ℕ) → is_end last ≡ true → (last ≡ codes "end") ⊎ (last ≡ codes "end" ++ 10 ∷ [])
 is_end_found last e =
     elim (or_cases (pointwise nat_eq last (codes "end")) (pointwise nat_eq last (codes "end" ++ 10 ∷ [])) e) [
       | inl t ↦ inl (same_text last (codes "end") (sym t))

@@ -36,8 +36,6 @@ pub mod Parts
 pub mod Streams
 -- what a replay comes to
 pub mod Replay
--- what was found in such a trace
-pub mod Found
 -- what it comes to
 pub mod Played
 -- the account of such a trace
@@ -45,3 +43,8 @@ pub mod OneAccount
 -- the fields of such a produce, read from the left
 pub mod ProduceFields
 pub mod AskedView
+pub mod OneAsked
+-- what a fault in its reading tells
+pub mod Tells
+-- what was read of such a trace
+pub mod IsFound

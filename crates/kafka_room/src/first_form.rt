@@ -2,7 +2,9 @@
 //! batch, and the end.
 
 pub mod asked;
+pub mod fault;
 pub mod found;
-pub mod law;
 pub mod parts;
 pub mod play;
+pub mod produce;
+pub mod steps;

@@ -1,7 +1,9 @@
 //! The fields of a produce that names one topic and one partition.
 
 ghost use Rattle.std.specs.Prelude.{◌≡◌, ◌++◌, IfOk};
+ghost use Rattle.std.specs.List.{AllByRecursion};
 ghost use Rattle.kbytes.specs.Field.{fields};
+ghost use Rattle.kbytes.specs.FitsField.{FitsField};
 ghost use Rattle.kafka_room.specs.AskedView.{view};
 ghost use Rattle.kafka_room.specs.ProduceFields.{Answers, produce_fields_at, fields_in};
 
@@ -29,6 +31,8 @@ pub struct Asked<'a> {
 #[tactic(auto, unfolding(crate::specs::ProduceFields::produce_fields_at))]
 pub fn read_asked(body: &[u8]) -> Result<Asked<'_>, ByteFault>
     ensures exact { Answers view result (produce_fields_at body.now) }
+    ensures spelled { IfOk result (λ a. body.now ≡ fields (fields_in (view a)) ++ a.rest.now) }
+    ensures in_range { IfOk result (λ a. AllByRecursion FitsField (fields_in (view a))) }
 {
     let mut reader = Reader::new(body);
     let key = reader.i16()?;

@@ -3,7 +3,7 @@
 ghost use Rattle.std.specs.Prelude.{◌≡◌, ◌≤◌, ◌∷◌, [], None, length, IfOk};
 ghost use Rattle.std.specs.String.{string_bytes};
 ghost use Rattle.kafka_room.specs.FirstForm.{OneProduce};
-ghost use Rattle.kafka_room.specs.Found.{IsFound};
+ghost use Rattle.kafka_room.specs.IsFound.{IsFound};
 ghost use Rattle.kafka_room.specs.Played.{IsPlayed};
 ghost use Rattle.kafka_room.specs.declared.audit.account.CallHow.TheVariants.{AtOnce};
 ghost use Rattle.partlog.specs.State.{state_of};

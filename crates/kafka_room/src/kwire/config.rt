@@ -1,4 +1,5 @@
 ghost use Rattle.std.specs.Prelude.{◌≡◌, ◌↔◌, ◌+◌, Contains, IsTrue, Err, OnOk, OnErr};
+ghost use Rattle.std.specs.List.{list_all};
 ghost use Rattle.kafka_room.specs.Configuration.{is_name_byte, IsTopicName, names_of};
 ghost use Rattle.kafka_room.specs.declared.kwire.config.ConfigFault.TheVariants.{NoMemory as OutOfMemory};
 
@@ -78,6 +79,12 @@ fn is_name_byte(byte: u8) -> bool
     matches!(byte, b'a'..=b'z' | b'A'..=b'Z' | b'0'..=b'9' | b'.' | b'_' | b'-')
 }
 
+fn are_name_bytes(name: &[u8]) -> bool
+    ensures { result ≡ list_all is_name_byte name.now }
+{
+    name.iter().all(|byte| is_name_byte(*byte))
+}
+
 // 1 to 249 such bytes, and neither `.` nor `..`.
 fn is_topic_name(name: &[u8]) -> bool
     ensures { IsTrue result ↔ IsTopicName name.now }
@@ -88,7 +95,7 @@ fn is_topic_name(name: &[u8]) -> bool
     if name == b".".as_slice() || name == b"..".as_slice() {
         return false;
     }
-    name.iter().all(|byte| is_name_byte(*byte))
+    are_name_bytes(name)
 }
 
 fn is_declared(topics: &[Topic], name: &[u8]) -> bool
