@@ -7,3 +7,5 @@ pub mod found;
 pub mod parts;
 pub mod produce;
 pub mod steps;
+#[cfg(test)]
+mod tests;
