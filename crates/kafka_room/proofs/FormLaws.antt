@@ -1,6 +1,6 @@
 -- The first form, taken apart: what each step of its reading finds is what stands in the text.
-use Rattle.std.proofs.Common.{◌≡◌, ◌≢◌, ℕ, Bool, true, false, ◌&&◌, List, [], ◌∷◌, ◌++◌, drop, Option, Some, None, Result, Ok, Err, refl, sym, ap, subst, ◌∙◌, inl, inr, ◌⊎◌}
-use Rattle.std.specs.Prelude.{codes, IfErr, FitsSigned}
+use Rattle.std.proofs.Common.{◌≡◌, ◌≢◌, ℕ, Bool, true, false, List, [], ◌∷◌, ◌++◌, drop, Option, Some, None, Ok, refl, sym, ap, subst, ◌∙◌, inl, inr, ◌⊎◌}
+use Rattle.std.specs.Prelude.{codes, FitsSigned}
 use Rattle.std.specs.Int.{w32}
 use Rattle.std.specs.List.{list_all, AllByRecursion}
 use Rattle.std.proofs.lemmas.Bool.{and_parts, false≢true}
@@ -17,7 +17,7 @@ use Rattle.kafka_room.specs.IsRequest.{IsRequest}
 use Rattle.kafka_room.specs.Parts.{parts_of, is_end, middle}
 use Rattle.kafka_room.specs.FirstForm.{OneProduce, IsFirstForm, request_of}
 use Rattle.kafka_room.specs.Tells.{Tells}
-use Rattle.kafka_room.proofs.Cuts.{pointwise-same, some_is, is_end_found, parts_of-found, parts_of-again}
+use Rattle.kafka_room.proofs.Cuts.{some_is, is_end_found, parts_of-found, parts_of-again}
 
 -- a fault that tells something of a step tells the same of what needs the step
 pub Tells-weaker : (e : FormFault) {P Q : Type 0} → (Q → P) → Tells e P → Tells e Q

@@ -1,5 +1,5 @@
 -- The produce of a trace of the first form: its body spells these fields and no others.
-use Rattle.std.proofs.Common.{◌≡◌, ◌≢◌, pos, ℕ, ℤ, ◌<◌, List, [], ◌∷◌, ◌++◌, length, Option, Some, None, Result, Ok, Err, Bool, true, refl, sym, ap, subst, ◌∙◌, arith, inl, inr}
+use Rattle.std.proofs.Common.{◌≡◌, ◌≢◌, pos, ℕ, ℤ, List, [], ◌∷◌, ◌++◌, Option, Some, None, Result, Ok, Err, refl, sym, ap, subst, ◌∙◌, arith, inl, inr}
 use Rattle.std.specs.List.{AllByRecursion, AllPairs}
 use Rattle.std.proofs.lemmas.List.{append-nil}
 use Rattle.kbytes.specs.declared.fault.ByteFault.{ByteFault}
@@ -9,7 +9,7 @@ use Rattle.kafka_room.specs.declared.first_form.asked.Asked.{Asked}
 use Rattle.kafka_room.specs.AskedView.{view}
 use Rattle.kafka_room.specs.ProduceFields.{ProduceFields, Answers, fields_in, produce_fields_at}
 use Rattle.kafka_room.specs.FirstForm.{OneProduce, request_of}
-use Rattle.kafka_room.specs.IsRequest.{Named, IsRequest, IsWhole, IsOtherVersion}
+use Rattle.kafka_room.specs.IsRequest.{Named, IsRequest}
 use Rattle.kafka_room.specs.OneAsked.{fields_of, IsPlain, IsOnePart}
 use Rattle.kafka_room.proofs.AskedLaws.{fields_again}
 

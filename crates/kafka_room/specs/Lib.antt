@@ -42,7 +42,9 @@ pub mod Played
 pub mod OneAccount
 -- the fields of such a produce, read from the left
 pub mod ProduceFields
+-- the same, as the reader gives them
 pub mod AskedView
+-- those of the produce of such a trace
 pub mod OneAsked
 -- what a fault in its reading tells
 pub mod Tells

@@ -8,3 +8,5 @@ pub mod parts;
 pub mod play;
 pub mod produce;
 pub mod steps;
+#[cfg(test)]
+mod tests;

@@ -1,11 +1,10 @@
-use Rattle.std.proofs.Common.{◌≡◌, ℕ, ℤ, List, [], ◌∷◌, ◌++◌, Ok, ap, sym, ◌∙◌, refl}
+use Rattle.std.proofs.Common.{◌≡◌, [], ◌∷◌, ◌++◌, Ok, ap, ◌∙◌, refl}
 use Rattle.std.specs.Int.{w16, w32}
 use Rattle.std.specs.Option.{option_copied}
 use Rattle.std.proofs.lemmas.Int.{to_z-of_z}
 use Rattle.kbytes.specs.Cursor.{rest_of}
 use Rattle.kbytes.specs.Field.{Int16, Int32, String, NullableString, Records, Array, fields}
 use Rattle.kbytes.specs.Reading.{integer_at}
-use Rattle.kafka_room.specs.ProduceFields.{produce_fields_at}
 use Rattle.kafka_room.proofs.AskedLaws.{integer_fits, sized_fits, string_fits, array_fits, starts, fields_found, spelled_on}
 use Rattle.kafka_room.proofs.first_form.asked.read_asked.Goals as goal
 

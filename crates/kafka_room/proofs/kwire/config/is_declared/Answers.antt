@@ -1,6 +1,5 @@
-use Rattle.std.proofs.Common.{◌≡◌, ◌≢◌, ℕ, List, Contains, true, false, sym, ap, subst, ◌∙◌, refl}
-use Rattle.std.specs.Prelude.{nat_eq}
-use Rattle.std.specs.Cmp.Lexicographic.{pointwise, same_text, other_text}
+use Rattle.std.proofs.Common.{◌≡◌, ◌≢◌, List, Contains, sym, subst, ◌∙◌, refl}
+use Rattle.std.specs.Cmp.Lexicographic.{same_text, other_text}
 use Rattle.std.proofs.lemmas.List.{take_all}
 use Rattle.kafka_room.specs.Configuration.{names_of}
 use Rattle.kafka_room.specs.declared.kwire.config.Topic.{Topic}
