@@ -1,10 +1,9 @@
 -- The account of a trace of the form that is built so far is lawful.
-use Rattle.std.proofs.Common.{◌≡◌, ◌≢◌, ℕ, zero, suc, ◌+◌, ◌<◌, ◌≤◌, Bool, true, false, cond, eqb, ltb, List, [], ◌∷◌, ◌++◌, length, take, drop, Option, Some, None, option_map, refl, sym, ap, subst, ◌∙◌, arith, inl, inr, ◌⊎◌, pos, append-nil}
+use Rattle.std.proofs.Common.{◌≡◌, ℕ, zero, suc, ◌+◌, ◌<◌, Bool, true, false, cond, eqb, ltb, List, [], ◌∷◌, length, take, Option, Some, refl, sym, ap, subst, ◌∙◌, arith, inl, inr}
 use Rattle.std.proofs.lemmas.Bool.{le-ltb}
 use Rattle.std.proofs.lemmas.List.{take_all}
-use Rattle.std.specs.Prelude.{slice_get, count_by, nat_eq, map, unwrap_or}
-use Rattle.std.specs.List.{AllByRecursion, AllZip, flat_map}
-use Rattle.std.specs.Cmp.Lexicographic.{pointwise}
+use Rattle.std.specs.Prelude.{slice_get, count_by, map, unwrap_or}
+use Rattle.std.specs.List.{AllByRecursion, flat_map}
 use Rattle.std.specs.List.Sorted.{IsStrictlyIncreasing}
 use Rattle.kbatch.specs.Batch.{IsBatch}
 use Rattle.kbatch.specs.Kept.{count_of}
@@ -19,9 +18,9 @@ use Rattle.kbatch.specs.Record.{records_from}
 use Rattle.kbatch.proofs.Batches.{batch_count, stamped_len}
 use Rattle.kafka_room.specs.Accepting.{Decision, AskLog, Outcome, Put, append_outcome}
 use Rattle.kafka_room.specs.Histories.{before_point}
-use Rattle.kafka_room.specs.Handled.{Step, IsStep, IsEntry, IsLawfulCall, IsWholeCall, IsAcceptance, HasAccepted}
-use Rattle.kafka_room.specs.IsLawful.{IsLawful, HasEntries, HasLogs, is_point, places_in, is_won_by}
-use Rattle.kafka_room.specs.OneAccount.{account_of, call_of, part_of, transcript_of}
+use Rattle.kafka_room.specs.Handled.{Step, IsStep, IsEntry, IsLawfulCall, IsWholeCall, IsAcceptance}
+use Rattle.kafka_room.specs.IsLawful.{IsLawful, HasEntries, HasLogs, places_in, is_won_by}
+use Rattle.kafka_room.specs.OneAccount.{account_of, call_of}
 use Rattle.kafka_room.proofs.Cuts.{pointwise-same, some_is}
 
 -- the one call stands where pass and number are 0, and no other is there

@@ -1,5 +1,5 @@
 -- What the program makes of such a trace is its account and its text.
-use Rattle.std.proofs.Common.{◌≡◌, ℕ, ℤ, pos, List, [], ◌∷◌, ◌++◌, length, None, refl, sym, ap, ◌∙◌, append-nil}
+use Rattle.std.proofs.Common.{◌≡◌, ℕ, ℤ, pos, List, [], ◌∷◌, ◌++◌, length, None, refl, ap, ◌∙◌, append-nil}
 use Rattle.std.specs.Prelude.{codes}
 use Rattle.std.specs.Fmt.{decimal}
 use Rattle.hex.specs.Hex.{encode_lower}
@@ -17,7 +17,7 @@ use Rattle.kafka_room.specs.Printed.{line_of, part_line, session_line, done_line
 use Rattle.kafka_room.specs.RunOf.{configuration_of}
 use Rattle.kafka_room.specs.FirstForm.{OneProduce, lines_of}
 use Rattle.kafka_room.specs.Played.{last_lines}
-use Rattle.kafka_room.specs.OneAccount.{account_of, part_of, first_text, last_text, transcript_of, call_of}
+use Rattle.kafka_room.specs.OneAccount.{account_of, part_of, first_text, last_text, transcript_of}
 
 abbrev pub no_history : History
 no_history = record { log = []; followers = 0; events = [] }

@@ -1,6 +1,6 @@
 -- What is printed of such a trace.
-use Rattle.std.proofs.Common.{◌≡◌, ◌<◌, ℕ, zero, suc, true, false, List, [], ◌∷◌, ◌++◌, Some, None, refl, sym, ap, ◌∙◌, arith, inl, inr, append-nil}
-use Rattle.kafka_room.specs.FirstForm.{OneProduce, IsFirstForm, request_of, lines_of}
+use Rattle.std.proofs.Common.{◌≡◌, ℕ, List, [], ◌∷◌, ◌++◌, refl, sym, ap, ◌∙◌, append-nil}
+use Rattle.kafka_room.specs.FirstForm.{OneProduce, IsFirstForm, request_of}
 use Rattle.kafka_room.specs.Fits.{IsReplyOf}
 use Rattle.kafka_room.specs.Handled.{shown_as_accepted}
 use Rattle.kafka_room.specs.Printed.{IsPrintOf}

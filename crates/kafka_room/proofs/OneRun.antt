@@ -1,8 +1,7 @@
 -- The account of such a trace is that of its run.
-use Rattle.std.proofs.Common.{◌≡◌, ◌<◌, ℕ, zero, suc, true, false, List, [], ◌∷◌, ◌++◌, Some, None, refl, sym, ap, ◌∙◌, arith, inl, inr, append-nil}
+use Rattle.std.proofs.Common.{◌≡◌, ◌<◌, ℕ, zero, suc, List, [], Some, refl, sym, arith, inr, append-nil}
 use Rattle.std.specs.Prelude.{MatchBool, slice_get}
 use Rattle.kafka_room.specs.FirstForm.{OneProduce, IsFirstForm, lines_of}
-use Rattle.kafka_room.specs.Frames.{framed, BeginsWhole, BeginsTooLong}
 use Rattle.kafka_room.specs.Fits.{Fits, IsUnfinished}
 use Rattle.kafka_room.specs.RunOf.{IsRunOf, IsSessionOf, is_named, is_shut, input_of, sessions_of}
 use Rattle.kafka_room.specs.OneAccount.{account_of, transcript_of}

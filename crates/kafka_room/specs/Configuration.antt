@@ -1,6 +1,6 @@
 -- The configuration: the port that metadata tells, and the topics in the order in which they were declared. Partitions are
 -- numbered from 0 over all topics.
-use Rattle.std.specs.Prelude.{ℕ, zero, suc, ◌+◌, ◌<◌, ◌≤◌, ◌≡◌, ◌≢◌, ℤ, pos, negsuc, Bool, ◌&&◌, ◌||◌, not, List, [], ◌∷◌, ◌++◌, length, map, sum_by, replicate, codes, nat_lt, nat_le, ◌==◌, if◌then◌else◌, Option, Some, None, option_map, All, Contains, ◌⊎◌, IsTrue}
+use Rattle.std.specs.Prelude.{ℕ, ◌+◌, ◌<◌, ◌≤◌, ◌≢◌, Bool, ◌&&◌, ◌||◌, List, length, map, sum_by, replicate, codes, nat_le, ◌==◌, Contains, IsTrue}
 use Rattle.std.specs.List.{flat_map, list_all}
 use Rattle.kafka_room.specs.declared.kwire.config.Topic.{Topic}
 

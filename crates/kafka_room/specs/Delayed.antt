@@ -1,5 +1,5 @@
 -- Whether an accepted request waits, and the operation that it becomes.
-use Rattle.std.specs.Prelude.{ℕ, ◌+◌, ◌-◌, ◌*◌, ◌%◌, min, ℤ, pos, negsuc, Bool, true, false, ◌&&◌, ◌||◌, not, List, [], ◌∷◌, length, map, nat_lt, ◌==◌, if◌then◌else◌, Option, Some, None, option_map, is_some}
+use Rattle.std.specs.Prelude.{ℕ, ◌+◌, ◌-◌, ◌*◌, ◌%◌, min, ℤ, pos, negsuc, Bool, true, false, ◌&&◌, not, List, [], length, map, nat_lt, ◌==◌, if◌then◌else◌, Option, Some, None}
 use Rattle.std.specs.List.{filter_map, list_any, zip}
 use Rattle.std.specs.Ordering.{int_eq}
 use Rattle.partlog.specs.State.{PartState as State}
@@ -10,7 +10,7 @@ use Rattle.kafka_room.specs.declared.kwire.request.FetchPart.{FetchPart}
 use Rattle.kafka_room.specs.declared.kanswer.accepted.Accepted.{Accepted}
 use Rattle.kafka_room.specs.declared.kanswer.accepted.Accepted.TheVariants.{Refused, Appended, Seen}
 use Rattle.kafka_room.specs.Operation.{Need, Operation, tally}
-use Rattle.kafka_room.specs.Accepting.{fetch_parts, offset_of}
+use Rattle.kafka_room.specs.Accepting.{fetch_parts}
 
 -- what became of a named partition, and a state of it
 pub record Shown : Type 0 where

@@ -1,5 +1,5 @@
 -- Frames of a stream: a size, and that many bytes (Kafka protocol guide, "Network").
-use Rattle.std.specs.Prelude.{ℕ, ◌+◌, ◌≡◌, ◌≢◌, ◌≤◌, ℤ, pos, negsuc, List, ◌++◌, length, take, nat_lt, if◌then◌else◌}
+use Rattle.std.specs.Prelude.{ℕ, ◌+◌, ◌≡◌, ◌≤◌, ℤ, pos, negsuc, List, ◌++◌, length, take, nat_lt, if◌then◌else◌}
 use Rattle.std.specs.Int.{w32, from_be_bytes, cast_signed}
 use Rattle.std.specs.List.{flat_map, AllByRecursion}
 use Rattle.kbytes.specs.Field.{Int32, field}

@@ -1,9 +1,8 @@
 -- What a lawful call is: its acceptance by the states that its entries found, and its completion by the states that its
 -- last entries show.
-use Rattle.std.specs.Prelude.{ℕ, ◌+◌, ◌≡◌, ◌≤◌, ◌<◌, ◌⊎◌, Bool, true, false, List, [], ◌∷◌, ◌++◌, length, map, take, drop, Option, Some, None, option_map, MatchOption, MatchBool, slice_get, IfSome}
-use Rattle.std.specs.List.{filter_map, AllZip, AllByRecursion}
-use Rattle.partlog.specs.declared.event.PartEvent.{PartEvent}
-use Rattle.partlog.specs.declared.event.PartEvent.TheVariants.{Append, Follow, Look}
+use Rattle.std.specs.Prelude.{ℕ, ◌≡◌, ◌⊎◌, Bool, true, false, List, [], ◌∷◌, ◌++◌, map, take, Option, Some, None, slice_get}
+use Rattle.std.specs.List.{filter_map, AllZip}
+use Rattle.partlog.specs.declared.event.PartEvent.TheVariants.{Follow, Look}
 use Rattle.partlog.specs.declared.clock_event.ClockEvent.TheVariants as clocks
 use Rattle.partlog.specs.State.{PartState as State}
 use Rattle.partlog.specs.Moment.{moment_of}
@@ -14,7 +13,6 @@ use Rattle.kafka_room.specs.declared.audit.account.CallHow.{CallHow}
 use Rattle.kafka_room.specs.declared.audit.account.CallHow.TheVariants.{Quiet, AtOnce, Satisfied, Expired, Parked, Cut}
 use Rattle.kafka_room.specs.declared.audit.account.Point.{Point}
 use Rattle.kafka_room.specs.declared.kwire.request.Request.{Request}
-use Rattle.kafka_room.specs.declared.kwire.request.Ask.{Ask}
 use Rattle.kafka_room.specs.declared.kanswer.accepted.Accepted.{Accepted}
 use Rattle.kafka_room.specs.declared.kanswer.accepted.Accepted.TheVariants.{Refused, Appended, Seen}
 use Rattle.kafka_room.specs.IsRequest.{IsRequest}

@@ -1,6 +1,6 @@
 -- The histories of an account: who left each entry, and the states at its points.
-use Rattle.std.specs.Prelude.{ℕ, ◌+◌, ◌≡◌, List, [], ◌∷◌, ◌++◌, map, take, ◌==◌, if◌then◌else◌, Option, Some, None, option_and_then, option_map, unwrap_or, slice_get}
-use Rattle.std.specs.List.{flat_map, filter_map}
+use Rattle.std.specs.Prelude.{ℕ, ◌+◌, List, [], ◌∷◌, ◌++◌, map, take, ◌==◌, if◌then◌else◌, Option, Some, None, unwrap_or, slice_get}
+use Rattle.std.specs.List.{flat_map}
 use Rattle.partlog.specs.declared.event.PartEvent.{PartEvent}
 use Rattle.partlog.specs.declared.event.PartEvent.TheVariants.{Append, Follow, Look}
 use Rattle.partlog.specs.declared.clock_event.ClockEvent.{ClockEvent}

@@ -1,5 +1,5 @@
 -- A lawful account: every entry is one of its call's and every call did what the states that it found asked of it.
-use Rattle.std.specs.Prelude.{ℕ, zero, suc, ◌+◌, ◌≡◌, ◌<◌, ◌&&◌, Bool, true, false, List, [], ◌∷◌, ◌++◌, length, map, filter, take, sum_by, count_by, ◌==◌, Option, Some, None, unwrap_or, slice_get}
+use Rattle.std.specs.Prelude.{ℕ, ◌+◌, ◌≡◌, ◌&&◌, Bool, false, List, [], ◌∷◌, length, map, filter, count_by, ◌==◌, Option, Some, None, unwrap_or, slice_get}
 use Rattle.std.specs.List.{flat_map, AllByRecursion}
 use Rattle.std.specs.List.Sorted.{IsStrictlyIncreasing}
 use Rattle.partlog.specs.Added.{bytes_of}
@@ -13,7 +13,7 @@ use Rattle.kafka_room.specs.declared.audit.account.SessionEnd.{SessionEnd}
 use Rattle.kafka_room.specs.declared.audit.account.SessionEnd.TheVariants.{NoMemory}
 use Rattle.kafka_room.specs.declared.audit.account.Point.{Point}
 use Rattle.kafka_room.specs.Configuration.{followers_of}
-use Rattle.kafka_room.specs.Histories.{Owner, owners_of, ticks_of, calls_in, calls_of, call_of, all_calls, points_of}
+use Rattle.kafka_room.specs.Histories.{owners_of, ticks_of, calls_of, call_of, all_calls, points_of}
 use Rattle.kafka_room.specs.Handled.{IsLawfulCall}
 
 -- a point names this place

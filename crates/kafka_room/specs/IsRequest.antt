@@ -1,6 +1,6 @@
 -- Requests and the bodies of their frames (Kafka protocol guide: Produce v3, Fetch v4, Metadata v1, ApiVersions v0). All fields
 -- of a body stand one after the other, and nothing stands behind them.
-use Rattle.std.specs.Prelude.{ℕ, ◌≡◌, ◌≢◌, ◌≤◌, ◌⊎◌, ℤ, pos, List, [], ◌∷◌, ◌++◌, length, map, sum_by, unwrap_or, Option, Some, None, option_map, AllPairs}
+use Rattle.std.specs.Prelude.{ℕ, ◌≡◌, ◌≢◌, ◌≤◌, ◌⊎◌, ℤ, pos, List, [], ◌∷◌, ◌++◌, length, map, unwrap_or, Some, None, option_map, AllPairs}
 use Rattle.std.specs.List.{flat_map, AllByRecursion}
 use Rattle.kbytes.specs.Field.{Field, Int8, Int16, Int32, Int64, String, NullableString, Records, Array, fields}
 use Rattle.kbytes.specs.FitsField.{FitsField}

@@ -1,5 +1,5 @@
 -- The account of a trace of the form that is built so far, and what is printed of it.
-use Rattle.std.specs.Prelude.{ℕ, zero, pos, List, [], ◌∷◌, ◌++◌, length, Option, Some, None}
+use Rattle.std.specs.Prelude.{ℕ, pos, List, [], ◌∷◌, length, None}
 use Rattle.kbatch.specs.Kept.{count_of}
 use Rattle.kbatch.specs.Stamp.{stamped}
 use Rattle.partlog.specs.declared.event.PartEvent.TheVariants.{Append}

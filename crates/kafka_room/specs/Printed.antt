@@ -1,5 +1,5 @@
 -- The printed lines. Each ends with a line feed; frames are printed in lower case hex.
-use Rattle.std.specs.Prelude.{ℕ, zero, suc, ◌+◌, ◌≡◌, Bool, true, false, List, [], ◌∷◌, ◌++◌, length, map, filter, sum_by, codes, if◌then◌else◌, Option, Some, None}
+use Rattle.std.specs.Prelude.{ℕ, ◌+◌, ◌≡◌, Bool, true, false, List, [], ◌∷◌, ◌++◌, length, sum_by, codes, if◌then◌else◌, Option, Some, None}
 use Rattle.std.specs.List.{flat_map, zip, AllZip}
 use Rattle.std.specs.Fmt.{decimal, signed_decimal}
 use Rattle.hex.specs.Hex.{encode_lower}

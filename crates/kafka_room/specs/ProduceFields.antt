@@ -1,8 +1,6 @@
 -- The fields of a produce that names one topic and one partition, read from the left.
-use Rattle.std.specs.Prelude.{ℕ, ◌≡◌, ℤ, pos, List, [], ◌∷◌, length, Option, Some, None, Result, Ok, Err, MatchResult, Bool, true, false, ◌&&◌, nat_eq, ◌==◌, is_none}
-use Rattle.std.specs.Ordering.{int_eq}
+use Rattle.std.specs.Prelude.{ℕ, ◌≡◌, ℤ, List, [], ◌∷◌, Option, Result, Ok, Err}
 use Rattle.std.specs.Int.{w16, w32}
-use Rattle.std.specs.Cmp.Lexicographic.{pointwise}
 use Rattle.kbytes.specs.declared.fault.ByteFault.{ByteFault}
 use Rattle.kbytes.specs.Cursor.{Cursor, rest_of}
 use Rattle.kbytes.specs.Field.{Field, Int16, Int32, String, NullableString, Records, Array}

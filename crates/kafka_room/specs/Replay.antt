@@ -1,5 +1,5 @@
 -- What a replay comes to: its account is lawful, is that of the run of the trace that was read, and this is what is printed.
-use Rattle.std.specs.Prelude.{ℕ, ◌≡◌, List, [], ◌∷◌, Option, None, Bool, false, IfSome, ◌⊎◌}
+use Rattle.std.specs.Prelude.{ℕ, ◌≡◌, List, Option, None, Bool, false, IfSome, ◌⊎◌}
 use Rattle.kafka_room.specs.declared.audit.account.Account.{Account}
 use Rattle.kafka_room.specs.FirstForm.{OneProduce, IsFirstForm, lines_of}
 use Rattle.kafka_room.specs.IsLawful.{IsLawful}

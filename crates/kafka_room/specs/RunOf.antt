@@ -1,5 +1,5 @@
 -- What the account of a trace's run is to the trace: its topics, what each session received, and its ticks.
-use Rattle.std.specs.Prelude.{ℕ, ◌+◌, ◌≡◌, ◌≢◌, ◌<◌, max, Bool, true, false, ◌||◌, List, [], ◌∷◌, ◌++◌, length, nat_lt, ◌==◌, if◌then◌else◌, Option, Some, None, slice_get, MatchBool}
+use Rattle.std.specs.Prelude.{ℕ, ◌+◌, ◌≡◌, ◌≢◌, ◌<◌, max, Bool, false, List, [], ◌∷◌, length, nat_lt, ◌==◌, if◌then◌else◌, Option, Some, slice_get, MatchBool}
 use Rattle.std.specs.List.{flat_map, AllByRecursion, list_any}
 use Rattle.kafka_room.specs.declared.trace_file.line.Line.{Line}
 use Rattle.kafka_room.specs.declared.trace_file.line.Line.TheVariants.{Topic, Feed, Shut, Clock, End}
@@ -7,10 +7,9 @@ use Rattle.kafka_room.specs.declared.kwire.config.Topic as topics
 use Rattle.kafka_room.specs.declared.audit.account.Account.{Account}
 use Rattle.kafka_room.specs.declared.audit.account.Transcript.{Transcript}
 use Rattle.kafka_room.specs.declared.audit.account.Call.{Call}
-use Rattle.kafka_room.specs.declared.audit.account.CallHow.{CallHow}
-use Rattle.kafka_room.specs.declared.audit.account.CallHow.TheVariants.{Quiet, AtOnce, Satisfied, Expired, Parked, Cut}
+use Rattle.kafka_room.specs.declared.audit.account.CallHow.TheVariants.{Cut}
 use Rattle.kafka_room.specs.declared.audit.account.SessionEnd.{SessionEnd}
-use Rattle.kafka_room.specs.declared.audit.account.SessionEnd.TheVariants.{Closed, Truncated, FrameTooLong, Refused, CallsFull, ReadFault, WriteFault, NoMemory}
+use Rattle.kafka_room.specs.declared.audit.account.SessionEnd.TheVariants.{ReadFault, WriteFault, NoMemory}
 use Rattle.kafka_room.specs.Configuration.{Configuration}
 use Rattle.kafka_room.specs.Histories.{ticks_of, all_calls}
 use Rattle.kafka_room.specs.Fits.{Fits}

@@ -34,7 +34,7 @@ fn numbers(alloc: Global, items: &[u64]) -> Result<List<u64>, NoMemory> {
     Ok(list)
 }
 
-fn ran<R: Threads + Wait + Sync>(
+fn run_with<R: Threads + Wait + Sync>(
     rt: &R,
     alloc: Global,
     words: &[&str],
@@ -84,7 +84,7 @@ fn output(alloc: Global) -> Result<Bytes, NoMemory> {
 fn one_produce_is_answered_and_accounted_for(rt: HostRuntime) -> Result<(), Fail> {
     let alloc = rt.alloc();
     for last in [b"\nend\n".as_slice(), b"\nend".as_slice()] {
-        let done = ran(
+        let done = run_with(
             &rt,
             alloc,
             &["replay"],
@@ -106,7 +106,7 @@ fn faulty_words_and_other_texts_write_nothing(rt: HostRuntime) -> Result<(), Fai
     let alloc = rt.alloc();
     let lines: [&[&str]; 4] = [&[], &["replay", "--workers"], &["serve"], &["Replay"]];
     for words in lines {
-        let refused = ran(
+        let refused = run_with(
             &rt,
             alloc,
             words,
@@ -119,7 +119,7 @@ fn faulty_words_and_other_texts_write_nothing(rt: HostRuntime) -> Result<(), Fai
     }
     let texts: [&[u8]; 4] = [b"", b"\n", b"\nend\n\n", b"\nend\r\n"];
     for last in texts {
-        let other = ran(
+        let other = run_with(
             &rt,
             alloc,
             &["replay"],
@@ -137,7 +137,7 @@ fn faulty_words_and_other_texts_write_nothing(rt: HostRuntime) -> Result<(), Fai
 fn a_read_that_fails_writes_nothing(rt: HostRuntime) -> Result<(), Fail> {
     let alloc = rt.alloc();
     for read in [0, 1] {
-        let failed = ran(
+        let failed = run_with(
             &rt,
             alloc,
             &["replay"],
@@ -156,7 +156,7 @@ fn each_write_that_fails_leaves_the_front_of_the_output(rt: HostRuntime) -> Resu
     let alloc = rt.alloc();
     let fronts: [&[u8]; 2] = [b"", REPLY];
     for (write, front) in fronts.iter().enumerate() {
-        let failed = ran(
+        let failed = run_with(
             &rt,
             alloc,
             &["replay"],
@@ -168,7 +168,7 @@ fn each_write_that_fails_leaves_the_front_of_the_output(rt: HostRuntime) -> Resu
         assert_eq!(rt; failed.sink.bytes(), *front);
         assert!(rt; failed.exit.account.is_none());
     }
-    let done = ran(
+    let done = run_with(
         &rt,
         alloc,
         &["replay"],
@@ -188,7 +188,7 @@ fn a_frame_of_eight_mebibytes_that_is_no_produce_is_refused(rt: HostRuntime) -> 
         text.extend(b"0000000000000000000000000000000000000000000000000000000000000000")?;
     }
     text.extend(b"\nend\n")?;
-    let other = ran(&rt, alloc, &["replay"], text, &[], &[])?;
+    let other = run_with(&rt, alloc, &["replay"], text, &[], &[])?;
     assert_eq!(rt; other.exit.code, 7);
     Ok(())
 }

@@ -1,4 +1,4 @@
-use Rattle.std.proofs.Common.{◌-◌, length, drop, take, arith, length-take, length-drop}
+use Rattle.std.proofs.Common.{◌-◌, length, drop, arith, length-take, length-drop}
 use Rattle.kafka_room.proofs.Writes.{appends_on}
 use Rattle.kafka_room.proofs.streams.write_all.Goals as goal
 

@@ -1,7 +1,7 @@
-use Rattle.std.proofs.Common.{◌≡◌, ◌++◌, ◌∷◌, [], ℕ, List, Some, refl, sym, ap, ◌∙◌, pos, negsuc, w16, w32, w64, length, append_assoc}
+use Rattle.std.proofs.Common.{◌≡◌, ◌++◌, ◌∷◌, [], ℕ, List, Some, ap, ◌∙◌, pos, negsuc, w16, w32, w64, length, append_assoc}
 use Rattle.std.proofs.lemmas.Int.{to_z-of_z}
 use Rattle.std.proofs.lemmas.Result.{IfOk-weaker}
-use Rattle.kbytes.specs.Field.{field, fields, integer, Int16, Int32, Int64, String, Array}
+use Rattle.kbytes.specs.Field.{field, fields, integer, Int16, Int32, Int64, Array}
 use Rattle.kafka_room.specs.declared.kwire.reply.Told.TheVariants.{Produced}
 use Rattle.kafka_room.specs.Frames.{framed}
 use Rattle.kafka_room.specs.Spelling.{spelling}

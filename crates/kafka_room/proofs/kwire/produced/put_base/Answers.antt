@@ -1,4 +1,4 @@
-use Rattle.std.proofs.Common.{rules, ◌≡◌, ◌++◌, List, ℕ, ap, sym, ◌∙◌, negsuc, w64, append_assoc}
+use Rattle.std.proofs.Common.{◌≡◌, ◌++◌, List, ℕ, ap, ◌∙◌, negsuc, w64, append_assoc}
 use Rattle.std.proofs.lemmas.Int.{to_z-of_z}
 use Rattle.kbytes.specs.Field.{field, Int64}
 use Rattle.kafka_room.proofs.kwire.produced.put_base.Goals as goal
