@@ -207,11 +207,6 @@ IsRings-put homes next prev id bucket head last r within low free is_head is_las
       alone = rw long all.3;
       rank = rank';
       falls = rw long all.4;
-      homes_within = λ y b l e.
-          ⊎_elim
-          (λ (q : y ≡ id). let two : Some b ≡ Some bucket = sym e ∙ ap h' q ∙ hx ∙ head_home in let same : b ≡ bucket = cc in omega arith)
-          (λ (q : y ≢ id). r.homes_within y b (omega arith) (sym (ho y q) ∙ e))
-          (cases_eq y id);
     }
 
 -- an id taken out of its ring
@@ -258,11 +253,6 @@ IsRings-take homes next prev id before after r within listed is_before is_after 
       alone = rw long all.3;
       rank = r.rank;
       falls = rw long all.4;
-      homes_within = λ y b l e.
-          ⊎_elim
-          (λ (q : y ≡ id). absurd (not_none e (ap h' q ∙ hx)))
-          (λ (q : y ≢ id). r.homes_within y b (omega arith) (sym (ho y q) ∙ e))
-          (cases_eq y id);
     }
 
 -- where a head follows itself, no id is in its bucket
@@ -324,5 +314,4 @@ IsRings-new homes next prev empty fits a b f g = record {
   alone = λ y l e. f y (omega arith);
   rank = λ y. 0;
   falls = λ y l some. absurd (some (home_of-id homes y l ∙ empty y l));
-  homes_within = λ y v l e. absurd (not_none e (home_of-id homes y l ∙ empty y l));
 }

@@ -20,4 +20,3 @@ pub record IsRings (homes : List (Option ℕ)) (next prev : List ℕ) : Type 0 w
   pub rank : ℕ → ℕ
   pub falls : (node : ℕ) → node < length homes → (home_of homes node ≡ None → ⊥)
       → (length homes ≤ slice_index prev node) ⊎ (rank (slice_index prev node) < rank node)
-  pub homes_within : (node : ℕ) (bucket : ℕ) → node < length homes → home_of homes node ≡ Some bucket → bucket < 160

@@ -11,7 +11,7 @@ loop-level-init c = record {
 }
 
 pub overflow_mul-tick : goal.overflow_mul-tick
-overflow_mul-tick c = let e = tick_fits c.loop-level.level c.loop-level-test.true in let t = c.loop-level.invariant.tick in omega arith
+overflow_mul-tick c = let e = tick_fits c.loop-level.level (omega arith) in let t = c.loop-level.invariant.tick in omega arith
 
 pub returns-clause-wait : goal.returns-clause-wait
 returns-clause-wait c =
