@@ -5,3 +5,7 @@ pub mod OneAskedLaws
 pub mod Names
 pub mod Writes
 pub mod OneLawful
+pub mod OneRun
+pub mod OnePrint
+pub mod OnePlay
+pub mod Replays

@@ -34,6 +34,10 @@ pub mod FirstForm
 pub mod Parts
 -- what was read of a source
 pub mod Streams
+-- what a replay comes to
+pub mod Replay
+-- what it comes to
+pub mod Played
 -- the account of such a trace
 pub mod OneAccount
 -- the fields of such a produce, read from the left

@@ -5,6 +5,7 @@ pub mod asked;
 pub mod fault;
 pub mod found;
 pub mod parts;
+pub mod play;
 pub mod produce;
 pub mod steps;
 #[cfg(test)]

@@ -2,6 +2,7 @@
 
 pub mod config;
 pub mod frame;
+pub mod produced;
 pub mod reply;
 pub mod request;
 

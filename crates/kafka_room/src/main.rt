@@ -1,11 +1,93 @@
-//! The request purgatory of a Kafka broker.
+//! The request purgatory of a Kafka broker: `kafka_room replay` replays a recorded trace.
 #![tactic(auto)]
 
 mod audit;
+mod exit;
 mod first_form;
 mod kanswer;
 mod kwire;
+mod nothing;
+mod replay;
+mod run;
 mod streams;
+#[cfg(test)]
+mod tests;
 mod trace_file;
 
-fn main() {}
+use exit::exit_text;
+use nothing::{NoClock, NoPort};
+use outside::{StdSink, StdSource};
+use run::run;
+use std::process::ExitCode;
+use std::{env, io};
+
+const HELP: &str = "\
+kafka_room: the request purgatory of a Kafka broker
+
+Usage:
+  kafka_room replay     replays the trace on standard input
+  kafka_room --help     prints this text
+  kafka_room --version  prints the version
+
+A trace, of the form that is built so far:
+  topic NAME 1 0        declares a topic with one partition and no followers
+  bytes 0 HEX           session 0 receives one Produce v3 frame: acks 1, this topic,
+                        partition 0, one record batch
+  end                   the trace ends
+
+Exit codes:
+  0  all was done and written
+  1  the command line is faulty
+  3  the input can't be read
+  4  the output can't be written
+  6  no memory was left
+  7  the trace is of a form that isn't built yet
+
+Example:
+  kafka_room replay < examples/produce.trace
+";
+
+const VERSION: &str = "kafka_room 0.1.0\n";
+
+// The words of the command line behind the program's name. Words that aren't all text are none.
+fn words(rt: &HostRuntime) -> io::Result<Vec<String>> {
+    let mut words = Vec::new(rt.alloc());
+    for word in env::args(rt)?.skip(1) {
+        words.push(word)?;
+    }
+    Ok(words)
+}
+
+fn shown(rt: &impl Print, text: &str) -> ExitCode {
+    match rt.print(text) {
+        Ok(()) => ExitCode::from(0),
+        Err(_) => ExitCode::from(4),
+    }
+}
+
+fn main(rt: HostRuntime) -> ExitCode {
+    let words = words(&rt).unwrap_or(Vec::new(rt.alloc()));
+    if let [word] = words.as_slice() {
+        match word.as_str() {
+            "--help" => return shown(&rt, HELP),
+            "--version" => return shown(&rt, VERSION),
+            _ => {}
+        }
+    }
+    let mut source = StdSource::new(rt.reader());
+    let mut sink = StdSink::new(io::writer(&rt));
+    let exit = run(
+        &rt,
+        rt.alloc(),
+        words.as_slice(),
+        &mut source,
+        &mut sink,
+        NoPort::new(),
+        NoClock,
+    );
+    if exit.code != 0 {
+        let text = exit_text(exit.code);
+        let _ = rt.eprintln(format_args!("kafka_room: {text}"));
+    }
+    ExitCode::from(exit.code)
+}

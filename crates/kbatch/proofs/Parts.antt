@@ -51,7 +51,7 @@ behind_some (Ok x) z rest e =
 pub tail_fits : (bytes text rest : List ℕ) → bytes ≡ text ++ rest → IsBytes bytes → IsBytes rest
 tail_fits bytes text rest e fits = subst IsBytes (ap (drop (length text)) e ∙ drop_at text rest (length text) refl) (IsBytes-drop (length text) bytes fits)
 
--- one part behind another
+-- one part after another
 pub then : (bytes a b c d : List ℕ) → bytes ≡ a ++ b → b ≡ c ++ d → bytes ≡ (a ++ c) ++ d
 then bytes a b c d p q = p ∙ ap (λ (xs : List ℕ). a ++ xs) q ∙ sym (append_assoc a c d)
 
@@ -247,7 +247,7 @@ delta_again : (delta : ℕ) (rest : List ℕ) → delta < 2 ^ 31 → after_delta
 unfolding after_delta
 delta_again delta rest lt = rw (varint_again (pos delta) rest (small delta lt), eq-eqb delta delta refl) refl
 
--- ---- what stands behind a record's length
+-- ---- what stands after a record's length
 
 attributes_take : (bytes rest : List ℕ) → IsBytes bytes → after_bytes 1 bytes ≡ Some rest → (z : ℤ) × FitsSigned w8 z × (bytes ≡ field (Int8 z) ++ rest)
 unfolding after_bytes

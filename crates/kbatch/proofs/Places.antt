@@ -85,7 +85,7 @@ part_fits bytes p n fits = IsBytes-take n (drop p bytes) (IsBytes-drop p bytes f
 parts : (bytes : List ℕ) (p n : ℕ) → drop p bytes ≡ take n (drop p bytes) ++ drop (p + n) bytes
 parts bytes p n = sym (take-append-drop n (drop p bytes)) ∙ ap (λ (xs : List ℕ). take n (drop p bytes) ++ xs) (drop-drop n p bytes)
 
--- a signed integer at a place, and what stands behind it
+-- a signed integer at a place, and what stands after it
 pub signed_piece : (w : Width) → IsWide w → (bytes : List ℕ) (p : ℕ) (rest : List ℕ) → IsBytes bytes → p + byte_len w ≤ length bytes → drop (p + byte_len w) bytes ≡ rest → drop p bytes ≡ integer w (kept_integer w p bytes) ++ rest
 signed_piece w wide bytes p rest fits le e =
     rw (integer_back w wide (take (byte_len w) (drop p bytes)) (part_len bytes p (byte_len w) le) (part_fits bytes p (byte_len w) fits)) (parts bytes p (byte_len w) ∙ ap (λ (xs : List ℕ). take (byte_len w) (drop p bytes) ++ xs) e)

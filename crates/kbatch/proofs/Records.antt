@@ -13,7 +13,7 @@ use Rattle.kbatch.specs.Walk.{after_record}
 use Rattle.kbatch.proofs.Lengths.{sized_len}
 use Rattle.kbatch.proofs.Parts.{then, tail_fits, record_takes, record_again}
 
--- so many records stand behind the header, and this is left
+-- so many records stand after the header, and this is left
 pub record AreRead (bytes : List ℕ) (n : ℕ) (rest : List ℕ) : Type 0 where
   pub before : List Record
   pub each : AllByRecursion IsRecord before

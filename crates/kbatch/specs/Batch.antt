@@ -23,10 +23,10 @@ pub record IsBatch (bytes : List ℕ) (records : List Record) : Type 0 where
   pub each : AllByRecursion IsRecord records
   pub parts : bytes ≡ head_bytes head ++ records_from 0 records
   pub most : length bytes ≤ most_bytes
-  -- the length is that of the bytes behind it
+  -- the length is the number of bytes after it
   pub batch_length : head.batch_length +ℤ pos 12 ≡ pos (length bytes)
   pub magic : head.magic ≡ pos 2
-  -- the crc is that of the bytes behind it
+  -- the crc is that of the bytes after it, which begin with the attributes
   pub crc : head.crc ≡ crc32c_of (drop 21 bytes)
   pub plain : codec_of (cast_unsigned w16 head.attributes) ≡ 0
   pub no_transaction : ¬ IsBitSet (cast_unsigned w16 head.attributes) 4

@@ -7,6 +7,7 @@ use Rattle.kbatch.specs.declared.fault.BatchFault.TheVariants.{TooLarge, Short, 
 use Rattle.kbatch.specs.declared.record.Record.{Record}
 use Rattle.kbatch.specs.Crc.{crc32c_of}
 use Rattle.kbatch.specs.Record.{IsRecord, record_bytes, records_from}
+use Rattle.kbatch.specs.Head.{head_size}
 use Rattle.kbatch.specs.Batch.{most_bytes, codec_of}
 use Rattle.kbatch.specs.Kept.{kept_length, kept_magic, kept_crc, kept_attributes, kept_last, kept_count, count_of}
 
@@ -20,14 +21,14 @@ pub record StopsAt (bytes : List ℕ) (at : ℕ) : Type 0 where
   pub before : List Record
   pub each : AllByRecursion IsRecord before
   pub rest : List ℕ
-  pub parts : drop 61 bytes ≡ records_from 0 before ++ rest
-  pub place : at ≡ 61 + length (records_from 0 before)
+  pub parts : drop head_size bytes ≡ records_from 0 before ++ rest
+  pub place : at ≡ head_size + length (records_from 0 before)
   pub why : ((length before < count_of bytes) × NoRecord (length before) rest) ⊎ ((length before ≡ count_of bytes) × (rest ≢ []))
 
 -- what each fault says of the bytes
 abbrev pub Applies : List ℕ → BatchFault → Type 0
 Applies bytes (TooLarge len) = (len ≡ length bytes) × (most_bytes < length bytes)
-Applies bytes Short = length bytes < 61
+Applies bytes Short = length bytes < head_size
 Applies bytes (Length kept) = (kept ≡ kept_length bytes) × (kept +ℤ pos 12 ≢ pos (length bytes))
 Applies bytes (Magic found) = (found ≡ kept_magic bytes) × (found ≢ pos 2)
 Applies bytes (Crc kept found) = (kept ≡ kept_crc bytes) × (found ≡ crc32c_of (drop 21 bytes)) × (kept ≢ found)

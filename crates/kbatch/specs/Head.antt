@@ -3,6 +3,10 @@ use Rattle.std.specs.Prelude.{ℕ, ◌<◌, ◌^◌, ℤ, List, [], ◌∷◌, F
 use Rattle.std.specs.Int.{w8, w16, w32, w64}
 use Rattle.kbytes.specs.Field.{fields, Int8, Int16, Int32, Uint32, Int64}
 
+-- its length in bytes
+abbrev pub head_size : ℕ
+head_size = 61
+
 pub record Head : Type 0 where
   pub base_offset : ℤ
   pub batch_length : ℤ

@@ -4,7 +4,7 @@ pub mod Crc
 pub mod Record
 -- the header's fields
 pub mod Head
--- a batch: the header and the records behind it
+-- a batch: the header and the records after it
 pub mod Batch
 -- the header's numbers by place
 pub mod Kept

@@ -14,7 +14,7 @@ sized (Some bytes) = field (Varint (pos (length bytes))) ++ bytes
 unfoldable pub header_bytes : Header → List ℕ
 header_bytes h = sized (Some h.key) ++ sized h.value
 
--- what stands behind the record's length. Its offset is the batch's base offset and delta.
+-- what stands after the record's length. Its offset is the batch's base offset and delta.
 unfoldable pub body_bytes : ℕ → Record → List ℕ
 body_bytes delta r =
     field (Int8 r.attributes) ++ (field (Varlong r.time) ++ (field (Varint (pos delta)) ++ (sized r.key ++ (sized r.value

@@ -1,4 +1,4 @@
--- Where a record ends, read from the left: what stands behind each of its parts, or None where the part doesn't read.
+-- Where a record ends, read from the left: what stands after each of its parts, or None where the part doesn't read.
 use Rattle.std.specs.Prelude.{◌≡◌, ℕ, zero, suc, ℤ, pos, negsuc, List, [], ◌∷◌, length, take, drop, Option, Some, None, Result, Ok, Err, nat_lt, ◌==◌, if◌then◌else◌}
 use Rattle.kbytes.specs.declared.fault.ByteFault.{ByteFault}
 use Rattle.kbytes.specs.Cursor.{Cursor, rest_of}
@@ -68,7 +68,7 @@ is_delta delta (negsuc n, rest) = None
 unfoldable pub after_delta : ℕ → List ℕ → Option (List ℕ)
 after_delta delta bytes = after_varint bytes >>= is_delta delta
 
--- what stands behind a record's length
+-- what stands after a record's length
 unfoldable pub after_body : ℕ → List ℕ → Option (List ℕ)
 after_body delta bytes = do
   time ← after_bytes 1 bytes

@@ -1,5 +1,6 @@
 ghost use Rattle.std.specs.Prelude.{◌≡◌, ◌<◌, ◌≤◌, ◌^◌, List, length};
 ghost use Rattle.kbatch.specs.declared.record.Record.{Record};
+ghost use Rattle.kbatch.specs.Head.{head_size};
 ghost use Rattle.kbatch.specs.Batch.{IsBatch, most_bytes};
 ghost use Rattle.kbatch.specs.Kept.{count_of};
 ghost use Rattle.kbatch.specs.Stamp.{stamped};
@@ -67,7 +68,7 @@ impl Batch {
     pub fn bytes(&self) -> &[u8]
         ensures bytes { result.now ≡ self.now }
         ensures batch { (records : List Record) × IsBatch self.now records }
-        ensures least { 61 < length self.now }
+        ensures least { head_size < length self.now }
         ensures most { length self.now ≤ most_bytes }
     {
         self.bytes.as_slice()

@@ -25,7 +25,7 @@ pub enum BatchFault {
     Control,
     /// The number of records is below 1, or the last offset delta isn't one less.
     Count { count: i32, last: i32 },
-    /// A record doesn't read at this place, or bytes remain there behind the last record.
+    /// A record doesn't read at this place, or bytes remain there after the last record.
     Records { at: usize },
     /// No memory was left.
     NoMemory,

@@ -1,4 +1,7 @@
-//! Kafka's record batch, version 2.
+//! Kafka's record batch, version 2, and its CRC-32C.
+//!
+//! The layer above may take each `Batch` for the bytes of a batch of some records (`IsBatch`), count its records, and
+//! stamp it with a base offset, which keeps it a batch of the same records.
 #![tactic(auto)]
 
 mod batch;

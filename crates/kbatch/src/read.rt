@@ -17,7 +17,7 @@ use crate::walk::after_record;
 use kbytes::Bytes;
 use std::alloc::Global;
 
-// The bytes behind the header are this many records and nothing more.
+// The bytes after the header are this many records and nothing more.
 fn check_records(bytes: &[u8], count: u32) -> Result<(), BatchFault>
     requires most { length bytes.now ≤ most_bytes }
     requires least { 61 ≤ length bytes.now }

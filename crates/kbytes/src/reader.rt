@@ -194,7 +194,7 @@ impl<'a> Reader<'a> {
     }
 
     // So many bytes behind a length that was read ahead.
-    fn counted(&mut self, ahead: Reader<'a>, length: i64) -> Result<&'a [u8], ByteFault>
+    fn counted(&mut self, mut ahead: Reader<'a>, length: i64) -> Result<&'a [u8], ByteFault>
         ensures exact { Gives (λ part. part.now) self.old self.new result (counted_after self.old (length, ahead.entry)) }
     {
         if length < 0 {
@@ -203,7 +203,6 @@ impl<'a> Reader<'a> {
                 value: length,
             });
         }
-        let mut ahead = ahead;
         match ahead.next(length as usize) {
             Err(_) => Err(ByteFault::Short { at: self.at }),
             Ok(part) => {

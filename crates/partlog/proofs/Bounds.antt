@@ -1,5 +1,5 @@
 -- Bounds on the numbers of a history.
-use Rattle.std.proofs.Common.{◌≡◌, ℕ, ◌+◌, ◌≤◌, List, [], ◌∷◌, min, pos, map, fold, filter, sum_by, cond, Bool, true, false, All, arith, sym, ap, ◌∙◌}
+use Rattle.std.proofs.Common.{◌≡◌, ℕ, ◌+◌, ◌≤◌, List, [], ◌∷◌, min, pos, map, fold, filter, sum_by, cond, Bool, true, false, All, arith, ap, ◌∙◌}
 use Rattle.std.proofs.lemmas.List.Sums.{sum_by-cons, fold_push}
 use Rattle.std.proofs.lemmas.List.Elements.{All-tail}
 use Rattle.std.proofs.lemmas.List.FromFn.{map-range_with_len_more}
@@ -11,18 +11,14 @@ use Rattle.partlog.specs.Kept.{IsDense}
 use Rattle.partlog.specs.Position.{position_of, positions_of}
 
 -- the least of the log end and the positions of one replica more
-pub high-more : (events : List PartEvent) (end below high position : ℕ) → high ≡ fold min end (positions_of below events) → position ≡ position_of events (pos (below + 1)) → min high position ≡ fold min end (positions_of (below + 1) events)
-high-more events end below high position so_far next =
+pub high_more : (events : List PartEvent) (end below : ℕ) → fold min end (positions_of (below + 1) events) ≡ min (fold min end (positions_of below events)) (position_of events (pos (below + 1)))
+high_more events end below =
     let f = λ (replica : ℕ). position_of events (pos replica) in
-    ap (λ h. min h position) so_far ∙ ap (λ p. min (fold min end (positions_of below events)) p) next ∙ sym (fold_push min end (map f (range_with_len 1 below)) (f (below + 1))) ∙ ap (λ ps. fold min end ps) (sym (map-range_with_len_more f 1 below (below + 1) (omega arith)))
+    ap (λ ps. fold min end ps) (map-range_with_len_more f 1 below (below + 1) (omega arith)) ∙ fold_push min end (map f (range_with_len 1 below)) (f (below + 1))
 
 pub fold-min-le : (a : ℕ) (xs : List ℕ) → fold min a xs ≤ a
 fold-min-le a [] = omega arith
 fold-min-le a (x ∷ xs) = omega (arith, fold-min-le (min a x) xs)
-
-filter-le-at : (here rest kept total : ℕ) (keeps : Bool) → kept ≤ rest → cond keeps (here + kept) kept ≤ here + rest
-filter-le-at here rest kept total true le = omega arith
-filter-le-at here rest kept total false le = omega arith
 
 pub sum_by-filter-le : {X : Type 0} (f : X → ℕ) (p : X → Bool) (xs : List X) → sum_by f (filter p xs) ≤ sum_by f xs
 sum_by-filter-le f p [] = omega arith

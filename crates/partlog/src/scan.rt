@@ -62,6 +62,7 @@ fn position(events: &[PartEvent], replica: u32) -> u64
 }
 
 /// The least of the log end and all positions.
+#[tactic(auto, using(crate::proofs::Bounds::high_more))]
 pub(crate) fn high_watermark(events: &[PartEvent], followers: u32, end: u64) -> u64
     ensures { result ≡ fold min end (positions_of followers events.now) }
 {

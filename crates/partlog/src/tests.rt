@@ -1,6 +1,6 @@
 use super::*;
 use kbatch::{Batch, read_batch};
-use std::alloc::Global;
+use std::alloc::{AllocError, Global};
 use std::test::*;
 
 // One record, null key, value `a`, with base offset 0 and leader epoch 0.
@@ -31,11 +31,7 @@ fn batch_of(alloc: Global, bytes: &[u8]) -> Result<Batch, Fail> {
 fn two_batches_follow_each_other(rt: HostRuntime) -> Result<(), Fail> {
     let alloc = rt.alloc();
     let mut part = PartLog::new(alloc, 0)?;
-    // Neither the base offset nor the leader epoch is covered by the crc.
-    let mut bytes = ONE_RECORD;
-    bytes[7] = 9;
-    bytes[15] = 5;
-    let batch = batch_of(alloc, &bytes)?;
+    let batch = batch_of(alloc, &ONE_RECORD)?;
     for (base, place) in [(0, 0), (1, 1)] {
         assert_eq!(rt; part.append(WHO, &batch), Ok(Placed { base, place }));
     }
@@ -53,11 +49,31 @@ fn two_batches_follow_each_other(rt: HostRuntime) -> Result<(), Fail> {
         len: 69,
     };
     assert_eq!(rt; part.events(), [entry, entry].as_slice());
-    let mut second = ONE_RECORD;
-    second[7] = 1;
-    assert_eq!(rt; part.log().len(), 138);
-    assert_eq!(rt; &part.log()[..69], ONE_RECORD.as_slice());
-    assert_eq!(rt; &part.log()[69..], second.as_slice());
+    Ok(())
+}
+
+// Neither the base offset nor the leader epoch is covered by the crc.
+fn with_head(alloc: Global, base: u8, epoch: u8) -> Result<Vec<u8>, AllocError> {
+    let mut bytes = ONE_RECORD.to_vec(alloc)?;
+    if let Some(byte) = bytes.get_mut(7) {
+        *byte = base;
+    }
+    if let Some(byte) = bytes.get_mut(15) {
+        *byte = epoch;
+    }
+    Ok(bytes)
+}
+
+#[test]
+fn each_batch_is_stamped_where_it_stands(rt: HostRuntime) -> Result<(), Fail> {
+    let alloc = rt.alloc();
+    let mut part = PartLog::new(alloc, 0)?;
+    let batch = batch_of(alloc, &with_head(alloc, 9, 5)?)?;
+    assert!(rt; part.append(WHO, &batch).is_ok());
+    assert!(rt; part.append(WHO, &batch).is_ok());
+    let mut log = with_head(alloc, 0, 0)?;
+    log.extend_from_slice(&with_head(alloc, 1, 0)?)?;
+    assert_eq!(rt; part.log(), log.as_slice());
     Ok(())
 }
 

@@ -4,29 +4,24 @@ ghost use Rattle.std.specs.Prelude.{◌≡◌, ◌∷◌, [], codes, IfOk};
 ghost use Rattle.std.specs.Fmt.{decimal};
 ghost use Rattle.std.specs.String.{string_bytes};
 ghost use Rattle.hex.specs.Hex.{encode_lower};
-ghost use Rattle.kafka_room.specs.Printed.{line_of, done_line};
+ghost use Rattle.kafka_room.specs.Printed.{line_of};
 
 use kbytes::NoMemory;
-use partlog::Numbers;
 use std::alloc::Global;
 
 /// `part P end E high H batches B bytes Y`
 pub fn part_line(
     alloc: Global,
     number: u32,
-    numbers: &Numbers,
+    end: u64,
+    high: u64,
     batches: usize,
+    bytes: usize,
 ) -> Result<String, NoMemory>
     ensures { IfOk result (λ line. string_bytes line ≡ line_of (codes "part" ∷ decimal number
-        ∷ codes "end" ∷ decimal numbers.now.end ∷ codes "high" ∷ decimal numbers.now.high
-        ∷ codes "batches" ∷ decimal batches ∷ codes "bytes" ∷ decimal numbers.now.bytes ∷ [])) }
+        ∷ codes "end" ∷ decimal end ∷ codes "high" ∷ decimal high
+        ∷ codes "batches" ∷ decimal batches ∷ codes "bytes" ∷ decimal bytes ∷ [])) }
 {
-    let Numbers {
-        end,
-        high,
-        visible: _,
-        bytes,
-    } = *numbers;
     let line = format!(in alloc;
         "part {number} end {end} high {high} batches {batches} bytes {bytes}\n"
     )?;

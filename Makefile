@@ -1,0 +1,23 @@
+CRATE ?= kafka_room
+
+.PHONY: run build test check fmt clean
+
+# Without a proof: proving the program takes longer than a first look should. `make build` proves it.
+run:
+	cd crates/kafka_room && rt try -- replay < ../../examples/produce.trace
+
+# The proved program stays as crates/kafka_room/out/kafka_room.
+build:
+	cd crates/kafka_room && rt run -- --version
+
+test:
+	rt all test
+
+check:
+	cd crates/$(CRATE) && rt check
+
+fmt:
+	for crate in crates/*/; do (cd $$crate && rt fmt) || exit 1; done
+
+clean:
+	rm -rf crates/*/out

@@ -1,0 +1,4 @@
+-- rows in rising order of id: a place, and what stands before and after it
+pub mod Rows
+-- the rows of a shard, one changed
+pub mod Shards

@@ -1,0 +1,117 @@
+ghost use Rattle.std.specs.Prelude.{◌≡◌, ◌+◌, ◌*◌, ◌^◌, ◌<◌, ◌≤◌, ◌↔◌, ℕ, [], Contains, IfOk, IsTrue, filter, length, map, not, replicate, slice_get};
+ghost use Rattle.watch_lists.specs.Row.{IsRow};
+ghost use Rattle.watch_lists.specs.Watches.{is_live, is_of, keys_of, listing, row_of, size_of, with_row};
+
+use crate::row::{keep_live, put, take};
+use crate::watch::Watch;
+use kbytes::NoMemory;
+use std::alloc::Global;
+use std::marker::Model;
+
+/// Who watches which key. Each key has its watchers in a list of its own, in rising order of id.
+#[derive(Debug, Drop)]
+pub struct Shard {
+    ids: u32,
+    rows: Vec<Vec<Watch>>,
+}
+
+impl Model for Shard {
+    ghost use Rattle.std.specs.Prelude.{map};
+    ghost use Rattle.watch_lists.specs.Watches.{Watches};
+    ghost use Rattle.watch_lists.specs.Rows.{AreRows};
+
+    ghost Value = { Watches };
+
+    ghost view = { λ s. record { ids = s.ids; rows = map (λ row. row.items) s.rows.items } };
+
+    ghost invariant = { λ s. AreRows s.ids s.rows.items };
+}
+
+impl Shard {
+    /// A shard with nothing listed, for the keys below `keys` and the ids below `ids`. Nothing
+    /// takes memory after this.
+    pub fn new(alloc: Global, keys: u32, ids: u32) -> Result<Shard, NoMemory>
+        requires { keys * ids ≤ 2 ^ 20 }
+        ensures { IfOk result (λ shard. shard ≡ record { ids = ids; rows = replicate keys [] }) }
+    {
+        let mut rows = Vec::with_capacity(alloc, keys as usize)?;
+        for _key in 0..keys {
+            let row = Vec::with_capacity(alloc, ids as usize)?;
+            rows.push(row)?;
+        }
+        Ok(Shard { ids, rows })
+    }
+
+    /// Lists an id under a key with a generation, in place of an older one. Generations are 1 or
+    /// more.
+    pub fn list(&mut self, key: u32, id: u32, generation: u32)
+        requires key { key < keys_of self.old }
+        requires id { id < self.old.ids }
+        requires generation { 1 ≤ generation }
+        ensures { self.new ≡ with_row self.old key
+            (listing (record { key = key; id = id; generation = generation }) (row_of self.old key)) }
+    {
+        let watch = Watch {
+            key,
+            id,
+            generation,
+        };
+        let ids = self.ids;
+        put(&mut self.rows[key as usize], watch, ids);
+    }
+
+    /// The watcher at a place of a key, in rising order of id. `None` exactly where there are no
+    /// more.
+    pub fn each(&self, key: u32, at: u32) -> Option<Watch>
+        requires { key < keys_of self.now }
+        ensures { result ≡ slice_get (row_of self.now key) at }
+    {
+        self.rows[key as usize].get(at as usize).copied()
+    }
+
+    /// Takes a watcher out. False where it isn't listed with this generation.
+    pub fn drop_stale(&mut self, key: u32, id: u32, generation: u32) -> bool
+        requires key { key < keys_of self.old }
+        requires id { id < self.old.ids }
+        ensures listed { IsTrue result ↔ Contains (row_of self.old key)
+            (record { key = key; id = id; generation = generation }) }
+        ensures rest { self.new ≡ with_row self.old key
+            (filter (λ w. not (is_of id generation w)) (row_of self.old key)) }
+    {
+        take(&mut self.rows[key as usize], id, generation)
+    }
+
+    /// Takes out every watcher whose generation isn't the live one of its id, and answers how many.
+    /// `live` has a generation for each id, 0 where the id isn't open.
+    pub fn purge(&mut self, live: &[u32]) -> u32
+        requires { length live.now ≡ self.old.ids }
+        ensures live { self.new
+            ≡ record self.old { rows = map (filter (is_live live.now)) self.old.rows } }
+        ensures count { result + size_of self.new ≡ size_of self.old }
+    {
+        let mut removed = 0;
+        for key in 0..self.rows.len() {
+            removed += keep_live(&mut self.rows[key], live);
+        }
+        removed as u32
+    }
+
+    /// How many watchers are listed, of all keys.
+    pub fn len(&self) -> u32
+        ensures { result ≡ size_of self.now }
+    {
+        let mut count = 0;
+        for row in &self.rows {
+            count += row.len();
+        }
+        count as u32
+    }
+
+    /// Law: the watchers of a key are in rising order of id, each with the key, an id below the
+    /// limit and a generation of 1 or more.
+    pub fn watchers_rise(&self)
+        ensures { (key : ℕ) → key < keys_of self.now → IsRow key self.now.ids (row_of self.now key) }
+    {
+        let _ids = self.ids;
+    }
+}

@@ -1,0 +1,7 @@
+/// The id watches the key, for the operation of this generation.
+#[derive(Clone, Copy, Debug, PartialEq, Eq)]
+pub struct Watch {
+    pub key: u32,
+    pub id: u32,
+    pub generation: u32,
+}
