@@ -49,7 +49,7 @@ Example:
 
 const VERSION: &str = "kafka_room 0.1.0\n";
 
-// The words of the command line behind the program's name. Words that aren't all text are none.
+// The words of the command line behind the program's name.
 fn words(rt: &HostRuntime) -> io::Result<Vec<String>> {
     let mut words = Vec::new(rt.alloc());
     for word in env::args(rt)?.skip(1) {
@@ -58,15 +58,26 @@ fn words(rt: &HostRuntime) -> io::Result<Vec<String>> {
     Ok(words)
 }
 
-fn shown(rt: &impl Print, text: &str) -> ExitCode {
-    match rt.print(text) {
-        Ok(()) => ExitCode::from(0),
-        Err(_) => ExitCode::from(4),
+// Ends with a code, and tells what it means where it isn't 0.
+fn ended(rt: &HostRuntime, code: u8) -> ExitCode {
+    if code != 0 {
+        let text = exit_text(code);
+        let _ = rt.eprintln(format_args!("kafka_room: {text}"));
     }
+    ExitCode::from(code)
+}
+
+fn shown(rt: &HostRuntime, text: &str) -> ExitCode {
+    ended(rt, if rt.print(text).is_ok() { 0 } else { 4 })
 }
 
 fn main(rt: HostRuntime) -> ExitCode {
-    let words = words(&rt).unwrap_or(Vec::new(rt.alloc()));
+    let words = match words(&rt) {
+        Ok(words) => words,
+        Err(error) if error.kind() == io::ErrorKind::OutOfMemory => return ended(&rt, 6),
+        // A word that isn't UTF-8.
+        Err(_) => return ended(&rt, 1),
+    };
     if let [word] = words.as_slice() {
         match word.as_str() {
             "--help" => return shown(&rt, HELP),
@@ -85,9 +96,5 @@ fn main(rt: HostRuntime) -> ExitCode {
         NoPort::new(),
         NoClock,
     );
-    if exit.code != 0 {
-        let text = exit_text(exit.code);
-        let _ = rt.eprintln(format_args!("kafka_room: {text}"));
-    }
-    ExitCode::from(exit.code)
+    ended(&rt, exit.code)
 }
