@@ -9,3 +9,9 @@ pub mod OneRun
 pub mod OnePrint
 pub mod OnePlay
 pub mod Replays
+pub mod Growth
+pub mod Places
+pub mod Accepts
+pub mod Runs
+pub mod Steady
+pub mod Lawful

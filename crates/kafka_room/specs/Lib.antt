@@ -50,3 +50,15 @@ pub mod OneAsked
 pub mod Tells
 -- what was read of such a trace
 pub mod IsFound
+-- what the one-thread broker keeps, and its account
+pub mod Board
+-- what accepting a request does to the histories
+pub mod Acceptance
+-- what the one-thread broker does with a request
+pub mod Handling
+-- how it scans the requests that wait
+pub mod Completing
+-- which sessions can act, and what one does
+pub mod Acting
+-- what a trace comes to on one thread
+pub mod Play

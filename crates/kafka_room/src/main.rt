@@ -2,6 +2,7 @@
 #![tactic(auto)]
 
 mod audit;
+mod dev;
 mod exit;
 mod first_form;
 mod kanswer;
