@@ -6,3 +6,17 @@ pub mod Bounds
 pub mod Gathered
 -- a batch that is put at the end of a log and stamped there
 pub mod Stamping
+-- batches that follow each other in a log
+pub mod Rows
+-- batches from a place on, up to a place, and as many as fit
+pub mod Fronts
+-- going over a history, entry by entry, beside its batches
+pub mod Walking
+-- where what is taken of the batches ends
+pub mod Taking
+-- the batches wholly below an offset
+pub mod Below
+-- the batches of a log and its history
+pub mod Whole
+-- earlier states of a log
+pub mod Earlier

@@ -16,3 +16,13 @@ pub mod Gauges
 pub mod Moment
 -- what holds of every log
 pub mod Kept
+-- a log that a call looked at
+pub mod Looked
+-- where reading from an offset begins
+pub mod Start
+-- whole batches: from a place on, up to a place, as many as fit, and their bytes
+pub mod Taken
+-- where a batch ends and the next one may begin
+pub mod Boundary
+-- what the batches of a log show of a state
+pub mod Readable

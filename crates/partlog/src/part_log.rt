@@ -1,9 +1,10 @@
-ghost use Rattle.std.specs.Prelude.{◌≡◌, ◌↔◌, ◌+◌, ◌<◌, ◌≤◌, [], length, IfOk, OnOk, OnErr, IsErrOf};
+ghost use Rattle.std.specs.Prelude.{◌≡◌, ◌↔◌, ◌+◌, ◌<◌, ◌≤◌, [], length, not, IfOk, OnOk, OnErr, IsErrOf};
 
 use crate::event::PartEvent;
 use crate::fault::LogFault;
 use crate::numbers::Numbers;
 use crate::placed::Placed;
+use crate::reading::{start_from, taken_end};
 use crate::scan::{high_watermark, log_end, visible_bytes};
 use crate::stamp::stamp;
 use crate::who::Who;
@@ -38,8 +39,13 @@ impl Model for PartLog {
 impl PartLog {
     ghost use Rattle.partlog.specs.Added.{log_end_of, bytes_of};
     ghost use Rattle.partlog.specs.Appended.{appended};
+    ghost use Rattle.partlog.specs.Boundary.{IsBoundary};
     ghost use Rattle.partlog.specs.Gauges.{numbers_of};
+    ghost use Rattle.partlog.specs.Kept.{IsKept};
+    ghost use Rattle.partlog.specs.Looked.{looked};
+    ghost use Rattle.partlog.specs.Start.{start_of};
     ghost use Rattle.partlog.specs.State.{state_of};
+    ghost use Rattle.partlog.specs.Taken.{batches_past, batches_upto, joined, taken};
 
     /// An empty log with so many followers.
     pub fn new(alloc: Global, followers: u32) -> Result<PartLog, NoMemory>
@@ -84,10 +90,49 @@ impl PartLog {
         Ok(Placed { base, place })
     }
 
+    /// Enters a look, and answers the place of the entry. After a refusal the log is as it was.
+    pub fn look(&mut self, who: Who) -> Result<u64, NoMemory>
+        ensures looked { OnOk result (self.new ≡ looked self.old who.by who.seq) }
+        ensures place { IfOk result (λ place. place ≡ length self.old.events) }
+        ensures refused { OnErr result (self.new ≡ self.old) }
+    {
+        let place = self.events.len() as u64;
+        self.events.push(PartEvent::Look {
+            by: who.by,
+            seq: who.seq,
+        })?;
+        Ok(place)
+    }
+
+    /// The byte place of the first batch whose last offset is at least this one; the log's length where there is none. It
+    /// takes no memory.
+    pub fn locate(&self, offset: u64) -> u64
+        ensures start { result ≡ start_of offset (state_of self.now) }
+        ensures within { result ≤ length self.now.log }
+        ensures boundary { IsBoundary result (state_of self.now).batches }
+    {
+        let _log = &self.log;
+        visible_bytes(self.events.as_slice(), offset)
+    }
+
+    /// The bytes of whole batches: of those that begin at or after the byte place `from` and end at or before the byte
+    /// place `upto`, as many from the first on as have `limit` bytes together. Where not even the first fits, `force` gives
+    /// that one. It takes no memory.
+    pub fn read(&self, from: u64, upto: u64, limit: u64, force: bool) -> &[u8]
+        ensures { result.now ≡ joined (taken limit (not force)
+            (batches_past from (batches_upto upto (state_of self.now).batches))) }
+    {
+        let events = self.events.as_slice();
+        let start = start_from(events, from);
+        let end = taken_end(events, start, upto, limit, force);
+        &self.log.as_slice()[start as usize..end as usize]
+    }
+
     /// The log's bytes: those of the batches that were appended, and nothing after them.
     pub fn log(&self) -> &[u8]
         ensures bytes { result.now ≡ self.now.log }
         ensures whole { bytes_of self.now.events ≡ length result.now }
+        ensures kept { IsKept self.now.log self.now.events }
     {
         let _events = &self.events;
         self.log.as_slice()
@@ -99,7 +144,9 @@ impl PartLog {
         ensures end { result.end ≤ 67108864 }
         ensures high { result.high ≤ result.end }
         ensures visible { result.visible ≤ result.bytes }
+        ensures boundary { IsBoundary result.visible (state_of self.now).batches }
         ensures bytes { result.bytes ≤ 67108864 }
+        ensures all { result.bytes ≡ length self.now.log }
     {
         let events = self.events.as_slice();
         let end = log_end(events);

@@ -19,7 +19,7 @@ impl PartEvent {
     }
 
     /// The bytes that it added.
-    fn added_bytes(&self) -> u64
+    pub(crate) fn added_bytes(&self) -> u64
         ensures { result ≡ added_bytes self.now }
     {
         match self {

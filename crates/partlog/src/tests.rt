@@ -17,6 +17,14 @@ const LONG_FRONT: [u8; 71] = [
     255, 255, 255, 255, 0, 0, 0, 1, 128, 255, 127, 0, 0, 0, 1, 240, 254, 127,
 ];
 
+// Three records without keys, with the values `a`, `b` and `c`, base offset 0 and leader epoch 0.
+const THREE_RECORDS: [u8; 85] = [
+    0, 0, 0, 0, 0, 0, 0, 0, 0, 0, 0, 73, 0, 0, 0, 0, 2, 167, 254, 154, 201, 0, 0, 0, 0, 0, 2, 0, 0,
+    0, 0, 0, 0, 0, 0, 0, 0, 0, 0, 0, 0, 0, 0, 255, 255, 255, 255, 255, 255, 255, 255, 255, 255,
+    255, 255, 255, 255, 0, 0, 0, 3, 14, 0, 0, 0, 1, 2, 97, 0, 14, 0, 0, 2, 1, 2, 98, 0, 14, 0, 0,
+    4, 1, 2, 99, 0,
+];
+
 const WHO: Who = Who { by: 3, seq: 7 };
 
 fn batch_of(alloc: Global, bytes: &[u8]) -> Result<Batch, Fail> {
@@ -114,5 +122,58 @@ fn a_full_log_takes_nothing_more(rt: HostRuntime) -> Result<(), Fail> {
     };
     assert_eq!(rt; part.numbers(), numbers);
     assert_eq!(rt; part.events().len(), 64);
+    Ok(())
+}
+
+// Batches of 69, 85 and 69 bytes, with one, three and one records.
+fn three_batches(alloc: Global) -> Result<PartLog, Fail> {
+    let mut part = PartLog::new(alloc, 0)?;
+    part.append(WHO, &batch_of(alloc, &ONE_RECORD)?)?;
+    part.append(WHO, &batch_of(alloc, &THREE_RECORDS)?)?;
+    part.append(WHO, &batch_of(alloc, &ONE_RECORD)?)?;
+    Ok(part)
+}
+
+#[test]
+fn an_offset_is_in_the_batch_that_holds_it(rt: HostRuntime) -> Result<(), Fail> {
+    let part = three_batches(rt.alloc())?;
+    for (offset, place) in [(0, 0), (1, 69), (2, 69), (3, 69), (4, 154), (5, 223)] {
+        assert_eq!(rt; part.locate(offset), place);
+    }
+    Ok(())
+}
+
+// From where, up to where, how many bytes at most and whether the first batch is forced, and the places between which the answer stands.
+const READS: [((u64, u64, u64, bool), (usize, usize)); 12] = [
+    ((0, 223, 10, false), (0, 0)),
+    ((0, 223, 10, true), (0, 69)),
+    ((0, 223, 69, false), (0, 69)),
+    ((0, 223, 153, true), (0, 69)),
+    ((0, 223, 154, false), (0, 154)),
+    ((69, 223, 1000, true), (69, 223)),
+    ((69, 154, 1000, false), (69, 154)),
+    ((69, 154, 84, false), (69, 69)),
+    ((0, 69, 1000, true), (0, 69)),
+    ((154, 154, 1000, true), (154, 154)),
+    ((154, 69, 1000, true), (154, 154)),
+    ((223, 223, 1000, true), (223, 223)),
+];
+
+#[test]
+fn whole_batches_are_read(rt: HostRuntime) -> Result<(), Fail> {
+    let part = three_batches(rt.alloc())?;
+    for ((from, upto, limit, force), (start, end)) in READS {
+        let seen = part.read(from, upto, limit, force);
+        assert_eq!(rt; part.log().get(start..end), Some(seen));
+    }
+    Ok(())
+}
+
+#[test]
+fn a_look_is_entered(rt: HostRuntime) -> Result<(), Fail> {
+    let mut part = three_batches(rt.alloc())?;
+    assert_eq!(rt; part.look(WHO), Ok(3));
+    let entry = PartEvent::Look { by: 3, seq: 7 };
+    assert_eq!(rt; part.events().get(3), Some(&entry));
     Ok(())
 }

@@ -1,10 +1,13 @@
-use Rattle.std.proofs.Common.{arith, ap, ◌∙◌}
+use Rattle.std.proofs.Common.{arith, ap, subst, ◌∙◌}
 use Rattle.partlog.specs.Added.{log_end_of}
 use Rattle.partlog.specs.Gauges.{numbers_of}
 use Rattle.partlog.specs.State.{state_of}
+use Rattle.partlog.specs.Boundary.{IsBoundary}
+use Rattle.partlog.specs.History.{History}
 use Rattle.partlog.specs.Position.{positions_of}
 use Rattle.partlog.proofs.Bounds.{fold-min-le, log_end-le-bytes}
 use Rattle.partlog.proofs.Gathered.{IsScanned, numbers_are, visible_within}
+use Rattle.partlog.proofs.Whole.{kept-boundary}
 use Rattle.partlog.proofs.part_log.PartLog.numbers.Goals as goal
 
 pub log_end-end-requires : goal.log_end-end-requires
@@ -39,3 +42,9 @@ returns-clause-visible c =
       bytes = c.len.ensures;
     } in
     visible_within _ _ _ _ c.self.invariant seen
+
+pub returns-clause-boundary : goal.returns-clause-boundary
+returns-clause-boundary c =
+    let seen = (rw c.as_slice-events.ensures at c.visible_bytes.ensures) c.self.inside.log c.self.invariant.whole in
+    let Ends : History → Type 0 = λ h. IsBoundary c.visible_bytes.result (state_of h).batches in
+    subst Ends c.self.view_is (kept-boundary c.self.inside.log c.self.inside.events c.self.invariant c.high_watermark-high.result c.visible_bytes.result seen)
