@@ -55,7 +55,7 @@ event_owner by seq Looked = refl
 set_whole : (parts : List History) (part : ℕ) (h : History) → AllWhole parts → part < length parts → IsWhole h → AllWhole (set parts part h)
 set_whole parts part h whole within w p k e =
     elim (same_or_not p part) [
-      inl same ↦
+      | inl same ↦
           let there : slice_get (set parts part h) p ≡ Some h = subst (λ (i : ℕ). slice_get (set parts part h) i ≡ Some h) (sym same) (get_set_same parts part h within) in
           subst IsWhole (some_is h k (sym there ∙ e)) w
       | inr other ↦ whole p k (sym (get_set_other parts part p h other) ∙ e)
@@ -108,14 +108,16 @@ accepted_left by seq n (AskLog part outcome ∷ decisions) parts size whole fair
     let rest = accepted_left by seq n decisions parts1 (length-set parts part left ∙ size) whole1 fair.1 in
     let points = step_points (steps_of (accept_all by seq decisions parts1).0) in
     elim (same_or_not p part) [
-      inl same ↦
+      | inl same ↦
           let is : h ≡ found = some_is h found (sym e ∙ ap (slice_get parts) same ∙ there) in
           let r = rest part left (get_set_same parts part left within) in
           let ps : places_in p (record { part = part; place = length found.events } ∷ points) ≡ length found.events ∷ places_in part points =
-              ap (λ (i : ℕ). places_in i (record { part = part; place = length found.events } ∷ points)) same ∙ places_here part (length found.events) points in
-          (r.0, ap (slice_get (accept_all by seq decisions parts1).1) same ∙ r.1,
-          subst (λ (k : History). Left by seq (places_in p (record { part = part; place = length found.events } ∷ points)) k r.0) (sym is)
-          (subst (λ (xs : List ℕ). Left by seq xs found r.0) (sym ps) (left_more by seq entry (places_in part points) found r.0 r.2)))
+          ap (λ (i : ℕ). places_in i (record { part = part; place = length found.events } ∷ points)) same ∙ places_here part (length found.events) points in (
+            r.0,
+            ap (slice_get (accept_all by seq decisions parts1).1) same ∙ r.1,
+            subst (λ (k : History). Left by seq (places_in p (record { part = part; place = length found.events } ∷ points)) k r.0) (sym is)
+                (subst (λ (xs : List ℕ). Left by seq xs found r.0) (sym ps) (left_more by seq entry (places_in part points) found r.0 r.2)),
+          )
       | inr other ↦
           let r = rest p h (get_set_other parts part p left other ∙ e) in
           (r.0, r.1, subst (λ (xs : List ℕ). Left by seq xs h r.0) (sym (places_other p part (length found.events) points other)) r.2)
@@ -151,7 +153,7 @@ shows_entry by seq account part found entry pa whole sized there longer =
     let n = length found.events in
     let event = event_of by seq entry in
     let events : pa.events ≡ found.events ++ event ∷ longer.more =
-        longer.events ∙ ap (λ (es : List PartEvent). es ++ longer.more) (entered_events found by seq entry) ∙ append_assoc found.events (event ∷ []) longer.more in
+    longer.events ∙ ap (λ (es : List PartEvent). es ++ longer.more) (entered_events found by seq entry) ∙ append_assoc found.events (event ∷ []) longer.more in
     let here : slice_get pa.events n ≡ Some event = ap (λ (es : List PartEvent). slice_get es n) events ∙ get_seam found.events longer.more event in
     record {
       before = ap (λ (o : Option PartAccount). before_in o n) there ∙ before_kept found (history_of pa) whole (longer_on found (entered found by seq entry) (history_of pa) (entered_longer found by seq entry) longer);
@@ -199,13 +201,16 @@ accepted_shows by seq n (AskLog part outcome ∷ decisions) parts account size f
     let s = shows_entry by seq account part found came.entry kept.0 found_whole sized kept.1 (longer_on left later.0 (history_of kept.0) later.2.longer kept.2) in
     let point : Point = record { part = part; place = length found.events } in
     record {
-      steps = (record {
-        point = point;
-        left = refl;
-        there = refl;
-        result = ap (λ (state : PartState). (outcome state).result) (sym s.before);
-        entry = subst (λ (state : PartState). IsEntry account point (outcome state).entry) (sym s.before) (is_entry by seq account part found came.entry found_whole sized s);
-      }, rest.steps);
+      steps = (
+        record {
+          point = point;
+          left = refl;
+          there = refl;
+          result = ap (λ (state : PartState). (outcome state).result) (sym s.before);
+          entry = subst (λ (state : PartState). IsEntry account point (outcome state).entry) (sym s.before) (is_entry by seq account part found came.entry found_whole sized s);
+        },
+        rest.steps,
+      );
       shown = ap (λ (state : PartState). record { result = came.result; state = state } ∷ shown_as_accepted account (steps_of (accept_all by seq decisions parts1).0)) s.at
           ∙ ap (λ (ss : List Shown). record { result = came.result; state = state_of left } ∷ ss) rest.shown;
       owned = (s.owner (omega (arith, size, few, fair.0.0)), rest.owned);

@@ -44,7 +44,7 @@ front_kept h later whole l =
     let n = length h.events in
     let es : take n later.events ≡ h.events = ap (take n) l.events ∙ take-append_seam h.events l.more in
     let bs : take (bytes_of (take n later.events)) later.log ≡ h.log =
-        ap (λ (xs : List PartEvent). take (bytes_of xs) later.log) es ∙ ap (λ (k : ℕ). take k later.log) whole ∙ ap (take (length h.log)) l.log ∙ take-append_seam h.log l.bytes in
+    ap (λ (xs : List PartEvent). take (bytes_of xs) later.log) es ∙ ap (λ (k : ℕ). take k later.log) whole ∙ ap (take (length h.log)) l.log ∙ take-append_seam h.log l.bytes in
     ap (λ (log : List ℕ). record { log = log; followers = later.followers; events = take n later.events }) bs
     ∙ ap (λ (k : ℕ). record { log = h.log; followers = k; events = take n later.events }) l.followers
     ∙ ap (λ (xs : List PartEvent). record { log = h.log; followers = h.followers; events = xs }) es
@@ -111,7 +111,7 @@ more_bytes before (Append by seq count len ∷ es) log new fits =
     let here : take len (log ++ new) ≡ take len log = take-append-le len log new room in
     let rest : drop len (log ++ new) ≡ drop len log ++ new = drop-append-le len log new room in
     let later : batches_after (before ++ e ∷ []) es (drop len log ++ new) ≡ batches_after (before ++ e ∷ []) es (drop len log) =
-        more_bytes (before ++ e ∷ []) es (drop len log) new (omega (arith, fits, total, length-drop len log)) in
+    more_bytes (before ++ e ∷ []) es (drop len log) new (omega (arith, fits, total, length-drop len log)) in
     ap (λ (bs : List ℕ). record { base = log_end_of before; count = count; bytes = bs } ∷ batches_after (before ++ e ∷ []) es (drop len (log ++ new))) here
     ∙ ap (λ (bs : List ℕ). record { base = log_end_of before; count = count; bytes = take len log } ∷ batches_after (before ++ e ∷ []) es bs) rest
     ∙ ap (λ (bs : List StoredBatch). record { base = log_end_of before; count = count; bytes = take len log } ∷ bs) later
@@ -128,7 +128,7 @@ put_batches h by seq count batch whole sized =
     let e : PartEvent = Append by seq count (length batch) in
     let rest : drop (bytes_of h.events) (h.log ++ new) ≡ new = ap (λ (n : ℕ). drop n (h.log ++ new)) whole ∙ drop-append_seam h.log new in
     let one : take (length batch) (drop (bytes_of h.events) (h.log ++ new)) ≡ new =
-        ap (take (length batch)) rest ∙ ap (λ (n : ℕ). take n new) (sym (sized base)) ∙ take-length new in
+    ap (take (length batch)) rest ∙ ap (λ (n : ℕ). take n new) (sym (sized base)) ∙ take-length new in
     batches-append [] h.events (e ∷ []) (h.log ++ new)
     ∙ ap (λ (bs : List StoredBatch). bs ++ record { base = base; count = count; bytes = take (length batch) (drop (bytes_of h.events) (h.log ++ new)) } ∷ []) (more_bytes [] h.events h.log new (omega (arith, whole)))
     ∙ ap (λ (bytes : List ℕ). batches_of h.events h.log ++ record { base = base; count = count; bytes = bytes } ∷ []) one

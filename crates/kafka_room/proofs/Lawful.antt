@@ -179,7 +179,7 @@ module _ (board : Board) (no_clock : board.clock ≡ []) (tame : AreTame 0 board
       → (call : Call) × (call_of (account_of board) by seq ≡ Some call) × (count_by (is_point part place) (points_of call) ≡ 1)
   entry_left part place by seq e =
       elim (same_or_not part 64) [
-        inl same ↦
+        | inl same ↦
             let yes : eqb part 64 ≡ true = eq-eqb part 64 same in
             let none : slice_get (map clock_owner_of board.clock) place ≡ Some (the_owner by seq) = subst (λ (b : Bool). slice_get (cond b (map clock_owner_of board.clock) (owners_in (slice_get (account_of board).parts part))) place ≡ Some (the_owner by seq)) yes e in
             let nothing : slice_get (map clock_owner_of []) place ≡ Some (the_owner by seq) = subst (λ (c : List ClockEvent). slice_get (map clock_owner_of c) place ≡ Some (the_owner by seq)) no_clock none in
@@ -187,7 +187,7 @@ module _ (board : Board) (no_clock : board.clock ≡ []) (tame : AreTame 0 board
         | inr other ↦
             let no : eqb part 64 ≡ false = not_same part 64 other in
             let owned : slice_get (owners_in (slice_get (account_of board).parts part)) place ≡ Some (the_owner by seq) =
-                subst (λ (b : Bool). slice_get (cond b (map clock_owner_of board.clock) (owners_in (slice_get (account_of board).parts part))) place ≡ Some (the_owner by seq)) no e in
+            subst (λ (b : Bool). slice_get (cond b (map clock_owner_of board.clock) (owners_in (slice_get (account_of board).parts part))) place ≡ Some (the_owner by seq)) no e in
             let h = owned_part board.parts part place (the_owner by seq) owned in
             let l = steady.left part h.0 place by seq h.1 h.2 in
             (l.0, call_there by seq l.0 l.1, l.2)

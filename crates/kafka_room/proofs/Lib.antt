@@ -15,3 +15,4 @@ pub mod Accepts
 pub mod Runs
 pub mod Steady
 pub mod Lawful
+pub mod Fair

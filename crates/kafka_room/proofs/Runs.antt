@@ -37,13 +37,13 @@ rises_on n m xs rises below k lt =
     let size : length (xs ++ ys) ≡ length xs + length ys = length-append xs ys in
     let many : length ys ≡ m = length-range_with_len n m in
     elim (cases_order (k + 1) (length xs)) [
-      inl at ↦
+      | inl at ↦
           let here : get_or (xs ++ ys) k 0 ≡ get_or xs k 0 = get_or-append xs ys 0 k (omega (arith, at)) in
           let next : get_or (xs ++ ys) (k + 1) 0 ≡ get_or ys 0 0 = ap (λ (i : ℕ). get_or (xs ++ ys) i 0) (omega (arith, at)) ∙ get_or-append-add xs ys 0 0 in
           let first : get_or ys 0 0 ≡ n + 0 = get_or-range_with_len n m 0 0 (omega (arith, lt, size, many, at)) in
           omega (arith, here, next, first, below_get n xs k below (omega (arith, at)))
       | inr other ↦ elim other [
-        inl within ↦
+        | inl within ↦
             let here : get_or (xs ++ ys) k 0 ≡ get_or xs k 0 = get_or-append xs ys 0 k (omega (arith, within)) in
             let next : get_or (xs ++ ys) (k + 1) 0 ≡ get_or xs (k + 1) 0 = get_or-append xs ys 0 (k + 1) within in
             omega (arith, here, next, rises k within)
@@ -69,9 +69,9 @@ pub count_one : (a n k : ℕ) → a ≤ k → k < a + n → count_by (λ x. eqb 
 count_one a zero k le lt = absurd (omega (arith, le, lt))
 count_one a (suc n) k le lt =
     let split : count_by (λ x. eqb x k) (range_with_len a (suc n)) ≡ cond (eqb a k) 1 0 + count_by (λ x. eqb x k) (range_with_len (a + 1) n) =
-        sum_by-cons (λ x. cond (eqb x k) 1 0) a (range_with_len (a + 1) n) in
+    sum_by-cons (λ x. cond (eqb x k) 1 0) a (range_with_len (a + 1) n) in
     elim (same_or_not a k) [
-      inl same ↦
+      | inl same ↦
           let yes : eqb a k ≡ true = eq-eqb a k same in
           split ∙ ap (λ (b : Bool). cond b 1 0 + count_by (λ x. eqb x k) (range_with_len (a + 1) n)) yes ∙ omega (arith, count_none (a + 1) n k (omega (arith, same)))
       | inr other ↦

@@ -121,11 +121,11 @@ module _ (config : Configuration) (parts : List History) (calls calls1 : ℕ →
   old_or_new : (r q : ℕ) (c : Call) → slice_get (calls1 r) q ≡ Some c → (slice_get (calls r) q ≡ Some c) ⊎ ((r ≡ s) × (q ≡ seq) × (c ≡ call))
   old_or_new r q c e =
       elim (same_or_not r s) [
-        inl same ↦
+        | inl same ↦
             let e1 : slice_get (calls s ++ call ∷ []) q ≡ Some c = sym (ap (λ (cs : List Call). slice_get cs q) here) ∙ sym (ap (λ (i : ℕ). slice_get (calls1 i) q) same) ∙ e in
             let within : q < length (calls s) + 1 = omega (arith, slice_get_within (calls s ++ call ∷ []) q c e1, length-append (calls s) (call ∷ [])) in
             elim (same_or_not q (length (calls s))) [
-              inl at ↦
+              | inl at ↦
                   let seam : slice_get (calls s ++ call ∷ []) q ≡ Some call = ap (slice_get (calls s ++ call ∷ [])) at ∙ get_seam (calls s) [] call in
                   inr (same, at ∙ sym is_seq, some_is c call (sym e1 ∙ seam))
               | inr not_at ↦
@@ -141,7 +141,7 @@ module _ (config : Configuration) (parts : List History) (calls calls1 : ℕ →
   still_there : (r q : ℕ) (c : Call) → slice_get (calls r) q ≡ Some c → slice_get (calls1 r) q ≡ Some c
   still_there r q c e =
       elim (same_or_not r s) [
-        inl same ↦
+        | inl same ↦
             ap (λ (i : ℕ). slice_get (calls1 i) q) same ∙ ap (λ (cs : List Call). slice_get cs q) here
             ∙ get_front (calls s) (call ∷ []) q c (sym (ap (λ (i : ℕ). slice_get (calls i) q) same) ∙ e)
         | inr other ↦ ap (λ (cs : List Call). slice_get cs q) (others r other) ∙ e
@@ -159,14 +159,14 @@ module _ (config : Configuration) (parts : List History) (calls calls1 : ℕ →
   steady_order : (r p : ℕ) → IsStrictlyIncreasing (places_in p (all_points (calls1 r)))
   steady_order r p =
       elim (same_or_not r s) [
-        inl same ↦
+        | inl same ↦
             let there : (slice_get parts p ≡ None) ⊎ ((h : History) × (slice_get parts p ≡ Some h)) = is_or_not (slice_get parts p) in
             let all : places_in p (all_points (calls1 r)) ≡ places_in p (all_points (calls s)) ++ places_in p (step_points (steps_of (accept_all s seq decisions parts).0)) =
-                ap (λ (i : ℕ). places_in p (all_points (calls1 i))) same ∙ new_places p in
+            ap (λ (i : ℕ). places_in p (all_points (calls1 i))) same ∙ new_places p in
             elim there [
-              inl none ↦
+              | inl none ↦
                   let nothing : places_in p (step_points (steps_of (accept_all s seq decisions parts).0)) ≡ [] =
-                      accepted_nowhere s seq (length parts) decisions parts fair p (past parts p none) in
+                  accepted_nowhere s seq (length parts) decisions parts fair p (past parts p none) in
                   subst IsStrictlyIncreasing (sym (all ∙ ap (λ (xs : List ℕ). places_in p (all_points (calls s)) ++ xs) nothing ∙ append-nil (places_in p (all_points (calls s))))) (steady.order s p)
               | inr some ↦
                   let l = all_left p some.0 some.1 in
@@ -190,10 +190,10 @@ module _ (config : Configuration) (parts : List History) (calls calls1 : ℕ →
       let o = came_from p l e in
       let size : length l.events ≡ length o.0.events + length o.2.longer.more = ap length o.2.longer.events ∙ length-append o.0.events o.2.longer.more in
       elim (same_or_not r s) [
-        inl same ↦
+        | inl same ↦
             let old : AllBelow (length l.events) (places_in p (all_points (calls s))) = below_more (length o.0.events) (length l.events) (places_in p (all_points (calls s))) (omega (arith, size)) (steady.below s p o.0 o.1) in
             let new : AllBelow (length l.events) (places_in p (step_points (steps_of (accept_all s seq decisions parts).0))) =
-                subst (AllBelow (length l.events)) (sym o.2.run) (range_below (length o.0.events) (length o.2.longer.more) (length l.events) (omega (arith, size))) in
+            subst (AllBelow (length l.events)) (sym o.2.run) (range_below (length o.0.events) (length o.2.longer.more) (length l.events) (omega (arith, size))) in
             subst (AllBelow (length l.events)) (sym (ap (λ (i : ℕ). places_in p (all_points (calls1 i))) same ∙ new_places p))
             (both (length l.events) (places_in p (all_points (calls s))) (places_in p (step_points (steps_of (accept_all s seq decisions parts).0))) old new)
         | inr other ↦
@@ -214,13 +214,13 @@ module _ (config : Configuration) (parts : List History) (calls calls1 : ℕ →
       let split : map owner_of l.events ≡ map owner_of h.events ++ map owner_of more = ap (map owner_of) o.2.longer.events ∙ map-append owner_of h.events more in
       let owner1 : slice_get (map owner_of h.events ++ map owner_of more) k ≡ Some (the_owner by q) = sym (ap (λ (xs : List (Option Owner)). slice_get xs k) split) ∙ owner in
       elim (before_or_behind k (length (map owner_of h.events))) [
-        inl within ↦
+        | inl within ↦
             let old = steady.left p h k by q o.1 (sym (get_within (map owner_of h.events) (map owner_of more) k within) ∙ owner1) in
             (old.0, still_there by q old.0 old.1, old.2)
         | inr past ↦
             let j = past.0 in
             let at : slice_get (map owner_of more) j ≡ Some (the_owner by q) =
-                sym (ap (slice_get (map owner_of h.events ++ map owner_of more)) past.1 ∙ get_behind (map owner_of h.events) (map owner_of more) j) ∙ owner1 in
+            sym (ap (slice_get (map owner_of h.events ++ map owner_of more)) past.1 ∙ get_behind (map owner_of h.events) (map owner_of more) j) ∙ owner1 in
             let ev = mapped more j (the_owner by q) at in
             let who : the_owner s seq ≡ the_owner by q = sym (o.2.owned j ev.0 ev.1) ∙ ev.2 in
             let is = same_owner s seq by q who in
@@ -228,8 +228,8 @@ module _ (config : Configuration) (parts : List History) (calls calls1 : ℕ →
             let there : slice_get (calls1 by) q ≡ Some call = ap (λ (i : ℕ). slice_get (calls1 i) q) (sym is.0) ∙ ap (slice_get (calls1 s)) (sym is.1) ∙ new_there in
             let jth : j < length more = slice_get_within more j ev.0 ev.1 in
             let once : count_by (is_point p k) (points_of call) ≡ 1 =
-                ap (count_by (is_point p k)) call_points ∙ count_point p k (step_points (steps_of (accept_all s seq decisions parts).0))
-                ∙ ap (count_by (λ x. eqb x k)) o.2.run ∙ count_one (length h.events) (length more) k (omega (arith, past.1, size)) (omega (arith, past.1, size, jth)) in
+            ap (count_by (is_point p k)) call_points ∙ count_point p k (step_points (steps_of (accept_all s seq decisions parts).0))
+            ∙ ap (count_by (λ x. eqb x k)) o.2.run ∙ count_one (length h.events) (length more) k (omega (arith, past.1, size)) (omega (arith, past.1, size, jth)) in
             (call, there, once)
       ]
     where
@@ -253,7 +253,7 @@ module _ (config : Configuration) (parts : List History) (calls calls1 : ℕ →
     few = omega (arith, steady.few, accepted_size s seq (length parts) decisions parts);
     followers = accepted_followers s seq (length parts) decisions parts refl fair ∙ steady.followers;
     done = λ r q c e. elim (old_or_new r q c e) [
-      inl old ↦ λ account same follows. steady.done r q c old account same (follows_before account follows)
+      | inl old ↦ λ account same follows. steady.done r q c old account same (follows_before account follows)
       | inr new ↦ subst (λ (x : Call). StaysDone config (accept_all s seq decisions parts).1 r q x) (sym new.2) (subst (λ (i : ℕ). StaysDone config (accept_all s seq decisions parts).1 i q call) (sym new.0) (subst (λ (i : ℕ). StaysDone config (accept_all s seq decisions parts).1 s i call) (sym new.1) new_done))
     ];
     order = steady_order;

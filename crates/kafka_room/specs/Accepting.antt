@@ -5,7 +5,8 @@ use Rattle.std.specs.Cmp.Lexicographic.{pointwise}
 use Rattle.std.specs.Ordering.{int_eq}
 use Rattle.std.specs.Bool.{nat_eq}
 use Rattle.partlog.specs.State.{PartState as State}
-use Rattle.partlog.specs.Gauges.{gauges_of, bytes_in, batches_below}
+use Rattle.partlog.specs.Gauges.{gauges_of}
+use Rattle.partlog.specs.Start.{start_of}
 use Rattle.kbatch.specs.declared.fault.BatchFault.{BatchFault}
 use Rattle.kbatch.specs.declared.fault.BatchFault.TheVariants.{TooLarge, Short, Length, Magic, Crc, Compressed, Control, Count, Records, NoMemory}
 use Rattle.kbatch.specs.declared.record.Record.{Record}
@@ -84,10 +85,6 @@ ProduceDecides config (Some id) acks named decision = decision ≡ Refuse (pos 4
 ProduceDecides config None acks named decision =
     MatchOption (part_of config named.0 named.1.index) (decision ≡ Refuse (pos 3)) (λ part.
     MatchBool (is_acks acks) (BatchDecides part (unwrap_or named.1.records []) decision) (decision ≡ Refuse (pos 21)))
-
--- the byte place of the first batch whose last offset is at least this one
-abbrev pub start_of : ℕ → State → ℕ
-start_of offset state = bytes_in (batches_below offset state.batches)
 
 abbrev pub in_range_outcome : ℕ → ℤ → Entry → State → Outcome
 in_range_outcome part (negsuc n) entry state = look (Refused (pos 1))

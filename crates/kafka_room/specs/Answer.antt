@@ -7,6 +7,7 @@ use Rattle.std.specs.Ordering.{int_eq}
 use Rattle.std.specs.Bool.{nat_eq}
 use Rattle.partlog.specs.State.{PartState as State, high_of}
 use Rattle.partlog.specs.Batches.{StoredBatch as Stored, next_offset}
+use Rattle.partlog.specs.Taken.{batches_past, taken, joined}
 use Rattle.kafka_room.specs.declared.kwire.config.Topic.{Topic}
 use Rattle.kafka_room.specs.declared.kwire.request.Request.{Request}
 use Rattle.kafka_room.specs.declared.kwire.request.Ask.{Ask}
@@ -53,28 +54,9 @@ produced_topics acks (topic ∷ topics) shown =
     record { name = topic.name; parts = produced_parts acks topic.parts (take (length topic.parts) shown) }
     ∷ produced_topics acks topics (drop (length topic.parts) shown)
 
--- the batches from a byte place on
-abbrev pub batches_past : ℕ → List Stored → List Stored
-batches_past place [] = []
-batches_past place (batch ∷ batches) =
-    if place == 0 then batch ∷ batches else batches_past (place - length batch.bytes) batches
-
 -- a consumer reads below the high watermark, a follower to the log's end
 abbrev pub is_readable : ℤ → State → Stored → Bool
 is_readable replica state batch = if is_consumer replica then nat_le (next_offset batch) (high_of state) else true
-
--- whole batches from the front, as many as fit together
-abbrev pub fitting : ℕ → List Stored → List Stored
-fitting limit [] = []
-fitting limit (batch ∷ batches) =
-    if nat_le (length batch.bytes) limit then batch ∷ fitting (limit - length batch.bytes) batches else []
-
--- where not even the first fits and the reply holds no batch yet, that one is taken
-abbrev pub taken : ℕ → Bool → List Stored → List Stored
-taken limit any batches = if any then fitting limit batches else (if nat_lt 0 (length (fitting limit batches)) then fitting limit batches else take 1 batches)
-
-abbrev pub bytes_of : List Stored → List ℕ
-bytes_of batches = flat_map (λ batch. batch.bytes) batches
 
 -- the batches of one partition, within what is left to the reply
 abbrev pub read_of : ℤ → FetchPart → ℕ → State → Budget → List Stored
@@ -84,7 +66,7 @@ read_of replica asked start state budget =
 -- what is left to the reply behind them
 abbrev pub budget_after : List Stored → Budget → Budget
 budget_after batches budget =
-    record { left = budget.left - length (bytes_of batches); any = budget.any || nat_lt 0 (length batches) }
+    record { left = budget.left - length (joined batches); any = budget.any || nat_lt 0 (length batches) }
 
 abbrev pub batches_as : ℤ → FetchPart → Accepted → State → Budget → List Stored
 batches_as replica asked (Refused code) state budget = []
@@ -96,7 +78,7 @@ abbrev pub fetched_as : FetchPart → Accepted → State → List Stored → Fet
 fetched_as asked (Refused code) state batches = record { index = asked.index; code = code; high = negsuc 0; records = [] }
 fetched_as asked (Appended part base count) state batches = record { index = asked.index; code = pos 0; high = negsuc 0; records = [] }
 fetched_as asked (Seen part start) state batches =
-    record { index = asked.index; code = pos 0; high = pos (high_of state); records = bytes_of batches }
+    record { index = asked.index; code = pos 0; high = pos (high_of state); records = joined batches }
 
 abbrev pub fetched_parts : ℤ → List FetchPart → List Shown → Budget → List FetchedPart
 fetched_parts replica [] shown budget = []

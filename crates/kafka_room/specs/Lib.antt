@@ -62,3 +62,5 @@ pub mod Completing
 pub mod Acting
 -- what a trace comes to on one thread
 pub mod Play
+-- decisions that were carried out
+pub mod Carried

@@ -50,5 +50,5 @@ Plays board (line ∷ lines) turned =
 pub record IsPlay (config : Configuration) (lines : List Line) (account : Account) (text : List ℕ) : Type 0 where
   pub last : Turned
   pub played : Plays (opening config) lines last
-  pub account : account ≡ account_of last.board
+  pub accounted : account ≡ account_of last.board
   pub printed : text ≡ last.text ++ summary_of account

@@ -2,6 +2,7 @@
 #![tactic(auto)]
 
 mod audit;
+mod broker;
 mod dev;
 mod exit;
 mod first_form;

@@ -1,0 +1,4 @@
+//! The one-thread broker: sessions, partitions, and what a line of a trace brings.
+
+pub mod accept;
+pub mod came;
