@@ -1,0 +1,1 @@
+use Rattle.kafka_room.proofs.FieldLaws.{array_field}
