@@ -115,6 +115,23 @@ pub record Codec {X : Type 0} (read : Cursor → Read X) (kind : X → List Fiel
   pub again : (x : X) (c : Cursor) (rest : List ℕ) → AllFit (kind x) → Also x → rest_of c ≡ fields (kind x) ++ rest → read c ≡ got x (moved c (length (fields (kind x))))
   pub back : (x : X) (c d : Cursor) → IsBytes c.bytes → read c ≡ got x d → Backed kind Also c d x
 
+-- what is said of the same value in other words
+pub recast : {X : Type 0} (read : Cursor → Read X) (kind spelled : X → List Field) (A B : X → Type 0) → ((x : X) → A x → B x) → ((x : X) → B x → A x) → ((x : X) → A x → kind x ≡ spelled x) → Codec read kind A → Codec read spelled B
+recast {X} read kind spelled A B f g same codec = record {
+  again = λ x c rest fit b is.
+    let P : List Field → Type 0 = λ fs. AllFit fs → rest_of c ≡ fields fs ++ rest → read c ≡ got x (moved c (length (fields fs))) in
+    let first : P (kind x) = λ fits at. codec.again x c rest fits (g x b) at in
+    (subst P (same x (g x b)) first) fit is;
+  back = λ x c d fits is.
+    let h = codec.back x c d fits is in
+    let P : List Field → Type 0 = λ fs. AllFit fs × Covers c d fs in
+    let there : P (spelled x) = subst P (same x h.also) (h.fit, h.covers) in
+    record { fit = there.0; also = f x h.also; covers = there.1 };
+}
+
+pub said : {X : Type 0} (read : Cursor → Read X) (kind : X → List Field) (A B : X → Type 0) → ((x : X) → A x → B x) → ((x : X) → B x → A x) → Codec read kind A → Codec read kind B
+said read kind A B f g codec = recast read kind kind A B f g (λ x a. refl) codec
+
 -- nothing is read
 pub made : {X : Type 0} (x : X) → Codec (λ c. Ok (x, c)) (λ y. []) (λ y. y ≡ x)
 made {X} x = record {
@@ -122,6 +139,37 @@ made {X} x = record {
   back = λ y c d fits is. let same = same_got x y c d is in
     subst (λ (e : Cursor). Backed (λ (y : X). []) (λ (v : X). v ≡ x) c e y) same.1 (record { fit = tt; also = sym same.0; covers = covers_nothing c });
 }
+
+-- the last value that is read makes the whole
+module _ {A X : Type 0} (first : Cursor → Read A) (kind : A → List Field) (Also : A → Type 0) (make : A → X) (part : X → A) where
+  abbrev pub kept_read : Cursor → Read X
+  kept_read c = first c >>= λ a. Ok (make a.0, a.1)
+
+  abbrev pub kept_kind : X → List Field
+  kept_kind x = kind (part x)
+
+  abbrev pub KeptAlso : X → Type 0
+  KeptAlso x = Also (part x) × (x ≡ make (part x))
+
+  kept_again : Codec first kind Also → (x : X) (c : Cursor) (rest : List ℕ) → AllFit (kept_kind x) → KeptAlso x → rest_of c ≡ fields (kept_kind x) ++ rest → kept_read c ≡ got x (moved c (length (fields (kept_kind x))))
+  kept_again one x c rest fit also is =
+      let d = moved c (length (fields (kept_kind x))) in
+      let e = one.again (part x) c rest fit also.0 is in
+      rw e (ap (λ (y : X). got y d) (sym also.1))
+
+  kept_back : Codec first kind Also → ((a : A) → part (make a) ≡ a) → (x : X) (c d : Cursor) → IsBytes c.bytes → kept_read c ≡ got x d → Backed kept_kind KeptAlso c d x
+  kept_back one same x c d fits is =
+      let w = went_on (first c) (λ a. Ok (make a.0, a.1)) (x, d) is in
+      let both = same_got (make w.value) x w.place d w.others in
+      let h = one.back w.value c w.place fits w.read in
+      let a_is : w.value ≡ part x = sym (same w.value) ∙ ap part both.0 in
+      let P : A → Type 0 = λ a. AllFit (kind a) × (Also a × ((x ≡ make a) × Covers c d (kind a))) in
+      let all : P w.value = (h.fit, (h.also, (sym both.0, subst (λ (e : Cursor). Covers c e (kind w.value)) both.1 h.covers))) in
+      let there : P (part x) = subst P a_is all in
+      record { fit = there.0; also = (there.1.0, there.1.1.0); covers = there.1.1.1 }
+
+  pub keep : Codec first kind Also → ((a : A) → part (make a) ≡ a) → Codec kept_read kept_kind KeptAlso
+  keep one same = record { again = kept_again one; back = kept_back one same }
 
 -- one reading, and another behind it
 module _ {A X : Type 0} (first : Cursor → Read A) (first_kind : A → List Field) (FirstAlso : A → Type 0) (next : A → Cursor → Read X) (next_kind : A → X → List Field) (NextAlso : A → X → Type 0) (part : X → A) where
@@ -174,7 +222,7 @@ pub record IsField {X : Type 0} (read : Cursor → Result (X × Cursor) ByteFaul
 abbrev read_as : {X : Type 0} → X → Cursor → Result (X × Cursor) ByteFault
 read_as x d = Ok (x, d)
 
-unwired : {X : Type 0} (read : Result (X × Cursor) ByteFault) (x : X) (d : Cursor) → wire read ≡ got x d → read ≡ read_as x d
+pub unwired : {X : Type 0} (read : Result (X × Cursor) ByteFault) (x : X) (d : Cursor) → wire read ≡ got x d → read ≡ read_as x d
 unwired {X} (Err e) x d is = let other = is in absurd cc
 unwired {X} (Ok (y, e)) x d is =
     let same = same_got y x e d is in
@@ -192,6 +240,15 @@ of_field {X} read kind is = record {
     let e = unwired (read c) x d read_is in
     record { fit = (is.fits x c d e, tt); also = tt; covers = covers_field c d (kind x) (is.spells x c d (IsBytes-rest c fits) e) };
 }
+
+-- one field, and another reading behind it
+module _ {A X : Type 0} (read : Cursor → Result (A × Cursor) ByteFault) (kind : A → Field) (next : A → Cursor → Read X) (next_kind : A → X → List Field) (NextAlso : A → X → Type 0) (part : X → A) where
+  pub join_field : IsField read kind → ((a : A) → Codec (next a) (next_kind a) (NextAlso a)) → ((a : A) (x : X) → NextAlso a x → part x ≡ a)
+    → Codec (λ c. wire (read c) >>= λ a. next a.0 a.1) (λ x. kind (part x) ∷ next_kind (part x) x) (λ x. NextAlso (part x) x)
+  join_field one two same =
+      said (λ c. wire (read c) >>= λ a. next a.0 a.1) (λ x. kind (part x) ∷ next_kind (part x) x) (λ x. Unit {0} × NextAlso (part x) x) (λ x. NextAlso (part x) x)
+      (λ x h. h.1) (λ x h. (tt, h))
+      (join (λ c. wire (read c)) (λ a. kind a ∷ []) (λ a. Unit {0}) next next_kind NextAlso part (of_field read kind one) two same)
 
 -- ---- lists
 
@@ -247,10 +304,3 @@ no_more {X} kind = record { again = none_again; back = none_back }
     none_back xs c d fits is =
         let same = same_got [] xs c d is in
         subst (λ (e : Cursor). Backed (flat_map kind) (λ ys. ys ≡ []) c e xs) same.1 (subst (λ (ys : List X). Backed (flat_map kind) (λ zs. zs ≡ []) c c ys) same.0 (record { fit = tt; also = refl; covers = covers_nothing c }))
-
--- what is said of the same value in other words
-pub said : {X : Type 0} (read : Cursor → Read X) (kind : X → List Field) (A B : X → Type 0) → ((x : X) → A x → B x) → ((x : X) → B x → A x) → Codec read kind A → Codec read kind B
-said read kind A B f g codec = record {
-  again = λ x c rest fit b is. codec.again x c rest fit (g x b) is;
-  back = λ x c d fits is. let h = codec.back x c d fits is in record { fit = h.fit; also = f x h.also; covers = h.covers };
-}

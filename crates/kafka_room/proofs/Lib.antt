@@ -12,3 +12,8 @@ pub mod Replays
 pub mod FrameLaws
 pub mod Codecs
 pub mod FieldLaws
+pub mod RequestCodecs
+pub mod TopicCodecs
+pub mod AskCodecs
+pub mod Repeats
+pub mod RequestLaws

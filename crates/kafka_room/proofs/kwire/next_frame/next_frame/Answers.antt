@@ -1,1 +1,0 @@
-use Rattle.kafka_room.proofs.FieldLaws.{array_field}
