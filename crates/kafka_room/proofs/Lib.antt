@@ -16,3 +16,11 @@ pub mod Runs
 pub mod Steady
 pub mod Lawful
 pub mod Fair
+pub mod FrameLaws
+pub mod Codecs
+pub mod FieldLaws
+pub mod RequestCodecs
+pub mod TopicCodecs
+pub mod AskCodecs
+pub mod Repeats
+pub mod RequestLaws

@@ -2,11 +2,13 @@
 
 pub mod config;
 pub mod frame;
+pub mod next_frame;
 pub mod produced;
 pub mod reply;
 pub mod request;
 
 pub use config::{Config, ConfigFault, Topic};
 pub use frame::{Frame, WireFault};
+pub use next_frame::next_frame;
 pub use reply::{FetchedPart, FetchedTopic, ProducedPart, ProducedTopic, Reply, Told, TopicInfo};
 pub use request::{Ask, FetchPart, FetchTopic, ProducePart, ProduceTopic, Request};
