@@ -50,3 +50,9 @@ pub mod OneAsked
 pub mod Tells
 -- what was read of such a trace
 pub mod IsFound
+-- the text of one line of a trace
+pub mod IsLine
+-- the order of a trace's lines
+pub mod IsInOrder
+-- the text of a trace
+pub mod Trace
