@@ -9,3 +9,6 @@ pub mod OneRun
 pub mod OnePrint
 pub mod OnePlay
 pub mod Replays
+pub mod Pieces
+pub mod Numbers
+pub mod Lines

@@ -56,3 +56,5 @@ pub mod IsLine
 pub mod IsInOrder
 -- the text of a trace
 pub mod Trace
+-- what a refusal to read a text says
+pub mod Denies

@@ -1,5 +1,5 @@
 -- The text of a trace: lines in order, each ended by a line feed, the last one with it or without.
-use Rattle.std.specs.Prelude.{ℕ, ◌≡◌, ◌≤◌, ◌==◌, List, [], ◌∷◌, length}
+use Rattle.std.specs.Prelude.{ℕ, ◌≡◌, ◌≤◌, ◌==◌, List, [], ◌∷◌, length, if◌then◌else◌}
 use Rattle.std.specs.List.{slice_split, AllByRecursion, AllZip}
 use Rattle.kafka_room.specs.declared.trace_file.line.Line.{Line}
 use Rattle.kafka_room.specs.declared.trace_file.line.Line.TheVariants.{Topic, Feed, Shut, Clock, End}
@@ -9,8 +9,7 @@ use Rattle.kafka_room.specs.IsInOrder.{IsInOrder}
 -- all but the last piece where it is empty
 abbrev pub without_empty_end : List (List ℕ) → List (List ℕ)
 without_empty_end [] = []
-without_empty_end ([] ∷ []) = []
-without_empty_end ((byte ∷ bytes) ∷ []) = (byte ∷ bytes) ∷ []
+without_empty_end (piece ∷ []) = if length piece == 0 then [] else piece ∷ []
 without_empty_end (piece ∷ next ∷ pieces) = piece ∷ without_empty_end (next ∷ pieces)
 
 -- what stands between the line feeds of a text; a last piece that is empty is no line

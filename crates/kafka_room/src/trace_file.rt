@@ -1,5 +1,9 @@
 //! Recorded traces, line by line.
 
+pub mod fault;
 pub mod line;
+pub mod number;
+pub mod pieces;
+pub mod read_line;
 
 pub use line::{Line, LineFault, LineKind, TraceFault};

@@ -1,0 +1,8 @@
+-- What a refusal to read says.
+use Rattle.kafka_room.specs.declared.trace_file.fault.NotRead.{NotRead}
+use Rattle.kafka_room.specs.declared.trace_file.fault.NotRead.TheVariants.{Other, NoMemory}
+
+-- the text doesn't say this; want of memory tells nothing
+abbrev pub Denies : NotRead → Type 0 → Type 0
+Denies Other said = ¬ said
+Denies NoMemory said = Unit {0}
