@@ -12,3 +12,5 @@ pub mod Replays
 pub mod Pieces
 pub mod Numbers
 pub mod Lines
+pub mod PlainFronts
+pub mod Readings

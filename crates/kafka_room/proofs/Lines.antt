@@ -1,16 +1,17 @@
 -- The words of a line, and the one line that they spell.
-use Rattle.std.proofs.Common.{◌≡◌, ◌≢◌, ℕ, ◌+◌, ◌<◌, ◌≤◌, ◌^◌, List, [], ◌∷◌, length, refl, sym, ap, subst, ◌∙◌, arith}
-use Rattle.std.specs.Prelude.{codes, Result, Ok, Err, IfErr}
+use Rattle.std.proofs.Common.{◌≡◌, ◌≢◌, ℕ, ◌+◌, ◌<◌, ◌≤◌, ◌^◌, List, [], ◌∷◌, length, get_or, refl, sym, ap, subst, ◌∙◌, arith}
+use Rattle.std.specs.Prelude.{codes, Result, Ok, Err, IfErr, nat_eq, if◌then◌else◌}
 use Rattle.std.specs.Fmt.{decimal}
-use Rattle.std.specs.Cmp.Lexicographic.{other_text}
-use Rattle.std.proofs.lemmas.Fmt.{decimal_injective}
+use Rattle.std.specs.Cmp.Lexicographic.{pointwise, other_text}
+use Rattle.std.specs.Str.Parse.{digits_value}
 use Rattle.hex.specs.Hex.{decode_of}
-use Rattle.hex.proofs.HexLemmas.{decode_of-same}
+use Rattle.hex.specs.declared.error.FromHexError.{FromHexError}
 use Rattle.kafka_room.specs.declared.trace_file.line.Line.{Line}
 use Rattle.kafka_room.specs.declared.trace_file.line.Line.TheVariants.{Topic, Feed, Shut, Clock, End}
 use Rattle.kafka_room.specs.declared.trace_file.fault.NotRead.{NotRead}
 use Rattle.kafka_room.specs.declared.trace_file.fault.NotRead.TheVariants.{Other, NoMemory}
 use Rattle.kafka_room.specs.Denies.{Denies}
+use Rattle.kafka_room.proofs.Numbers.{decimal_value}
 use Rattle.kafka_room.specs.IsLine.{IsTopicLine, IsFeedLine, IsShutLine, IsClockLine, AreWordsOf}
 
 -- the first word of a line
@@ -83,3 +84,36 @@ Denies-weaker NoMemory f none = tt
 pub fault-weaker : {A : Type 0} (r : Result A NotRead) {P Q : Type 0} → (Q → P) → IfErr r (λ e. Denies e P) → IfErr r (λ e. Denies e Q)
 fault-weaker (Ok x) f h = tt
 fault-weaker (Err e) f h = Denies-weaker e f h
+
+-- the bytes of digits that decode
+bytes_in : Result (List ℕ) FromHexError → List ℕ
+bytes_in (Ok bytes) = bytes
+bytes_in (Err e) = []
+
+-- the line that words with these four at the front would be
+line_by : List ℕ → List ℕ → List ℕ → List ℕ → Line
+line_by kind a b c =
+    if pointwise nat_eq kind (codes "topic") then Topic a (digits_value 10 b) (digits_value 10 c)
+    else if pointwise nat_eq kind (codes "bytes") then Feed (digits_value 10 a) (bytes_in (decode_of b))
+    else if pointwise nat_eq kind (codes "close") then Shut (digits_value 10 a)
+    else if pointwise nat_eq kind (codes "clock") then Clock (digits_value 10 a)
+    else End
+
+line_in : List (List ℕ) → Line
+line_in words = line_by (get_or words 0 []) (get_or words 1 []) (get_or words 2 []) (get_or words 3 [])
+
+value_is : (n : ℕ) → n ≤ 10 ^ 15 → digits_value 10 (decimal n) ≡ n
+value_is n h = (decimal_value n (omega arith)).1
+
+is_line_in : (words : List (List ℕ)) (line : Line) → AreWordsOf words line → line_in words ≡ line
+unfolding line_in line_by bytes_in
+is_line_in words (Topic name p f) h =
+    ap line_in h.spelled ∙ rw (value_is p (omega (arith, h.partitions_fit)), value_is f (omega (arith, h.followers_fit))) refl
+is_line_in words (Feed s bytes) h = ap line_in h.spelled ∙ rw (value_is s (omega (arith, h.in_range)), h.digits) refl
+is_line_in words (Shut s) h = ap line_in h.spelled ∙ rw (value_is s (omega (arith, h.in_range))) refl
+is_line_in words (Clock t) h = ap line_in h.spelled ∙ rw (value_is t h.in_range) refl
+is_line_in words End h = ap line_in h
+
+-- words spell one line
+pub words_say : (words : List (List ℕ)) (a b : Line) → AreWordsOf words a → AreWordsOf words b → a ≡ b
+words_say words a b x y = sym (is_line_in words a x) ∙ is_line_in words b y

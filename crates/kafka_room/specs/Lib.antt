@@ -58,3 +58,5 @@ pub mod IsInOrder
 pub mod Trace
 -- what a refusal to read a text says
 pub mod Denies
+-- the lines of a plain trace as far as they are read
+pub mod PlainFront

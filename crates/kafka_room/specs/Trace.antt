@@ -1,6 +1,6 @@
 -- The text of a trace: lines in order, each ended by a line feed, the last one with it or without.
 use Rattle.std.specs.Prelude.{ℕ, ◌≡◌, ◌≤◌, ◌==◌, List, [], ◌∷◌, length, if◌then◌else◌}
-use Rattle.std.specs.List.{slice_split, AllByRecursion, AllZip}
+use Rattle.std.specs.List.{slice_split, All, AllZip}
 use Rattle.kafka_room.specs.declared.trace_file.line.Line.{Line}
 use Rattle.kafka_room.specs.declared.trace_file.line.Line.TheVariants.{Topic, Feed, Shut, Clock, End}
 use Rattle.kafka_room.specs.IsLine.{IsLine}
@@ -30,4 +30,4 @@ IsPlainLine (Clock t) = ⊥
 IsPlainLine End = Unit {0}
 
 abbrev pub IsPlainTrace : List ℕ → List Line → Type 0
-IsPlainTrace text lines = IsTrace text lines × AllByRecursion IsPlainLine lines
+IsPlainTrace text lines = IsTrace text lines × All IsPlainLine lines

@@ -22,17 +22,17 @@ pub returns-in_err-n-clause-none : goal.returns-in_err-n-clause-none
 returns-in_err-n-clause-none c =
     let e : c.from_residual.result ≡ None = search rules in
     rw e (λ n le is.
-      let at = decimal_value n (omega arith) in
-      absurd (omega (arith, c.in_err-n.ensures.none (rw is at.0), ap (digits_value 10) is, at.1)))
+    let at = decimal_value n (omega arith) in
+    absurd (omega (arith, c.in_err-n.ensures.none (rw is at.0), ap (digits_value 10) is, at.1)))
 
 pub returns-then-n-most-clause-some : goal.returns-then-n-most-clause-some
 returns-then-n-most-clause-some c =
     let word = c.args.word.now in
     let lead : get_or word 0 0 ≡ 48 → length word ≡ 1 = λ zero.
-      elim c.else-word-gt1.branch [
-        | else-word-gt1-via-then-word-gt1+else-word-eq48 w ↦ absurd (w.if-word-eq48.false zero)
-        | else-word-gt1-via-else-word-gt1 w ↦ grind (arith, nat_tests)
-      ]
+    elim c.else-word-gt1.branch [
+      | else-word-gt1-via-then-word-gt1+else-word-eq48 w ↦ absurd (w.if-word-eq48.false zero)
+      | else-word-gt1-via-else-word-gt1 w ↦ grind (arith, nat_tests)
+    ]
     in
     let some : 0 < length word = grind (arith, nat_tests) in
     digits_are word c.in_ok-n.n some lead c.in_ok-n.ensures.digits c.in_ok-n.ensures.some (omega arith)
