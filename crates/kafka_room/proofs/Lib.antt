@@ -24,3 +24,8 @@ pub mod TopicCodecs
 pub mod AskCodecs
 pub mod Repeats
 pub mod RequestLaws
+pub mod Pieces
+pub mod Numbers
+pub mod Lines
+pub mod PlainFronts
+pub mod Readings

@@ -64,3 +64,13 @@ pub mod Acting
 pub mod Play
 -- decisions that were carried out
 pub mod Carried
+-- the text of one line of a trace
+pub mod IsLine
+-- the order of a trace's lines
+pub mod IsInOrder
+-- the text of a trace
+pub mod Trace
+-- what a refusal to read a text says
+pub mod Denies
+-- the lines of a plain trace as far as they are read
+pub mod PlainFront

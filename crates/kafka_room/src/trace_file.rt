@@ -1,5 +1,11 @@
 //! Recorded traces, line by line.
 
+pub mod fault;
 pub mod line;
+pub mod number;
+pub mod pieces;
+pub mod plain_trace;
+pub mod read_line;
 
 pub use line::{Line, LineFault, LineKind, TraceFault};
+pub use plain_trace::{PlainTrace, read_plain_trace};
