@@ -1,14 +1,13 @@
 //! Accepting a request: each partition that it names is decided in order, and where its log is asked it gets an entry.
 
-ghost use Rattle.std.specs.Prelude.{◌≡◌, ◌<◌, ◌∷◌, [], ◌++◌, ℕ, ℤ, pos, List as Items, length, map, OnOk, Option as Maybe, Some, None, All};
-ghost use Rattle.std.specs.List.{AllZip, AllByRecursion};
-ghost use Rattle.std.specs.Option.{option_copied};
+ghost use Rattle.std.specs.Prelude.{◌≡◌, ◌<◌, ◌∷◌, [], ◌++◌, length, OnOk, unwrap_or, ℤ};
+ghost use Rattle.kafka_room.specs.declared.kanswer.accepted.Accepted.TheVariants.{Refused};
 ghost use Rattle.partlog.specs.State.{PartState, state_of};
 ghost use Rattle.kbatch.specs.Kept.{count_of};
-ghost use Rattle.kafka_room.specs.Configuration.{partitions_of, followers_of};
-ghost use Rattle.kafka_room.specs.Accepting.{Decision, AskLog, Refuse, Outcome, look, append_outcome, BatchDecides, ProduceDecides, Decides, fetch_decision, part_of, produce_parts, fetch_parts};
+ghost use Rattle.kafka_room.specs.Configuration.{partitions_of};
+ghost use Rattle.kafka_room.specs.Accepting.{Decision, AskLog, Refuse, Outcome, look, append_outcome, BatchDecides, ProduceDecides, fetch_decision, part_of, code_of};
 ghost use Rattle.kafka_room.specs.Board.{history_at};
-ghost use Rattle.kafka_room.specs.Carried.{IsCarried};
+ghost use Rattle.kafka_room.specs.Carried.{IsCarried, HasNoFollowers, OnTerms, HasProduced, fetch_decisions};
 
 use crate::broker::came::Came;
 use crate::kanswer::Accepted;
@@ -20,7 +19,7 @@ use std::alloc::Global;
 
 /// The code of a batch fault, which isn't want of memory.
 fn code_of(fault: &BatchFault) -> i16
-    ensures { result ≡ Rattle.kafka_room.specs.Accepting.code_of fault.now }
+    ensures { result ≡ code_of fault.now }
 {
     match fault {
         BatchFault::TooLarge { .. } => 10,
@@ -37,11 +36,12 @@ fn code_of(fault: &BatchFault) -> i16
 }
 
 // A partition is refused before its log is asked.
-fn refuse(came: &mut Came, code: i16, who: Who, parts: &[PartLog]) -> Result<(), NoMemory>
-    ensures { OnOk result (IsCarried who.by who.seq (Refuse code ∷ []) parts.now parts.now came.old came.new) }
+fn refuse(came: &mut Came, became: Accepted, who: Who, parts: &[PartLog]) -> Result<(), NoMemory>
+    ensures { OnOk result ((code : ℤ) → became ≡ Refused code
+        → IsCarried who.by who.seq (Refuse code ∷ []) parts.now parts.now came.old came.new) }
 {
     let _parts = parts;
-    came.note(Accepted::Refused { code })
+    came.note(became)
 }
 
 // The log is looked at, and this became of the partition.
@@ -72,6 +72,7 @@ fn put(
     ensures { OnOk result (IsCarried who.by who.seq (AskLog part (append_outcome part (count_of batch.now) batch.now) ∷ [])
         parts.old parts.new came.old came.new) }
 {
+    let _log = parts[part as usize].log();
     match parts[part as usize].append(who, batch) {
         Ok(placed) => came.note_at(
             Accepted::Appended {
@@ -102,18 +103,30 @@ fn put_bytes(
 {
     match read_batch(alloc, bytes) {
         Ok(batch) => put(parts, who, part, &batch, came),
-        Err(BatchFault::NoMemory) => Err(NoMemory),
-        Err(fault) => refuse(came, code_of(&fault), who, parts),
+        Err(fault) => match fault {
+            BatchFault::NoMemory => Err(NoMemory),
+            _ => {
+                let code = code_of(&fault);
+                refuse(came, Accepted::Refused { code }, who, parts)
+            }
+        },
     }
 }
 
 fn records_of(part: &ProducePart) -> &[u8]
-    ensures { result.now ≡ Rattle.std.specs.Prelude.unwrap_or part.now.records [] }
+    ensures { result.now ≡ unwrap_or part.now.records [] }
 {
     match &part.records {
         None => &[],
         Some(records) => records.as_slice(),
     }
+}
+
+/// On what terms a produce is asked: whether it has a transactional id, and which acks.
+#[derive(Clone, Copy, Debug, PartialEq, Eq)]
+pub struct Terms {
+    pub is_transactional: bool,
+    pub acks: i16,
 }
 
 // One partition of a produce.
@@ -128,25 +141,142 @@ fn accept_produce_part(
     came: &mut Came,
 ) -> Result<(), NoMemory>
     requires { length parts.old ≡ partitions_of config.now.topics }
-    ensures { OnOk result ((decision : Decision) × ((id : Maybe (Items ℕ)) → Rattle.std.specs.Prelude.is_some id ≡ terms.is_transactional
-        → ProduceDecides config.now id terms.acks (topic.now, part.now) decision)
+    ensures { OnOk result ((decision : Decision) × OnTerms terms (λ id. ProduceDecides config.now id terms.acks (topic.now, part.now) decision)
         × IsCarried who.by who.seq (decision ∷ []) parts.old parts.new came.old came.new) }
 {
     if terms.is_transactional {
-        return refuse(came, 42, who, parts);
+        return refuse(came, Accepted::Refused { code: 42 }, who, parts);
     }
     let Some(number) = config.part_of(topic, part.index) else {
-        return refuse(came, 3, who, parts);
+        return refuse(came, Accepted::Refused { code: 3 }, who, parts);
     };
     if !(-1..=1).contains(&terms.acks) {
-        return refuse(came, 21, who, parts);
+        return refuse(came, Accepted::Refused { code: 21 }, who, parts);
     }
     put_bytes(alloc, parts, who, number, records_of(part), came)
 }
 
-/// On what terms a produce is asked: whether it has a transactional id, and which acks.
-#[derive(Clone, Copy, Debug, PartialEq, Eq)]
-pub struct Terms {
-    pub is_transactional: bool,
-    pub acks: i16,
+// One topic of a produce.
+fn accept_produce_topic(
+    alloc: Global,
+    config: &Config,
+    parts: &mut [PartLog],
+    who: Who,
+    terms: Terms,
+    topic: &ProduceTopic,
+    came: &mut Came,
+) -> Result<(), NoMemory>
+    requires { length parts.old ≡ partitions_of config.now.topics }
+    ensures size { OnOk result (length parts.new ≡ length parts.old) }
+    ensures carried { OnOk result (HasProduced config.now terms who.by who.seq (topic.now ∷ []) parts.old parts.new came.old came.new) }
+{
+    for part in topic.parts.as_slice() {
+        accept_produce_part(
+            alloc,
+            config,
+            parts,
+            who,
+            terms,
+            topic.name.as_slice(),
+            part,
+            came,
+        )?;
+    }
+    Ok(())
+}
+
+/// Carries out a produce: each named partition in the order of the request.
+pub fn accept_produce(
+    alloc: Global,
+    config: &Config,
+    parts: &mut [PartLog],
+    who: Who,
+    terms: Terms,
+    topics: &[ProduceTopic],
+    came: &mut Came,
+) -> Result<(), NoMemory>
+    requires { length parts.old ≡ partitions_of config.now.topics }
+    ensures { OnOk result (HasProduced config.now terms who.by who.seq topics.now parts.old parts.new came.old came.new) }
+{
+    for topic in topics {
+        accept_produce_topic(alloc, config, parts, who, terms, topic, came)?;
+    }
+    Ok(())
+}
+
+// One partition of a fetch, where no topic has followers.
+fn accept_fetch_part(
+    config: &Config,
+    parts: &mut [PartLog],
+    who: Who,
+    replica: i32,
+    topic: &[u8],
+    asked: &FetchPart,
+    came: &mut Came,
+) -> Result<(), NoMemory>
+    requires size { length parts.old ≡ partitions_of config.now.topics }
+    requires alone { HasNoFollowers config.now.topics }
+    ensures { OnOk result (IsCarried who.by who.seq
+        (fetch_decision config.now replica (topic.now, asked.now) (part_of config.now topic.now asked.now.index) ∷ [])
+        parts.old parts.new came.old came.new) }
+{
+    let Some(part) = config.part_of(topic, asked.index) else {
+        return refuse(came, Accepted::Refused { code: 3 }, who, parts);
+    };
+    if replica >= 0 {
+        return look_at(parts, who, part, Accepted::Refused { code: 9 }, came);
+    }
+    let log = &parts[part as usize];
+    if asked.offset < 0 || asked.offset as u64 > log.numbers().end {
+        return look_at(parts, who, part, Accepted::Refused { code: 1 }, came);
+    }
+    let start = log.locate(asked.offset as u64);
+    look_at(parts, who, part, Accepted::Seen { part, start }, came)
+}
+
+// One topic of a fetch.
+fn accept_fetch_topic(
+    config: &Config,
+    parts: &mut [PartLog],
+    who: Who,
+    replica: i32,
+    topic: &FetchTopic,
+    came: &mut Came,
+) -> Result<(), NoMemory>
+    requires size { length parts.old ≡ partitions_of config.now.topics }
+    requires alone { HasNoFollowers config.now.topics }
+    ensures size { OnOk result (length parts.new ≡ length parts.old) }
+    ensures carried { OnOk result (IsCarried who.by who.seq (fetch_decisions config.now replica (topic.now ∷ [])) parts.old parts.new came.old came.new) }
+{
+    for part in topic.parts.as_slice() {
+        accept_fetch_part(
+            config,
+            parts,
+            who,
+            replica,
+            topic.name.as_slice(),
+            part,
+            came,
+        )?;
+    }
+    Ok(())
+}
+
+/// Carries out a fetch, where no topic has followers: each named partition in the order of the request.
+pub fn accept_fetch(
+    config: &Config,
+    parts: &mut [PartLog],
+    who: Who,
+    replica: i32,
+    topics: &[FetchTopic],
+    came: &mut Came,
+) -> Result<(), NoMemory>
+    requires size { length parts.old ≡ partitions_of config.now.topics }
+    requires alone { HasNoFollowers config.now.topics }
+    ensures { OnOk result (IsCarried who.by who.seq (fetch_decisions config.now replica topics.now) parts.old parts.new came.old came.new) }
+{
+    for topic in topics {
+        accept_fetch_topic(config, parts, who, replica, topic, came)?;
+    }
+    Ok(())
 }

@@ -164,7 +164,8 @@ impl Config {
 }
 
 impl Config {
-    ghost use Rattle.std.specs.Prelude.{IfSome};
+    ghost use Rattle.std.specs.Prelude.{IfSome, ◌<◌};
+    ghost use Rattle.kafka_room.specs.Configuration.{partitions_of};
     ghost use Rattle.kafka_room.specs.Accepting.{part_of};
 
     /// The number of a partition, counted over all topics.

@@ -1,0 +1,24 @@
+use Rattle.std.proofs.Common.{◌≡◌, ℕ, ℤ, List, [], ◌∷◌, length, refl, sym, ap, subst, ◌∙◌, inl, inr}
+use Rattle.std.proofs.lemmas.Int.{to_z-of_z}
+use Rattle.std.specs.Int.{w16}
+use Rattle.kbatch.specs.Kept.{count_of}
+use Rattle.kbatch.proofs.Batches.{batch_count}
+use Rattle.kafka_room.specs.Accepting.{append_outcome, Outcome, AskLog, Refuse, code_of, Decision}
+use Rattle.kafka_room.specs.Carried.{IsCarried}
+use Rattle.kafka_room.proofs.Carrying.{on_ok}
+use Rattle.kafka_room.proofs.broker.accept.put_bytes.Goals as goal
+
+pub returns-in-Ok : goal.returns-in-Ok
+returns-in-Ok c =
+    let b = c.in-Ok.ensures.batch in
+    let bytes : c.in-Ok.batch ≡ c.args.bytes.now = c.in-Ok.ensures.bytes in
+    let count : count_of c.in-Ok.batch ≡ length b.0 = ap count_of bytes ∙ batch_count c.args.bytes.now b.0 b.1 in
+    let D : Decision → Type 0 = λ d. IsCarried c.args.who.by c.args.who.seq (d ∷ []) c.args.parts.now c.put.new.parts c.args.came.now c.put.new.came in
+    on_ok c.put.result c.put.ensures (λ k. (
+      _,
+      inr (b.0, b.1, refl),
+      subst D (ap (λ (n : ℕ). AskLog c.args.part (append_outcome c.args.part n c.in-Ok.batch)) count ∙ ap (λ (bs : List ℕ). AskLog c.args.part (append_outcome c.args.part (length b.0) bs)) bytes) k,
+    ))
+
+pub returns-in-Err-default : goal.returns-in-Err-default
+returns-in-Err-default c = ?
