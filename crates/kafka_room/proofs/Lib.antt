@@ -14,3 +14,4 @@ pub mod Numbers
 pub mod Lines
 pub mod PlainFronts
 pub mod Readings
+pub mod Digits
