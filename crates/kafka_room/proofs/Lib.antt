@@ -30,3 +30,4 @@ pub mod Lines
 pub mod PlainFronts
 pub mod Readings
 pub mod Carrying
+pub mod Digits
