@@ -31,3 +31,5 @@ pub mod PlainFronts
 pub mod Readings
 pub mod Carrying
 pub mod Digits
+pub mod ProduceParts
+pub mod FetchParts

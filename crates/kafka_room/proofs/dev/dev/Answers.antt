@@ -1,6 +1,6 @@
 use Rattle.std.proofs.Common.{rules}
 use Rattle.kafka_room.proofs.Accepts.{Left}
-use Rattle.kafka_room.proofs.Carrying.{carried_on}
+use Rattle.kafka_room.proofs.ProduceParts.{fetched_on}
 use Rattle.kafka_room.proofs.dev.dev.Goals as goal
 
 pub returns : goal.returns
