@@ -17,3 +17,5 @@ pub mod TopicCodecs
 pub mod AskCodecs
 pub mod Repeats
 pub mod RequestLaws
+pub mod ItemLoops
+pub mod MentionLoops

@@ -50,3 +50,7 @@ pub mod OneAsked
 pub mod Tells
 -- what was read of such a trace
 pub mod IsFound
+-- what a call that reads from the left answers
+pub mod Reads
+-- partitions that topic entries name, as they are kept
+pub mod Mentions
