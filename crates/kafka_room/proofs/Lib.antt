@@ -33,3 +33,5 @@ pub mod Carrying
 pub mod Digits
 pub mod ProduceParts
 pub mod FetchParts
+pub mod ItemLoops
+pub mod MentionLoops
