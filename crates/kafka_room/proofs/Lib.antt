@@ -31,3 +31,4 @@ pub mod PlainFronts
 pub mod Readings
 pub mod Carrying
 pub mod Digits
+pub mod RunLaws
