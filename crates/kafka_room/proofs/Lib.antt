@@ -32,3 +32,4 @@ pub mod Readings
 pub mod Carrying
 pub mod Digits
 pub mod RunLaws
+pub mod StreamLaws
