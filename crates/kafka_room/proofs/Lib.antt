@@ -35,3 +35,5 @@ pub mod ProduceParts
 pub mod FetchParts
 pub mod ItemLoops
 pub mod MentionLoops
+pub mod RunLaws
+pub mod StreamLaws
