@@ -78,3 +78,11 @@ pub mod PlainFront
 pub mod Reads
 -- partitions that topic entries name, as they are kept
 pub mod Mentions
+-- histories and calls in which nothing waits
+pub mod Steady
+-- what a broker keeps of the lines that it was given
+pub mod Fed
+-- streams of requests that wait for nothing
+pub mod PlainStream
+-- a broker between two lines of such a trace
+pub mod UnderWay

@@ -1,6 +1,7 @@
 //! Requests, replies, frames and topics.
 
 pub mod config;
+pub mod inbox;
 pub mod frame;
 pub mod next_frame;
 pub mod produced;
