@@ -42,4 +42,3 @@ pub record IsFedBy (fed : List Line) (board : Board) : Type 0 where
 -- nothing more can be read of what the sessions received
 abbrev pub IsAtRest : Board → Type 0
 IsAtRest board = (s : ℕ) → s < 64 → IsUnfinished (seat_at board s).inbox
-

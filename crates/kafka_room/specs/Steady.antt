@@ -42,7 +42,6 @@ Follows account parts = (p : ℕ) (h : History) → slice_get parts p ≡ Some h
 abbrev pub AllBelow : ℕ → List ℕ → Type 0
 AllBelow n xs = AllByRecursion (λ x. x < n) xs
 
-
 -- a call that was answered at once, in an account
 pub record IsDone (by seq : ℕ) (account : Account) (call : Call) : Type 0 where
   pub request : Request
@@ -71,4 +70,3 @@ pub record IsSteady (config : Configuration) (parts : List History) (calls : ℕ
   pub below : (s p : ℕ) (h : History) → slice_get parts p ≡ Some h → AllBelow (length h.events) (places_in p (all_points (calls s)))
   pub left : (p : ℕ) (h : History) (k by seq : ℕ) → slice_get parts p ≡ Some h → slice_get (map owner_of h.events) k ≡ Some (the_owner by seq)
       → (call : Call) × (slice_get (calls by) seq ≡ Some call) × (count_by (is_point p k) (points_of call) ≡ 1)
-

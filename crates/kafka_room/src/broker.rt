@@ -2,3 +2,9 @@
 
 pub mod accept;
 pub mod came;
+pub mod desk;
+pub mod handle;
+pub mod lone;
+pub mod reply;
+
+pub use lone::Lone;

@@ -1,8 +1,8 @@
 //! Requests, replies, frames and topics.
 
 pub mod config;
-pub mod inbox;
 pub mod frame;
+pub mod inbox;
 pub mod next_frame;
 pub mod produced;
 pub mod read_fetch;
@@ -17,6 +17,6 @@ pub mod request;
 pub use config::{Config, ConfigFault, Topic};
 pub use frame::{Frame, WireFault};
 pub use next_frame::next_frame;
-pub use reply::{FetchedPart, FetchedTopic, ProducedPart, ProducedTopic, Reply, Told, TopicInfo};
 pub use read_request::read_request;
+pub use reply::{FetchedPart, FetchedTopic, ProducedPart, ProducedTopic, Reply, Told, TopicInfo};
 pub use request::{Ask, FetchPart, FetchTopic, ProducePart, ProduceTopic, Request};
