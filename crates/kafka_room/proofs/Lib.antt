@@ -31,3 +31,5 @@ pub mod PlainFronts
 pub mod Readings
 pub mod Carrying
 pub mod Digits
+pub mod PartReadings
+pub mod Reporting

@@ -1,16 +1,16 @@
 //! One partition read for a fetch.
-ghost use Rattle.std.specs.Prelude.{◌≡◌, ◌-◌, ◌||◌, min, filter, nat_lt, IfOk, OnOk, OnErr};
+ghost use Rattle.std.specs.Prelude.{◌≡◌, ◌-◌, ◌||◌, min, filter, nat_lt, if◌then◌else◌, IfOk, OnOk, OnErr};
 ghost use Rattle.partlog.specs.State.{state_of};
 ghost use Rattle.partlog.specs.Gauges.{numbers_of};
 ghost use Rattle.partlog.specs.Taken.{batches_past, joined, taken};
-ghost use Rattle.kafka_room.specs.Delayed.{at_least_zero};
+ghost use Rattle.kafka_room.specs.Delayed.{at_least_zero, is_consumer};
 ghost use Rattle.kafka_room.specs.Answer.{is_readable, read_of, budget_after};
 
 use crate::kanswer::copies::copied;
 use crate::kanswer::{Budget, Reading};
 use crate::kwire::FetchPart;
 use kbytes::NoMemory;
-use partlog::PartLog;
+use partlog::{Numbers, PartLog};
 use std::alloc::Global;
 
 // The most bytes that are taken of one partition.
@@ -20,18 +20,24 @@ fn limit_of(asked: &FetchPart, left: u64) -> u64
     (asked.most.max(0) as u64).min(left)
 }
 
+// The byte place up to which this replica may read.
+fn upto(replica: i32, numbers: &Numbers) -> u64
+    ensures { result ≡ (if is_consumer replica then numbers.now.visible else numbers.now.bytes) }
+{
+    if replica < 0 {
+        numbers.visible
+    } else {
+        numbers.bytes
+    }
+}
+
 // The bytes of the batches that this replica may read: a consumer those below the high watermark, a follower all.
 fn readable(log: &PartLog, replica: i32, start: u64, limit: u64, any: bool) -> &[u8]
     ensures { let state = state_of log.now in
         result.now ≡ joined (taken limit any (filter (is_readable replica state) (batches_past start state.batches))) }
 {
     let _log = log.log();
-    let numbers = log.numbers();
-    let upto = if replica < 0 {
-        numbers.visible
-    } else {
-        numbers.bytes
-    };
+    let upto = upto(replica, &log.numbers());
     log.read(start, upto, limit, !any)
 }
 
