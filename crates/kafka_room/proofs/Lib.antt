@@ -33,3 +33,4 @@ pub mod Carrying
 pub mod Digits
 pub mod PartReadings
 pub mod Reporting
+pub mod ReportLaws

@@ -2,9 +2,12 @@
 
 pub mod accepted;
 pub mod copies;
+pub mod described;
 pub mod fetched;
 pub mod one_part;
 pub mod produced;
+pub mod replies;
 
 pub use accepted::{Accepted, Budget, Reading};
 pub use one_part::read_part;
+pub use replies::answer;
