@@ -37,3 +37,6 @@ pub mod ItemLoops
 pub mod MentionLoops
 pub mod RunLaws
 pub mod StreamLaws
+pub mod PartReadings
+pub mod Reporting
+pub mod ReportLaws

@@ -14,6 +14,10 @@ pub mod Accepting
 pub mod Delayed
 -- the reply to a request
 pub mod Answer
+-- what was read of each named partition for a reply
+pub mod AreReadings
+-- what is told of each, from that
+pub mod Reported
 -- who left each entry of an account, and the states at its points
 pub mod Histories
 -- what a lawful call is
