@@ -23,6 +23,11 @@ use Rattle.turn_lock.specs.InLine.{is_out, one_if, has_turn, is_late, total, Sta
 use Rattle.turn_lock.specs.Moves.{stage_of, drew, ended, begun, passed_on, Took, looked}
 use Rattle.turn_lock.proofs.Totals.{sum_by_set, two_le, sum_by_le, sum_by_only, none_counts, one_at_most}
 
+-- a ticket that is served at some time
+pub waits_by : (b : Bool) (ticket : ℕ) → b ≡ true → cond b (Waits ticket) Late ≡ Waits ticket
+waits_by true ticket is = refl
+waits_by false ticket is = absurd (false≢true is)
+
 module _ {T E : Type 0} (entries : T → List E) (by : E → ℕ) (name_of : T → List ℕ) (passes : ℕ) (name : List ℕ) where
   abbrev K : Type 0
   K = Known E
@@ -454,3 +459,17 @@ module _ {T E : Type 0} (entries : T → List E) (by : E → ℕ) (name_of : T �
         (λ (t : (i ≢ id) × (get_elem? s.views i ≡ some u)). r.fits i u t.1)
         (at_set s.views id i (v ++ w) u t.1))
       (at_set (set s.views id (v ++ w)) other i [] u e))
+
+  -- the same for a seat of which it is known what it has
+  pub draws_for : (slots id : ℕ) (m : M) (k : K) → IsSame m (k ∷ [], []) → k.stage ≡ Idle → Allows Rule slots id m 0 (λ n. (n + 1) % 2 ^ 64) (drew {T = T} {E = E} (step slots 0 1 0 none) m)
+  draws_for slots id m k is idle =
+    subst (λ (z : M). Allows Rule slots id z 0 (λ n. (n + 1) % 2 ^ 64) (drew {T = T} {E = E} (step slots 0 1 0 none) z)) (sym is) (draws slots id k idle)
+
+  pub looks_for : (slots id : ℕ) (m : M) (k : K) (ticket : ℕ) → IsSame m (k ∷ [], []) → k.stage ≡ Waits ticket → Allows Rule slots id m 1 (λ n. n) (looked entries by name_of (step slots 1 0 0 none) m)
+  looks_for slots id m k ticket is waits =
+    subst (λ (z : M). Allows Rule slots id z 1 (λ n. n) (looked entries by name_of (step slots 1 0 0 none) z)) (sym is) (looks slots id k ticket waits)
+
+  pub passes_on_for : (slots id : ℕ) (m : M) (k : K) (ticket next : ℕ) (x : T) → IsSame m (k ∷ [], (0, Some x) ∷ []) → next ≡ ticket + 1 → k.stage ≡ Has ticket → name_of x ≡ k.name
+      → AddedBy by k.number k.seen (entries x) → Allows Rule slots id m 1 (λ _. next) (λ _. passed_on entries (step slots 1 next 0 none) m next)
+  passes_on_for slots id m k ticket next x is more has named added =
+    subst (λ (z : M × ℕ). Allows Rule slots id z.0 1 (λ _. z.1) (λ _. passed_on entries (step slots 1 z.1 0 none) z.0 z.1)) (λ i. (sym is i, sym more i)) (passes_on slots id k ticket x has named added)

@@ -10,3 +10,4 @@ pub mod Passes
 pub mod InLine
 -- what each step on the table tells
 pub mod Moves
+pub mod Locks

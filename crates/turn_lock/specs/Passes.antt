@@ -22,15 +22,10 @@ module _ {E : Type 0} where
   head_or k [] = k
   head_or k (j ∷ js) = j
 
-module _ {T E : Type 0} where
-  -- what the pass knows that this seat stands for
-  abbrev pub known : Seat (Option T) (List (Known E)) → Known E
-  known seat = head_or (fresh [] 0) seat.me.0
+  -- what is known by the one pass that a view has
+  abbrev pub known_of : List (Known E) → Known E
+  known_of view = head_or (fresh [] 0) view
 
-  -- the pass has no turn out
-  abbrev pub IsReady : Seat (Option T) (List (Known E)) → Type 0
-  IsReady seat = seat.me ≡ (at_stage Idle (known seat) ∷ [], [])
-
-  -- the pass has the turn of this ticket
-  abbrev pub IsOut : Seat (Option T) (List (Known E)) → ℕ → Type 0
-  IsOut seat ticket = (seat.me ≡ (at_stage (Has ticket) (known seat) ∷ [], (0, None) ∷ [])) × (ticket < 2 ^ 62)
+  -- a seat that has the turn of this ticket, whose value is out of the slot
+  abbrev pub IsOut : {T : Type 0} → Seat (Option T) (List (Known E)) → ℕ → Type 0
+  IsOut seat ticket = (seat.me ≡ (at_stage (Has ticket) (known_of seat.me.0) ∷ [], (0, None) ∷ [])) × (ticket < 2 ^ 62)

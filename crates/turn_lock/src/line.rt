@@ -1,7 +1,7 @@
 //! The table of the lock: word 0 is the next ticket, word 1 the ticket that is served, and slot 0 holds the value.
 use crate::kept::Kept;
 use crate::known::Known;
-use atomic_table::{Seat, Table, TableRule};
+use atomic_table::{Seat, Shared, Table, TableRule};
 use std::alloc::Global;
 use std::collections::LinkedList;
 use std::snapshot::Snapshot;
@@ -14,6 +14,15 @@ pub(crate) const SERVING: usize = 1;
 pub struct About<T> {
     pub passes: u32,
     pub value: Snapshot<T>,
+}
+
+impl<T> Drop for About<T> {
+    fn drop(self) {
+        let Self {
+            passes: _,
+            value: _,
+        } = self;
+    }
 }
 
 /// The rule of the table.
@@ -37,3 +46,6 @@ pub(crate) type Board<T> = Table<
 >;
 
 pub(crate) type Place<T> = Seat<Option<T>, LinkedList<Known<<T as Kept>::Entry>>>;
+
+/// The table without its memory.
+pub(crate) type Top<T> = Shared<Option<T>, LinkedList<Known<<T as Kept>::Entry>>, About<T>, Line>;
