@@ -10,7 +10,7 @@ use mathlib.Core.Option.{some, none, some-injective, some-ne-none}
 use mathlib.Core.Option as maybe
 use native.Mathlib.Decide.{ℕ_discrete}
 use lib.ListN.{get_elem?}
-use Rattle.atomic_table.specs.Table.{State, Me, Step, step, keeps, takes, gives, stepped, Allows, Splits, Joins}
+use Rattle.atomic_table.specs.Table.{State, Me, Step, step, keeps, takes, gives, stepped, Allows, Splits, Joins, rest}
 use Rattle.atomic_table.proofs.Lists.{at_set, set_again, set_else, at_snoc}
 use Rattle.turn_lock.specs.declared.known.Known.{Known}
 use Rattle.turn_lock.specs.declared.known.Stage.{Stage}
@@ -18,7 +18,7 @@ use Rattle.turn_lock.specs.declared.known.Stage.TheVariants.{Idle, Waits, Has, L
 use Rattle.turn_lock.specs.StartsWith.{StartsWith}
 use Rattle.turn_lock.specs.OfPass.{of_pass}
 use Rattle.turn_lock.specs.AddedBy.{AddedBy}
-use Rattle.turn_lock.specs.Passes.{at_stage, head_or}
+use Rattle.turn_lock.specs.Passes.{at_stage, head_or, known_of}
 use Rattle.turn_lock.specs.InLine.{is_out, one_if, has_turn, is_late, total, Stands, Fits, AtHome, InLine}
 use Rattle.turn_lock.specs.Moves.{stage_of, drew, ended, begun, passed_on, Took, looked}
 use Rattle.turn_lock.proofs.Totals.{sum_by_set, two_le, sum_by_le, sum_by_only, none_counts, one_at_most}
@@ -473,3 +473,24 @@ module _ {T E : Type 0} (entries : T → List E) (by : E → ℕ) (name_of : T �
       → AddedBy by k.number k.seen (entries x) → Allows Rule slots id m 1 (λ _. next) (λ _. passed_on entries (step slots 1 next 0 none) m next)
   passes_on_for slots id m k ticket next x is more has named added =
     subst (λ (z : M × ℕ). Allows Rule slots id z.0 1 (λ _. z.1) (λ _. passed_on entries (step slots 1 z.1 0 none) z.0 z.1)) (λ i. (sym is i, sym more i)) (passes_on slots id k ticket x has named added)
+
+-- what a seat has in the slot that it holds
+pub held : {S : Type 0} (slots : List (ℕ × S)) (x : S) → slots ≡ (0, x) ∷ [] → slots ≡ (0, x) ∷ rest slots
+held slots x is = is ∙ sym (ap (λ z. (0, x) ∷ rest z) is)
+
+module _ (T E : Type 0) where
+  abbrev pub Pass : Type 0
+  Pass = Me (Option T) (List (Known E))
+
+  abbrev pub Same : Pass → Pass → Type 0
+  Same m m' = m ≡ m'
+
+  -- a seat that has put a value into the slot that it holds
+  pub put_back : (m m' : Pass) (k : Known E) (x : T) → Same m (k ∷ [], (0, None) ∷ []) → Same m' (m.0, (0, Some x) ∷ rest m.1) → Same m' (k ∷ [], (0, Some x) ∷ [])
+  put_back m m' k x is put = put ∙ ap (λ (z : Pass). (z.0, (0, Some x) ∷ rest z.1)) is
+
+  pub ready : (m : Pass) (k : Known E) → Same m (at_stage Idle k ∷ [], []) → Same m (at_stage Idle (known_of m.0) ∷ [], [])
+  ready m k is = is ∙ sym (ap (λ (z : Pass). (at_stage Idle (known_of z.0) ∷ [], [])) is)
+
+  pub known_is : (m : Pass) (k : Known E) (slots : List (ℕ × Option T)) → Same m (k ∷ [], slots) → known_of m.0 ≡ k
+  known_is m k slots is = ap (λ (z : Pass). known_of z.0) is

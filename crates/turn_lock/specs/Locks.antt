@@ -23,9 +23,9 @@ module _ {T E : Type 0} where
   abbrev pub known : TurnPass T E → Known E
   known pass = known_of pass.seat.me.0
 
-  -- the pass was made with this lock
-  abbrev pub IsPassOf : TurnLock T E → TurnPass T E → Type 0
-  IsPassOf lock pass = pass.seat.table_id ≡ lock_id lock
+  -- the pass was made with this lock, and has its name
+  abbrev pub IsPassOf : (T → List ℕ) → TurnLock T E → TurnPass T E → Type 0
+  IsPassOf name_of lock pass = (pass.seat.table_id ≡ lock_id lock) × ((known pass).name ≡ lock_name name_of lock)
 
   -- the pass has no turn out
   abbrev pub IsReady : TurnPass T E → Type 0

@@ -101,11 +101,11 @@ impl<T: Kept> TurnLock<T> {
     /// Waits for the pass's turn. The history found begins with all that the pass had seen, and has of the pass
     /// just those entries that it added.
     pub fn turn(&self, rt: &impl Wait, pass: &mut TurnPass<T>) -> Turn<T>
-        requires pass { IsPassOf self.now pass.old × IsReady pass.old }
+        requires pass { IsPassOf T.name self.now pass.old × IsReady pass.old }
         ensures name { (T.name result.value ≡ lock_name T.name self.now) }
         ensures history { StartsWith (T.entries result.value) (known pass.old).seen }
         ensures own { of_pass T.by (known pass.old).number (T.entries result.value) ≡ (known pass.old).mine }
-        ensures pass { IsPassOf self.now pass.new × (result.from.value ≡ pass.new.seat) × (known pass.new ≡ begun T.entries result.ticket result.value (known pass.old)) }
+        ensures pass { IsPassOf T.name self.now pass.new × (result.from.value ≡ pass.new.seat) × (known pass.new ≡ begun T.entries result.ticket result.value (known pass.old)) }
     {
         let ticket = self.draw(&mut pass.seat);
         self.wait(rt, &mut pass.seat, ticket);
@@ -120,12 +120,21 @@ impl<T: Kept> TurnLock<T> {
         }
     }
 
+    // Wakes a sleeper, if another ticket is drawn.
+    fn wake_next(&self, ticket: u64)
+        requires { ticket < 2 ^ 62 }
+    {
+        if self.board.shared.peek(TICKET) != ticket + 1 {
+            self.board.shared.wake_one(SERVING);
+        }
+    }
+
     /// Puts the value back and passes the turn on. The pass has seen the value's history.
     pub fn end(&self, pass: &mut TurnPass<T>, turn: Turn<T>)
-        requires pass { IsPassOf self.now pass.old × (turn.from.value ≡ pass.old.seat) }
+        requires pass { IsPassOf T.name self.now pass.old × (turn.from.value ≡ pass.old.seat) }
         requires name { T.name turn.value ≡ lock_name T.name self.now }
         requires history { AddedBy T.by (known pass.old).number (known pass.old).seen (T.entries turn.value) }
-        ensures pass { IsPassOf self.now pass.new × IsReady pass.new }
+        ensures pass { IsPassOf T.name self.now pass.new × IsReady pass.new }
         ensures seen { known pass.new ≡ ended T.entries turn.value (known pass.old) }
     {
         let Turn {
@@ -140,15 +149,13 @@ impl<T: Kept> TurnLock<T> {
         self.board
             .shared
             .store::<PassOn>(&mut pass.seat, SERVING, ticket + 1);
-        if self.board.shared.peek(TICKET) != ticket + 1 {
-            self.board.shared.wake_one(SERVING);
-        }
+        self.wake_next(ticket);
     }
 
     // Takes all passes back into one seat.
     fn gather(&self, mut passes: List<TurnPass<T>>) -> Place<T>
         requires some { 0 < length passes }
-        requires each { All (λ p. IsPassOf self.now p × IsReady p) passes }
+        requires each { All (λ p. IsPassOf T.name self.now p × IsReady p) passes }
         ensures { (result.table_id ≡ lock_id self.now) × (result.me ≡ (map known passes, [])) }
     {
         let Some(last) = passes.pop() else {
@@ -167,7 +174,7 @@ impl<T: Kept> TurnLock<T> {
     /// pass's own entries once, in its order, and no other entries.
     pub fn close(self, passes: List<TurnPass<T>>) -> T
         requires all { length passes ≡ lock_passes self }
-        requires each { All (λ p. IsPassOf self p × IsReady p) passes }
+        requires each { All (λ p. IsPassOf T.name self p × IsReady p) passes }
         ensures name { T.name result ≡ lock_name T.name self }
         ensures each { All (λ p. StartsWith (T.entries result) (known p).seen × (of_pass T.by (known p).number (T.entries result) ≡ (known p).mine)) passes }
         ensures whose { All (λ e. T.by e < lock_passes self) (T.entries result) }
