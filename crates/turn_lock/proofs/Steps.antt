@@ -494,3 +494,11 @@ module _ (T E : Type 0) where
 
   pub known_is : (m : Pass) (k : Known E) (slots : List (ℕ × Option T)) → Same m (k ∷ [], slots) → known_of m.0 ≡ k
   known_is m k slots is = ap (λ (z : Pass). known_of z.0) is
+
+  -- a seat that took in another
+  pub gathered : (m m' mine : Pass) (v : List (Known E)) → Same m' (mine.0 ++ m.0, mine.1) → Same m (v, []) → Same mine (at_stage Idle (known_of mine.0) ∷ [], []) → Same m' (known_of mine.0 ∷ v, [])
+  gathered m m' mine v new others is =
+    let k : Known E = at_stage Idle (known_of mine.0) in
+    let both : Same (mine.0 ++ m.0, mine.1) (k ∷ v, []) = λ i. ((is i).0 ++ (others i).0, (is i).1) in
+    let back : Same (k ∷ v, []) (known_of mine.0 ∷ v, []) = ap (λ (j : Known E). (j ∷ v, [])) (sym (known_is mine k [] is)) in
+    new ∙ (both ∙ back)
