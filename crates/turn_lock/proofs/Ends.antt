@@ -1,8 +1,8 @@
 -- The table of the lock as it is made, and as it is closed.
-use Rattle.std.proofs.Common.{◌≡◌, ℕ, zero, suc, ◌+◌, ◌^◌, ◌<◌, ◌≤◌, ◌≢◌, Bool, true, false, eqb, List, [], ◌∷◌, length, sym, refl, ap, ◌∙◌, subst, ⊎_elim, arith, eq-eqb, ne_eqb}
+use Rattle.std.proofs.Common.{◌≡◌, ℕ, zero, suc, ◌+◌, ◌^◌, ◌<◌, ◌≤◌, ◌≢◌, Bool, true, false, eqb, List, [], ◌∷◌, map, length, sym, refl, ap, ◌∙◌, subst, ⊎_elim, arith, eq-eqb, ne_eqb}
 use Rattle.std.specs.Prelude.{All, sum_by, Option, Some, None}
 use Rattle.std.proofs.lemmas.List.Sums.{sum_by-cons}
-use Rattle.std.proofs.lemmas.List.Elements.{All-nil, All-cons, All-head, All-tail, All-weaker}
+use Rattle.std.proofs.lemmas.List.Elements.{All-nil, All-cons, All-head, All-tail, All-weaker, All-map}
 use Rattle.std.proofs.lemmas.Bool.{false≢true}
 use mathlib.Core.Logic.{dite}
 use mathlib.Core.Option.{some, none, some-injective, some-ne-none}
@@ -15,8 +15,11 @@ use Rattle.turn_lock.specs.declared.known.Stage.{Stage}
 use Rattle.turn_lock.specs.declared.known.Stage.TheVariants.{Idle}
 use Rattle.turn_lock.specs.StartsWith.{StartsWith}
 use Rattle.turn_lock.specs.OfPass.{of_pass}
-use Rattle.turn_lock.specs.Passes.{fresh, fresh_from}
+use Rattle.turn_lock.specs.declared.pass.TurnPass.{TurnPass}
+use Rattle.turn_lock.specs.Locks.{known, IsReady}
+use Rattle.turn_lock.specs.Passes.{at_stage, fresh, fresh_from}
 use Rattle.turn_lock.specs.InLine.{is_out, one_if, has_turn, is_late, total, Fits, AtHome, InLine}
+use Rattle.turn_lock.proofs.Steps.{Pass, Same, known_is}
 use Rattle.turn_lock.proofs.Totals.{sum_by_only, sum_by_le, one_at_most}
 
 module _ (E : Type 0) (name : List ℕ) where
@@ -87,13 +90,11 @@ module _ {T E : Type 0} (entries : T → List E) (by : E → ℕ) (name_of : T �
       drawn = omega arith;
     }
 
-  -- What is known at the close: the value is there, with the lock's name. Its history begins with what each pass had seen, has each pass's own entries, and no others
-  pub record Closes (passes : ℕ) (name : List ℕ) (v : List (Known E)) (found : Option T) : Type 0 where
-    pub value : T
-    pub is : found ≡ Some value
-    pub named : name_of value ≡ name
-    pub whose : All (λ e. by e < passes) (entries value)
-    pub each : All (λ k. StartsWith (entries value) k.seen × (of_pass by k.number (entries value) ≡ k.mine)) v
+  -- What is known of the value at the close: it has the lock's name. Its history begins with what each pass had seen, has each pass's own entries, and no others
+  pub record Closes (passes : ℕ) (name : List ℕ) (v : List (Known E)) (x : T) : Type 0 where
+    pub named : name_of x ≡ name
+    pub whose : All (λ e. by e < passes) (entries x)
+    pub each : All (λ k. StartsWith (entries x) k.seen × (of_pass by k.number (entries x) ≡ k.mine)) v
 
   module _ (passes : ℕ) (name : List ℕ) where
     abbrev Rule : State (Option T) (List (Known E)) → Type 0
@@ -123,22 +124,61 @@ module _ {T E : Type 0} (entries : T → List E) (by : E → ℕ) (name_of : T �
 
     closes_at : (s : State (Option T) (List (Known E))) (r : Rule s) (id : ℕ) (v : List (Known E)) → get_elem? s.views id ≡ some v → one_if (is_out r.home) ≤ 0
         → (home : maybe.Option (Option T)) → r.home ≡ home → AtHome entries by name_of r.log name home
-        → (found : Option T) → ((y : Option T) → get_elem? s.homes 0 ≡ some (some y) → found ≡ y) → Closes passes name v found
+        → (found : Option T) → ((y : Option T) → get_elem? s.homes 0 ≡ some (some y) → found ≡ y) → (x : T) × (found ≡ Some x) × Closes passes name v x
     closes_at s r id v at home_is none is h found gets = let one : one_if (is_out r.home) ≡ 1 = ap (λ z. one_if (is_out z)) is in absurd (omega arith)
     closes_at s r id v at home_is (some None) is h found gets = absurd h
-    closes_at s r id v at home_is (some (Some x)) is h found gets = record {
-      value = x;
-      is = gets (Some x) (ap (λ hs. get_elem? hs 0) r.homes ∙ ap some is);
-      named = h.1;
-      whose = subst (All (λ e. by e < passes)) (sym h.0) r.whose;
-      each = All-weaker (Fits r.next r.serving (is_out r.home) r.holder r.log by passes name) (λ k. StartsWith (entries x) k.seen × (of_pass by k.number (entries x) ≡ k.mine))
-        (λ k fit. (subst (λ log. StartsWith log k.seen) (sym h.0) fit.seen, ap (of_pass by k.number) h.0 ∙ fit.mine)) v (r.fits id v at);
-    }
+    closes_at s r id v at home_is (some (Some x)) is h found gets = (
+      x,
+      gets (Some x) (ap (λ hs. get_elem? hs 0) r.homes ∙ ap some is),
+      record {
+        named = h.1;
+        whose = subst (All (λ e. by e < passes)) (sym h.0) r.whose;
+        each = All-weaker (Fits r.next r.serving (is_out r.home) r.holder r.log by passes name) (λ k. StartsWith (entries x) k.seen × (of_pass by k.number (entries x) ≡ k.mine))
+          (λ k fit. (subst (λ log. StartsWith log k.seen) (sym h.0) fit.seen, ap (of_pass by k.number) h.0 ∙ fit.mine)) v (r.fits id v at);
+      },
+    )
 
-    pub closes : (id : ℕ) (v : List (Known E)) (words : List ℕ) (slots : List (Option T)) (found : Option T) → length v ≡ passes → All (λ k. k.stage ≡ Idle) v
-        → Final (Seen Rule id v) words slots → get_elem? slots 0 ≡ some found → Closes passes name v found
+    closes : (id : ℕ) (v : List (Known E)) (words : List ℕ) (slots : List (Option T)) (found : Option T) → length v ≡ passes → All (λ k. k.stage ≡ Idle) v
+        → Final (Seen Rule id v) words slots → get_elem? slots 0 ≡ some found → (x : T) × (found ≡ Some x) × Closes passes name v x
     closes id v words slots found whole idle final at =
       let s = final.0 in
       let r = final.1.0 in
       closes_at s r id v final.1.1 (is_home s r id v final.1.1 whole idle) r.home refl r.at_home found
         (λ y home. some-injective found y (sym at ∙ final.4 0 y home))
+
+    abbrev value_or : T → Option T → T
+    value_or x (Some y) = y
+    value_or x None = x
+
+    abbrev is_there : Option T → Bool
+    is_there (Some y) = true
+    is_there None = false
+
+    -- of all passes, which have no turn out
+    ready_idle : (ps : List (TurnPass T E)) → All IsReady ps → All (λ k. k.stage ≡ Idle) (map known ps)
+    ready_idle ps ready = All-map (λ (k : Known E). k.stage ≡ Idle) known ps
+      (All-weaker IsReady (λ (p : TurnPass T E). (known p).stage ≡ Idle) (λ p is. ap (λ (k : Known E). k.stage) (known_is T E p.seat.me (at_stage Idle (known p)) [] is)) ps ready)
+
+    mapped : (ps : List (TurnPass T E)) → length (map known ps) ≡ length ps
+    mapped [] = refl
+    mapped (p ∷ ps) = ap suc (mapped ps)
+
+    unmapped : (P : Known E → Type 0) → (ps : List (TurnPass T E)) → All P (map known ps) → All (λ p. P (known p)) ps
+    unmapped P [] all = All-nil (λ (p : TurnPass T E). P (known p))
+    unmapped P (p ∷ ps) all = All-cons (λ (q : TurnPass T E). P (known q)) p ps (All-head P (known p) (map known ps) all) (unmapped P ps (All-tail P (known p) (map known ps) all))
+
+    -- what is known of the value that the slot has at the close
+    pub closed : (id : ℕ) (m : Pass T E) (ps : List (TurnPass T E)) (words : List ℕ) (slots : List (Option T)) (found : Option T) → Same T E m (map known ps, []) → length ps ≡ passes → All IsReady ps
+        → Final (Seen Rule id m.0) words slots → get_elem? slots 0 ≡ some found → (x : T) × (found ≡ Some x) × Closes passes name (map known ps) x
+    closed id m ps words slots found is whole ready final at =
+      closes id (map known ps) words slots found (mapped ps ∙ whole) (ready_idle ps ready) (subst (λ (z : Pass T E). Final (Seen Rule id z.0) words slots) is final) at
+
+    pub not_none : (ps : List (TurnPass T E)) (found : Option T) → (x : T) × (found ≡ Some x) × Closes passes name (map known ps) x → found ≡ None → ⊥
+    not_none ps found h none_found = false≢true (sym (ap is_there none_found) ∙ ap is_there h.1)
+
+    pub closed_at : (ps : List (TurnPass T E)) (found : Option T) (y : T) → (x : T) × (found ≡ Some x) × Closes passes name (map known ps) x → found ≡ Some y → Closes passes name (map known ps) y
+    closed_at ps found y h is = subst (Closes passes name (map known ps)) (ap (value_or y) (sym h.1 ∙ is)) h.2
+
+    pub closed_each : (ps : List (TurnPass T E)) (x : T) → Closes passes name (map known ps) x
+        → All (λ p. StartsWith (entries x) (known p).seen × (of_pass by (known p).number (entries x) ≡ (known p).mine)) ps
+    closed_each ps x h = unmapped (λ k. StartsWith (entries x) k.seen × (of_pass by k.number (entries x) ≡ k.mine)) ps h.each

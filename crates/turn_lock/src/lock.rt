@@ -1,4 +1,4 @@
-ghost use Rattle.std.specs.Prelude.{◌≡◌};
+ghost use Rattle.std.specs.Prelude.{◌≡◌, ◌≤◌};
 
 use crate::kept::Kept;
 use crate::line::{About, Board, Place, SERVING, TICKET};
@@ -21,11 +21,12 @@ pub struct TurnLock<T: Kept> {
     board: Board<T>,
     passes: u32,
     ghost sized: { (board.shared.table_id.words ≡ 2) × (board.shared.table_id.slots ≡ 1) },
+    ghost some: { 1 ≤ passes },
     ghost counted: { passes ≡ board.shared.key.passes },
 }
 
 impl<T: Kept> TurnLock<T> {
-    ghost use Rattle.std.specs.Prelude.{ℕ, ◌<◌, ◌≤◌, ◌^◌, List as Items, [], ◌∷◌, ◌++◌, map, length, drop, All, IfOk};
+    ghost use Rattle.std.specs.Prelude.{ℕ, ◌<◌, ◌^◌, List as Items, [], ◌∷◌, ◌++◌, map, length, drop, All, IfOk};
     ghost use mathlib.Core.Option.{none};
     ghost use Rattle.turn_lock.specs.declared.known.Stage.TheVariants.{Idle, Has};
     ghost use Rattle.turn_lock.specs.StartsWith.{StartsWith};
@@ -60,7 +61,7 @@ impl<T: Kept> TurnLock<T> {
         };
         let lock = TurnLock { board, passes };
         let mut all = List::new(alloc);
-        for _number in 0..passes {
+        for number in 0..passes {
             let pass = TurnPass {
                 seat: lock.board.shared.split_seat::<HandOut>(&mut seat),
             };
