@@ -90,6 +90,11 @@ module _ {T E : Type 0} (entries : T → List E) (by : E → ℕ) (name_of : T �
       drawn = omega arith;
     }
 
+  pub starts_for : (x told : T) (slots : List (Option T)) (passes : ℕ) → passes < 2 ^ 32 → entries x ≡ [] → told ≡ x → slots ≡ Some x ∷ []
+      → InLine entries by name_of passes (name_of told) (opening (0 ∷ 0 ∷ []) slots (fresh_from (name_of told) 0 passes))
+  starts_for x told slots passes few empty same one =
+    subst (λ (z : T × List (Option T)). InLine entries by name_of passes (name_of z.0) (opening (0 ∷ 0 ∷ []) z.1 (fresh_from (name_of z.0) 0 passes))) (λ i. (sym same i, sym one i)) (starts x passes few empty)
+
   -- What is known of the value at the close: it has the lock's name. Its history begins with what each pass had seen, has each pass's own entries, and no others
   pub record Closes (passes : ℕ) (name : List ℕ) (v : List (Known E)) (x : T) : Type 0 where
     pub named : name_of x ≡ name

@@ -56,18 +56,25 @@ impl<T: Kept> TurnLock<T> {
         };
         let mut slots = Vec::with_capacity(alloc, 1)?;
         slots.push(Some(value))?;
-        let Ok((board, mut seat)) = Table::new(alloc, &[0, 0], slots, &about) else {
+        let Ok((board, seat)) = Table::new(alloc, &[0, 0], slots, &about) else {
             return Err(NoMemory);
         };
         let lock = TurnLock { board, passes };
-        let mut all = List::new(alloc);
-        for number in 0..passes {
-            let pass = TurnPass {
-                seat: lock.board.shared.split_seat::<HandOut>(&mut seat),
-            };
-            all.push(pass)?;
-        }
+        let all = lock.hand_out(alloc, seat)?;
         Ok((lock, all))
+    }
+
+    // The passes, in the order of their numbers.
+    fn hand_out(&self, alloc: Global, mut seat: Place<T>) -> Result<List<TurnPass<T>>, NoMemory>
+        requires { (seat.table_id ≡ lock_id self.now) × (seat.me ≡ (fresh_from (lock_name T.name self.now) 0 self.now.passes, [])) }
+        ensures { IfOk result (λ all. (length all ≡ lock_passes self.now) × AreFresh (lock_id self.now) (lock_name T.name self.now) all) }
+    {
+        let mut all = List::new(alloc);
+        for number in 0..self.passes {
+            let seat = self.board.shared.split_seat::<HandOut>(&mut seat);
+            all.push(TurnPass { seat })?;
+        }
+        Ok(all)
     }
 
     // Draws a ticket.
