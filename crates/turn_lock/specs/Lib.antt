@@ -10,4 +10,9 @@ pub mod Passes
 pub mod InLine
 -- what each step on the table tells
 pub mod Moves
+-- what a clause says of a lock and of its passes
 pub mod Locks
+-- whose turn it is
+pub mod Turns
+-- what a turn is after its value was lent
+pub mod Lending

@@ -34,6 +34,7 @@ impl<T: Kept> TurnLock<T> {
     ghost use Rattle.turn_lock.specs.AddedBy.{AddedBy};
     ghost use Rattle.turn_lock.specs.Passes.{at_stage, known_of, IsOut, fresh, fresh_from};
     ghost use Rattle.turn_lock.specs.Moves.{stage_of, Took, ended, begun};
+    ghost use Rattle.turn_lock.specs.Turns.{HasTurn};
     ghost use Rattle.turn_lock.specs.Locks.{lock_id, lock_name, lock_passes, known, IsPassOf, IsReady, AreFresh};
 
     /// A lock round a value that has no entries, and its passes in the order of their numbers.
@@ -113,7 +114,7 @@ impl<T: Kept> TurnLock<T> {
         ensures name { (T.name result.value ≡ lock_name T.name self.now) }
         ensures history { StartsWith (T.entries result.value) (known pass.old).seen }
         ensures own { of_pass T.by (known pass.old).number (T.entries result.value) ≡ (known pass.old).mine }
-        ensures pass { IsPassOf T.name self.now pass.new × (result.from.value ≡ pass.new.seat) × (known pass.new ≡ begun T.entries result.ticket result.value (known pass.old)) }
+        ensures pass { IsPassOf T.name self.now pass.new × HasTurn pass.new result × (known pass.new ≡ begun T.entries result.ticket result.value (known pass.old)) }
     {
         let ticket = self.draw(&mut pass.seat);
         self.wait(rt, &mut pass.seat, ticket);
@@ -139,7 +140,7 @@ impl<T: Kept> TurnLock<T> {
 
     /// Puts the value back and passes the turn on. The pass has seen the value's history.
     pub fn end(&self, pass: &mut TurnPass<T>, turn: Turn<T>)
-        requires pass { IsPassOf T.name self.now pass.old × (turn.from.value ≡ pass.old.seat) }
+        requires pass { IsPassOf T.name self.now pass.old × HasTurn pass.old turn }
         requires name { T.name turn.value ≡ lock_name T.name self.now }
         requires history { AddedBy T.by (known pass.old).number (known pass.old).seen (T.entries turn.value) }
         ensures pass { IsPassOf T.name self.now pass.new × IsReady pass.new }

@@ -1,6 +1,6 @@
-use Rattle.std.proofs.Common.{rules, [], ◌∷◌, refl, sym, ap, ◌∙◌, subst}
+use Rattle.std.proofs.Common.{rules, [], ◌∷◌, refl, sym, ap, ◌∙◌}
 use Rattle.turn_lock.specs.declared.known.Stage.TheVariants.{Has}
-use Rattle.turn_lock.specs.Passes.{at_stage, known_of, IsOut}
+use Rattle.turn_lock.specs.Passes.{at_stage, known_of}
 use Rattle.turn_lock.specs.Moves.{ended}
 use Rattle.turn_lock.proofs.Steps.{Same, passes_on_for, put_back, ready, known_is}
 use Rattle.turn_lock.proofs.lock.TurnLock.end.Goals as goal
@@ -11,7 +11,7 @@ store-requires g c =
     let E = g.row.T-Entry.Denot in
     let pass = c.args.pass.now.seat in
     let ticket = c.args.turn.ticket in
-    let out : IsOut pass ticket = subst (λ s. IsOut s ticket) c.requires.pass.1 c.args.turn.out in
+    let out = c.requires.pass.1.1 in
     let k = at_stage (Has ticket) (known_of pass.me.0) in
     (
       search rules,
@@ -28,7 +28,7 @@ returns g c =
     let pass = c.args.pass.now.seat in
     let ticket = c.args.turn.ticket in
     let x = c.args.turn.value in
-    let out : IsOut pass ticket = subst (λ s. IsOut s ticket) c.requires.pass.1 c.args.turn.out in
+    let out = c.requires.pass.1.1 in
     let k = at_stage (Has ticket) (known_of pass.me.0) in
     let after : Same T E c.store.new.seat.me (ended g.T.Kept.entries x k ∷ [], []) =
       c.store.ensures.2 k x (put_back T E pass.me c.exchange-found.new.seat.me k x out.0 c.exchange-found.ensures.3) in
