@@ -15,3 +15,6 @@ pub use known::{Known, Stage};
 pub use lock::TurnLock;
 pub use pass::TurnPass;
 pub use turn::Turn;
+
+#[cfg(test)]
+mod tests;
