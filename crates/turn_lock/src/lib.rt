@@ -1,6 +1,7 @@
 //! A ticket lock whose history each pass can trust.
 #![tactic(auto)]
 
+mod crossing;
 mod kept;
 mod known;
 mod line;
