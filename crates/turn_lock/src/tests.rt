@@ -1,60 +1,19 @@
 ghost use Rattle.std.specs.Prelude.{◌≡◌, ℕ, ◌+◌, ◌*◌, ◌/◌, ◌^◌, ◌<◌, ◌≤◌, [], ◌∷◌, ◌++◌, length, All, IfOk, vec_len};
-ghost use Rattle.turn_lock.specs.AddedBy.{AddedBy};
 ghost use Rattle.turn_lock.specs.Locks.{known, lock_id, lock_name, lock_passes, AreFresh, IsPassOf, IsReady};
 
 use super::*;
+use crate::examples::{Numbers, Shelf, add_one, take_off};
 use kbytes::{List, NoMemory};
 use std::alloc::Global;
 use std::sync::Wait;
 use std::test::*;
 use std::thread::{Threads, map_vec};
 
-// Numbers in the order in which they came. The thousands of a number are its pass.
-#[derive(Drop)]
-struct Numbers {
-    items: Vec<u64>,
-}
-
-impl Kept for Numbers {
-    type Entry = u64;
-
-    ghost entries = { λ n. n.items.items };
-
-    ghost by = { λ e. e / 1000 };
-
-    ghost name = { λ n. [] };
-
-    fn count(&self) -> u64 {
-        self.items.len() as u64
-    }
-}
-
-impl Numbers {
-    // Adds a number, unless no memory is left.
-    fn add(&mut self, number: u64)
-        ensures { AddedBy (λ e. e / 1000) (number / 1000) self.old.items.items self.new.items.items }
-    {
-        let _ = self.items.push(number);
-    }
-}
-
 // A pass with its number.
 #[derive(Drop)]
 struct Lane {
     number: u64,
     pass: TurnPass<Numbers>,
-}
-
-// One turn, in which the pass adds a number.
-fn add_one(rt: &impl Wait, lock: &TurnLock<Numbers>, pass: &mut TurnPass<Numbers>, number: u64)
-    requires number { number / 1000 ≡ (known pass.old).number }
-    requires pass { IsPassOf (λ n. []) lock.now pass.old × IsReady pass.old }
-    ensures number { (known pass.new).number ≡ (known pass.old).number }
-    ensures pass { IsPassOf (λ n. []) lock.now pass.new × IsReady pass.new }
-{
-    let mut turn = lock.turn(rt, pass);
-    turn.value_mut().add(number);
-    lock.end(pass, turn);
 }
 
 // In each of 500 turns the pass adds one number.
@@ -150,5 +109,48 @@ fn eight_threads_of_500_turns(rt: HostRuntime) -> Result<(), Fail> {
     let numbers = add_in_threads(&rt, rt.alloc(), 8)?;
     assert_eq!(rt; numbers.count(), 4_000);
     assert!(rt; is_in_order(&numbers, 8));
+    Ok(())
+}
+
+// The one pass of a lock.
+fn only_pass<T: Kept>(
+    lock: &TurnLock<T>,
+    mut passes: List<TurnPass<T>>,
+) -> Result<TurnPass<T>, NoMemory>
+    requires { AreFresh (lock_id lock.now) (lock_name T.name lock.now) passes × (length passes ≡ 1) }
+    ensures { IfOk result (λ p. IsPassOf T.name lock.now p × IsReady p × ((known p).number ≡ 0)) }
+{
+    passes.pop().ok_or(NoMemory)
+}
+
+#[test]
+fn a_take_in_mid_run(rt: HostRuntime) -> Result<(), Fail> {
+    let numbers = Numbers {
+        items: Vec::with_capacity(rt.alloc(), 2)?,
+    };
+    let (lock, passes) = TurnLock::make(rt.alloc(), numbers, 1)?;
+    let mut pass = only_pass(&lock, passes)?;
+    add_one(&rt, &lock, &mut pass, 5);
+    let mut turn = lock.turn(&rt, &mut pass);
+    turn.value_mut().add(6);
+    assert_eq!(rt; turn.value().count(), 2);
+    let numbers = turn.take();
+    assert_eq!(rt; numbers.items.as_slice(), [5u64, 6].as_slice());
+    Ok(())
+}
+
+#[test]
+fn a_value_without_entries(rt: HostRuntime) -> Result<(), Fail> {
+    let shelf = Shelf {
+        number: 7,
+        items: Vec::from_elem(rt.alloc(), 3, 2)?,
+    };
+    let (lock, passes) = TurnLock::make(rt.alloc(), shelf, 1)?;
+    let mut pass = only_pass(&lock, passes)?;
+    assert_eq!(rt; take_off(&rt, &lock, &mut pass), Some(3));
+    let mut passes = List::new(rt.alloc());
+    passes.push(pass)?;
+    let shelf = lock.close(passes);
+    assert!(rt; shelf.number == 7 && shelf.items.len() == 1);
     Ok(())
 }
