@@ -27,35 +27,35 @@ module _ (E : Type 0) (name : List ℕ) where
   pub fresh_count : (first n : ℕ) → sum_by (λ k. 1) (fresh_from {E = E} name first n) ≡ n
   fresh_count first zero = refl
   fresh_count first (suc n) =
-    omega (arith, sum_by-cons (λ (k : Known E). 1) (fresh {E = E} name first) (fresh_from {E = E} name (first + 1) n), fresh_count (first + 1) n)
+      omega (arith, sum_by-cons (λ (k : Known E). 1) (fresh {E = E} name first) (fresh_from {E = E} name (first + 1) n), fresh_count (first + 1) n)
 
   fresh_below : (first n number : ℕ) → number < first → sum_by (λ k. one_if (eqb k.number number)) (fresh_from {E = E} name first n) ≡ 0
   fresh_below first zero number less = refl
   fresh_below first (suc n) number less =
-    let apart : one_if (eqb first number) ≡ 0 = ap one_if (ne_eqb first number (λ e. omega arith)) in
-    omega (
-      arith,
-      sum_by-cons (λ (k : Known E). one_if (eqb k.number number)) (fresh {E = E} name first) (fresh_from {E = E} name (first + 1) n),
-      fresh_below (first + 1) n number (omega arith),
-    )
+      let apart : one_if (eqb first number) ≡ 0 = ap one_if (ne_eqb first number (λ e. omega arith)) in
+      omega (
+        arith,
+        sum_by-cons (λ (k : Known E). one_if (eqb k.number number)) (fresh {E = E} name first) (fresh_from {E = E} name (first + 1) n),
+        fresh_below (first + 1) n number (omega arith),
+      )
 
   pub fresh_once : (first n number : ℕ) → sum_by (λ k. one_if (eqb k.number number)) (fresh_from {E = E} name first n) ≤ 1
   fresh_once first zero number = omega arith
   fresh_once first (suc n) number =
-    let cons = sum_by-cons (λ (k : Known E). one_if (eqb k.number number)) (fresh {E = E} name first) (fresh_from {E = E} name (first + 1) n) in
-    dite (ℕ_discrete first number)
+      let cons = sum_by-cons (λ (k : Known E). one_if (eqb k.number number)) (fresh {E = E} name first) (fresh_from {E = E} name (first + 1) n) in
+      dite (ℕ_discrete first number)
       (λ same. let one = one_at_most (eqb first number) in let rest = fresh_below (first + 1) n number (omega arith) in omega arith)
       (λ other. let apart : one_if (eqb first number) ≡ 0 = ap one_if (ne_eqb first number other) in let rest = fresh_once (first + 1) n number in omega arith)
 
   pub fresh_idle : (f : Stage → ℕ) → f Idle ≡ 0 → (first n : ℕ) → sum_by (λ k. f k.stage) (fresh_from {E = E} name first n) ≡ 0
   fresh_idle f zero_idle first zero = refl
   fresh_idle f zero_idle first (suc n) =
-    omega (arith, zero_idle, sum_by-cons (λ (k : Known E). f k.stage) (fresh {E = E} name first) (fresh_from {E = E} name (first + 1) n), fresh_idle f zero_idle (first + 1) n)
+      omega (arith, zero_idle, sum_by-cons (λ (k : Known E). f k.stage) (fresh {E = E} name first) (fresh_from {E = E} name (first + 1) n), fresh_idle f zero_idle (first + 1) n)
 
   pub fresh_fit : (by : E → ℕ) (holder : ℕ → ℕ) (passes first n : ℕ) → first + n ≤ passes → All (Fits 0 0 false holder [] by passes name) (fresh_from {E = E} name first n)
   fresh_fit by holder passes first zero few = All-nil (Fits 0 0 false holder [] by passes name)
   fresh_fit by holder passes first (suc n) few =
-    All-cons (Fits 0 0 false holder [] by passes name) (fresh {E = E} name first) (fresh_from {E = E} name (first + 1) n)
+      All-cons (Fits 0 0 false holder [] by passes name) (fresh {E = E} name first) (fresh_from {E = E} name (first + 1) n)
       record { named = refl; numbered = omega arith; seen = ([], refl); mine = refl; stands = tt }
       (fresh_fit by holder passes (first + 1) n (omega arith))
 
@@ -67,33 +67,33 @@ only_view v w (suc i) e = absurd (some-ne-none w (sym e))
 module _ {T E : Type 0} (entries : T → List E) (by : E → ℕ) (name_of : T → List ℕ) where
   pub starts : (x : T) (passes : ℕ) → passes < 2 ^ 32 → entries x ≡ [] → InLine entries by name_of passes (name_of x) (opening (0 ∷ 0 ∷ []) (Some x ∷ []) (fresh_from (name_of x) 0 passes))
   starts x passes few empty =
-    let name : List ℕ = name_of x in
-    let holder : ℕ → ℕ = λ m. 0 in
-    let P : Known E → Type 0 = Fits 0 0 false holder [] by passes name in
-    record {
-      next = 0;
-      serving = 0;
-      home = some (Some x);
-      log = [];
-      holder = holder;
-      words = refl;
-      homes = refl;
-      at_home = (empty, refl);
-      line = omega arith;
-      busy = λ out. absurd (false≢true out);
-      few = few;
-      whose = All-nil (λ e. by e < passes);
-      fits = λ id v at. subst (All P) (only_view (fresh_from name 0 passes) v id at) (fresh_fit E name by holder passes 0 passes (omega arith));
-      all = let sum = fresh_count E name 0 passes in omega arith;
-      once = λ number. let sum = fresh_once E name 0 passes number in omega arith;
-      turns = let sum = fresh_idle E name (λ st. one_if (has_turn st)) refl 0 passes in omega arith;
-      drawn = omega arith;
-    }
+      let name : List ℕ = name_of x in
+      let holder : ℕ → ℕ = λ m. 0 in
+      let P : Known E → Type 0 = Fits 0 0 false holder [] by passes name in
+      record {
+        next = 0;
+        serving = 0;
+        home = some (Some x);
+        log = [];
+        holder = holder;
+        words = refl;
+        homes = refl;
+        at_home = (empty, refl);
+        line = omega arith;
+        busy = λ out. absurd (false≢true out);
+        few = few;
+        whose = All-nil (λ e. by e < passes);
+        fits = λ id v at. subst (All P) (only_view (fresh_from name 0 passes) v id at) (fresh_fit E name by holder passes 0 passes (omega arith));
+        all = let sum = fresh_count E name 0 passes in omega arith;
+        once = λ number. let sum = fresh_once E name 0 passes number in omega arith;
+        turns = let sum = fresh_idle E name (λ st. one_if (has_turn st)) refl 0 passes in omega arith;
+        drawn = omega arith;
+      }
 
   pub starts_for : (x told : T) (slots : List (Option T)) (passes : ℕ) → passes < 2 ^ 32 → entries x ≡ [] → told ≡ x → slots ≡ Some x ∷ []
       → InLine entries by name_of passes (name_of told) (opening (0 ∷ 0 ∷ []) slots (fresh_from (name_of told) 0 passes))
   starts_for x told slots passes few empty same one =
-    subst (λ (z : T × List (Option T)). InLine entries by name_of passes (name_of z.0) (opening (0 ∷ 0 ∷ []) z.1 (fresh_from (name_of z.0) 0 passes))) (λ i. (sym same i, sym one i)) (starts x passes few empty)
+      subst (λ (z : T × List (Option T)). InLine entries by name_of passes (name_of z.0) (opening (0 ∷ 0 ∷ []) z.1 (fresh_from (name_of z.0) 0 passes))) (λ i. (sym same i, sym one i)) (starts x passes few empty)
 
   -- What is known of the value at the close: it has the lock's name. Its history begins with what each pass had seen, has each pass's own entries, and no others
   pub record Closes (passes : ℕ) (name : List ℕ) (v : List (Known E)) (x : T) : Type 0 where
@@ -108,9 +108,9 @@ module _ {T E : Type 0} (entries : T → List E) (by : E → ℕ) (name_of : T �
     idle_sum : (v : List (Known E)) → All (λ k. k.stage ≡ Idle) v → sum_by (λ k. one_if (has_turn k.stage)) v ≡ 0
     idle_sum [] idle = refl
     idle_sum (k ∷ ks) idle =
-      let P : Known E → Type 0 = λ k. k.stage ≡ Idle in
-      let idle_now : one_if (has_turn k.stage) ≡ 0 = ap (λ z. one_if (has_turn z)) (All-head P k ks idle) in
-      omega (arith, sum_by-cons (λ (j : Known E). one_if (has_turn j.stage)) k ks, idle_sum ks (All-tail P k ks idle))
+        let P : Known E → Type 0 = λ k. k.stage ≡ Idle in
+        let idle_now : one_if (has_turn k.stage) ≡ 0 = ap (λ z. one_if (has_turn z)) (All-head P k ks idle) in
+        omega (arith, sum_by-cons (λ (j : Known E). one_if (has_turn j.stage)) k ks, idle_sum ks (All-tail P k ks idle))
 
     counted : (v : List (Known E)) → sum_by (λ k. 1) v ≡ length v
     counted [] = refl
@@ -119,13 +119,13 @@ module _ {T E : Type 0} (entries : T → List E) (by : E → ℕ) (name_of : T �
     -- where all passes are back with no turn out, the value is at home
     is_home : (s : State (Option T) (List (Known E))) (r : Rule s) (id : ℕ) (v : List (Known E)) → get_elem? s.views id ≡ some v → length v ≡ passes → All (λ k. k.stage ≡ Idle) v → one_if (is_out r.home) ≤ 0
     is_home s r id v at whole idle =
-      let f : List (Known E) → ℕ = sum_by (λ k. one_if (has_turn k.stage)) in
-      let g : List (Known E) → ℕ = sum_by (λ k. 1) in
-      let bound : sum_by f s.views + g v ≤ sum_by g s.views + f v =
+        let f : List (Known E) → ℕ = sum_by (λ k. one_if (has_turn k.stage)) in
+        let g : List (Known E) → ℕ = sum_by (λ k. 1) in
+        let bound : sum_by f s.views + g v ≤ sum_by g s.views + f v =
         sum_by_only f g [] refl refl (sum_by_le (λ (k : Known E). one_if (has_turn k.stage)) (λ (k : Known E). 1) (λ k. one_at_most (has_turn k.stage))) s.views id v at in
-      let turns = r.turns in
-      let all = r.all in
-      omega (arith, idle_sum v idle, counted v)
+        let turns = r.turns in
+        let all = r.all in
+        omega (arith, idle_sum v idle, counted v)
 
     closes_at : (s : State (Option T) (List (Known E))) (r : Rule s) (id : ℕ) (v : List (Known E)) → get_elem? s.views id ≡ some v → one_if (is_out r.home) ≤ 0
         → (home : maybe.Option (Option T)) → r.home ≡ home → AtHome entries by name_of r.log name home
@@ -139,16 +139,16 @@ module _ {T E : Type 0} (entries : T → List E) (by : E → ℕ) (name_of : T �
         named = h.1;
         whose = subst (All (λ e. by e < passes)) (sym h.0) r.whose;
         each = All-weaker (Fits r.next r.serving (is_out r.home) r.holder r.log by passes name) (λ k. StartsWith (entries x) k.seen × (of_pass by k.number (entries x) ≡ k.mine))
-          (λ k fit. (subst (λ log. StartsWith log k.seen) (sym h.0) fit.seen, ap (of_pass by k.number) h.0 ∙ fit.mine)) v (r.fits id v at);
+            (λ k fit. (subst (λ log. StartsWith log k.seen) (sym h.0) fit.seen, ap (of_pass by k.number) h.0 ∙ fit.mine)) v (r.fits id v at);
       },
     )
 
     closes : (id : ℕ) (v : List (Known E)) (words : List ℕ) (slots : List (Option T)) (found : Option T) → length v ≡ passes → All (λ k. k.stage ≡ Idle) v
         → Final (Seen Rule id v) words slots → get_elem? slots 0 ≡ some found → (x : T) × (found ≡ Some x) × Closes passes name v x
     closes id v words slots found whole idle final at =
-      let s = final.0 in
-      let r = final.1.0 in
-      closes_at s r id v final.1.1 (is_home s r id v final.1.1 whole idle) r.home refl r.at_home found
+        let s = final.0 in
+        let r = final.1.0 in
+        closes_at s r id v final.1.1 (is_home s r id v final.1.1 whole idle) r.home refl r.at_home found
         (λ y home. some-injective found y (sym at ∙ final.4 0 y home))
 
     abbrev value_or : T → Option T → T
@@ -162,7 +162,7 @@ module _ {T E : Type 0} (entries : T → List E) (by : E → ℕ) (name_of : T �
     -- of all passes, which have no turn out
     ready_idle : (ps : List (TurnPass T E)) → All IsReady ps → All (λ k. k.stage ≡ Idle) (map known ps)
     ready_idle ps ready = All-map (λ (k : Known E). k.stage ≡ Idle) known ps
-      (All-weaker IsReady (λ (p : TurnPass T E). (known p).stage ≡ Idle) (λ p is. ap (λ (k : Known E). k.stage) (known_is T E p.seat.me (at_stage Idle (known p)) [] is)) ps ready)
+        (All-weaker IsReady (λ (p : TurnPass T E). (known p).stage ≡ Idle) (λ p is. ap (λ (k : Known E). k.stage) (known_is T E p.seat.me (at_stage Idle (known p)) [] is)) ps ready)
 
     mapped : (ps : List (TurnPass T E)) → length (map known ps) ≡ length ps
     mapped [] = refl
@@ -176,7 +176,7 @@ module _ {T E : Type 0} (entries : T → List E) (by : E → ℕ) (name_of : T �
     pub closed : (id : ℕ) (m : Pass T E) (ps : List (TurnPass T E)) (words : List ℕ) (slots : List (Option T)) (found : Option T) → Same T E m (map known ps, []) → length ps ≡ passes → All IsReady ps
         → Final (Seen Rule id m.0) words slots → get_elem? slots 0 ≡ some found → (x : T) × (found ≡ Some x) × Closes passes name (map known ps) x
     closed id m ps words slots found is whole ready final at =
-      closes id (map known ps) words slots found (mapped ps ∙ whole) (ready_idle ps ready) (subst (λ (z : Pass T E). Final (Seen Rule id z.0) words slots) is final) at
+        closes id (map known ps) words slots found (mapped ps ∙ whole) (ready_idle ps ready) (subst (λ (z : Pass T E). Final (Seen Rule id z.0) words slots) is final) at
 
     pub not_none : (ps : List (TurnPass T E)) (found : Option T) → (x : T) × (found ≡ Some x) × Closes passes name (map known ps) x → found ≡ None → ⊥
     not_none ps found h none_found = false≢true (sym (ap is_there none_found) ∙ ap is_there h.1)

@@ -44,6 +44,6 @@ module _ {T E : Type 0} where
   pub fresh_push : (id : TableId) (name : List ℕ) (ps : List (TurnPass T E)) (p : TurnPass T E) → AreFresh id name ps → p.seat.table_id ≡ id → p.seat.me ≡ (fresh name (length ps) ∷ [], [])
       → AreFresh id name (ps ++ p ∷ [])
   fresh_push id name ps p fresh_ones is me k q at = ⊎_elim
-    (λ (old : slice_get ps k ≡ Some q). fresh_ones k q old)
-    (λ (new : (k ≡ length ps) × (p ≡ q)). subst (λ (z : ℕ × TurnPass T E). (z.1.seat.table_id ≡ id) × (z.1.seat.me ≡ (fresh name z.0 ∷ [], []))) (λ i. (sym new.0 i, new.1 i)) (is, me))
-    (in_longer ps p k q at)
+      (λ (old : slice_get ps k ≡ Some q). fresh_ones k q old)
+      (λ (new : (k ≡ length ps) × (p ≡ q)). subst (λ (z : ℕ × TurnPass T E). (z.1.seat.table_id ≡ id) × (z.1.seat.me ≡ (fresh name z.0 ∷ [], []))) (λ i. (sym new.0 i, new.1 i)) (is, me))
+      (in_longer ps p k q at)

@@ -43,8 +43,8 @@ none_counts {A} f n (x ∷ xs) le =
     let P : A → Type 0 = λ y. f y ≢ n in
     let cons = sum_by-cons (λ (y : A). one_if (eqb (f y) n)) x xs in
     All-cons P x xs
-      (λ is. let one : one_if (eqb (f x) n) ≡ 1 = ap one_if (eq-eqb (f x) n is) in absurd (omega arith))
-      (none_counts f n xs (omega arith))
+    (λ is. let one : one_if (eqb (f x) n) ≡ 1 = ap one_if (eq-eqb (f x) n is) in absurd (omega arith))
+    (none_counts f n xs (omega arith))
 
 pub one_at_most : (b : Bool) → one_if b ≤ 1
 one_at_most true = omega arith

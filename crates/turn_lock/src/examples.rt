@@ -71,11 +71,7 @@ impl Kept for Shelf {
 }
 
 /// One turn, in which an item is taken off the shelf.
-pub fn take_off(
-    rt: &impl Wait,
-    lock: &TurnLock<Shelf>,
-    pass: &mut TurnPass<Shelf>,
-) -> Option<u64>
+pub fn take_off(rt: &impl Wait, lock: &TurnLock<Shelf>, pass: &mut TurnPass<Shelf>) -> Option<u64>
     requires { IsPassOf (λ s. s.number ∷ []) lock.now pass.old × IsReady pass.old }
     ensures { IsPassOf (λ s. s.number ∷ []) lock.now pass.new × IsReady pass.new }
 {

@@ -119,9 +119,7 @@ impl<T: Kept> TurnLock<T> {
         let ticket = self.draw(&mut pass.seat);
         self.wait(rt, &mut pass.seat, ticket);
         let found = self.board.shared.exchange(&mut pass.seat, 0, None);
-        let Some(value) = found else {
-            unreachable!()
-        };
+        let Some(value) = found else { unreachable!() };
         Turn {
             value,
             ticket,
@@ -152,9 +150,7 @@ impl<T: Kept> TurnLock<T> {
             from: _,
         } = turn;
         let found = self.board.shared.exchange(&mut pass.seat, 0, Some(value));
-        let None = found else {
-            unreachable!()
-        };
+        let None = found else { unreachable!() };
         self.board
             .shared
             .store::<PassOn>(&mut pass.seat, SERVING, ticket + 1);
@@ -193,9 +189,7 @@ impl<T: Kept> TurnLock<T> {
         let mut closed = board.close_with(seat);
         let found = closed.take(0);
         closed.free();
-        let Some(value) = found else {
-            unreachable!()
-        };
+        let Some(value) = found else { unreachable!() };
         value
     }
 }

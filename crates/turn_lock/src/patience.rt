@@ -7,10 +7,9 @@ ghost use Rattle.std.specs.Prelude.{◌<◌};
 
 use crate::kept::Kept;
 use crate::line::{SERVING, TICKET, Top};
-use std::hint;
 use std::sync::Wait;
-use std::thread;
 use std::time::Duration;
+use std::{hint, thread};
 
 // The rounds in which the pass looks again at once. Each is twice as long as the one before.
 const SPINS: u32 = 6;

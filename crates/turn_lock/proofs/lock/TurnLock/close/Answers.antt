@@ -11,8 +11,8 @@ unreachable-requires g c =
     let key = c.args.self.board.shared.key in
     let name = g.T.Kept.name key.value.value in
     let there = closed g.T.Kept.entries g.T.Kept.by g.T.Kept.name key.passes name c.gather-seat.result.id c.gather-seat.result.me all _ _ c.take-found.result c.gather-seat.ensures.1
-      (c.requires.all ∙ c.args.self.counted) (All-weaker (λ p. IsPassOf g.T.Kept.name c.args.self p × IsReady p) IsReady (λ p h. h.1) all c.requires.each)
-      c.close_with-closed.ensures.values.2 c.take-found.ensures.value in
+    (c.requires.all ∙ c.args.self.counted) (All-weaker (λ p. IsPassOf g.T.Kept.name c.args.self p × IsReady p) IsReady (λ p h. h.1) all c.requires.each)
+    c.close_with-closed.ensures.values.2 c.take-found.ensures.value in
     not_none g.T.Kept.entries g.T.Kept.by g.T.Kept.name key.passes name all c.take-found.result there c.in_default.is
 
 pub returns : goal.returns
@@ -21,8 +21,8 @@ returns g c =
     let key = c.args.self.board.shared.key in
     let name = g.T.Kept.name key.value.value in
     let there = closed g.T.Kept.entries g.T.Kept.by g.T.Kept.name key.passes name c.gather-seat.result.id c.gather-seat.result.me all _ _ c.take-found.result c.gather-seat.ensures.1
-      (c.requires.all ∙ c.args.self.counted) (All-weaker (λ p. IsPassOf g.T.Kept.name c.args.self p × IsReady p) IsReady (λ p h. h.1) all c.requires.each)
-      c.close_with-closed.ensures.values.2 c.take-found.ensures.value in
+    (c.requires.all ∙ c.args.self.counted) (All-weaker (λ p. IsPassOf g.T.Kept.name c.args.self p × IsReady p) IsReady (λ p h. h.1) all c.requires.each)
+    c.close_with-closed.ensures.values.2 c.take-found.ensures.value in
     let closes = closed_at g.T.Kept.entries g.T.Kept.by g.T.Kept.name key.passes name all c.take-found.result c.in-Some.value there c.in-Some.is in
     record {
       name = closes.named;

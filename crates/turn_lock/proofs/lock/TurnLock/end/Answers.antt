@@ -12,13 +12,12 @@ store-requires g c =
     let pass = c.args.pass.now.seat in
     let ticket = c.args.turn.ticket in
     let out = c.requires.pass.1.1 in
-    let k = at_stage (Has ticket) (known_of pass.me.0) in
-    (
+    let k = at_stage (Has ticket) (known_of pass.me.0) in (
       search rules,
       search rules,
       passes_on_for g.T.Kept.entries g.T.Kept.by g.T.Kept.name _ _ _ _ _ k ticket _ c.args.turn.value
-        (put_back T E pass.me c.exchange-found.new.seat.me k c.args.turn.value out.0 c.exchange-found.ensures.3) refl refl
-        (c.requires.name ∙ sym c.requires.pass.0.1) c.requires.history,
+          (put_back T E pass.me c.exchange-found.new.seat.me k c.args.turn.value out.0 c.exchange-found.ensures.3) refl refl
+          (c.requires.name ∙ sym c.requires.pass.0.1) c.requires.history,
     )
 
 pub returns : goal.returns
@@ -31,7 +30,7 @@ returns g c =
     let out = c.requires.pass.1.1 in
     let k = at_stage (Has ticket) (known_of pass.me.0) in
     let after : Same T E c.store.new.seat.me (ended g.T.Kept.entries x k ∷ [], []) =
-      c.store.ensures.2 k x (put_back T E pass.me c.exchange-found.new.seat.me k x out.0 c.exchange-found.ensures.3) in
+    c.store.ensures.2 k x (put_back T E pass.me c.exchange-found.new.seat.me k x out.0 c.exchange-found.ensures.3) in
     let known = known_is T E c.store.new.seat.me (ended g.T.Kept.entries x k) [] after in
     record {
       pass = ((search rules, ap (λ j. j.name) known ∙ c.requires.pass.0.1), ready T E c.store.new.seat.me (ended g.T.Kept.entries x k) after);

@@ -14,9 +14,8 @@ join_seat-requires g c =
     let behind = c.loop-pass.invariant.0 in
     let pass = c.in-Some-pop.pass in
     let row : c.args.passes ≡ c.pop-in-loop-pass.new.self ++ pass ∷ behind =
-      shifted c.args.passes c.loop-pass.passes c.pop-in-loop-pass.new.self behind pass c.loop-pass.invariant.1 c.in-Some-pop.ensures.items in
-    let fits : P pass = All-middle P c.pop-in-loop-pass.new.self behind pass (subst (All P) row c.requires.each) in
-    (
+    shifted c.args.passes c.loop-pass.passes c.pop-in-loop-pass.new.self behind pass c.loop-pass.invariant.1 c.in-Some-pop.ensures.items in
+    let fits : P pass = All-middle P c.pop-in-loop-pass.new.self behind pass (subst (All P) row c.requires.each) in (
       ap (λ s. s.table_id) c.into_seat-seat.ensures ∙ fits.0.0,
       c.loop-pass.invariant.2,
       ap (λ m. m.1) c.loop-pass.invariant.3,
@@ -30,13 +29,12 @@ loop-pass-preserved g c =
     let behind = c.loop-pass.invariant.0 in
     let pass = c.in-Some-pop.pass in
     let row : c.args.passes ≡ c.pop-in-loop-pass.new.self ++ pass ∷ behind =
-      shifted c.args.passes c.loop-pass.passes c.pop-in-loop-pass.new.self behind pass c.loop-pass.invariant.1 c.in-Some-pop.ensures.items in
-    let fits : P pass = All-middle P c.pop-in-loop-pass.new.self behind pass (subst (All P) row c.requires.each) in
-    (
+    shifted c.args.passes c.loop-pass.passes c.pop-in-loop-pass.new.self behind pass c.loop-pass.invariant.1 c.in-Some-pop.ensures.items in
+    let fits : P pass = All-middle P c.pop-in-loop-pass.new.self behind pass (subst (All P) row c.requires.each) in (
       pass ∷ behind,
       row,
       search rules,
       gathered g.row.T.Denot g.row.T-Entry.Denot c.loop-pass.all.me c.join_seat.new.seat.me pass.seat.me (map known behind)
-        (subst (λ (s : Seat (Option g.row.T.Denot) (List (Known g.row.T-Entry.Denot))). Same g.row.T.Denot g.row.T-Entry.Denot c.join_seat.new.seat.me (s.me.0 ++ c.loop-pass.all.me.0, s.me.1)) c.into_seat-seat.ensures c.join_seat.ensures.2)
-        c.loop-pass.invariant.3 fits.1,
+          (subst (λ (s : Seat (Option g.row.T.Denot) (List (Known g.row.T-Entry.Denot))). Same g.row.T.Denot g.row.T-Entry.Denot c.join_seat.new.seat.me (s.me.0 ++ c.loop-pass.all.me.0, s.me.1)) c.into_seat-seat.ensures c.join_seat.ensures.2)
+          c.loop-pass.invariant.3 fits.1,
     )

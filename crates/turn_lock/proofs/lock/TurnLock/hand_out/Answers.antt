@@ -25,16 +25,15 @@ loop-number-preserved g c =
     let was : Same T E c.loop-number.seat.me (fresh name n ∷ fresh_from name (n + 1) (left - 1), []) = c.loop-number.invariant.1 ∙ ap (λ v. (v, [])) more in
     let less : left - 1 ≡ c.args.self.now.passes - (n + 1) = omega arith in
     let new : Same T E c.split_seat-seat.new.seat.me (fresh_from name (n + 1) (c.args.self.now.passes - (n + 1)), []) =
-      c.split_seat-seat.ensures.2 ∙ (ap (λ (m : Pass T E). (drop 1 m.0, m.1)) was ∙ ap (λ k. (fresh_from name (n + 1) k, [])) less) in
+    c.split_seat-seat.ensures.2 ∙ (ap (λ (m : Pass T E). (drop 1 m.0, m.1)) was ∙ ap (λ k. (fresh_from name (n + 1) k, [])) less) in
     let all = c.loop-number.all in
     let pass : TurnPass T E = record { seat = c.split_seat-seat.result } in
     let longer : c.push.new.self ≡ all ++ pass ∷ [] = c.in_ok-push.ensures.ok in
     let first : Same T E pass.seat.me (fresh name n ∷ [], []) = c.split_seat-seat.ensures.4 ∙ ap (λ (m : Pass T E). (take 1 m.0, [])) was in
-    let here : Same T E pass.seat.me (fresh name (length all) ∷ [], []) = first ∙ ap (λ k. (fresh name k ∷ [], [])) (sym c.loop-number.invariant.2) in
-    (
+    let here : Same T E pass.seat.me (fresh name (length all) ∷ [], []) = first ∙ ap (λ k. (fresh name k ∷ [], [])) (sym c.loop-number.invariant.2) in (
       search rules,
       new,
       omega (arith, ap length longer, length-append all (pass ∷ []), c.loop-number.invariant.2),
       subst (AreFresh (lock_id c.args.self.now) name) (sym longer)
-        (fresh_push (lock_id c.args.self.now) name all pass c.loop-number.invariant.3 (c.split_seat-seat.ensures.3 ∙ c.loop-number.invariant.0) here),
+          (fresh_push (lock_id c.args.self.now) name all pass c.loop-number.invariant.3 (c.split_seat-seat.ensures.3 ∙ c.loop-number.invariant.0) here),
     )
