@@ -14,3 +14,7 @@ pub mod Parts
 pub mod Records
 -- bytes are a batch or have one first fault
 pub mod Faults
+-- what is spelled is read with its values
+pub mod Decoding
+-- items one after the other, as a loop reads them
+pub mod ListsLoop

@@ -6,6 +6,7 @@
 
 mod batch;
 mod crc;
+mod decode;
 mod fault;
 mod head;
 mod read;
