@@ -18,3 +18,9 @@ pub mod Faults
 pub mod Decoding
 -- items one after the other, as a loop reads them
 pub mod ListsLoop
+-- how many bytes a record takes
+pub mod Sizes
+-- what a writer has put, part by part
+pub mod Puts
+-- the batch that is written of records is one of these records
+pub mod Making

@@ -16,3 +16,5 @@ pub mod Stamp
 pub mod Walk
 -- a record's parts, read from the left
 pub mod Decode
+-- the batch that a writer makes of records
+pub mod Written
