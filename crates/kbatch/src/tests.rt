@@ -323,17 +323,19 @@ fn copies_have_the_same_bytes(rt: HostRuntime) -> Result<(), Fail> {
     Ok(())
 }
 
+fn of_length(alloc: Global, length: usize) -> Result<Record, Fail> {
+    let value = vec![in alloc; b'a'; length]?;
+    of_value(alloc, value.as_slice())
+}
+
 #[test]
 fn a_batch_has_1048588_bytes_at_most(rt: HostRuntime) -> Result<(), Fail> {
     let alloc = rt.alloc();
-    let value = vec![in alloc; b'a'; 1_048_517]?;
-    let fits = [of_value(alloc, &value[..1_048_516])?];
+    let fits = [of_length(alloc, 1_048_516)?];
     assert_eq!(rt; write_batch(alloc, &fits)?.bytes().len(), 1_048_588);
-    let large = [of_value(alloc, &value)?];
-    assert_eq!(rt;
-        write_batch(alloc, &large).err(),
-        Some(WriteFault::TooLarge { bytes: 1_048_589 })
-    );
+    let large = [of_length(alloc, 1_048_517)?];
+    let fault = WriteFault::TooLarge { bytes: 1_048_589 };
+    assert_eq!(rt; write_batch(alloc, &large).err(), Some(fault));
     assert_eq!(rt; write_batch(alloc, &[]).err(), Some(WriteFault::NoRecords));
     Ok(())
 }
