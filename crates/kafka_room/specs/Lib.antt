@@ -90,7 +90,5 @@ pub mod Fed
 pub mod PlainStream
 -- a broker between two lines of such a trace
 pub mod UnderWay
--- what was read of the named partitions for a reply
-pub mod AreReadings
 -- from what a reply that needn't wait is computed
 pub mod Replying
