@@ -40,3 +40,4 @@ pub mod StreamLaws
 pub mod PartReadings
 pub mod Reporting
 pub mod ReportLaws
+pub mod ShownLogs
