@@ -365,13 +365,13 @@ guarded : {X : Type 0} (read : Cursor → Read X) (kind : X → List Field) (Als
 guarded {X} read kind Also n codec = record {
   again = λ x c rest fit also is. rw (le-ltb 64 n also.0) (codec.again x c rest fit also.1 is);
   back = λ x c d fits is.
-    elim (cases_lt 64 n) [
-      | inl many ↦ let other : fault {A = X} (TooMany n) ≡ got x d = rw (lt-ltb 64 n many) at is in absurd cc
-      | inr few ↦
-          let there : read c ≡ got x d = rw (le-ltb 64 n few) at is in
-          let h = codec.back x c d fits there in
-          record { fit = h.fit; also = (few, h.also); covers = h.covers }
-    ];
+      elim (cases_lt 64 n) [
+        | inl many ↦ let other : fault {A = X} (TooMany n) ≡ got x d = rw (lt-ltb 64 n many) at is in absurd cc
+        | inr few ↦
+            let there : read c ≡ got x d = rw (le-ltb 64 n few) at is in
+            let h = codec.back x c d fits there in
+            record { fit = h.fit; also = (few, h.also); covers = h.covers }
+      ];
 }
 
 abbrev names_of : Ask → List (List ℕ)

@@ -119,14 +119,14 @@ pub record Codec {X : Type 0} (read : Cursor → Read X) (kind : X → List Fiel
 pub recast : {X : Type 0} (read : Cursor → Read X) (kind spelled : X → List Field) (A B : X → Type 0) → ((x : X) → A x → B x) → ((x : X) → B x → A x) → ((x : X) → A x → kind x ≡ spelled x) → Codec read kind A → Codec read spelled B
 recast {X} read kind spelled A B f g same codec = record {
   again = λ x c rest fit b is.
-    let P : List Field → Type 0 = λ fs. AllFit fs → rest_of c ≡ fields fs ++ rest → read c ≡ got x (moved c (length (fields fs))) in
-    let first : P (kind x) = λ fits at. codec.again x c rest fits (g x b) at in
-    (subst P (same x (g x b)) first) fit is;
+      let P : List Field → Type 0 = λ fs. AllFit fs → rest_of c ≡ fields fs ++ rest → read c ≡ got x (moved c (length (fields fs))) in
+      let first : P (kind x) = λ fits at. codec.again x c rest fits (g x b) at in
+      (subst P (same x (g x b)) first) fit is;
   back = λ x c d fits is.
-    let h = codec.back x c d fits is in
-    let P : List Field → Type 0 = λ fs. AllFit fs × Covers c d fs in
-    let there : P (spelled x) = subst P (same x h.also) (h.fit, h.covers) in
-    record { fit = there.0; also = f x h.also; covers = there.1 };
+      let h = codec.back x c d fits is in
+      let P : List Field → Type 0 = λ fs. AllFit fs × Covers c d fs in
+      let there : P (spelled x) = subst P (same x h.also) (h.fit, h.covers) in
+      record { fit = there.0; also = f x h.also; covers = there.1 };
 }
 
 pub said : {X : Type 0} (read : Cursor → Read X) (kind : X → List Field) (A B : X → Type 0) → ((x : X) → A x → B x) → ((x : X) → B x → A x) → Codec read kind A → Codec read kind B
@@ -137,7 +137,7 @@ pub made : {X : Type 0} (x : X) → Codec (λ c. Ok (x, c)) (λ y. []) (λ y. y 
 made {X} x = record {
   again = λ y c rest fit also is. ap (λ (v : X). got v c) (sym also) ∙ ap (got y) (sym (moved_nil c));
   back = λ y c d fits is. let same = same_got x y c d is in
-    subst (λ (e : Cursor). Backed (λ (y : X). []) (λ (v : X). v ≡ x) c e y) same.1 (record { fit = tt; also = sym same.0; covers = covers_nothing c });
+      subst (λ (e : Cursor). Backed (λ (y : X). []) (λ (v : X). v ≡ x) c e y) same.1 (record { fit = tt; also = sym same.0; covers = covers_nothing c });
 }
 
 -- the last value that is read makes the whole
@@ -183,7 +183,7 @@ module _ {A X : Type 0} (first : Cursor → Read A) (first_kind : A → List Fie
   JoinedAlso x = FirstAlso (part x) × NextAlso (part x) x
 
   joined_again : Codec first first_kind FirstAlso → ((a : A) → Codec (next a) (next_kind a) (NextAlso a))
-    → (x : X) (c : Cursor) (rest : List ℕ) → AllFit (joined_kind x) → JoinedAlso x → rest_of c ≡ fields (joined_kind x) ++ rest → joined c ≡ got x (moved c (length (fields (joined_kind x))))
+      → (x : X) (c : Cursor) (rest : List ℕ) → AllFit (joined_kind x) → JoinedAlso x → rest_of c ≡ fields (joined_kind x) ++ rest → joined c ≡ got x (moved c (length (fields (joined_kind x))))
   joined_again one two x c rest fit also is =
       let a = part x in
       let fs = first_kind a in
@@ -194,7 +194,7 @@ module _ {A X : Type 0} (first : Cursor → Read A) (first_kind : A → List Fie
       rw e1 (e2 ∙ ap (got x) (moved_over c fs gs))
 
   joined_back : Codec first first_kind FirstAlso → ((a : A) → Codec (next a) (next_kind a) (NextAlso a)) → ((a : A) (x : X) → NextAlso a x → part x ≡ a)
-    → (x : X) (c d : Cursor) → IsBytes c.bytes → joined c ≡ got x d → Backed joined_kind JoinedAlso c d x
+      → (x : X) (c d : Cursor) → IsBytes c.bytes → joined c ≡ got x d → Backed joined_kind JoinedAlso c d x
   joined_back one two same x c d fits is =
       let w = went_on (first c) (λ a. next a.0 a.1) (x, d) is in
       let e = w.place in
@@ -208,7 +208,7 @@ module _ {A X : Type 0} (first : Cursor → Read A) (first_kind : A → List Fie
       record { fit = there.0; also = (there.1.0, there.1.1.0); covers = there.1.1.1 }
 
   pub join : Codec first first_kind FirstAlso → ((a : A) → Codec (next a) (next_kind a) (NextAlso a)) → ((a : A) (x : X) → NextAlso a x → part x ≡ a)
-    → Codec joined joined_kind JoinedAlso
+      → Codec joined joined_kind JoinedAlso
   join one two same = record { again = joined_again one two; back = joined_back one two same }
 
 -- ---- one field
@@ -234,17 +234,17 @@ IsBytes-rest c fits = IsBytes-drop c.at c.bytes fits
 pub of_field : {X : Type 0} (read : Cursor → Result (X × Cursor) ByteFault) (kind : X → Field) → IsField read kind → Codec (λ c. wire (read c)) (λ x. kind x ∷ []) (λ x. Unit {0})
 of_field {X} read kind is = record {
   again = λ x c rest fit also at.
-    let alone : fields (kind x ∷ []) ≡ field (kind x) = append-nil (field (kind x)) in
-    rw (is.again x c rest fit.0 (at ∙ ap (λ (t : List ℕ). t ++ rest) alone)) (ap (λ (t : List ℕ). got x (moved c (length t))) (sym alone));
+      let alone : fields (kind x ∷ []) ≡ field (kind x) = append-nil (field (kind x)) in
+      rw (is.again x c rest fit.0 (at ∙ ap (λ (t : List ℕ). t ++ rest) alone)) (ap (λ (t : List ℕ). got x (moved c (length t))) (sym alone));
   back = λ x c d fits read_is.
-    let e = unwired (read c) x d read_is in
-    record { fit = (is.fits x c d e, tt); also = tt; covers = covers_field c d (kind x) (is.spells x c d (IsBytes-rest c fits) e) };
+      let e = unwired (read c) x d read_is in
+      record { fit = (is.fits x c d e, tt); also = tt; covers = covers_field c d (kind x) (is.spells x c d (IsBytes-rest c fits) e) };
 }
 
 -- one field, and another reading behind it
 module _ {A X : Type 0} (read : Cursor → Result (A × Cursor) ByteFault) (kind : A → Field) (next : A → Cursor → Read X) (next_kind : A → X → List Field) (NextAlso : A → X → Type 0) (part : X → A) where
   pub join_field : IsField read kind → ((a : A) → Codec (next a) (next_kind a) (NextAlso a)) → ((a : A) (x : X) → NextAlso a x → part x ≡ a)
-    → Codec (λ c. wire (read c) >>= λ a. next a.0 a.1) (λ x. kind (part x) ∷ next_kind (part x) x) (λ x. NextAlso (part x) x)
+      → Codec (λ c. wire (read c) >>= λ a. next a.0 a.1) (λ x. kind (part x) ∷ next_kind (part x) x) (λ x. NextAlso (part x) x)
   join_field one two same =
       said (λ c. wire (read c) >>= λ a. next a.0 a.1) (λ x. kind (part x) ∷ next_kind (part x) x) (λ x. Unit {0} × NextAlso (part x) x) (λ x. NextAlso (part x) x)
       (λ x h. h.1) (λ x h. (tt, h))

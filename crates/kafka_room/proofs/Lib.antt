@@ -19,3 +19,5 @@ pub mod Repeats
 pub mod RequestLaws
 pub mod ItemLoops
 pub mod MentionLoops
+pub mod Lookups
+pub mod Spelled

@@ -285,11 +285,11 @@ codec_of key known =
     elim (or_cases (int_eq key (pos 0)) (int_eq key (pos 1) || (int_eq key (pos 3) || int_eq key (pos 18))) known) [
       | inl e ↦ subst C (sym ((Decides-int_eq key (pos 0)).0 e)) produce
       | inr more ↦ elim (or_cases (int_eq key (pos 1)) (int_eq key (pos 3) || int_eq key (pos 18)) more) [
-          | inl e ↦ subst C (sym ((Decides-int_eq key (pos 1)).0 e)) fetch
-          | inr others ↦ elim (or_cases (int_eq key (pos 3)) (int_eq key (pos 18)) others) [
-              | inl e ↦ subst C (sym ((Decides-int_eq key (pos 3)).0 e)) metadata
-              | inr e ↦ subst C (sym ((Decides-int_eq key (pos 18)).0 e)) versions
-          ]
+        | inl e ↦ subst C (sym ((Decides-int_eq key (pos 1)).0 e)) fetch
+        | inr others ↦ elim (or_cases (int_eq key (pos 3)) (int_eq key (pos 18)) others) [
+          | inl e ↦ subst C (sym ((Decides-int_eq key (pos 3)).0 e)) metadata
+          | inr e ↦ subst C (sym ((Decides-int_eq key (pos 18)).0 e)) versions
+        ]
       ]
     ]
 

@@ -54,3 +54,5 @@ pub mod IsFound
 pub mod Reads
 -- partitions that topic entries name, as they are kept
 pub mod Mentions
+-- which replies have a frame
+pub mod IsSpellable
