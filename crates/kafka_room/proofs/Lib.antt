@@ -41,3 +41,5 @@ pub mod PartReadings
 pub mod Reporting
 pub mod ReportLaws
 pub mod ShownLogs
+pub mod Lookups
+pub mod Spelled

@@ -92,3 +92,5 @@ pub mod PlainStream
 pub mod UnderWay
 -- from what a reply that needn't wait is computed
 pub mod Replying
+-- which replies have a frame
+pub mod IsSpellable
