@@ -33,3 +33,4 @@ pub mod Carrying
 pub mod Digits
 pub mod RunLaws
 pub mod StreamLaws
+pub mod Tallies

@@ -2,3 +2,5 @@
 
 pub mod accept;
 pub mod came;
+pub mod summary;
+pub mod tally;
