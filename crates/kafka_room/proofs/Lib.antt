@@ -34,3 +34,5 @@ pub mod Digits
 pub mod RunLaws
 pub mod StreamLaws
 pub mod Tallies
+pub mod ItemLoops
+pub mod MentionLoops

@@ -1,5 +1,5 @@
 -- A body is a request exactly where reading it gives that request.
-use Rattle.std.proofs.Common.{◌≡◌, ◌≢◌, ◌↔◌, ℕ, zero, suc, ◌+◌, ◌≤◌, Bool, true, false, cond, eqb, ℤ, pos, negsuc, List, [], ◌∷◌, ◌++◌, ◌||◌, length, drop, Option, Some, None, Result, Ok, Err, refl, sym, ap, subst, ◌∙◌, append_assoc, arith, inl, inr}
+use Rattle.std.proofs.Common.{◌≡◌, ◌≢◌, ◌↔◌, ℕ, zero, suc, ◌+◌, ◌≤◌, Bool, true, false, cond, eqb, ℤ, pos, negsuc, List, [], ◌∷◌, ◌++◌, ◌||◌, length, drop, Option, Some, None, Result, Ok, Err, refl, sym, ap, subst, ◌∙◌, append_assoc, arith, lit<, inl, inr}
 use Rattle.std.specs.Int.{w16, w32}
 use Rattle.std.specs.List.{AllByRecursion, AllPairs}
 use Rattle.std.specs.Ordering.{int_eq}
@@ -18,6 +18,10 @@ use Rattle.kafka_room.specs.declared.kwire.request.Ask.{Ask}
 use Rattle.kafka_room.specs.declared.kwire.request.Ask.TheVariants.{Produce, Fetch, Metadata, Versions}
 use Rattle.kafka_room.specs.IsRequest.{Named, IsWhole, IsOtherVersion, IsRequest, key_of, version_of, named_of, IsKnownIsolation, ask_fields, head_fields, request_fields}
 use Rattle.kafka_room.specs.Refusal.{Read, wire, ask_at, mentions_of, repeat_after, unless_repeated, ended, is_known, known_version, body_at, by_version, request_at, Mention}
+use Rattle.std.specs.Prelude.{IfOk, IsErrAnd, FitsSigned}
+use mir.Val.{of_z, to_z}
+use Rattle.std.proofs.lemmas.Int.{to_z-of_z}
+use Rattle.kafka_room.specs.Reads.{IsFaultOf, Answers}
 use Rattle.kafka_room.proofs.Codecs.{Codec, Backed, Covers, AllFit, covers_both, behind, fields-append, got, fault, same_got, went_on, of_field, join, join_field, keep, recast, said}
 use Rattle.kafka_room.proofs.FieldLaws.{int16_field, int32_field, nullable_string_field}
 use Rattle.kafka_room.proofs.AskCodecs.{IsAsk, produce, fetch, metadata, versions}
@@ -210,12 +214,15 @@ other_made : (request : Request) (version : ℤ) → request.ask ≡ Versions ve
 other_made request version asked nobody =
     ap (λ (ask : Ask). answer (request_of request.correlation None ask)) (sym asked) ∙ ap (λ (client : Option (List ℕ)). answer (request_of request.correlation client request.ask)) (sym nobody)
 
-not_zero : (version : ℤ) → version ≢ pos 0 → int_eq version (pos 0) ≡ false
-not_zero version other =
-    elim (cases_Bool (int_eq version (pos 0))) [
-      | inl same ↦ absurd (other ((Decides-int_eq version (pos 0)).0 same))
+not_same : (a b : ℤ) → a ≢ b → int_eq a b ≡ false
+not_same a b other =
+    elim (cases_Bool (int_eq a b)) [
+      | inl same ↦ absurd (other ((Decides-int_eq a b).0 same))
       | inr differs ↦ differs
     ]
+
+not_zero : (version : ℤ) → version ≢ pos 0 → int_eq version (pos 0) ≡ false
+not_zero version other = not_same version (pos 0) other
 
 other_reads : (bytes : List ℕ) (request : Request) → IsOtherVersion bytes request → request_at bytes ≡ Ok request
 other_reads bytes request other =
@@ -346,3 +353,52 @@ read_request_is bytes request fits is =
     let h = head_codec.back w.value start w.place fits w.read in
     let same : bytes ≡ w.place.bytes = sym (ap (λ (c : Cursor). c.bytes) h.covers.at) in
     behind_found bytes w.value w.place request (subst IsBytes same fits) (record { head_fit = h.fit; head_covers = h.covers }) w.others
+
+-- ---- as the code reads it
+
+-- the client and what is asked were read, and nothing stands behind them
+pub body_read : (key correlation : ℤ) (c d e : Cursor) (client : Option (List ℕ)) (ask : Ask) → sized_at w16 c ≡ Ok (client, d) → ask_at key d ≡ Ok (ask, e) → eqb (length (rest_of e)) 0 ≡ true
+    → body_at key correlation c ≡ unless_repeated (repeat_after [] (mentions_of ask)) (request_of correlation client ask)
+unfolding body_at
+body_read key correlation c d e client ask one two over = rw (one, two, over) refl
+
+pub known_from : (key known : ℤ) (b : Bool) → is_known key ≡ b → cond b (Some (known_version key)) None ≡ Some known → (is_known key ≡ true) × (known_version key ≡ known)
+known_from key known true is e = (is, cc)
+known_from key known false is e = absurd cc
+
+module _ (bytes : List ℕ) (c d e : Cursor) (key version correlation : ℤ) (one : integer_at w16 (start_of bytes) ≡ Ok (key, c)) (two : integer_at w16 c ≡ Ok (version, d)) (three : integer_at w32 d ≡ Ok (correlation, e)) (known : is_known key ≡ true) where
+  head_read : request_at bytes ≡ by_version key version correlation e
+  unfolding request_at
+  head_read = rw (one, two, three, known) refl
+
+  pub known_read : version ≡ known_version key → request_at bytes ≡ body_at key correlation e
+  known_read same = head_read ∙ rw ((Decides-int_eq version (known_version key)).1 same) refl
+
+  pub unsupported_read : version ≢ known_version key → key ≢ pos 18 → request_at bytes ≡ Err (Unsupported key version)
+  unsupported_read differs other =
+      head_read ∙ rw (not_same version (known_version key) differs, not_same key (pos 18) other) refl
+
+pub starts : (bytes : List ℕ) (start : Cursor) → start.bytes ≡ bytes → start.at ≡ 0 → start_of bytes ≡ start
+starts bytes start bytes_is at_is = ap (λ (bs : List ℕ). record { bytes = bs; at = 0 }) (sym bytes_is) ∙ ap (λ (n : ℕ). record { bytes = start.bytes; at = n }) (sym at_is)
+
+-- the version of an api fits its field
+known_fits : (a b d : Bool) → FitsSigned w16 (cond a (pos 3) (cond b (pos 4) (cond d (pos 1) (pos 0))))
+known_fits true b d = record { sfits = lit< tt }
+known_fits false true d = record { sfits = lit< tt }
+known_fits false false true = record { sfits = lit< tt }
+known_fits false false false = record { sfits = lit< tt }
+
+-- what the code finds of the version
+pub version_same : (key version known : ℤ) → known_version key ≡ known → FitsSigned w16 version → of_z w16 version ≡ of_z w16 known → version ≡ known_version key
+version_same key version known is fits same =
+    let fits_known : FitsSigned w16 known = subst (FitsSigned w16) is (known_fits (int_eq key (pos 0)) (int_eq key (pos 1)) (int_eq key (pos 3))) in
+    sym (to_z-of_z w16 version fits) ∙ ap (to_z w16) same ∙ to_z-of_z w16 known fits_known ∙ sym is
+
+pub answers_request : (bytes : List ℕ) (r : Result Request WireFault) → IsBytes bytes → Answers r (request_at bytes) → IfOk r (IsRequest bytes)
+answers_request bytes (Ok request) fits is = read_request_is bytes request fits is
+answers_request bytes (Err e) fits is = tt
+
+-- a fault that was handed on
+pub fault_handed : (r : Result Request WireFault) (e : WireFault) (whole read : Result Request WireFault) → IsErrAnd r (λ f. f ≡ e) → whole ≡ read → IsFaultOf read e → Answers r whole
+fault_handed (Ok x) e whole read is same h = absurd is
+fault_handed (Err f) e whole read is same h = subst (IsFaultOf whole) (sym is) (subst (λ (w : Result Request WireFault). IsFaultOf w e) (sym same) h)

@@ -74,3 +74,7 @@ pub mod Trace
 pub mod Denies
 -- the lines of a plain trace as far as they are read
 pub mod PlainFront
+-- what a call that reads from the left answers
+pub mod Reads
+-- partitions that topic entries name, as they are kept
+pub mod Mentions

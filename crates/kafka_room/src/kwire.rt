@@ -4,6 +4,12 @@ pub mod config;
 pub mod frame;
 pub mod next_frame;
 pub mod produced;
+pub mod read_fetch;
+pub mod read_items;
+pub mod read_metadata;
+pub mod read_produce;
+pub mod read_request;
+pub mod repeats;
 pub mod reply;
 pub mod request;
 
@@ -11,4 +17,5 @@ pub use config::{Config, ConfigFault, Topic};
 pub use frame::{Frame, WireFault};
 pub use next_frame::next_frame;
 pub use reply::{FetchedPart, FetchedTopic, ProducedPart, ProducedTopic, Reply, Told, TopicInfo};
+pub use read_request::read_request;
 pub use request::{Ask, FetchPart, FetchTopic, ProducePart, ProduceTopic, Request};

@@ -1,3 +1,8 @@
+ghost use Rattle.std.specs.Prelude.{◌≡◌};
+ghost use Rattle.kafka_room.specs.declared.kwire.frame.WireFault.TheVariants.{BadRequest, NoMemory as OutOfMemory};
+ghost use Rattle.kafka_room.specs.Refusal.{place_of_fault};
+
+use kbytes::{ByteFault, NoMemory};
 use std::error::Error;
 use std::fmt;
 
@@ -46,3 +51,23 @@ impl fmt::Display for WireFault {
 }
 
 impl Error for WireFault {}
+
+impl From<NoMemory> for WireFault {
+    ghost from_gives = { λ _ fault. fault ≡ OutOfMemory };
+
+    fn from(_refused: NoMemory) -> WireFault {
+        WireFault::NoMemory
+    }
+}
+
+impl From<ByteFault> for WireFault {
+    ghost from_gives = { λ refused fault. fault ≡ BadRequest (place_of_fault refused) };
+
+    fn from(refused: ByteFault) -> WireFault {
+        match refused {
+            ByteFault::Short { at } => WireFault::BadRequest { at },
+            ByteFault::BadLength { at, .. } => WireFault::BadRequest { at },
+            ByteFault::LongVarint { at } => WireFault::BadRequest { at },
+        }
+    }
+}

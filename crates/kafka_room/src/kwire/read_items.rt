@@ -1,0 +1,46 @@
+//! What several requests share: copies, counts and names.
+
+ghost use Rattle.std.specs.Prelude.{◌≡◌, ◌+◌, ◌≤◌, IfOk};
+ghost use Rattle.std.specs.Option.{option_copied};
+ghost use Rattle.kafka_room.specs.Refusal.{count_at};
+ghost use Rattle.kafka_room.specs.Reads.{Reads};
+
+use crate::kwire::frame::WireFault;
+use kbytes::{Bytes, NoMemory, Reader};
+use std::alloc::Global;
+
+/// A copy of these bytes.
+pub fn copied(alloc: Global, part: &[u8]) -> Result<Bytes, NoMemory>
+    ensures { IfOk result (λ bytes. bytes ≡ part.now) }
+{
+    let mut bytes = Bytes::new(alloc);
+    bytes.extend(part)?;
+    Ok(bytes)
+}
+
+/// The same, or `None` for null.
+pub fn copied_or_null(alloc: Global, part: Option<&[u8]>) -> Result<Option<Bytes>, NoMemory>
+    ensures { IfOk result (λ bytes. bytes ≡ option_copied part.entry) }
+{
+    match part {
+        None => Ok(None),
+        Some(part) => Ok(Some(copied(alloc, part)?)),
+    }
+}
+
+/// A count of things of which so many were named before, at most 64 in all.
+pub fn read_count(reader: &mut Reader<'_>, before: u32) -> Result<u32, WireFault>
+    requires { before ≤ 64 }
+    ensures exact { Reads reader.new result (count_at before reader.old) }
+    ensures few { IfOk result (λ count. before + count ≤ 64) }
+{
+    let at = reader.at();
+    let Some(count) = reader.array()? else {
+        return Err(WireFault::BadRequest { at });
+    };
+    let total = before + count;
+    if total > 64 {
+        return Err(WireFault::TooMany { count: total });
+    }
+    Ok(count)
+}
