@@ -43,3 +43,6 @@ pub mod ReportLaws
 pub mod ShownLogs
 pub mod Lookups
 pub mod Spelled
+pub mod Tallies
+pub mod ItemLoops
+pub mod MentionLoops

@@ -6,5 +6,7 @@ pub mod desk;
 pub mod handle;
 pub mod lone;
 pub mod reply;
+pub mod summary;
+pub mod tally;
 
 pub use lone::Lone;
