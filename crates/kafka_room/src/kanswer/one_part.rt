@@ -1,5 +1,5 @@
 //! One partition read for a fetch.
-ghost use Rattle.std.specs.Prelude.{◌≡◌, ◌-◌, ◌||◌, min, filter, nat_lt, if◌then◌else◌, IfOk, OnOk, OnErr};
+ghost use Rattle.std.specs.Prelude.{◌≡◌, ◌≤◌, ◌-◌, ◌||◌, [], min, filter, nat_lt, if◌then◌else◌, IfOk, OnOk, OnErr};
 ghost use Rattle.partlog.specs.State.{state_of};
 ghost use Rattle.partlog.specs.Gauges.{numbers_of};
 ghost use Rattle.partlog.specs.Taken.{batches_past, joined, taken};
@@ -9,7 +9,7 @@ ghost use Rattle.kafka_room.specs.Answer.{is_readable, read_of, budget_after};
 use crate::kanswer::copies::copied;
 use crate::kanswer::{Budget, Reading};
 use crate::kwire::FetchPart;
-use kbytes::NoMemory;
+use kbytes::{Bytes, NoMemory};
 use partlog::{Numbers, PartLog};
 use std::alloc::Global;
 
@@ -64,6 +64,7 @@ pub fn read_part(
 ) -> Result<Reading, NoMemory>
     ensures numbers { IfOk result (λ reading. reading.numbers ≡ numbers_of (state_of log.now)) }
     ensures records { IfOk result (λ reading. reading.records ≡ joined (read_of replica asked.now start (state_of log.now) budget.old)) }
+    ensures bounded { IfOk result (λ reading. reading.numbers.high ≤ 67108864) }
     ensures lowered { OnOk result (budget.new ≡ budget_after (read_of replica asked.now start (state_of log.now) budget.old) budget.old) }
     ensures refused { OnErr result (budget.new ≡ budget.old) }
 {
@@ -76,4 +77,30 @@ pub fn read_part(
         numbers: log.numbers(),
         records,
     })
+}
+
+/// The numbers of a partition that was appended to, and no records. It takes no memory.
+pub fn read_numbers(alloc: Global, log: &PartLog) -> Reading
+    ensures reading { result ≡ record { numbers = numbers_of (state_of log.now); records = [] } }
+    ensures bounded { result.numbers.high ≤ 67108864 }
+{
+    Reading {
+        numbers: log.numbers(),
+        records: Bytes::new(alloc),
+    }
+}
+
+/// Nothing was read of a refused partition. It takes no memory.
+pub fn read_nothing(alloc: Global) -> Reading
+    ensures { result ≡ record { numbers = record { end = 0; high = 0; visible = 0; bytes = 0 }; records = [] } }
+{
+    Reading {
+        numbers: Numbers {
+            end: 0,
+            high: 0,
+            visible: 0,
+            bytes: 0,
+        },
+        records: Bytes::new(alloc),
+    }
 }

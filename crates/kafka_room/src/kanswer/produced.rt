@@ -16,7 +16,12 @@ fn code_at(acks: i16, behind: u64, high: u64) -> i16
     if acks == -1 && behind > high { 7 } else { 0 }
 }
 
-fn produced_part(acks: i16, asked: &ProducePart, became: &Accepted, reading: &Reading) -> ProducedPart
+fn produced_part(
+    acks: i16,
+    asked: &ProducePart,
+    became: &Accepted,
+    reading: &Reading,
+) -> ProducedPart
     requires { IsCarriable became.now }
     ensures { result ≡ produced_part acks asked.now became.now reading.now }
 {

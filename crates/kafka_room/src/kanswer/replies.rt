@@ -32,7 +32,9 @@ fn told_to(
             topics: produced_topics(alloc, *acks, topics.as_slice(), accepted, readings)?,
         }),
         Ask::Fetch {
-            isolation, topics, ..
+            isolation,
+            topics,
+            ..
         } => Ok(Told::Fetched {
             isolation: *isolation,
             topics: fetched_topics(alloc, topics.as_slice(), accepted, readings)?,

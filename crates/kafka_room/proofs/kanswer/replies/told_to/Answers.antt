@@ -23,10 +23,10 @@ returns-in_ok-produced_topics-in-Produce c =
     λ shown.
     let Tells : Ask → Type 0 = λ ask. AreReadings ask results readings shown → Produced topics ≡ told_to c.args.config.now ask shown in
     subst Tells (sym a.is) (λ are. ap Produced (
-      c.in_ok-produced_topics-in-Produce.ensures
-      ∙ ap (λ (acks : ℤ). produced_of acks c.as_slice.result.now results readings) (to_z-of_z w16 a.acks acks_fit)
-      ∙ ap (λ (ts : List ProduceTopic). produced_of a.acks ts results readings) c.as_slice.ensures
-      ∙ produced_is a.acks a.topics results readings shown are
+    c.in_ok-produced_topics-in-Produce.ensures
+    ∙ ap (λ (acks : ℤ). produced_of acks c.as_slice.result.now results readings) (to_z-of_z w16 a.acks acks_fit)
+    ∙ ap (λ (ts : List ProduceTopic). produced_of a.acks ts results readings) c.as_slice.ensures
+    ∙ produced_is a.acks a.topics results readings shown are
     ))
 
 pub returns-in_ok-fetched_topics-in-Fetch : goal.returns-in_ok-fetched_topics-in-Fetch
@@ -39,10 +39,10 @@ returns-in_ok-fetched_topics-in-Fetch c =
     λ shown.
     let Tells : Ask → Type 0 = λ ask. AreReadings ask results readings shown → Fetched a.isolation topics ≡ told_to c.args.config.now ask shown in
     let told : AreReadings c.args.ask.now results readings shown → Fetched a.isolation topics ≡ told_to c.args.config.now c.args.ask.now shown =
-        subst Tells (sym a.is) (λ are. ap (Fetched a.isolation) (
-          c.in_ok-fetched_topics-in-Fetch.ensures
-          ∙ ap (λ (ts : List FetchTopic). fetched_of ts results readings) c.as_slice-in-Fetch.ensures
-          ∙ fetched_is a.replica a.topics results readings shown (first_budget a.max_bytes) are
-        ))
+    subst Tells (sym a.is) (λ are. ap (Fetched a.isolation) (
+    c.in_ok-fetched_topics-in-Fetch.ensures
+    ∙ ap (λ (ts : List FetchTopic). fetched_of ts results readings) c.as_slice-in-Fetch.ensures
+    ∙ fetched_is a.replica a.topics results readings shown (first_budget a.max_bytes) are
+    ))
     in
     λ are. ap (λ (isolation : ℤ). Fetched isolation topics) (to_z-of_z w8 a.isolation isolation_fits) ∙ told are
