@@ -1,5 +1,5 @@
 -- The table of the lock as it is made, and as it is closed.
-use Rattle.std.proofs.Common.{◌≡◌, ℕ, zero, suc, ◌+◌, ◌^◌, ◌<◌, ◌≤◌, ◌≢◌, Bool, true, false, eqb, List, [], ◌∷◌, map, length, sym, refl, ap, ◌∙◌, subst, ⊎_elim, arith, eq-eqb, ne_eqb}
+use Rattle.std.proofs.Common.{◌≡◌, ℕ, zero, suc, ◌+◌, ◌^◌, ◌<◌, ◌≤◌, Bool, true, false, eqb, List, [], ◌∷◌, map, length, sym, refl, ap, ◌∙◌, subst, arith, ne_eqb}
 use Rattle.std.specs.Prelude.{All, sum_by, Option, Some, None}
 use Rattle.std.proofs.lemmas.List.Sums.{sum_by-cons}
 use Rattle.std.proofs.lemmas.List.Elements.{All-nil, All-cons, All-head, All-tail, All-weaker, All-map}
@@ -18,7 +18,7 @@ use Rattle.turn_lock.specs.OfPass.{of_pass}
 use Rattle.turn_lock.specs.declared.pass.TurnPass.{TurnPass}
 use Rattle.turn_lock.specs.Locks.{known, IsReady}
 use Rattle.turn_lock.specs.Passes.{at_stage, fresh, fresh_from}
-use Rattle.turn_lock.specs.InLine.{is_out, one_if, has_turn, is_late, total, Fits, AtHome, InLine}
+use Rattle.turn_lock.specs.InLine.{is_out, one_if, has_turn, Fits, AtHome, InLine}
 use Rattle.turn_lock.proofs.Steps.{Pass, Same, known_is}
 use Rattle.turn_lock.proofs.Totals.{sum_by_only, sum_by_le, one_at_most}
 

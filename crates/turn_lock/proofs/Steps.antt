@@ -1,6 +1,6 @@
 -- Each step of the lock keeps the rule of its table.
-use Rattle.std.proofs.Common.{◌≡◌, ℕ, zero, suc, ◌+◌, ◌-◌, ◌%◌, ◌^◌, ◌<◌, ◌≤◌, ◌≢◌, Bool, true, false, cond, eqb, ltb, List, [], ◌∷◌, ◌++◌, length, get_or, set, sym, refl, ap, ◌∙◌, subst, ⊎_elim, arith, eq-eqb, ne_eqb, rules, tests}
-use Rattle.std.specs.Prelude.{MatchBool, All, sum_by, take, drop, filter, Option, Some, None}
+use Rattle.std.proofs.Common.{◌≡◌, ℕ, ◌+◌, ◌%◌, ◌^◌, ◌<◌, ◌≤◌, ◌≢◌, Bool, true, false, cond, eqb, ltb, List, [], ◌∷◌, ◌++◌, length, get_or, set, sym, refl, ap, ◌∙◌, subst, ⊎_elim, arith, eq-eqb, ne_eqb, rules, tests}
+use Rattle.std.specs.Prelude.{MatchBool, All, sum_by, take, drop, Option, Some, None}
 use Rattle.std.proofs.lemmas.List.Sums.{sum_by-append, sum_by-take-drop}
 use Rattle.std.proofs.lemmas.List.Elements.{All-nil, All-cons, All-head, All-tail, All-append, All-take, All-drop, All-weaker, filter-append}
 use Rattle.std.proofs.lemmas.Bool.{false≢true}
@@ -10,7 +10,7 @@ use mathlib.Core.Option.{some, none, some-injective, some-ne-none}
 use mathlib.Core.Option as maybe
 use native.Mathlib.Decide.{ℕ_discrete}
 use lib.ListN.{get_elem?}
-use Rattle.atomic_table.specs.Table.{State, Me, Step, step, keeps, takes, gives, stepped, Allows, Splits, Joins, rest}
+use Rattle.atomic_table.specs.Table.{State, Me, step, keeps, takes, gives, stepped, Allows, Splits, Joins, rest}
 use Rattle.atomic_table.proofs.Lists.{at_set, set_again, set_else, at_snoc}
 use Rattle.turn_lock.specs.declared.known.Known.{Known}
 use Rattle.turn_lock.specs.declared.known.Stage.{Stage}
@@ -18,10 +18,10 @@ use Rattle.turn_lock.specs.declared.known.Stage.TheVariants.{Idle, Waits, Has, L
 use Rattle.turn_lock.specs.StartsWith.{StartsWith}
 use Rattle.turn_lock.specs.OfPass.{of_pass}
 use Rattle.turn_lock.specs.AddedBy.{AddedBy}
-use Rattle.turn_lock.specs.Passes.{at_stage, head_or, known_of}
+use Rattle.turn_lock.specs.Passes.{at_stage, head_or, known_of, begun, ended}
 use Rattle.turn_lock.specs.InLine.{is_out, one_if, has_turn, is_late, total, Stands, Fits, AtHome, InLine}
-use Rattle.turn_lock.specs.Moves.{stage_of, drew, ended, begun, passed_on, Took, looked}
-use Rattle.turn_lock.proofs.Totals.{sum_by_set, two_le, sum_by_le, sum_by_only, none_counts, one_at_most}
+use Rattle.turn_lock.specs.Moves.{stage_of, drew, passed_on, Took, looked}
+use Rattle.turn_lock.proofs.Totals.{sum_by_set, two_le, sum_by_le, none_counts, one_at_most}
 
 -- a ticket that is served at some time
 pub waits_by : (b : Bool) (ticket : ℕ) → b ≡ true → cond b (Waits ticket) Late ≡ Waits ticket

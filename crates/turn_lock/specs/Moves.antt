@@ -1,12 +1,12 @@
 -- What each step on the table tells. A step is made by the seat of one pass.
-use Rattle.std.specs.Prelude.{◌≡◌, ℕ, ◌^◌, List, [], ◌∷◌, ◌++◌, length, drop, Option, Some, if◌then◌else◌, nat_lt, ◌==◌, MatchBool}
+use Rattle.std.specs.Prelude.{◌≡◌, ℕ, ◌^◌, List, [], ◌∷◌, Option, Some, if◌then◌else◌, nat_lt, ◌==◌, MatchBool}
 use Rattle.atomic_table.specs.Table.{Me, Step}
 use Rattle.turn_lock.specs.declared.known.Known.{Known}
 use Rattle.turn_lock.specs.declared.known.Stage.{Stage}
-use Rattle.turn_lock.specs.declared.known.Stage.TheVariants.{Idle, Waits, Has, Late}
+use Rattle.turn_lock.specs.declared.known.Stage.TheVariants.{Waits, Late}
 use Rattle.turn_lock.specs.StartsWith.{StartsWith}
 use Rattle.turn_lock.specs.OfPass.{of_pass}
-use Rattle.turn_lock.specs.Passes.{at_stage}
+use Rattle.turn_lock.specs.Passes.{at_stage, begun, ended}
 
 abbrev Sat : Type 0 → Type 0 → Type 0
 Sat T E = Me (Option T) (List (Known E))
@@ -21,25 +21,19 @@ module _ {T E : Type 0} where
   drew st m found m' = (k : Known E) → m ≡ (k ∷ [], []) → m' ≡ (at_stage (stage_of found) k ∷ [], [])
 
 module _ {T E : Type 0} (entries : T → List E) where
-  -- the pass has seen this value's history, of which it added the end
-  abbrev pub ended : T → Known E → Known E
-  ended x k = record { number = k.number; name = k.name; seen = entries x; mine = k.mine ++ drop (length k.seen) (entries x); stage = Idle }
-
-  -- the pass has seen this value's history, and has the turn
-  abbrev pub begun : ℕ → T → Known E → Known E
-  begun ticket x k = record { number = k.number; name = k.name; seen = entries x; mine = k.mine; stage = Has ticket }
-
+  -- the pass put this value back and passed its turn on
   abbrev pub passed_on : Step (Option T) → Sat T E → ℕ → Sat T E → Type 0
-  passed_on st m found m' = (k : Known E) (x : T) → m ≡ (k ∷ [], (0, Some x) ∷ []) → m' ≡ (ended x k ∷ [], [])
+  passed_on st m found m' = (k : Known E) (x : T) → m ≡ (k ∷ [], (0, Some x) ∷ []) → m' ≡ (ended entries x k ∷ [], [])
 
   module _ (by : E → ℕ) (name_of : T → List ℕ) where
     -- the value has the lock's name, its history begins with what the pass had seen, and has the pass's own entries and no more of it
     pub record Took (ticket : ℕ) (k : Known E) (m : Sat T E) : Type 0 where
       pub value : T
-      pub now : m ≡ (begun ticket value k ∷ [], (0, Some value) ∷ [])
+      pub now : m ≡ (begun entries ticket value k ∷ [], (0, Some value) ∷ [])
       pub named : name_of value ≡ k.name
       pub seen : StartsWith (entries value) k.seen
       pub mine : of_pass by k.number (entries value) ≡ k.mine
 
+    -- where the ticket that is served was the pass's own, the pass took the value; else nothing changed
     abbrev pub looked : Step (Option T) → Sat T E → ℕ → Sat T E → Type 0
     looked st m found m' = (k : Known E) (ticket : ℕ) → m ≡ (k ∷ [], []) → k.stage ≡ Waits ticket → MatchBool (found == ticket) (Took ticket k m') (m' ≡ m)

@@ -1,5 +1,5 @@
 -- What passes know, at the start and later.
-use Rattle.std.specs.Prelude.{◌≡◌, ℕ, zero, suc, ◌+◌, ◌^◌, ◌<◌, List, [], ◌∷◌, Option, None}
+use Rattle.std.specs.Prelude.{◌≡◌, ℕ, zero, suc, ◌+◌, ◌^◌, ◌<◌, List, [], ◌∷◌, ◌++◌, length, drop, Option, None}
 use Rattle.atomic_table.specs.declared.shared.Seat.{Seat}
 use Rattle.turn_lock.specs.declared.known.Known.{Known}
 use Rattle.turn_lock.specs.declared.known.Stage.{Stage}
@@ -15,9 +15,19 @@ module _ {E : Type 0} where
   fresh_from name first zero = []
   fresh_from name first (suc n) = fresh name first ∷ fresh_from name (first + 1) n
 
+  -- the same pass at another stage
   abbrev pub at_stage : Stage → Known E → Known E
   at_stage stage k = record { number = k.number; name = k.name; seen = k.seen; mine = k.mine; stage = stage }
 
+  -- what a pass knows that has the turn of this ticket, and found this value
+  abbrev pub begun : {T : Type 0} → (T → List E) → ℕ → T → Known E → Known E
+  begun entries ticket x k = record { number = k.number; name = k.name; seen = entries x; mine = k.mine; stage = Has ticket }
+
+  -- what a pass knows that ended its turn with this value: the end of the history is its own
+  abbrev pub ended : {T : Type 0} → (T → List E) → T → Known E → Known E
+  ended entries x k = record { number = k.number; name = k.name; seen = entries x; mine = k.mine ++ drop (length k.seen) (entries x); stage = Idle }
+
+  -- the first of a list, or k
   abbrev pub head_or : Known E → List (Known E) → Known E
   head_or k [] = k
   head_or k (j ∷ js) = j

@@ -32,8 +32,8 @@ impl<T: Kept> TurnLock<T> {
     ghost use Rattle.turn_lock.specs.StartsWith.{StartsWith};
     ghost use Rattle.turn_lock.specs.OfPass.{of_pass};
     ghost use Rattle.turn_lock.specs.AddedBy.{AddedBy};
-    ghost use Rattle.turn_lock.specs.Passes.{at_stage, known_of, IsOut, fresh, fresh_from};
-    ghost use Rattle.turn_lock.specs.Moves.{stage_of, Took, ended, begun};
+    ghost use Rattle.turn_lock.specs.Passes.{at_stage, known_of, IsOut, fresh, fresh_from, begun, ended};
+    ghost use Rattle.turn_lock.specs.Moves.{stage_of, Took};
     ghost use Rattle.turn_lock.specs.Turns.{HasTurn};
     ghost use Rattle.turn_lock.specs.Locks.{lock_id, lock_name, lock_passes, known, IsPassOf, IsReady, AreFresh};
 

@@ -1,4 +1,4 @@
-use Rattle.std.proofs.Common.{◌≡◌, List, []}
+use Rattle.std.proofs.Common.{◌≡◌, []}
 use Rattle.turn_lock.specs.Locks.{known, IsPassOf, IsReady}
 use Rattle.turn_lock.proofs.tests.add_500.Given as goal
 

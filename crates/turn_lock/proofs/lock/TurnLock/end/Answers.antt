@@ -1,7 +1,6 @@
 use Rattle.std.proofs.Common.{rules, [], ◌∷◌, refl, sym, ap, ◌∙◌}
 use Rattle.turn_lock.specs.declared.known.Stage.TheVariants.{Has}
-use Rattle.turn_lock.specs.Passes.{at_stage, known_of}
-use Rattle.turn_lock.specs.Moves.{ended}
+use Rattle.turn_lock.specs.Passes.{at_stage, known_of, ended}
 use Rattle.turn_lock.proofs.Steps.{Same, passes_on_for, put_back, ready, known_is}
 use Rattle.turn_lock.proofs.lock.TurnLock.end.Goals as goal
 

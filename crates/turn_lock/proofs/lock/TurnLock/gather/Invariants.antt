@@ -1,4 +1,4 @@
-use Rattle.std.proofs.Common.{◌≡◌, List, [], ◌++◌, map, length, ℕ}
+use Rattle.std.proofs.Common.{◌≡◌, List, [], ◌++◌, map, length}
 use Rattle.turn_lock.specs.declared.pass.TurnPass.{TurnPass}
 use Rattle.turn_lock.specs.Locks.{known, lock_id}
 use Rattle.turn_lock.proofs.lock.TurnLock.gather.Given as goal

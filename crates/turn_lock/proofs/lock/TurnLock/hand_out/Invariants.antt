@@ -1,4 +1,4 @@
-use Rattle.std.proofs.Common.{◌≡◌, ◌-◌, List, [], ◌∷◌, length}
+use Rattle.std.proofs.Common.{◌≡◌, ◌-◌, [], length}
 use Rattle.turn_lock.specs.Locks.{AreFresh, lock_id, lock_name}
 use Rattle.turn_lock.specs.Passes.{fresh_from}
 use Rattle.turn_lock.proofs.lock.TurnLock.hand_out.Given as goal

@@ -1,4 +1,4 @@
-use Rattle.std.proofs.Common.{rules, arith, ◌≡◌, ◌<◌, ◌^◌, [], ◌∷◌}
+use Rattle.std.proofs.Common.{rules, arith, ◌≡◌, [], ◌∷◌}
 use Rattle.std.proofs.lemmas.Grind.{common_steps}
 use Rattle.std.specs.Prelude.{Some}
 use Rattle.turn_lock.proofs.Ends.{starts_for}

@@ -1,9 +1,7 @@
-use Rattle.std.proofs.Common.{rules, tests, ◌≡◌, ◌^◌, ◌<◌, Bool, true, false, eqb, ltb, ◌∙◌, subst, sym, ne_eqb}
-use Rattle.std.specs.Prelude.{MatchBool}
-use Rattle.turn_lock.specs.declared.known.Stage.{Stage}
+use Rattle.std.proofs.Common.{rules, tests, ◌≡◌, ◌^◌, true, ltb, ◌∙◌, ne_eqb}
 use Rattle.turn_lock.specs.declared.known.Stage.TheVariants.{Waits}
 use Rattle.turn_lock.specs.Passes.{at_stage, known_of}
-use Rattle.turn_lock.specs.Moves.{stage_of, Took}
+use Rattle.turn_lock.specs.Moves.{stage_of}
 use Rattle.turn_lock.proofs.Steps.{looks_for, waits_by}
 use Rattle.turn_lock.proofs.lock.TurnLock.wait.Goals as goal
 
