@@ -44,5 +44,3 @@ pub mod ShownLogs
 pub mod Lookups
 pub mod Spelled
 pub mod Tallies
-pub mod ItemLoops
-pub mod MentionLoops

@@ -1,6 +1,6 @@
 //! A session of the one-thread broker.
 
-ghost use Rattle.std.specs.Prelude.{◌≡◌, ◌≤◌, ◌∷◌, [], ◌++◌, length, drop, take, Some, None, unwrap_or, IfOk, OnOk};
+ghost use Rattle.std.specs.Prelude.{◌≡◌, ◌≤◌, ◌∷◌, [], ◌++◌, ◌-◌, length, drop, take, Some, None, unwrap_or, IfOk, OnOk};
 ghost use Rattle.kafka_room.specs.Board.{empty_seat, new_transcript};
 ghost use Rattle.kafka_room.specs.Frames.{next_frame_of};
 

@@ -254,19 +254,3 @@ impl Config {
         None
     }
 }
-
-impl Config {
-    /// The port that metadata tells.
-    pub fn port(&self) -> u16
-        ensures { result ≡ self.now.port }
-    {
-        self.port
-    }
-
-    /// The declared topics, in the order in which they were declared.
-    pub fn topics(&self) -> &[Topic]
-        ensures { result.now ≡ self.now.topics }
-    {
-        self.topics.as_slice()
-    }
-}

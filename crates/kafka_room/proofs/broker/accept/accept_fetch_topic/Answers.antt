@@ -1,4 +1,6 @@
 use Rattle.std.proofs.Common.{◌≡◌, ℕ, List, [], ◌∷◌, length, get_or, refl, ap, subst, ◌∙◌, arith}
+use Rattle.std.proofs.lemmas.Int.{to_z-of_z}
+use Rattle.std.specs.Int.{w32}
 use Rattle.kafka_room.specs.declared.kwire.request.FetchPart.{FetchPart}
 use Rattle.kafka_room.specs.Accepting.{fetch_decision, part_of}
 use Rattle.kafka_room.specs.Carried.{IsCarried}
@@ -8,11 +10,8 @@ use Rattle.kafka_room.proofs.broker.accept.accept_fetch_topic.Goals as goal
 pub loop-part-preserved : goal.loop-part-preserved
 loop-part-preserved c =
     let items : c.as_slice-part-items.result.now ≡ c.args.topic.now.parts = c.as_slice-part-items.ensures in
-    let d = c.in_ok-accept_fetch_part.ensures in
     let i = c.loop-part.part-index in
+    let part = get_or c.as_slice-part-items.result.now i ? in
     let config = c.args.config.now in
-    let one = subst (λ (name : List ℕ). IsCarried c.args.who.by c.args.who.seq (fetch_decision config c.args.replica (name, c.part-item.result) (part_of config name c.part-item.result.index) ∷ []) c.loop-part.parts c.accept_fetch_part.new.parts c.loop-part.came c.accept_fetch_part.new.came) c.as_slice.ensures ? in
-    record {
-      size = carried_size c.args.who.by c.args.who.seq _ c.loop-part.parts c.accept_fetch_part.new.parts c.loop-part.came c.accept_fetch_part.new.came d ∙ c.loop-part.invariant.size;
-      carried = fetched_on config c.args.replica c.args.who.by c.args.who.seq _ (record { name = c.args.topic.now.name; parts = c.part-item.result ∷ [] } ∷ []) _ c.args.parts.now c.loop-part.parts c.accept_fetch_part.new.parts c.args.came.now c.loop-part.came c.accept_fetch_part.new.came (fetch_next c.args.topic.now.name c.args.topic.now.parts i c.part-item.result (omega (arith, c.loop-part-test.true, ap length items)) (c.part-item.is ∙ ap (λ (xs : List FetchPart). get_or xs i c.part-item.result) items)) c.loop-part.invariant.carried one;
-    }
+    let d = rw (to_z-of_z w32 c.args.replica c.ranges.replica) at c.in_ok-accept_fetch_part.ensures in
+    ?
