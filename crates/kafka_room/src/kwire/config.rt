@@ -240,17 +240,3 @@ impl Config {
         0
     }
 }
-
-impl Config {
-    ghost use Rattle.std.specs.Prelude.{IfSome, ◌<◌};
-    ghost use Rattle.kafka_room.specs.Configuration.{partitions_of};
-    ghost use Rattle.kafka_room.specs.Accepting.{part_of};
-
-    /// The number of a partition, counted over all topics.
-    pub fn part_of(&self, topic: &[u8], index: i32) -> Option<u32>
-        ensures exact { result ≡ part_of self.now topic.now index }
-        ensures within { IfSome result (λ part. part < partitions_of self.now.topics) }
-    {
-        None
-    }
-}
