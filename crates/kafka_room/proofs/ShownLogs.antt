@@ -59,7 +59,7 @@ IsLooking (AskLog part outcome) = (state : PartState) → ((outcome state).entry
 history_set : (parts : List History) (part p : ℕ) (h : History) → part < length parts → state_of h ≡ state_of (history_at parts part) → state_of (history_at (set parts part h) p) ≡ state_of (history_at parts p)
 history_set parts part p h lt same =
     elim (same_or_not p part) [
-      inl e ↦
+      | inl e ↦
           let here : history_at (set parts part h) p ≡ h = ap (λ (i : ℕ). history_at (set parts part h) i) e ∙ ap (λ (o : Option History). unwrap_or o (empty_history 0)) (get_set_same parts part h lt) in
           ap state_of here ∙ same ∙ ap (λ (i : ℕ). state_of (history_at parts i)) (sym e)
       | inr ne ↦ ap (λ (o : Option History). state_of (unwrap_or o (empty_history 0))) (get_set_other parts part p h ne)
@@ -98,9 +98,10 @@ looking_shows by seq n (AskLog part outcome ∷ decisions) parts size looks ther
     let same : state_of left ≡ state_of found = ap (λ (e : Entry). state_of (entered found by seq e)) (looks.0 (state_of found)).0 ∙ state_looked found by seq in
     let size1 : length (set parts part left) ≡ n = length-set parts part left ∙ size in
     let last = looked_states by seq n decisions (set parts part left) size1 looks.1 there.1 part in
-    let stays : state_of (history_at (set parts part left) part) ≡ state_of found = history_set parts part part left (omega (arith, size, there.0)) same in
-    (shows_at (accept_all by seq decisions (set parts part left)).1 part came.result (state_of left) (looks.0 (state_of found)).1 (same ∙ sym (last ∙ stays)),
-    looking_shows by seq n decisions (set parts part left) size1 looks.1 there.1)
+    let stays : state_of (history_at (set parts part left) part) ≡ state_of found = history_set parts part part left (omega (arith, size, there.0)) same in (
+      shows_at (accept_all by seq decisions (set parts part left)).1 part came.result (state_of left) (looks.0 (state_of found)).1 (same ∙ sym (last ∙ stays)),
+      looking_shows by seq n decisions (set parts part left) size1 looks.1 there.1,
+    )
 
 -- ---- a produce sees no log
 
@@ -133,7 +134,7 @@ either_none false x y a c = c
 batch_puts : (part : ℕ) (bytes : List ℕ) (decision : Decision) → BatchDecides part bytes decision → IsPutting decision
 batch_puts part bytes decision d =
     elim d [
-      inl fault ↦ subst IsPutting (sym fault.2) tt
+      | inl fault ↦ subst IsPutting (sym fault.2) tt
       | inr batch ↦ subst IsPutting (sym batch.2) (λ state. either_none (nat_lt 67108864 ((gauges_of state).bytes + length bytes)) (look (Refused (pos 6))) (record { result = Appended part state.log_end (length batch.0); entry = Put (length batch.0) bytes }) tt tt)
     ]
 

@@ -94,3 +94,7 @@ pub mod UnderWay
 pub mod Replying
 -- which replies have a frame
 pub mod IsSpellable
+-- a broker that can handle the frame at the front of a session's bytes
+pub mod Ready
+-- a request that needn't wait was accepted and answered
+pub mod AtOnce
