@@ -34,3 +34,4 @@ pub mod Digits
 pub mod PartReadings
 pub mod Reporting
 pub mod ReportLaws
+pub mod ReadingSteps
