@@ -44,3 +44,4 @@ pub mod ShownLogs
 pub mod Lookups
 pub mod Spelled
 pub mod Tallies
+pub mod ReadingSteps

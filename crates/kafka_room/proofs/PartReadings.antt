@@ -1,5 +1,5 @@
 -- What a replica may read of a log, and the bytes of what is taken of it.
-use Rattle.std.proofs.Common.{◌≡◌, ℕ, ◌+◌, ◌<◌, ℤ, pos, negsuc, Bool, true, false, cond, not, ltb, List, [], ◌∷◌, ◌++◌, length, take, filter, length-append, refl, sym, ap, ◌∙◌, arith}
+use Rattle.std.proofs.Common.{◌≡◌, ℕ, ◌<◌, ℤ, pos, negsuc, Bool, true, false, cond, not, ltb, List, [], ◌∷◌, length, take, filter, length-append, refl, sym, ap, ◌∙◌, arith}
 use Rattle.std.proofs.lemmas.Bool.{lt-ltb}
 use Rattle.std.specs.Prelude.{if◌then◌else◌}
 use Rattle.partlog.specs.Batches.{StoredBatch}

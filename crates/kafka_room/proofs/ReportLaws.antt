@@ -2,7 +2,6 @@
 use Rattle.std.proofs.Common.{◌≡◌, ℕ, zero, suc, ◌+◌, ℤ, pos, List, [], ◌∷◌, ◌++◌, length, take, drop, refl, sym, ap, ◌∙◌}
 use Rattle.std.specs.List.{flat_map}
 use Rattle.partlog.specs.State.{PartState, high_of}
-use Rattle.partlog.specs.Taken.{joined}
 use Rattle.partlog.specs.declared.numbers.Numbers.{Numbers}
 use Rattle.kafka_room.specs.declared.kwire.request.ProducePart.{ProducePart}
 use Rattle.kafka_room.specs.declared.kwire.request.ProduceTopic.{ProduceTopic}
@@ -19,7 +18,7 @@ use Rattle.kafka_room.specs.declared.kanswer.accepted.Budget.{Budget}
 use Rattle.kafka_room.specs.Delayed.{Shown}
 use Rattle.kafka_room.specs.Answer.{produced_as, produced_parts, produced_topics, batches_as, budget_after, budget_behind, fetched_as, fetched_parts, fetched_topics}
 use Rattle.kafka_room.specs.AreReadings.{HasNumbers, ProduceReadings, HasRecords, FetchReadings}
-use Rattle.kafka_room.specs.Reported.{code_at, parts_by, topics_by, produced_part, produced_topic, produced_of, fetched_part, fetched_topic, fetched_of}
+use Rattle.kafka_room.specs.Reported.{code_at, parts_by, produced_part, produced_of, fetched_part, fetched_of}
 
 produced_part_is : (acks : ℤ) (asked : ProducePart) (result : Accepted) (reading : Reading) (state : PartState) → HasNumbers result reading state → produced_part acks asked result reading ≡ produced_as acks asked.index result state
 produced_part_is acks asked (Refused code) reading state h = refl

@@ -1,5 +1,5 @@
 -- What was read of the named partitions for a reply: one reading for each, in the order of the request over all topics.
-use Rattle.std.specs.Prelude.{ℕ, ◌+◌, ◌≡◌, ◌<◌, ◌^◌, ℤ, false, List, [], ◌∷◌, length, sum_by, All, ⊤}
+use Rattle.std.specs.Prelude.{ℕ, ◌+◌, ◌≡◌, ◌<◌, ◌^◌, ℤ, false, List, [], ◌∷◌, length, sum_by, ⊤}
 use Rattle.std.specs.List.{flat_map}
 use Rattle.partlog.specs.State.{PartState as State}
 use Rattle.partlog.specs.Gauges.{numbers_of}

@@ -1,5 +1,5 @@
 //! What is told of the partitions of a produce.
-ghost use Rattle.std.specs.Prelude.{◌≡◌, length, sum_by, All, IfOk};
+ghost use Rattle.std.specs.Prelude.{◌≡◌, negsuc, length, sum_by, All, IfOk};
 ghost use Rattle.kafka_room.specs.AreReadings.{IsCarriable};
 ghost use Rattle.kafka_room.specs.Reported.{code_at, parts_by, produced_part, produced_topic, produced_of};
 
@@ -16,6 +16,17 @@ fn code_at(acks: i16, behind: u64, high: u64) -> i16
     if acks == -1 && behind > high { 7 } else { 0 }
 }
 
+// A partition that nothing was appended to has the base offset -1.
+fn without_base(index: i32, code: i16) -> ProducedPart
+    ensures { result ≡ record { index = index; code = code; base = negsuc 0 } }
+{
+    ProducedPart {
+        index,
+        code,
+        base: -1,
+    }
+}
+
 fn produced_part(
     acks: i16,
     asked: &ProducePart,
@@ -27,21 +38,13 @@ fn produced_part(
 {
     let index = asked.index;
     match *became {
-        Accepted::Refused { code } => ProducedPart {
-            index,
-            code,
-            base: -1,
-        },
+        Accepted::Refused { code } => without_base(index, code),
         Accepted::Appended { base, count, .. } => ProducedPart {
             index,
             code: code_at(acks, base + u64::from(count), reading.numbers.high),
             base: base as i64,
         },
-        Accepted::Seen { .. } => ProducedPart {
-            index,
-            code: 0,
-            base: -1,
-        },
+        Accepted::Seen { .. } => without_base(index, 0),
     }
 }
 

@@ -1,7 +1,6 @@
 use Rattle.std.proofs.Common.{◌≡◌, ℕ, ℤ, Bool, List, ◌-◌, ◌||◌, ltb, length, filter, ap, ◌∙◌}
 use Rattle.std.proofs.lemmas.Int.{to_z-of_z}
 use Rattle.std.specs.Int.{w32}
-use Rattle.partlog.specs.Batches.{StoredBatch}
 use Rattle.partlog.specs.State.{PartState, state_of}
 use Rattle.partlog.specs.Taken.{batches_past, joined, taken}
 use Rattle.partlog.proofs.Whole.{kept-full}

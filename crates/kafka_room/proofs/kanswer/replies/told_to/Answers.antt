@@ -6,7 +6,6 @@ use Rattle.kafka_room.specs.declared.kwire.request.Ask.{Ask}
 use Rattle.kafka_room.specs.declared.kwire.request.ProduceTopic.{ProduceTopic}
 use Rattle.kafka_room.specs.declared.kwire.request.FetchTopic.{FetchTopic}
 use Rattle.kafka_room.specs.declared.kwire.reply.Told.TheVariants.{Produced, Fetched}
-use Rattle.kafka_room.specs.Delayed.{Shown}
 use Rattle.kafka_room.specs.Answer.{first_budget, told_to}
 use Rattle.kafka_room.specs.AreReadings.{AreReadings}
 use Rattle.kafka_room.specs.Reported.{produced_of, fetched_of}
