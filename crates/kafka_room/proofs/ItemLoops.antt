@@ -45,7 +45,7 @@ module _ {X : Type 0} (item : Cursor → Read X) where
   items_start n c = after_none (items_at item n c) ∙ ap (λ (k : ℕ). after [] (items_at item k c)) (omega arith)
 
   one_left : (n : ℕ) (start c : Cursor) (front : List X) → length front < n → ItemsSoFar n start front c
-    → items_at item n start ≡ after front (one_more item (λ x. items_at item (n - (length front + 1))) c)
+      → items_at item n start ≡ after front (one_more item (λ x. items_at item (n - (length front + 1))) c)
   unfolding items_at
   one_left n start c front lt so_far =
       let left : n - length front ≡ suc (n - (length front + 1)) = omega arith in

@@ -36,3 +36,4 @@ pub mod StreamLaws
 pub mod Tallies
 pub mod ItemLoops
 pub mod MentionLoops
+pub mod PlainStreams

@@ -78,3 +78,5 @@ pub mod PlainFront
 pub mod Reads
 -- partitions that topic entries name, as they are kept
 pub mod Mentions
+-- streams of requests that wait for nothing
+pub mod PlainStream

@@ -2,5 +2,6 @@
 
 pub mod accept;
 pub mod came;
+pub mod plain;
 pub mod summary;
 pub mod tally;

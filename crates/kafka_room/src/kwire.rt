@@ -16,6 +16,6 @@ pub mod request;
 pub use config::{Config, ConfigFault, Topic};
 pub use frame::{Frame, WireFault};
 pub use next_frame::next_frame;
-pub use reply::{FetchedPart, FetchedTopic, ProducedPart, ProducedTopic, Reply, Told, TopicInfo};
 pub use read_request::read_request;
+pub use reply::{FetchedPart, FetchedTopic, ProducedPart, ProducedTopic, Reply, Told, TopicInfo};
 pub use request::{Ask, FetchPart, FetchTopic, ProducePart, ProduceTopic, Request};

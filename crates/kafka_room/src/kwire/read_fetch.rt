@@ -41,11 +41,7 @@ fn read_parts(
 }
 
 // A topic, of which so many partitions were named before.
-fn read_topic(
-    alloc: Global,
-    reader: &mut Reader<'_>,
-    before: u32,
-) -> Result<FetchTopic, WireFault>
+fn read_topic(alloc: Global, reader: &mut Reader<'_>, before: u32) -> Result<FetchTopic, WireFault>
     requires { before ≤ 64 }
     ensures exact { Reads reader.new result (fetch_topic_at before reader.old) }
     ensures few { IfOk result (λ topic. before + length topic.parts ≤ 64) }

@@ -19,11 +19,7 @@ fn read_name(alloc: Global, reader: &mut Reader<'_>) -> Result<Bytes, WireFault>
     Ok(name)
 }
 
-fn read_names(
-    alloc: Global,
-    reader: &mut Reader<'_>,
-    count: u32,
-) -> Result<List<Bytes>, WireFault>
+fn read_names(alloc: Global, reader: &mut Reader<'_>, count: u32) -> Result<List<Bytes>, WireFault>
     ensures exact { Reads reader.new result (items_at name_at count reader.old) }
     ensures whole { IfOk result (λ names. length names ≡ count) }
 {
