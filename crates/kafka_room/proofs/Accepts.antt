@@ -22,10 +22,8 @@ use Rattle.kafka_room.specs.declared.kanswer.accepted.Accepted.TheVariants.{Refu
 use Rattle.kbatch.specs.Stamp.{stamped}
 use Rattle.kafka_room.proofs.Cuts.{some_is, not_same}
 use Rattle.kafka_room.proofs.Growth.{Longer, IsWhole, IsSized, longer_on, entered_longer, entered_whole, entered_events, entered_followers, entered_length, event_of, before_kept, at_kept, put_batches}
+pub use Rattle.kafka_room.specs.Steady.{the_owner, AllWhole, Follows}
 use Rattle.kafka_room.proofs.Places.{same_or_not, get_set_same, get_set_other, get_there, get_seam}
-
-abbrev pub the_owner : ℕ → ℕ → Option Owner
-the_owner by seq = Some (record { by = by; seq = seq })
 
 -- The later history has entries of one call behind those of the earlier one, and these are their places.
 pub record Left (by seq : ℕ) (places : List ℕ) (h later : History) : Type 0 where
@@ -37,9 +35,6 @@ pub record Left (by seq : ℕ) (places : List ℕ) (h later : History) : Type 0 
 abbrev pub AllLeft : ℕ → ℕ → List Point → List History → List History → Type 0
 AllLeft by seq points parts later =
     (p : ℕ) (h : History) → slice_get parts p ≡ Some h → (l : History) × (slice_get later p ≡ Some l) × Left by seq (places_in p points) h l
-
-abbrev pub AllWhole : List History → Type 0
-AllWhole parts = (p : ℕ) (h : History) → slice_get parts p ≡ Some h → IsWhole h
 
 -- a decision that asks the log of one of so many partitions, and says rightly how many bytes it puts
 abbrev pub IsFair : ℕ → Decision → Type 0
@@ -130,10 +125,6 @@ accepted_size by seq n (AskLog part outcome ∷ decisions) parts =
     let found = history_at parts part in
     let left = entered found by seq (outcome (state_of found)).entry in
     accepted_size by seq n decisions (set parts part left) ∙ length-set parts part left
-
--- an account whose histories go on from these
-abbrev pub Follows : Account → List History → Type 0
-Follows account parts = (p : ℕ) (h : History) → slice_get parts p ≡ Some h → (pa : PartAccount) × (slice_get account.parts p ≡ Some pa) × Longer h (history_of pa)
 
 -- what an account shows at an entry
 pub record ShowsEntry (by seq : ℕ) (account : Account) (part : ℕ) (found : History) (entry : Entry) : Type 0 where

@@ -13,18 +13,7 @@ use Rattle.partlog.specs.State.{PartState, state_of, state_before, state_at, fro
 use Rattle.partlog.proofs.Appending.{batches-append}
 use Rattle.kafka_room.specs.Accepting.{Entry, Put, Followed, Looked}
 use Rattle.kafka_room.specs.Acceptance.{entered}
-
--- the later history goes on from the earlier one
-pub record Longer (h later : History) : Type 0 where
-  pub followers : later.followers ≡ h.followers
-  pub more : List PartEvent
-  pub bytes : List ℕ
-  pub events : later.events ≡ h.events ++ more
-  pub log : later.log ≡ h.log ++ bytes
-
--- the log is the bytes of the appends
-abbrev pub IsWhole : History → Type 0
-IsWhole h = bytes_of h.events ≡ length h.log
+pub use Rattle.kafka_room.specs.Steady.{Longer, IsWhole}
 
 pub longer_self : (h : History) → Longer h h
 longer_self h = record { followers = refl; more = []; bytes = []; events = sym (append-nil h.events); log = sym (append-nil h.log) }

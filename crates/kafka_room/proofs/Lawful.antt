@@ -23,21 +23,12 @@ use Rattle.kafka_room.specs.Handled.{Step, IsLawfulCall, LooksAtClock, Completes
 use Rattle.kafka_room.specs.IsLawful.{IsLawful, HasEntries, HasLogs, IsWholeLog, places_in, is_point, is_won_by, is_won_as, EndsAs, EndWell, FollowOn}
 use Rattle.kafka_room.specs.Board.{Board, Seat, empty_seat, transcript_at, new_transcript, put_before, passes_of, part_account, account_of}
 use Rattle.kafka_room.specs.Handling.{how_at_once}
+pub use Rattle.kafka_room.specs.Fed.{IsPlainCall, IsTameTranscript}
 use Rattle.kafka_room.proofs.Cuts.{some_is, not_same}
 use Rattle.kafka_room.proofs.Growth.{longer_self}
 use Rattle.kafka_room.proofs.Places.{same_or_not}
 use Rattle.kafka_room.proofs.Accepts.{the_owner, AllWhole, Follows}
 use Rattle.kafka_room.proofs.Steady.{IsSteady, IsDone, all_points}
-
--- a call that needn't wait
-abbrev pub IsPlainCall : Call → Type 0
-IsPlainCall call = (call.how ≡ Quiet) ⊎ (call.how ≡ AtOnce)
-
-pub record IsTameTranscript (n : ℕ) (t : Transcript) : Type 0 where
-  pub number : t.number ≡ n
-  pub first : t.first ≡ 0
-  pub no_end : t.end ≡ None
-  pub plain : AllByRecursion IsPlainCall t.calls
 
 -- the seats from this number on
 abbrev pub AreTame : ℕ → List Seat → Type 0

@@ -1,6 +1,6 @@
 -- The order of the lines of a plain trace, line by line.
-use Rattle.std.proofs.Common.{◌≡◌, ◌≢◌, ℕ, ◌+◌, ◌<◌, ◌≤◌, Bool, true, false, cond, eqb, List, [], ◌∷◌, ◌++◌, length, get_or, Option, Some, None, refl, sym, ap, subst, ◌∙◌, arith, inl, inr, ◌⊎◌, Contains, IsTrue}
-use Rattle.std.specs.List.{flat_map, All, AllPairs}
+use Rattle.std.proofs.Common.{◌≡◌, ◌≢◌, ℕ, ◌<◌, Bool, true, false, cond, eqb, List, [], ◌∷◌, ◌++◌, length, get_or, Some, None, refl, sym, ap, subst, arith, inl, inr, ◌⊎◌, Contains}
+use Rattle.std.specs.List.{flat_map, All}
 use Rattle.std.proofs.lemmas.Bool.{eqb-true}
 use Rattle.std.proofs.lemmas.List.{get_or_append_left, get_or_at, length-append}
 use Rattle.std.proofs.lemmas.List.Elements.{All-push, All-contains, Contains-push, Contains-append_left, All-weaker}
@@ -10,7 +10,7 @@ use Rattle.kafka_room.specs.declared.trace_file.line.Line.TheVariants.{Topic, Fe
 use Rattle.kafka_room.specs.declared.trace_file.plain_trace.Stage.{Stage}
 use Rattle.kafka_room.specs.declared.trace_file.plain_trace.Stage.TheVariants.{Topics, Feeds, Ended}
 use Rattle.kafka_room.specs.Configuration.{IsNewTopic}
-use Rattle.kafka_room.specs.RunOf.{topic_in, names}
+use Rattle.kafka_room.specs.RunOf.{topic_in}
 use Rattle.kafka_room.specs.IsInOrder.{IsTopic, MayFollow, AreNewTopics, IsInOrder}
 use Rattle.kafka_room.specs.Trace.{IsPlainLine}
 use Rattle.kafka_room.specs.PlainFront.{stage_after, IsStage, IsNewLine, IsPlainFront, MayCome}

@@ -1,11 +1,11 @@
 -- Reading the pieces of a text, one after the other.
-use Rattle.std.proofs.Common.{◌≡◌, ◌≢◌, ℕ, List, [], ◌∷◌, ◌++◌, refl, sym, ap, subst, ◌∙◌}
+use Rattle.std.proofs.Common.{◌≡◌, ℕ, List, [], ◌∷◌, ◌++◌, refl, sym, ap, subst, ◌∙◌}
 use Rattle.std.specs.List.{All, AllZip}
 use Rattle.std.proofs.lemmas.List.{append_assoc, append-nil}
 use Rattle.kafka_room.specs.declared.trace_file.line.Line.{Line}
 use Rattle.kafka_room.specs.IsLine.{IsLine, words_of}
 use Rattle.kafka_room.specs.IsInOrder.{IsInOrder}
-use Rattle.kafka_room.specs.Trace.{pieces_of, IsPlainLine, IsPlainTrace}
+use Rattle.kafka_room.specs.Trace.{pieces_of, IsTrace, IsPlainLine, IsPlainTrace}
 use Rattle.kafka_room.specs.PlainFront.{MayCome}
 use Rattle.kafka_room.proofs.Lines.{words_say}
 use Rattle.kafka_room.proofs.PlainFronts.{order_comes}
@@ -69,13 +69,19 @@ next_comes text rest behind piece lines all h e plain =
       order_comes lines next.1 next.0 (subst IsInOrder parts plain.0.order) (subst (λ (ls : List Line). All IsPlainLine ls) parts plain.1),
     )
 
+no_pieces : (back : List Line) → AllZip IsLine [] back → back ≡ []
+no_pieces [] h = refl
+no_pieces (l ∷ back) h = absurd h
+
 -- where nothing is left, the lines are all of the trace
 pub all_read : (text rest : List ℕ) (lines all : List Line) → IsReading text rest lines → rest ≡ [] → IsPlainTrace text all → IsInOrder lines
 all_read text rest lines all h done plain =
     let left = reading_rest text rest lines all h plain.0.spelled in
     let none : left.0 ≡ [] = no_pieces left.0 (subst (λ (r : List ℕ). AllZip IsLine (pieces_of r) left.0) done left.2) in
     subst IsInOrder (left.1 ∙ ap (λ (b : List Line). lines ++ b) none ∙ append-nil lines) plain.0.order
-  where
-    no_pieces : (back : List Line) → AllZip IsLine [] back → back ≡ []
-    no_pieces [] h = refl
-    no_pieces (l ∷ back) h = absurd h
+
+-- a text is one trace at most
+pub one_trace : (text : List ℕ) (lines others : List Line) → IsTrace text lines → IsTrace text others → lines ≡ others
+one_trace text lines others h other =
+    let left = zip_front (pieces_of text) [] lines others h.spelled (subst (λ (ps : List (List ℕ)). AllZip IsLine ps others) (sym (append-nil (pieces_of text))) other.spelled) in
+    sym (left.1 ∙ ap (λ (b : List Line). lines ++ b) (no_pieces left.0 left.2) ∙ append-nil lines)

@@ -37,12 +37,10 @@ use Rattle.kafka_room.specs.Play.{brought}
 use Rattle.kafka_room.proofs.Cuts.{not_same}
 use Rattle.kafka_room.proofs.Places.{same_or_not, get_set_same, get_set_other, get_there, all_append}
 use Rattle.kafka_room.proofs.FrameLaws.{IsParted, whole_parts}
+pub use Rattle.kafka_room.specs.Fed.{frames_of, IsFedSeat, IsFedBy, IsAtRest}
 use Rattle.kafka_room.proofs.Lawful.{IsPlainCall, IsTameTranscript, AreTame, passes_get, all_plain}
 
 -- ---- the lines
-
-abbrev frames_of : List Call → List ℕ
-frames_of calls = flat_map (λ call. framed call.frame) calls
 
 or_neither : (x y : Bool) → (x || y) ≡ false → (x ≡ false) × (y ≡ false)
 or_neither true y e = absurd cc
@@ -126,25 +124,6 @@ input_same : (s : ℕ) (fed : List Line) (line : Line) → bytes_in s line ≡ [
 input_same s fed line missing = input_more s fed line ∙ ap (λ (t : List ℕ). input_of s fed ++ t) missing ∙ append-nil (input_of s fed)
 
 -- ---- what a board is to the lines
-
--- a session's seat, where this is all that it received, and this whether it was named
-pub record IsFedSeat (s : ℕ) (input : List ℕ) (named : Bool) (seat : Seat) : Type 0 where
-  pub is_open : seat.is_shut ≡ false
-  pub there : MatchBool named ((t : Transcript) × (seat.transcript ≡ Some t)) (seat.transcript ≡ None)
-  pub tame : IsTameTranscript s (unwrap_or seat.transcript (new_transcript s))
-  pub parts : input ≡ frames_of (unwrap_or seat.transcript (new_transcript s)).calls ++ seat.inbox
-  pub each : AllByRecursion (λ call. IsFrameBody call.frame) (unwrap_or seat.transcript (new_transcript s)).calls
-
-pub record IsFedBy (fed : List Line) (board : Board) : Type 0 where
-  pub size : length board.seats ≡ 64
-  pub no_clock : board.clock ≡ []
-  pub no_waiting : board.waiting ≡ []
-  pub few : (s : ℕ) → is_named s fed ≡ true → s < 64
-  pub seats : (s : ℕ) → s < 64 → IsFedSeat s (input_of s fed) (is_named s fed) (seat_at board s)
-
--- nothing more can be read of what the sessions received
-abbrev pub IsAtRest : Board → Type 0
-IsAtRest board = (s : ℕ) → s < 64 → IsUnfinished (seat_at board s).inbox
 
 abbrev IsOneOf : ℕ → List Line → Seat → Type 0
 IsOneOf s fed seat = IsFedSeat s (input_of s fed) (is_named s fed) seat

@@ -13,9 +13,7 @@ use Rattle.kafka_room.specs.declared.audit.account.Point.{Point}
 use Rattle.kafka_room.specs.IsLawful.{is_point, places_in}
 use Rattle.kafka_room.proofs.Cuts.{not_same}
 use Rattle.kafka_room.proofs.Places.{same_or_not}
-
-abbrev pub AllBelow : ℕ → List ℕ → Type 0
-AllBelow n xs = AllByRecursion (λ x. x < n) xs
+pub use Rattle.kafka_room.specs.Steady.{AllBelow}
 
 pub below_more : (n m : ℕ) (xs : List ℕ) → n ≤ m → AllBelow n xs → AllBelow m xs
 below_more n m [] le a = tt

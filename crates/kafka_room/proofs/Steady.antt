@@ -25,40 +25,12 @@ use Rattle.kafka_room.specs.IsLawful.{places_in, is_point}
 use Rattle.kafka_room.specs.Board.{history_at, empty_history}
 use Rattle.kafka_room.specs.Acceptance.{Noted, entered, accept_all, steps_of, shown_of}
 use Rattle.kafka_room.specs.Handling.{how_at_once}
+pub use Rattle.kafka_room.specs.Steady.{IsDone, StaysDone, all_points, IsSteady}
 use Rattle.kafka_room.proofs.Cuts.{some_is}
 use Rattle.kafka_room.proofs.Growth.{Longer, IsWhole, longer_on}
 use Rattle.kafka_room.proofs.Places.{same_or_not, get_set_same, get_set_other, get_there, get_seam, get_front, get_within, get_behind}
 use Rattle.kafka_room.proofs.Runs.{AllBelow, below_more, range_below, rises_on, count_one, count_point, places_append}
 use Rattle.kafka_room.proofs.Accepts.{the_owner, Left, AllLeft, AllWhole, IsFair, Follows, accepted_left, accepted_size, accepted_shows, accepted_followers, accepted_nowhere}
-
--- a call that was answered at once, in an account
-pub record IsDone (by seq : ℕ) (account : Account) (call : Call) : Type 0 where
-  pub request : Request
-  pub steps : List Step
-  pub accepted : IsAcceptance account call.frame request steps
-  pub entries : call.accept ≡ step_points steps
-  pub undelayed : is_delayed account request steps ≡ false
-  pub unfinished : call.finish ≡ []
-  pub how : call.how ≡ how_at_once request.ask
-  pub owned : AllByRecursion (λ point. slice_get (owners_of account point.part) point.place ≡ Some (the_owner by seq)) (points_of call)
-
--- the same in every account that goes on from these histories
-abbrev pub StaysDone : Configuration → List History → ℕ → ℕ → Call → Type 0
-StaysDone config parts by seq call = (account : Account) → account.config ≡ config → Follows account parts → IsDone by seq account call
-
-abbrev pub all_points : List Call → List Point
-all_points calls = flat_map points_of calls
-
--- histories, and the calls of each pass
-pub record IsSteady (config : Configuration) (parts : List History) (calls : ℕ → List Call) : Type 0 where
-  pub whole : AllWhole parts
-  pub few : length parts ≤ 64
-  pub followers : map (λ h. h.followers) parts ≡ followers_of config.topics
-  pub done : (s seq : ℕ) (call : Call) → slice_get (calls s) seq ≡ Some call → StaysDone config parts s seq call
-  pub order : (s p : ℕ) → IsStrictlyIncreasing (places_in p (all_points (calls s)))
-  pub below : (s p : ℕ) (h : History) → slice_get parts p ≡ Some h → AllBelow (length h.events) (places_in p (all_points (calls s)))
-  pub left : (p : ℕ) (h : History) (k by seq : ℕ) → slice_get parts p ≡ Some h → slice_get (map owner_of h.events) k ≡ Some (the_owner by seq)
-      → (call : Call) × (slice_get (calls by) seq ≡ Some call) × (count_by (is_point p k) (points_of call) ≡ 1)
 
 same_owner : (by seq by1 seq1 : ℕ) → the_owner by seq ≡ the_owner by1 seq1 → (by ≡ by1) × (seq ≡ seq1)
 same_owner by seq by1 seq1 e =

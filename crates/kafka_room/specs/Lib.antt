@@ -14,6 +14,10 @@ pub mod Accepting
 pub mod Delayed
 -- the reply to a request
 pub mod Answer
+-- what was read of each named partition for a reply
+pub mod AreReadings
+-- what is told of each, from that
+pub mod Reported
 -- who left each entry of an account, and the states at its points
 pub mod Histories
 -- what a lawful call is
@@ -78,5 +82,21 @@ pub mod PlainFront
 pub mod Reads
 -- partitions that topic entries name, as they are kept
 pub mod Mentions
+-- histories and calls in which nothing waits
+pub mod Steady
+-- what a broker keeps of the lines that it was given
+pub mod Fed
 -- streams of requests that wait for nothing
 pub mod PlainStream
+-- a broker between two lines of such a trace
+pub mod UnderWay
+-- from what a reply that needn't wait is computed
+pub mod Replying
+-- which replies have a frame
+pub mod IsSpellable
+-- a broker that can handle the frame at the front of a session's bytes
+pub mod Ready
+-- a request that needn't wait was accepted and answered
+pub mod AtOnce
+-- traces whose sessions receive such streams
+pub mod ArePlainStreams

@@ -2,8 +2,11 @@
 
 pub mod config;
 pub mod frame;
+pub mod inbox;
 pub mod next_frame;
 pub mod produced;
+pub mod put_fetched;
+pub mod put_produced;
 pub mod read_fetch;
 pub mod read_items;
 pub mod read_metadata;
@@ -15,6 +18,7 @@ pub mod request;
 
 pub use config::{Config, ConfigFault, Topic};
 pub use frame::{Frame, WireFault};
+pub use inbox::Inbox;
 pub use next_frame::next_frame;
 pub use read_request::read_request;
 pub use reply::{FetchedPart, FetchedTopic, ProducedPart, ProducedTopic, Reply, Told, TopicInfo};

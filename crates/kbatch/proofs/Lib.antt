@@ -14,3 +14,13 @@ pub mod Parts
 pub mod Records
 -- bytes are a batch or have one first fault
 pub mod Faults
+-- what is spelled is read with its values
+pub mod Decoding
+-- items one after the other, as a loop reads them
+pub mod ListsLoop
+-- how many bytes a record takes
+pub mod Sizes
+-- what a writer has put, part by part
+pub mod Puts
+-- the batch that is written of records is one of these records
+pub mod Making

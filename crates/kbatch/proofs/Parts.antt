@@ -35,10 +35,10 @@ guard_that : {A : Type 0} (b : Bool) (x y : A) → cond b (Some x) None ≡ Some
 guard_that true x y e = (refl, cc)
 guard_that false x y e = absurd cc
 
-abbrev some : {A : Type 0} → A → Option A
+abbrev pub some : {A : Type 0} → A → Option A
 some x = Some x
 
-same_some : {A : Type 0} (x y : A) → some x ≡ some y → x ≡ y
+pub same_some : {A : Type 0} (x y : A) → some x ≡ some y → x ≡ y
 same_some x y e = cc
 
 behind_some : (r : Result (ℤ × Cursor) ByteFault) (z : ℤ) (rest : List ℕ) → behind r ≡ Some (z, rest) → (d : Cursor) × (r ≡ Ok (z, d)) × (rest_of d ≡ rest)
@@ -107,7 +107,7 @@ bytes_again part rest =
 -- ---- keys and values
 
 -- a length that has a varint
-small : (n : ℕ) → n < 2 ^ 31 → FitsSigned w32 (pos n)
+pub small : (n : ℕ) → n < 2 ^ 31 → FitsSigned w32 (pos n)
 small n lt = record { sfits = omega arith }
 
 sized_with : (bytes part rest : List ℕ) (n : ℕ) → length part ≡ n → bytes ≡ field (Varint (pos n)) ++ (part ++ rest) → bytes ≡ sized (Some part) ++ rest
@@ -142,10 +142,10 @@ value_takes bytes rest fits e =
     value_from bytes b.0 rest (varint_takes bytes b.0.0 b.0.1 fits b.1).1 b.2
 
 -- the length of what stands first
-sized_small : (part rest : List ℕ) → length (sized (Some part) ++ rest) < 2 ^ 31 → FitsSigned w32 (pos (length part))
+pub sized_small : (part rest : List ℕ) → length (sized (Some part) ++ rest) < 2 ^ 31 → FitsSigned w32 (pos (length part))
 sized_small part rest lt = small (length part) (omega (arith, length-append (sized (Some part)) rest, sized_len part))
 
-sized_varint : (part rest : List ℕ) → length (sized (Some part) ++ rest) < 2 ^ 31 → after_varint (sized (Some part) ++ rest) ≡ Some (pos (length part), part ++ rest)
+pub sized_varint : (part rest : List ℕ) → length (sized (Some part) ++ rest) < 2 ^ 31 → after_varint (sized (Some part) ++ rest) ≡ Some (pos (length part), part ++ rest)
 sized_varint part rest lt =
     ap after_varint (append_assoc (field (Varint (pos (length part)))) part rest) ∙ varint_again (pos (length part)) (part ++ rest) (sized_small part rest lt)
 
@@ -195,7 +195,7 @@ headers_again (h ∷ hs) rest lt =
     ∙ rw (header_again h (flat_map header_bytes hs ++ rest) lt2) (headers_again hs rest (tail_below (2 ^ 31) (header_bytes h) (flat_map header_bytes hs ++ rest) lt2))
 
 -- as many bytes as headers, at the least
-headers_len : (hs : List Header) → length hs ≤ length (flat_map header_bytes hs)
+pub headers_len : (hs : List Header) → length hs ≤ length (flat_map header_bytes hs)
 unfolding header_bytes
 headers_len [] = omega arith
 headers_len (h ∷ hs) =

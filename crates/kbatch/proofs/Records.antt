@@ -20,11 +20,11 @@ pub record AreRead (bytes : List ℕ) (n : ℕ) (rest : List ℕ) : Type 0 where
   pub number : length before ≡ n
   pub parts : drop 61 bytes ≡ records_from 0 before ++ rest
 
-each_more : (before : List Record) (r : Record) → AllByRecursion IsRecord before → IsRecord r → AllByRecursion IsRecord (before ++ r ∷ [])
+pub each_more : (before : List Record) (r : Record) → AllByRecursion IsRecord before → IsRecord r → AllByRecursion IsRecord (before ++ r ∷ [])
 each_more [] r each is = (is, tt)
 each_more (b ∷ before) r each is = (each.0, each_more before r each.1 is)
 
-records_more : (delta : ℕ) (before : List Record) (r : Record) → records_from delta (before ++ r ∷ []) ≡ records_from delta before ++ record_bytes (delta + length before) r
+pub records_more : (delta : ℕ) (before : List Record) (r : Record) → records_from delta (before ++ r ∷ []) ≡ records_from delta before ++ record_bytes (delta + length before) r
 records_more delta [] r =
     let place : delta ≡ delta + 0 = omega arith in
     append-nil (record_bytes delta r) ∙ ap (λ (n : ℕ). record_bytes n r) place

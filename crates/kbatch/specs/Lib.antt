@@ -14,3 +14,7 @@ pub mod Fault
 pub mod Stamp
 -- where a record ends, read from the left
 pub mod Walk
+-- a record's parts, read from the left
+pub mod Decode
+-- the batch that a writer makes of records
+pub mod Written

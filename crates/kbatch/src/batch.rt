@@ -1,13 +1,16 @@
-ghost use Rattle.std.specs.Prelude.{◌≡◌, ◌<◌, ◌≤◌, ◌^◌, List, length};
+ghost use Rattle.std.specs.Prelude.{◌≡◌, ◌<◌, ◌≤◌, ◌^◌, List, length, IfOk};
 ghost use Rattle.kbatch.specs.declared.record.Record.{Record};
 ghost use Rattle.kbatch.specs.Head.{head_size};
 ghost use Rattle.kbatch.specs.Batch.{IsBatch, most_bytes};
 ghost use Rattle.kbatch.specs.Kept.{count_of};
 ghost use Rattle.kbatch.specs.Stamp.{stamped};
 
-use crate::head::u32_at;
+use crate::decode::{Stop, copied, records};
+use crate::head::{HEAD, u32_at};
+use crate::record::Record;
 use byteorder::{BigEndian, ByteOrder};
-use kbytes::Bytes;
+use kbytes::{Bytes, List as Items, NoMemory};
+use std::alloc::Global;
 use std::marker::Model;
 
 /// The bytes of a record batch that were read and found whole, or were written so. A contract sees the bytes.
@@ -72,6 +75,27 @@ impl Batch {
         ensures most { length self.now ≤ most_bytes }
     {
         self.bytes.as_slice()
+    }
+
+    /// The records, each copied with all that it holds. After `NoMemory` nothing is handed out.
+    pub fn records(&self, alloc: Global) -> Result<Items<Record>, NoMemory>
+        ensures records { IfOk result (λ records. IsBatch self.now records) }
+        // They are its only ones.
+        ensures only { (records : List Record) → IsBatch self.now records → IfOk result (λ found. found ≡ records) }
+    {
+        let (_, bytes) = self.bytes.as_slice().split_at(HEAD);
+        match records(alloc, self.count(), bytes) {
+            Ok(records) => Ok(records),
+            Err(Stop::NoMemory) => Err(NoMemory),
+            Err(Stop::Unread) => unreachable!(),
+        }
+    }
+
+    /// A batch with the same bytes.
+    pub fn copy(&self, alloc: Global) -> Result<Batch, NoMemory>
+        ensures { IfOk result (λ batch. batch ≡ self.now) }
+    {
+        Ok(Batch::whole(copied(alloc, self.bytes.as_slice())?))
     }
 
     /// Writes the base offset, and the leader epoch 0. The crc doesn't cover them. It takes no memory.

@@ -13,7 +13,7 @@ use crate::fault::BatchFault;
 /// The bytes of a header.
 pub(crate) const HEAD: usize = 61;
 /// The most bytes of a batch.
-const MOST: usize = 1_048_588;
+pub(crate) const MOST: usize = 1_048_588;
 /// The attribute of a batch of a transaction.
 const TRANSACTIONAL: u16 = 1 << 4;
 /// The attribute of a control batch.

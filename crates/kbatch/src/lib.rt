@@ -6,17 +6,25 @@
 
 mod batch;
 mod crc;
+mod decode;
 mod fault;
 mod head;
+mod laws;
 mod read;
 mod record;
+mod size;
 mod walk;
+mod write;
+mod write_fault;
 
 pub use batch::Batch;
 pub use crc::crc32c;
 pub use fault::BatchFault;
+pub use laws::written_is_read;
 pub use read::read_batch;
 pub use record::{Header, Record};
+pub use write::write_batch;
+pub use write_fault::WriteFault;
 
 #[cfg(test)]
 mod tests;

@@ -1,6 +1,8 @@
 //! Batches whose bytes were made by a writer and a CRC-32C of their own, apart from this crate.
 
 use super::*;
+use kbytes::{Bytes, List};
+use std::alloc::Global;
 use std::test::*;
 
 // One record without a key, with the value `a`.
@@ -242,5 +244,98 @@ fn refuses_in_order(rt: HostRuntime) -> Result<(), Fail> {
         };
         assert_eq!(rt; fault, want);
     }
+    Ok(())
+}
+
+// A record at time 0, without key and headers.
+fn of_value(alloc: Global, value: &[u8]) -> Result<Record, Fail> {
+    let mut bytes = Bytes::new(alloc);
+    bytes.extend(value)?;
+    Ok(Record {
+        attributes: 0,
+        time: 0,
+        key: None,
+        value: Some(bytes),
+        headers: List::new(alloc),
+    })
+}
+
+#[test]
+fn writes_batches(rt: HostRuntime) -> Result<(), Fail> {
+    let alloc = rt.alloc();
+    let mut records = List::new(alloc);
+    records.push(of_value(alloc, b"a")?)?;
+    assert_eq!(rt;
+        write_batch(alloc, records.as_slice())?.bytes(),
+        ONE.as_slice()
+    );
+    records.push(of_value(alloc, b"b")?)?;
+    records.push(of_value(alloc, b"c")?)?;
+    assert_eq!(rt;
+        write_batch(alloc, records.as_slice())?.bytes(),
+        THREE.as_slice()
+    );
+    Ok(())
+}
+
+fn full(alloc: Global) -> Result<Batch, Fail> {
+    Ok(
+        read_batch(alloc, &FULL)
+            .ok()
+            .ok_or("the bytes are a batch")?,
+    )
+}
+
+#[test]
+fn reads_what_records_hold(rt: HostRuntime) -> Result<(), Fail> {
+    let records = full(rt.alloc())?.records(rt.alloc())?;
+    assert_eq!(rt; records.len(), 2);
+    let first = records.get(0).ok_or("a record")?;
+    assert_eq!(rt; (first.attributes, first.time), (-1, -300));
+    let key = first.key.as_ref().ok_or("a key")?;
+    assert_eq!(rt; key.as_slice(), b"key".as_slice());
+    let header = first.headers.get(0).ok_or("a header")?;
+    assert_eq!(rt; header.key.as_slice(), b"h".as_slice());
+    assert!(rt; first.headers.get(1).ok_or("a header")?.value.is_none());
+    let second = records.get(1).ok_or("a record")?;
+    assert_eq!(rt; (second.attributes, second.time), (0, 1 << 40));
+    assert!(rt; second.value.is_none());
+    Ok(())
+}
+
+#[test]
+fn writes_again_what_it_read(rt: HostRuntime) -> Result<(), Fail> {
+    let records = full(rt.alloc())?.records(rt.alloc())?;
+    let again = write_batch(rt.alloc(), records.as_slice())?;
+    assert_eq!(rt; again.bytes().get(61..), FULL.get(61..));
+    let latest: i64 = 1 << 40;
+    assert_eq!(rt;
+        again.bytes().get(35..43),
+        Some(latest.to_be_bytes().as_slice())
+    );
+    Ok(())
+}
+
+#[test]
+fn copies_have_the_same_bytes(rt: HostRuntime) -> Result<(), Fail> {
+    let copy = full(rt.alloc())?.copy(rt.alloc())?;
+    assert_eq!(rt; copy.bytes(), FULL.as_slice());
+    Ok(())
+}
+
+fn of_length(alloc: Global, length: usize) -> Result<Record, Fail> {
+    let value = vec![in alloc; b'a'; length]?;
+    of_value(alloc, value.as_slice())
+}
+
+#[test]
+fn a_batch_has_1048588_bytes_at_most(rt: HostRuntime) -> Result<(), Fail> {
+    let alloc = rt.alloc();
+    let fits = [of_length(alloc, 1_048_516)?];
+    assert_eq!(rt; write_batch(alloc, &fits)?.bytes().len(), 1_048_588);
+    let large = [of_length(alloc, 1_048_517)?];
+    let fault = WriteFault::TooLarge { bytes: 1_048_589 };
+    assert_eq!(rt; write_batch(alloc, &large).err(), Some(fault));
+    assert_eq!(rt; write_batch(alloc, &[]).err(), Some(WriteFault::NoRecords));
     Ok(())
 }

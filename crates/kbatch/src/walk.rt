@@ -5,7 +5,7 @@ ghost use Rattle.kbatch.specs.Walk.{Gives, after_varint, after_varlong, after_by
 use kbytes::Reader;
 
 #[tactic(auto, unfolding(crate::specs::Walk::after_varint))]
-fn after_varint(bytes: &[u8]) -> Option<(i32, &[u8])>
+pub(crate) fn after_varint(bytes: &[u8]) -> Option<(i32, &[u8])>
     ensures { Gives (λ x. (x.0, x.1.now)) result (after_varint bytes.now) }
 {
     let mut reader = Reader::new(bytes);
@@ -16,7 +16,7 @@ fn after_varint(bytes: &[u8]) -> Option<(i32, &[u8])>
 }
 
 #[tactic(auto, unfolding(crate::specs::Walk::after_varlong))]
-fn after_varlong(bytes: &[u8]) -> Option<(i64, &[u8])>
+pub(crate) fn after_varlong(bytes: &[u8]) -> Option<(i64, &[u8])>
     ensures { Gives (λ x. (x.0, x.1.now)) result (after_varlong bytes.now) }
 {
     let mut reader = Reader::new(bytes);

@@ -1,14 +1,14 @@
 -- The batches wholly below an offset are a front of all, since base offsets rise.
-use Rattle.std.proofs.Common.{◌≡◌, ℕ, zero, suc, ◌+◌, ◌-◌, ◌≤◌, ◌<◌, inl, inr, nat_le, List, [], ◌∷◌, ◌++◌, length, take, drop, All, arith, sym, ap, subst, ◌∙◌, refl, append_assoc}
+use Rattle.std.proofs.Common.{◌≡◌, ℕ, zero, suc, ◌+◌, ◌-◌, ◌≤◌, ◌<◌, inl, inr, nat_le, List, [], ◌∷◌, ◌++◌, length, take, drop, arith, sym, ap, ◌∙◌, refl}
 use Rattle.std.proofs.Math.Seq.{take-take}
-use Rattle.std.proofs.lemmas.List.{drop-take, take-append-drop, length-take-le}
-use Rattle.std.proofs.lemmas.List.Sums.{sum_by-cons, sum_by-take-le, sum_by-append, sum_by-take-drop}
+use Rattle.std.proofs.lemmas.List.{drop-take}
+use Rattle.std.proofs.lemmas.List.Sums.{sum_by-cons}
 use Rattle.std.proofs.lemmas.Bool.{cases_lt}
 use Rattle.std.proofs.lemmas.Bool.Decides.{nat_tests}
 use Rattle.partlog.specs.declared.event.PartEvent.{PartEvent}
 use Rattle.partlog.specs.declared.event.PartEvent.TheVariants.{Append, Follow, Look}
 use Rattle.partlog.specs.Added.{added_bytes, bytes_of, log_end_of}
-use Rattle.partlog.specs.Batches.{StoredBatch, batches_after, batches_of, next_offset}
+use Rattle.partlog.specs.Batches.{StoredBatch, batches_after, next_offset}
 use Rattle.partlog.specs.Boundary.{IsBoundary}
 use Rattle.partlog.specs.Gauges.{bytes_in, batches_below}
 use Rattle.partlog.specs.Taken.{batches_past, batches_upto, fitting}

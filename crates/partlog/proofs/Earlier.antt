@@ -1,9 +1,8 @@
 -- An earlier state of a log is a front of it.
-use Rattle.std.proofs.Common.{◌≡◌, ℕ, ◌+◌, ◌≤◌, List, [], ◌++◌, length, take, drop, arith, sym, ap, subst, ◌∙◌, refl}
+use Rattle.std.proofs.Common.{◌≡◌, ℕ, List, [], ◌++◌, length, take, drop, arith, sym, ap, subst, ◌∙◌}
 use Rattle.std.proofs.lemmas.List.{take-append-drop, length-take-le}
 use Rattle.std.proofs.lemmas.List.Elements.{All-take}
 use Rattle.std.proofs.lemmas.List.Sums.{sum_by-take-le}
-use Rattle.partlog.specs.declared.event.PartEvent.{PartEvent}
 use Rattle.partlog.specs.Added.{added_bytes, bytes_of}
 use Rattle.partlog.specs.Batches.{StoredBatch, batches_of, batches_after}
 use Rattle.partlog.specs.Gauges.{bytes_in, batches_below}
@@ -14,7 +13,7 @@ use Rattle.partlog.specs.State.{state_of, state_before, front_of, high_of}
 use Rattle.partlog.specs.Taken.{batches_past, batches_upto}
 use Rattle.partlog.proofs.Appending.{batches-append}
 use Rattle.partlog.proofs.Below.{below-fitting, past-below, upto-all, upto-below, upto-whole, batches-take}
-use Rattle.partlog.proofs.Rows.{IsFull, IsRising, rising-batches}
+use Rattle.partlog.proofs.Rows.{IsFull, IsRising}
 use Rattle.partlog.proofs.Whole.{kept-full, kept-rising}
 
 pub kept-front : (h : History) (place : ℕ) → IsKept h.log h.events → IsKept (front_of h place).log (front_of h place).events

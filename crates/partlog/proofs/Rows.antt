@@ -7,7 +7,7 @@ use Rattle.std.proofs.lemmas.List.Elements.{All-tail}
 use Rattle.partlog.specs.declared.event.PartEvent.{PartEvent}
 use Rattle.partlog.specs.declared.event.PartEvent.TheVariants.{Append, Follow, Look}
 use Rattle.partlog.specs.Added.{added_count, added_bytes, log_end_of, bytes_of}
-use Rattle.partlog.specs.Batches.{StoredBatch, batches_after, batches_of, next_offset}
+use Rattle.partlog.specs.Batches.{StoredBatch, batches_after, next_offset}
 use Rattle.partlog.specs.Kept.{IsDense}
 use Rattle.partlog.specs.Taken.{joined}
 

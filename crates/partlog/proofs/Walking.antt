@@ -1,7 +1,7 @@
 -- Going over a history, entry by entry, beside its batches.
-use Rattle.std.proofs.Common.{◌≡◌, ℕ, ◌+◌, ◌-◌, ◌≤◌, ◌<◌, get_or, List, [], ◌∷◌, ◌++◌, length, take, drop, arith, sym, ap, ◌∙◌, refl, length-drop}
+use Rattle.std.proofs.Common.{◌≡◌, ℕ, ◌+◌, ◌-◌, ◌≤◌, ◌<◌, get_or, List, [], ◌∷◌, ◌++◌, length, take, drop, arith, sym, ap, ◌∙◌, length-drop}
 use Rattle.std.proofs.lemmas.List.{take_more, drop_more, drop-drop, length-take-le}
-use Rattle.std.proofs.lemmas.List.Sums.{sum_by-cons, sum_by_more_le, sum_by-take-drop}
+use Rattle.std.proofs.lemmas.List.Sums.{sum_by_more_le, sum_by-take-drop}
 use Rattle.partlog.specs.declared.event.PartEvent.{PartEvent}
 use Rattle.partlog.specs.declared.event.PartEvent.TheVariants.{Append, Follow, Look}
 use Rattle.partlog.specs.Added.{added_bytes, bytes_of, log_end_of}
@@ -9,7 +9,7 @@ use Rattle.partlog.specs.Batches.{StoredBatch, batches_after}
 use Rattle.partlog.specs.Gauges.{bytes_in}
 use Rattle.partlog.specs.Taken.{batches_past, fitting}
 use Rattle.partlog.proofs.Appending.{bytes_in-batches}
-use Rattle.partlog.proofs.Fronts.{bytes_in-cons, fitting-more, fitting-none, past-more, past-zero}
+use Rattle.partlog.proofs.Fronts.{bytes_in-cons, fitting-more, fitting-none, past-more}
 
 -- the batches of the entries from a place of the history on
 abbrev pub batches_from : List PartEvent → ℕ → ℕ → List ℕ → List StoredBatch

@@ -1,8 +1,8 @@
 -- The batches of a log and its history.
-use Rattle.std.proofs.Common.{◌≡◌, ℕ, ◌+◌, ◌-◌, ◌≤◌, ◌<◌, ◌^◌, Bool, List, [], length, take, drop, nat_le, arith, sym, ap, subst, ◌∙◌, refl}
+use Rattle.std.proofs.Common.{◌≡◌, ℕ, ◌+◌, ◌-◌, ◌≤◌, Bool, List, [], length, take, drop, nat_le, arith, sym, ap, ◌∙◌}
 use Rattle.std.proofs.Math.Seq.{take-length}
 use Rattle.partlog.specs.declared.event.PartEvent.{PartEvent}
-use Rattle.partlog.specs.Added.{log_end_of, bytes_of}
+use Rattle.partlog.specs.Added.{log_end_of}
 use Rattle.partlog.specs.Batches.{batches_of, next_offset}
 use Rattle.partlog.specs.Boundary.{IsBoundary}
 use Rattle.partlog.specs.Gauges.{bytes_in, batches_below}

@@ -1,11 +1,11 @@
 //! Accepting a request: each partition that it names is decided in order, and where its log is asked it gets an entry.
 
-ghost use Rattle.std.specs.Prelude.{◌≡◌, ◌<◌, ◌∷◌, [], ◌++◌, length, OnOk, unwrap_or, ℤ};
+ghost use Rattle.std.specs.Prelude.{◌≡◌, ◌<◌, ◌∷◌, [], ◌++◌, length, OnOk, IfSome, IfNone, unwrap_or, ℕ, ℤ, pos, ◌≤◌};
 ghost use Rattle.kafka_room.specs.declared.kanswer.accepted.Accepted.TheVariants.{Refused};
 ghost use Rattle.partlog.specs.State.{PartState, state_of};
 ghost use Rattle.kbatch.specs.Kept.{count_of};
 ghost use Rattle.kafka_room.specs.Configuration.{partitions_of};
-ghost use Rattle.kafka_room.specs.Accepting.{Decision, AskLog, Refuse, Outcome, look, append_outcome, BatchDecides, ProduceDecides, fetch_decision, part_of, code_of};
+ghost use Rattle.kafka_room.specs.Accepting.{Decision, AskLog, Refuse, Outcome, look, append_outcome, BatchDecides, ProduceDecides, fetch_decision, part_of, code_of, is_acks};
 ghost use Rattle.kafka_room.specs.Board.{history_at};
 ghost use Rattle.kafka_room.specs.Carried.{IsCarried, HasNoFollowers, OnTerms, HasProduced, fetch_decisions};
 
@@ -17,21 +17,21 @@ use kbytes::{List, NoMemory};
 use partlog::{LogFault, PartLog, Who};
 use std::alloc::Global;
 
-/// The code of a batch fault, which isn't want of memory.
-fn code_of(fault: &BatchFault) -> i16
-    ensures { result ≡ code_of fault.now }
+// What becomes of a partition whose bytes have this fault, which isn't want of memory.
+fn refused(fault: &BatchFault) -> Accepted
+    ensures { result ≡ Refused (code_of fault.now) }
 {
     match fault {
-        BatchFault::TooLarge { .. } => 10,
-        BatchFault::Crc { .. } => 2,
-        BatchFault::Compressed { .. } => 76,
-        BatchFault::NoMemory => 0,
+        BatchFault::TooLarge { .. } => Accepted::Refused { code: 10 },
+        BatchFault::Crc { .. } => Accepted::Refused { code: 2 },
+        BatchFault::Compressed { .. } => Accepted::Refused { code: 76 },
+        BatchFault::NoMemory => Accepted::Refused { code: 0 },
         BatchFault::Short
         | BatchFault::Length { .. }
         | BatchFault::Magic { .. }
         | BatchFault::Control
         | BatchFault::Count { .. }
-        | BatchFault::Records { .. } => 87,
+        | BatchFault::Records { .. } => Accepted::Refused { code: 87 },
     }
 }
 
@@ -105,10 +105,7 @@ fn put_bytes(
         Ok(batch) => put(parts, who, part, &batch, came),
         Err(fault) => match fault {
             BatchFault::NoMemory => Err(NoMemory),
-            _ => {
-                let code = code_of(&fault);
-                refuse(came, Accepted::Refused { code }, who, parts)
-            }
+            _ => refuse(came, refused(&fault), who, parts),
         },
     }
 }
@@ -127,6 +124,15 @@ fn records_of(part: &ProducePart) -> &[u8]
 pub struct Terms {
     pub is_transactional: bool,
     pub acks: i16,
+}
+
+impl Terms {
+    // The acks are -1, 0 or 1.
+    fn has_known_acks(&self) -> bool
+        ensures { result ≡ is_acks self.now.acks }
+    {
+        self.acks == -1 || self.acks == 0 || self.acks == 1
+    }
 }
 
 // One partition of a produce.
@@ -150,7 +156,7 @@ fn accept_produce_part(
     let Some(number) = config.part_of(topic, part.index) else {
         return refuse(came, Accepted::Refused { code: 3 }, who, parts);
     };
-    if !(-1..=1).contains(&terms.acks) {
+    if !terms.has_known_acks() {
         return refuse(came, Accepted::Refused { code: 21 }, who, parts);
     }
     put_bytes(alloc, parts, who, number, records_of(part), came)
@@ -204,6 +210,18 @@ pub fn accept_produce(
     Ok(())
 }
 
+// The offset that is asked for, where it is from 0 to the log end.
+fn offset_within(asked: &FetchPart, end: u64) -> Option<u64>
+    ensures within { IfSome result (λ offset. (asked.now.offset ≡ pos offset) × (offset ≤ end)) }
+    ensures outside { IfNone result ((offset : ℕ) → asked.now.offset ≡ pos offset → end < offset) }
+{
+    if asked.offset < 0 {
+        return None;
+    }
+    let offset = asked.offset as u64;
+    if offset > end { None } else { Some(offset) }
+}
+
 // One partition of a fetch, where no topic has followers.
 fn accept_fetch_part(
     config: &Config,
@@ -227,10 +245,10 @@ fn accept_fetch_part(
         return look_at(parts, who, part, Accepted::Refused { code: 9 }, came);
     }
     let log = &parts[part as usize];
-    if asked.offset < 0 || asked.offset as u64 > log.numbers().end {
+    let Some(offset) = offset_within(asked, log.numbers().end) else {
         return look_at(parts, who, part, Accepted::Refused { code: 1 }, came);
-    }
-    let start = log.locate(asked.offset as u64);
+    };
+    let start = log.locate(offset);
     look_at(parts, who, part, Accepted::Seen { part, start }, came)
 }
 

@@ -1,7 +1,8 @@
 //! Whether all that the sessions of a trace receive are requests that wait for nothing.
 
 ghost use Rattle.std.specs.Prelude.{◌≡◌, ◌↔◌, IsTrue, IfOk};
-ghost use Rattle.kafka_room.specs.PlainStream.{IsPlainAsk, IsPlainBody, IsPlainStream, ArePlainStreams};
+ghost use Rattle.kafka_room.specs.PlainStream.{IsPlainAsk, IsPlainBody, IsPlainStream};
+ghost use Rattle.kafka_room.specs.ArePlainStreams.{ArePlainStreams};
 ghost use Rattle.kafka_room.specs.RunOf.{input_of};
 
 use crate::kwire::read_request::read_request;

@@ -1,4 +1,4 @@
-ghost use Rattle.std.specs.Prelude.{◌≡◌, ◌↔◌, ◌+◌, Contains, IsTrue, Err, OnOk, OnErr};
+ghost use Rattle.std.specs.Prelude.{◌≡◌, ◌↔◌, ◌+◌, ◌≤◌, Contains, IsTrue, Some, None, Err, OnOk, OnErr, nat_lt, if◌then◌else◌};
 ghost use Rattle.std.specs.List.{list_all};
 ghost use Rattle.kafka_room.specs.Configuration.{is_name_byte, IsTopicName, names_of};
 ghost use Rattle.kafka_room.specs.declared.kwire.config.ConfigFault.TheVariants.{NoMemory as OutOfMemory};
@@ -109,9 +109,22 @@ fn is_declared(topics: &[Topic], name: &[u8]) -> bool
     false
 }
 
+// A partition of a topic, before which so many partitions are declared.
+fn part_in(topic: &Topic, before: u32, number: u32) -> Option<u32>
+    requires { before + topic.now.partitions ≤ 64 }
+    ensures { result ≡ (if nat_lt number topic.now.partitions then Some (before + number) else None) }
+{
+    if number < topic.partitions {
+        Some(before + number)
+    } else {
+        None
+    }
+}
+
 impl Config {
-    ghost use Rattle.std.specs.Prelude.{[], ◌∷◌, ◌++◌, ◌<◌, ◌⊎◌};
-    ghost use Rattle.kafka_room.specs.Configuration.{IsTopicName, IsNewTopic, names_of, partitions_of};
+    ghost use Rattle.std.specs.Prelude.{[], ◌∷◌, ◌++◌, ◌<◌, ◌⊎◌, IfSome, slice_index, pos};
+    ghost use Rattle.kafka_room.specs.Configuration.{IsTopicName, IsNewTopic, names_of, partitions_of, followers_of};
+    ghost use Rattle.kafka_room.specs.Accepting.{part_of, part_from};
 
     /// A configuration without topics. It takes no memory.
     pub fn new(alloc: Global, port: u16) -> Config
@@ -161,18 +174,69 @@ impl Config {
         self.parts += partitions;
         Ok(())
     }
-}
 
-impl Config {
-    ghost use Rattle.std.specs.Prelude.{IfSome, ◌<◌};
-    ghost use Rattle.kafka_room.specs.Configuration.{partitions_of};
-    ghost use Rattle.kafka_room.specs.Accepting.{part_of};
-
-    /// The number of a partition, counted over all topics.
-    pub fn part_of(&self, topic: &[u8], index: i32) -> Option<u32>
-        ensures exact { result ≡ part_of self.now topic.now index }
-        ensures within { IfSome result (λ part. part < partitions_of self.now.topics) }
+    /// The port that metadata tells.
+    pub fn port(&self) -> u16
+        ensures { result ≡ self.now.port }
     {
+        self.port
+    }
+
+    /// The topics, in the order in which they were declared.
+    pub fn topics(&self) -> &[Topic]
+        ensures { result.now ≡ self.now.topics }
+    {
+        self.topics.as_slice()
+    }
+
+    /// How many partitions there are over all topics, at most 64.
+    pub fn parts(&self) -> u32
+        ensures count { result ≡ partitions_of self.now.topics }
+        ensures few { result ≤ 64 }
+    {
+        self.parts
+    }
+
+    // The number of a topic's partition, where its number in the topic is known to be none below 0.
+    fn find_part(&self, name: &[u8], number: u32) -> Option<u32>
+        ensures number { result ≡ part_from 0 self.now.topics name.now (pos number) }
+        ensures within { IfSome result (λ part. part < partitions_of self.now.topics) }
+        ensures few { partitions_of self.now.topics ≤ 64 }
+    {
+        let mut before = 0;
+        for topic in self.topics.as_slice() {
+            if topic.name.as_slice() == name {
+                return part_in(topic, before, number);
+            }
+            before += topic.partitions;
+        }
         None
+    }
+
+    /// The number of a topic's partition, counted over all topics, and `None` exactly where there is no such partition.
+    pub fn part_of(&self, topic: &[u8], index: i32) -> Option<u32>
+        ensures number { result ≡ part_of self.now topic.now index }
+        ensures within { IfSome result (λ part. part < partitions_of self.now.topics) }
+        ensures few { IfSome result (λ part. part < 64) }
+    {
+        if index < 0 {
+            return None;
+        }
+        self.find_part(topic, index as u32)
+    }
+
+    /// The number of followers of a partition, by its number over all topics.
+    pub fn followers_of(&self, part: u32) -> u32
+        requires { part < partitions_of self.now.topics }
+        ensures { result ≡ slice_index (followers_of self.now.topics) part }
+    {
+        let mut left = part;
+        for topic in self.topics.as_slice() {
+            if left < topic.partitions {
+                return topic.followers;
+            }
+            left -= topic.partitions;
+        }
+        0
     }
 }

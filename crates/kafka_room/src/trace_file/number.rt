@@ -5,6 +5,8 @@ ghost use Rattle.std.specs.Char.{digit_value};
 ghost use Rattle.std.specs.Fmt.{decimal};
 ghost use Rattle.std.specs.Str.Parse.{AllDigits, digits_value};
 
+const ZERO: u8 = b'0';
+
 /// The number that the word is: decimal digits without sign or leading zeros. `None` comes where it is written otherwise or
 /// is above `most`.
 pub fn number(word: &[u8], most: u64) -> Option<u64>
@@ -15,7 +17,7 @@ pub fn number(word: &[u8], most: u64) -> Option<u64>
     if word.is_empty() {
         return None;
     }
-    if word.len() > 1 && word[0] == b'0' {
+    if word.len() > 1 && word[0] == ZERO {
         return None;
     }
     let n = digits(word)?;

@@ -22,7 +22,7 @@ fn put_hex(out: &mut Bytes, bytes: &[u8]) -> Result<(), NoMemory>
 }
 
 // Puts the line at the end. After want of memory some of it may stand there.
-fn put_line(out: &mut Bytes, session: u32, frame: &[u8]) -> Result<(), NoMemory>
+fn put_words(out: &mut Bytes, session: u32, frame: &[u8]) -> Result<(), NoMemory>
     ensures ok { OnOk result (out.new ≡ out.old ++ line_of (codes "reply" ∷ decimal session ∷ encode_lower frame.now ∷ [])) }
     ensures front { OnErr result (take (length out.old) out.new ≡ out.old) }
 {
@@ -41,7 +41,7 @@ pub fn put_reply_line(out: &mut Bytes, session: u32, frame: &[u8]) -> Result<(),
     ensures err { OnErr result (out.new ≡ out.old) }
 {
     let before = out.len();
-    let put = put_line(out, session, frame);
+    let put = put_words(out, session, frame);
     if put.is_err() {
         out.truncate(before);
     }

@@ -1,8 +1,8 @@
-use Rattle.std.proofs.Common.{◌≡◌, ◌+◌, ◌-◌, get_or, take, arith, ◌∙◌, ap}
+use Rattle.std.proofs.Common.{◌≡◌, ◌+◌, ◌-◌, get_or, arith, ◌∙◌, ap}
 use Rattle.std.proofs.lemmas.List.Sums.{sum_by_more}
 use Rattle.partlog.specs.declared.event.PartEvent.{PartEvent}
 use Rattle.partlog.specs.declared.event.PartEvent.TheVariants.{Append}
-use Rattle.partlog.specs.Added.{added_bytes, bytes_of}
+use Rattle.partlog.specs.Added.{added_bytes}
 use Rattle.partlog.specs.Gauges.{bytes_in}
 use Rattle.partlog.specs.Taken.{batches_past}
 use Rattle.partlog.proofs.Fronts.{past-zero}

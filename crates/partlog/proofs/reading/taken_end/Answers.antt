@@ -1,4 +1,4 @@
-use Rattle.std.proofs.Common.{◌≡◌, ◌+◌, ◌-◌, min, Bool, true, false, not, List, [], arith, sym, ◌∙◌, ap}
+use Rattle.std.proofs.Common.{◌+◌, min, not, [], arith, sym, ◌∙◌, ap}
 use Rattle.partlog.specs.Batches.{batches_of}
 use Rattle.partlog.specs.Gauges.{bytes_in}
 use Rattle.partlog.specs.Taken.{taken, batches_past, batches_upto}

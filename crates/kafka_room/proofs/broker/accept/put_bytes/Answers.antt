@@ -1,6 +1,4 @@
 use Rattle.std.proofs.Common.{◌≡◌, ℕ, ℤ, List, [], ◌∷◌, length, refl, sym, ap, subst, ◌∙◌, inl, inr}
-use Rattle.std.proofs.lemmas.Int.{to_z-of_z}
-use Rattle.std.specs.Int.{w16}
 use Rattle.kbatch.specs.Kept.{count_of}
 use Rattle.kbatch.proofs.Batches.{batch_count}
 use Rattle.kafka_room.specs.Accepting.{append_outcome, Outcome, AskLog, Refuse, code_of, Decision}
@@ -20,5 +18,6 @@ returns-in-Ok c =
       subst D (ap (λ (n : ℕ). AskLog c.args.part (append_outcome c.args.part n c.in-Ok.batch)) count ∙ ap (λ (bs : List ℕ). AskLog c.args.part (append_outcome c.args.part (length b.0) bs)) bytes) k,
     ))
 
-pub returns-in-Err-default : goal.returns-in-Err-default
-returns-in-Err-default c = ?
+pub returns-in_default : goal.returns-in_default
+returns-in_default c =
+    on_ok c.refuse.result c.refuse.ensures (λ k. (Refuse (code_of c.in-Err.fault), inl (c.in-Err.fault, (c.in-Err.ensures.fault c.in-Err.fault c.in_default.not-NoMemory).0 refl, refl), k (code_of c.in-Err.fault) c.refused.ensures))

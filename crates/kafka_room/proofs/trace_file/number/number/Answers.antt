@@ -1,11 +1,10 @@
-use Rattle.std.proofs.Common.{◌≡◌, ◌≢◌, ◌<◌, ◌≤◌, ◌^◌, ℕ, List, Option, None, length, get_or, rules, arith, sym, ap, subst, ◌∙◌}
-use Rattle.std.specs.Fmt.{decimal}
-use Rattle.std.specs.Str.Parse.{AllDigits, digits_value}
+use Rattle.std.proofs.Common.{◌≡◌, ◌<◌, ℕ, List, None, length, get_or, rules, arith, sym, ap, ◌∙◌}
+use Rattle.std.specs.Str.Parse.{digits_value}
 use Rattle.std.proofs.lemmas.Bool.Decides.{nat_tests}
 use Rattle.std.proofs.lemmas.Fmt.{decimal_nonempty}
 use Rattle.kafka_room.proofs.Numbers.{digits_are, decimal_leads, decimal_value}
 use Rattle.kafka_room.proofs.trace_file.number.number.Goals as goal
-use Rattle.kafka_room.proofs.trace_file.number.number.Goals.{else-word-gt1-via-then-word-gt1+else-word-eq48, else-word-gt1-via-else-word-gt1}
+use Rattle.kafka_room.proofs.trace_file.number.number.Goals.{else-word-gt1-via-then-word-gt1+else-word-eq-ZERO, else-word-gt1-via-else-word-gt1}
 
 pub returns-then-is_empty-clause-none : goal.returns-then-is_empty-clause-none
 returns-then-is_empty-clause-none c = λ n le is.
@@ -13,9 +12,9 @@ returns-then-is_empty-clause-none c = λ n le is.
     let e = ap length is in
     grind (arith, nat_tests)
 
-pub returns-then-word-eq48-clause-none : goal.returns-then-word-eq48-clause-none
-returns-then-word-eq48-clause-none c = λ n le is.
-    let one = decimal_leads n (omega arith) (sym (ap (λ (w : List ℕ). get_or w 0 0) is) ∙ c.if-word-eq48.true) in
+pub returns-then-word-eq-ZERO-clause-none : goal.returns-then-word-eq-ZERO-clause-none
+returns-then-word-eq-ZERO-clause-none c = λ n le is.
+    let one = decimal_leads n (omega arith) (sym (ap (λ (w : List ℕ). get_or w 0 0) is) ∙ c.if-word-eq-ZERO.true) in
     absurd (omega (arith, one, ap length is))
 
 pub returns-in_err-n-clause-none : goal.returns-in_err-n-clause-none
@@ -30,7 +29,7 @@ returns-then-n-most-clause-some c =
     let word = c.args.word.now in
     let lead : get_or word 0 0 ≡ 48 → length word ≡ 1 = λ zero.
     elim c.else-word-gt1.branch [
-      | else-word-gt1-via-then-word-gt1+else-word-eq48 w ↦ absurd (w.if-word-eq48.false zero)
+      | else-word-gt1-via-then-word-gt1+else-word-eq-ZERO w ↦ absurd (w.if-word-eq-ZERO.false zero)
       | else-word-gt1-via-else-word-gt1 w ↦ grind (arith, nat_tests)
     ]
     in

@@ -1,5 +1,4 @@
-use Rattle.std.proofs.Common.{◌≡◌, ◌≢◌, length, arith, ◌∙◌}
-use Rattle.kafka_room.proofs.Pieces.{pieces_of-cut, pieces_of-last}
+use Rattle.kafka_room.proofs.Pieces.{pieces_of-cut}
 use Rattle.kafka_room.proofs.trace_file.pieces.next_piece.Goals as goal
 
 pub returns-in-Some-clause-piece : goal.returns-in-Some-clause-piece

@@ -2,7 +2,7 @@ use Rattle.std.proofs.Common.{◌≡◌, List, [], ◌∷◌, ◌++◌, rules, s
 use Rattle.kafka_room.specs.Configuration.{Configuration}
 use Rattle.kafka_room.specs.declared.trace_file.line.Line.{Line}
 use Rattle.kafka_room.specs.PlainFront.{IsPlainFront}
-use Rattle.kafka_room.proofs.PlainFronts.{front_more, front_refuses}
+use Rattle.kafka_room.proofs.PlainFronts.{front_more}
 use Rattle.kafka_room.proofs.trace_file.plain_trace.take.Goals as goal
 
 pub returns-clause-front : goal.returns-clause-front

@@ -1,6 +1,5 @@
-use Rattle.std.proofs.Common.{◌≡◌, ◌≢◌, ℕ, List, ◌∷◌, eqb, rules, sym, ap, subst, ◌∙◌}
+use Rattle.std.proofs.Common.{◌≡◌, ◌≢◌, ℕ, List, ◌∷◌, eqb, rules, ap, subst, ◌∙◌}
 use Rattle.std.specs.Prelude.{codes}
-use Rattle.kafka_room.specs.declared.trace_file.line.Line.{Line}
 use Rattle.kafka_room.specs.IsLine.{words_of, AreWordsOf}
 use Rattle.kafka_room.proofs.Pieces.{first_part}
 use Rattle.kafka_room.proofs.Lines.{a_topic, a_feed, no_kind, fault-weaker}

@@ -1,5 +1,4 @@
-use Rattle.std.proofs.Common.{◌≡◌, ◌≤◌, length, List, ℕ, arith, ap, subst, ◌∙◌}
-use Rattle.partlog.specs.declared.event.PartEvent.{PartEvent}
+use Rattle.std.proofs.Common.{◌≤◌, length, arith, ap, subst}
 use Rattle.partlog.specs.Added.{log_end_of}
 use Rattle.partlog.specs.Boundary.{IsBoundary}
 use Rattle.partlog.specs.History.{History}

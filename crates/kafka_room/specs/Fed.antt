@@ -1,0 +1,44 @@
+-- What a broker keeps of the lines that it was given, where no session was closed, no time passed and nothing waits.
+use Rattle.std.specs.Prelude.{ℕ, ◌≡◌, ◌⊎◌, ◌<◌, Bool, true, false, List, [], ◌++◌, length, Option, Some, None, unwrap_or, MatchBool}
+use Rattle.std.specs.List.{AllByRecursion, flat_map}
+use Rattle.kafka_room.specs.declared.audit.account.Transcript.{Transcript}
+use Rattle.kafka_room.specs.declared.audit.account.Call.{Call}
+use Rattle.kafka_room.specs.declared.audit.account.CallHow.TheVariants.{Quiet, AtOnce}
+use Rattle.kafka_room.specs.declared.trace_file.line.Line.{Line}
+use Rattle.kafka_room.specs.Frames.{framed, IsFrameBody}
+use Rattle.kafka_room.specs.Fits.{IsUnfinished}
+use Rattle.kafka_room.specs.RunOf.{input_of, is_named}
+use Rattle.kafka_room.specs.Board.{Board, Seat, new_transcript, seat_at}
+
+-- a call that needn't wait
+abbrev pub IsPlainCall : Call → Type 0
+IsPlainCall call = (call.how ≡ Quiet) ⊎ (call.how ≡ AtOnce)
+
+pub record IsTameTranscript (n : ℕ) (t : Transcript) : Type 0 where
+  pub number : t.number ≡ n
+  pub first : t.first ≡ 0
+  pub no_end : t.end ≡ None
+  pub plain : AllByRecursion IsPlainCall t.calls
+
+-- the frames of calls, one after the other
+abbrev pub frames_of : List Call → List ℕ
+frames_of calls = flat_map (λ call. framed call.frame) calls
+
+-- a session's seat, where this is all that it received, and this whether it was named
+pub record IsFedSeat (s : ℕ) (input : List ℕ) (named : Bool) (seat : Seat) : Type 0 where
+  pub is_open : seat.is_shut ≡ false
+  pub there : MatchBool named ((t : Transcript) × (seat.transcript ≡ Some t)) (seat.transcript ≡ None)
+  pub tame : IsTameTranscript s (unwrap_or seat.transcript (new_transcript s))
+  pub parts : input ≡ frames_of (unwrap_or seat.transcript (new_transcript s)).calls ++ seat.inbox
+  pub each : AllByRecursion (λ call. IsFrameBody call.frame) (unwrap_or seat.transcript (new_transcript s)).calls
+
+pub record IsFedBy (fed : List Line) (board : Board) : Type 0 where
+  pub size : length board.seats ≡ 64
+  pub no_clock : board.clock ≡ []
+  pub no_waiting : board.waiting ≡ []
+  pub few : (s : ℕ) → is_named s fed ≡ true → s < 64
+  pub seats : (s : ℕ) → s < 64 → IsFedSeat s (input_of s fed) (is_named s fed) (seat_at board s)
+
+-- nothing more can be read of what the sessions received
+abbrev pub IsAtRest : Board → Type 0
+IsAtRest board = (s : ℕ) → s < 64 → IsUnfinished (seat_at board s).inbox

@@ -1,0 +1,32 @@
+-- From what the reply to a request that needn't wait is computed: what became of each named partition, and its log as it is
+-- after the whole acceptance. A produce that doesn't ask for all replicas needs no state, and a look changes none.
+use Rattle.std.specs.Prelude.{ℕ, ◌≡◌, ◌<◌, ◌≤◌, List, length, map, slice_get, Some, ⊤}
+use Rattle.std.specs.List.{AllZip, AllByRecursion}
+use Rattle.partlog.specs.History.{History}
+use Rattle.partlog.specs.State.{state_of}
+use Rattle.kafka_room.specs.declared.kwire.request.Ask.{Ask}
+use Rattle.kafka_room.specs.declared.kwire.request.Ask.TheVariants.{Produce, Fetch, Metadata, Versions}
+use Rattle.kafka_room.specs.declared.kanswer.accepted.Accepted.{Accepted}
+use Rattle.kafka_room.specs.declared.kanswer.accepted.Accepted.TheVariants.{Refused, Appended, Seen}
+use Rattle.kafka_room.specs.AreReadings.{named_count}
+use Rattle.kafka_room.specs.Board.{history_at}
+use Rattle.kafka_room.specs.Delayed.{Shown, results_of}
+
+-- a partition that is seen is shown as its log is
+abbrev pub ShowsLog : List History → Shown → Type 0
+ShowsLog parts s = ShowsAs parts s.result s
+  where
+    ShowsAs : List History → Accepted → Shown → Type 0
+    ShowsAs parts (Refused code) s = ⊤
+    ShowsAs parts (Appended part base count) s = ⊤
+    ShowsAs parts (Seen part start) s = s.state ≡ state_of (history_at parts part)
+
+-- the partitions that are named stand for logs that are there
+abbrev pub HasLog : List History → Accepted → Type 0
+HasLog parts (Refused code) = ⊤
+HasLog parts (Appended part base count) = part < length parts
+HasLog parts (Seen part start) = part < length parts
+
+pub record ShowsLogs (parts : List History) (ask : Ask) (accepted : List Accepted) (shown : List Shown) : Type 0 where
+  pub results : results_of shown ≡ accepted
+  pub states : AllByRecursion (ShowsLog parts) shown

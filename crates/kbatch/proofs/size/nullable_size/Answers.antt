@@ -1,0 +1,10 @@
+use Rattle.std.proofs.Common.{◌≡◌, ◌-◌, ◌^◌, min, length, arith, sym, ap, ◌∙◌, negsuc}
+use Rattle.kbytes.specs.Field.{field, groups, Varint}
+use Rattle.kbatch.specs.Record.{sized}
+use Rattle.kbatch.proofs.Sizes.{groups_one}
+use Rattle.kbatch.proofs.size.nullable_size.Goals as goal
+
+pub returns-in-None : goal.returns-in-None
+returns-in-None c =
+    let one : length (groups 4 1) ≡ 1 = groups_one 4 1 (omega arith) in
+    rw c.in-None.is (omega (arith, one))

@@ -1,0 +1,16 @@
+//! Laws of batches. They do nothing.
+
+ghost use Rattle.std.specs.Prelude.{◌≡◌, ℕ, List, drop};
+ghost use Rattle.kbatch.specs.declared.record.Record.{Record};
+ghost use Rattle.kbatch.specs.Batch.{IsBatch};
+ghost use Rattle.kbatch.specs.Head.{head_size};
+ghost use Rattle.kbatch.specs.Written.{written};
+
+/// Law: bytes are a batch of one list of records at most, so what is written is read again. And what is read of a batch is
+/// written again as the same bytes behind the header.
+pub fn written_is_read()
+    ensures once { (bytes : List ℕ) (records others : List Record) → IsBatch bytes records → IsBatch bytes others
+        → records ≡ others }
+    ensures again { (bytes : List ℕ) (records : List Record) → IsBatch bytes records
+        → drop head_size (written records) ≡ drop head_size bytes }
+{}

@@ -1,0 +1,156 @@
+ghost use Rattle.std.specs.Prelude.{◌≡◌, ℕ, ◌+◌, ◌*◌, ◌/◌, ◌^◌, ◌<◌, ◌≤◌, [], ◌∷◌, ◌++◌, length, All, IfOk, vec_len};
+ghost use Rattle.turn_lock.specs.Locks.{known, lock_id, lock_name, lock_passes, AreFresh, IsPassOf, IsReady};
+
+use super::*;
+use crate::examples::{Numbers, Shelf, add_one, take_off};
+use kbytes::{List, NoMemory};
+use std::alloc::Global;
+use std::sync::Wait;
+use std::test::*;
+use std::thread::{Threads, map_vec};
+
+// A pass with its number.
+#[derive(Drop)]
+struct Lane {
+    number: u64,
+    pass: TurnPass<Numbers>,
+}
+
+// In each of 500 turns the pass adds one number.
+fn add_500(rt: &impl Wait, lock: &TurnLock<Numbers>, lane: Lane) -> TurnPass<Numbers>
+    requires number { ((known lane.pass).number ≡ lane.number) × (lane.number < 2 ^ 32) }
+    requires pass { IsPassOf (λ n. []) lock.now lane.pass × IsReady lane.pass }
+    ensures { IsPassOf (λ n. []) lock.now result × IsReady result }
+{
+    let Lane { number, mut pass } = lane;
+    for at in 0u64..500 {
+        add_one(rt, lock, &mut pass, 1000 * number + at);
+    }
+    pass
+}
+
+fn lanes(
+    alloc: Global,
+    lock: &TurnLock<Numbers>,
+    mut passes: List<TurnPass<Numbers>>,
+) -> Result<Vec<Lane>, NoMemory>
+    requires { AreFresh (lock_id lock.now) (lock_name (λ n. []) lock.now) passes × (length passes < 2 ^ 32) }
+    ensures len { IfOk result (λ v. vec_len v ≡ length passes) }
+    ensures each { IfOk result (λ v. All (λ l. ((known l.pass).number ≡ l.number) × (l.number < 2 ^ 32) × IsPassOf (λ n. []) lock.now l.pass × IsReady l.pass) v.items) }
+{
+    let mut lanes = Vec::new(alloc);
+    while let Some(pass) = passes.pop() {
+        let number = passes.len() as u64;
+        lanes.push(Lane { number, pass })?;
+    }
+    Ok(lanes)
+}
+
+fn given_back(
+    alloc: Global,
+    passes: Vec<TurnPass<Numbers>>,
+) -> Result<List<TurnPass<Numbers>>, NoMemory>
+    ensures { IfOk result (λ l. l ≡ passes.items) }
+{
+    let mut list = List::new(alloc);
+    for pass in passes {
+        list.push(pass)?;
+    }
+    Ok(list)
+}
+
+// So many threads take 500 turns each.
+fn add_in_threads<R: Threads + Wait + Sync>(
+    rt: &R,
+    alloc: Global,
+    count: u32,
+) -> Result<Numbers, NoMemory>
+    requires { 1 ≤ count }
+{
+    let numbers = Numbers {
+        items: Vec::with_capacity(alloc, 500 * count as usize)?,
+    };
+    let (lock, passes) = TurnLock::make(alloc, numbers, count)?;
+    let lanes = lanes(alloc, &lock, passes)?;
+    let done = map_vec(
+        rt,
+        lanes,
+        &|lane: Lane| -> TurnPass<Numbers>
+            requires { ((known lane.pass).number ≡ lane.number) × (lane.number < 2 ^ 32) × IsPassOf (λ n. []) lock lane.pass × IsReady lane.pass }
+            ensures { IsPassOf (λ n. []) lock result × IsReady result }
+        { add_500(rt, &lock, lane) },
+    )?;
+    Ok(lock.close(given_back(alloc, done)?))
+}
+
+// Whether the numbers of each pass stand in their order, and 500 of each.
+fn is_in_order(numbers: &Numbers, passes: u32) -> bool {
+    (0..passes).all(|pass| {
+        let first = 1000 * pass as u64;
+        numbers
+            .items
+            .iter()
+            .filter(|n| **n / 1000 == pass as u64)
+            .copied()
+            .eq(first..first + 500)
+    })
+}
+
+#[test]
+fn two_threads_of_500_turns(rt: HostRuntime) -> Result<(), Fail> {
+    let numbers = add_in_threads(&rt, rt.alloc(), 2)?;
+    assert_eq!(rt; numbers.count(), 1_000);
+    assert!(rt; is_in_order(&numbers, 2));
+    Ok(())
+}
+
+#[test]
+fn eight_threads_of_500_turns(rt: HostRuntime) -> Result<(), Fail> {
+    let numbers = add_in_threads(&rt, rt.alloc(), 8)?;
+    assert_eq!(rt; numbers.count(), 4_000);
+    assert!(rt; is_in_order(&numbers, 8));
+    Ok(())
+}
+
+// The one pass of a lock.
+fn only_pass<T: Kept>(
+    lock: &TurnLock<T>,
+    mut passes: List<TurnPass<T>>,
+) -> Result<TurnPass<T>, NoMemory>
+    requires { AreFresh (lock_id lock.now) (lock_name T.name lock.now) passes × (length passes ≡ 1) }
+    ensures { IfOk result (λ p. IsPassOf T.name lock.now p × IsReady p × ((known p).number ≡ 0)) }
+{
+    passes.pop().ok_or(NoMemory)
+}
+
+#[test]
+fn a_take_in_mid_run(rt: HostRuntime) -> Result<(), Fail> {
+    let numbers = Numbers {
+        items: Vec::with_capacity(rt.alloc(), 2)?,
+    };
+    let (lock, passes) = TurnLock::make(rt.alloc(), numbers, 1)?;
+    let mut pass = only_pass(&lock, passes)?;
+    add_one(&rt, &lock, &mut pass, 5);
+    let mut turn = lock.turn(&rt, &mut pass);
+    turn.value_mut().add(6);
+    assert_eq!(rt; turn.value().count(), 2);
+    let numbers = turn.take();
+    assert_eq!(rt; numbers.items.as_slice(), [5u64, 6].as_slice());
+    Ok(())
+}
+
+#[test]
+fn a_value_without_entries(rt: HostRuntime) -> Result<(), Fail> {
+    let shelf = Shelf {
+        number: 7,
+        items: Vec::from_elem(rt.alloc(), 3, 2)?,
+    };
+    let (lock, passes) = TurnLock::make(rt.alloc(), shelf, 1)?;
+    let mut pass = only_pass(&lock, passes)?;
+    assert_eq!(rt; take_off(&rt, &lock, &mut pass), Some(3));
+    let mut passes = List::new(rt.alloc());
+    passes.push(pass)?;
+    let shelf = lock.close(passes);
+    assert!(rt; shelf.number == 7 && shelf.items.len() == 1);
+    Ok(())
+}
