@@ -45,3 +45,4 @@ pub mod Lookups
 pub mod Spelled
 pub mod Tallies
 pub mod ReadingSteps
+pub mod PlainStreams

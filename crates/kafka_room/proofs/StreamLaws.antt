@@ -75,6 +75,30 @@ whole_within stream end e =
       | inr enough ↦ size_within (length stream) (cast_signed w32 (from_be_bytes w32 (take 4 stream))) end (rw (le-ltb (length stream) 4 enough) at e)
     ]
 
+size_before : (available : ℕ) (size : ℤ) (end : ℕ) → frame_of_size available size ≡ Whole end → 4 ≤ end
+size_before available (negsuc n) end e = absurd cc
+size_before available (pos n) end e =
+    elim (cases_lt 8388608 n) [
+      | inl large ↦ let other : TooLong (pos n) ≡ Whole end = rw (lt-ltb 8388608 n large) at e in absurd cc
+      | inr small ↦
+          let this : cond (ltb available (4 + n)) NotYet (Whole (4 + n)) ≡ Whole end = rw (le-ltb 8388608 n small) at e in
+          elim (cases_lt available (4 + n)) [
+            | inl short ↦ let other : NotYet ≡ Whole end = rw (lt-ltb available (4 + n) short) at this in absurd cc
+            | inr enough ↦
+                let whole : Whole (4 + n) ≡ Whole end = rw (le-ltb available (4 + n) enough) at this in
+                let ends : 4 + n ≡ end = cc in
+                omega (arith, ends)
+          ]
+    ]
+
+-- its size stands before its body
+pub whole_before : (stream : List ℕ) (end : ℕ) → next_frame_of stream ≡ Whole end → 4 ≤ end
+whole_before stream end e =
+    elim (cases_lt (length stream) 4) [
+      | inl few ↦ let other : NotYet ≡ Whole end = rw (lt-ltb (length stream) 4 few) at e in absurd cc
+      | inr enough ↦ size_before (length stream) (cast_signed w32 (from_be_bytes w32 (take 4 stream))) end (rw (le-ltb (length stream) 4 enough) at e)
+    ]
+
 -- ---- streams of frames, of which these bytes came and those come later
 
 frames_front : (body : List ℕ) (bodies : List (List ℕ)) → IsFrameBody body → next_frame_of (flat_map framed (body ∷ bodies)) ≡ Whole (4 + length body)

@@ -98,3 +98,5 @@ pub mod IsSpellable
 pub mod Ready
 -- a request that needn't wait was accepted and answered
 pub mod AtOnce
+-- traces whose sessions receive such streams
+pub mod ArePlainStreams
