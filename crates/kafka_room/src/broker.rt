@@ -4,10 +4,7 @@ pub mod accept;
 pub mod came;
 pub mod desk;
 pub mod handle;
-pub mod lone;
 pub mod plain;
-pub mod reply;
 pub mod summary;
 pub mod tally;
 
-pub use lone::Lone;
