@@ -34,6 +34,15 @@ module _ {A : Type 0} where
   in_longer (z ∷ zs) x zero y at = inl at
   in_longer (z ∷ zs) x (suc k) y at = ⊎_elim (λ h. inl h) (λ (h : (k ≡ length zs) × (x ≡ y)). inr (ap suc h.0, h.1)) (in_longer zs x k y at)
 
+  at_end : (xs : List A) (x : A) → slice_get (xs ++ x ∷ []) (length xs) ≡ Some x
+  at_end [] x = refl
+  at_end (z ∷ zs) x = at_end zs x
+
+  at_longer : (xs : List A) (x : A) (k : ℕ) (y : A) → slice_get xs k ≡ Some y → slice_get (xs ++ x ∷ []) k ≡ Some y
+  at_longer [] x k y at = absurd (false≢true (ap is_there at))
+  at_longer (z ∷ zs) x zero y at = at
+  at_longer (z ∷ zs) x (suc k) y at = at_longer zs x k y at
+
 module _ (E : Type 0) (name : List ℕ) where
   -- the first of the passes that are left
   pub fresh_more : (first left : ℕ) → 0 < left → fresh_from {E = E} name first left ≡ fresh name first ∷ fresh_from name (first + 1) (left - 1)
@@ -47,3 +56,11 @@ module _ {T E : Type 0} where
       (λ (old : slice_get ps k ≡ Some q). fresh_ones k q old)
       (λ (new : (k ≡ length ps) × (p ≡ q)). subst (λ (z : ℕ × TurnPass T E). (z.1.seat.table_id ≡ id) × (z.1.seat.me ≡ (fresh name z.0 ∷ [], []))) (λ i. (sym new.0 i, new.1 i)) (is, me))
       (in_longer ps p k q at)
+
+  -- the last of them is ready, and the others are as before
+  pub fresh_popped : (id : TableId) (name : List ℕ) (ps qs : List (TurnPass T E)) (p : TurnPass T E) → AreFresh id name ps → ps ≡ qs ++ p ∷ []
+      → AreFresh id name qs × (p.seat.table_id ≡ id) × (p.seat.me ≡ (fresh name (length qs) ∷ [], []))
+  fresh_popped id name ps qs p ones is =
+      let there : AreFresh id name (qs ++ p ∷ []) = subst (AreFresh id name) is ones in
+      let last = there (length qs) p (at_end qs p) in
+      ((λ k q at. there k q (at_longer qs p k q at)), last.0, last.1)

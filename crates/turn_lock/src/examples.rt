@@ -1,16 +1,19 @@
 //! How a value is put behind a turn lock: one with a history, and one without entries.
-ghost use Rattle.std.specs.Prelude.{◌≡◌, ℕ, ◌/◌, [], ◌∷◌, ◌++◌, length};
+ghost use Rattle.std.specs.Prelude.{◌≡◌, ℕ, ◌/◌, [], ◌∷◌, ◌++◌, ◌^◌, ◌<◌, length, All, IfOk, OnErr, OnOk, vec_len};
 ghost use Rattle.turn_lock.specs.AddedBy.{AddedBy};
-ghost use Rattle.turn_lock.specs.Locks.{known, IsPassOf, IsReady};
+ghost use Rattle.turn_lock.specs.Locks.{known, lock_id, lock_name, AreFresh, IsPassOf, IsReady};
 
 use crate::kept::Kept;
 use crate::lock::TurnLock;
 use crate::pass::TurnPass;
+use kbytes::{List, NoMemory};
+use std::alloc::Global;
 use std::sync::Wait;
 
-/// Numbers in the order in which they came. The thousands of a number are its pass.
+/// A series of numbers, in the order in which they came. The thousands of a number are its pass.
 #[derive(Drop)]
 pub struct Numbers {
+    pub series: u64,
     pub items: Vec<u64>,
 }
 
@@ -21,7 +24,7 @@ impl Kept for Numbers {
 
     ghost by = { λ e. e / 1000 };
 
-    ghost name = { λ n. [] };
+    ghost name = { λ n. n.series ∷ [] };
 
     fn count(&self) -> u64 {
         self.items.len() as u64
@@ -29,24 +32,61 @@ impl Kept for Numbers {
 }
 
 impl Numbers {
-    /// Adds a number, unless no memory is left.
-    pub fn add(&mut self, number: u64)
-        ensures { AddedBy (λ e. e / 1000) (number / 1000) self.old.items.items self.new.items.items }
+    /// Adds a number at the end.
+    pub fn add(&mut self, number: u64) -> Result<(), NoMemory>
+        ensures ok { OnOk result (self.new.items.items ≡ self.old.items.items ++ number ∷ []) }
+        ensures err { OnErr result (self.new.items.items ≡ self.old.items.items) }
+        ensures history { AddedBy (λ e. e / 1000) (number / 1000) self.old.items.items self.new.items.items }
+        ensures series { self.new.series ≡ self.old.series }
     {
-        let _ = self.items.push(number);
+        self.items.push(number)?;
+        Ok(())
     }
 }
 
 /// One turn, in which the pass adds a number.
-pub fn add_one(rt: &impl Wait, lock: &TurnLock<Numbers>, pass: &mut TurnPass<Numbers>, number: u64)
+pub fn add_one(
+    rt: &impl Wait,
+    lock: &TurnLock<Numbers>,
+    pass: &mut TurnPass<Numbers>,
+    number: u64,
+) -> Result<(), NoMemory>
     requires number { number / 1000 ≡ (known pass.old).number }
-    requires pass { IsPassOf (λ n. []) lock.now pass.old × IsReady pass.old }
+    requires pass { IsPassOf (λ n. n.series ∷ []) lock.now pass.old × IsReady pass.old }
+    ensures ok { OnOk result ((known pass.new).mine ≡ (known pass.old).mine ++ number ∷ []) }
+    ensures err { OnErr result ((known pass.new).mine ≡ (known pass.old).mine) }
     ensures number { (known pass.new).number ≡ (known pass.old).number }
-    ensures pass { IsPassOf (λ n. []) lock.now pass.new × IsReady pass.new }
+    ensures pass { IsPassOf (λ n. n.series ∷ []) lock.now pass.new × IsReady pass.new }
 {
     let mut turn = lock.turn(rt, pass);
-    turn.value_mut().add(number);
+    let added = turn.value_mut().add(number);
     lock.end(pass, turn);
+    added
+}
+
+/// A pass with its number.
+#[derive(Drop)]
+pub struct Lane {
+    pub number: u64,
+    pub pass: TurnPass<Numbers>,
+}
+
+/// The passes that `TurnLock::make` gave, each with its number, to be handed to threads.
+pub fn lanes(
+    alloc: Global,
+    lock: &TurnLock<Numbers>,
+    mut passes: List<TurnPass<Numbers>>,
+) -> Result<Vec<Lane>, NoMemory>
+    requires { AreFresh (lock_id lock.now) (lock_name (λ n. n.series ∷ []) lock.now) passes × (length passes < 2 ^ 32) }
+    ensures len { IfOk result (λ v. vec_len v ≡ length passes) }
+    ensures each { IfOk result (λ v. All (λ l. ((known l.pass).number ≡ l.number) × (l.number < 2 ^ 32) × IsPassOf (λ n. n.series ∷ []) lock.now l.pass × IsReady l.pass) v.items) }
+{
+    let mut lanes = Vec::new(alloc);
+    while let Some(pass) = passes.pop() {
+        let number = passes.len() as u64;
+        lanes.push(Lane { number, pass })?;
+    }
+    Ok(lanes)
 }
 
 /// A numbered shelf: what lies on it is nobody's history, and its number is its name.
@@ -68,15 +108,4 @@ impl Kept for Shelf {
     fn count(&self) -> u64 {
         0
     }
-}
-
-/// One turn, in which an item is taken off the shelf.
-pub fn take_off(rt: &impl Wait, lock: &TurnLock<Shelf>, pass: &mut TurnPass<Shelf>) -> Option<u64>
-    requires { IsPassOf (λ s. s.number ∷ []) lock.now pass.old × IsReady pass.old }
-    ensures { IsPassOf (λ s. s.number ∷ []) lock.now pass.new × IsReady pass.new }
-{
-    let mut turn = lock.turn(rt, pass);
-    let item = turn.value_mut().items.pop();
-    lock.end(pass, turn);
-    item
 }

@@ -19,7 +19,7 @@
 //!     type Entry = u64;
 //!     ghost entries = { λ n. n.items.items };
 //!     ghost by = { λ e. e / 1000 };                // the pass of a number is its thousands
-//!     ghost name = { λ n. [] };
+//!     ghost name = { λ n. n.series ∷ [] };
 //!     fn count(&self) -> u64 { self.items.len() as u64 }
 //! }
 //! ```
@@ -36,7 +36,7 @@
 //! }
 //! ```
 //!
-//! `src/examples.rt` has both whole, with a turn of each.
+//! `src/examples.rt` has both whole, with a turn of the first.
 //!
 //! # How the proof goes
 //!

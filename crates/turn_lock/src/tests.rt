@@ -2,48 +2,24 @@ ghost use Rattle.std.specs.Prelude.{◌≡◌, ℕ, ◌+◌, ◌*◌, ◌/◌, �
 ghost use Rattle.turn_lock.specs.Locks.{known, lock_id, lock_name, lock_passes, AreFresh, IsPassOf, IsReady};
 
 use super::*;
-use crate::examples::{Numbers, Shelf, add_one, take_off};
+use crate::examples::{Lane, Numbers, Shelf, add_one, lanes};
 use kbytes::{List, NoMemory};
 use std::alloc::Global;
 use std::sync::Wait;
 use std::test::*;
 use std::thread::{Threads, map_vec};
 
-// A pass with its number.
-#[derive(Drop)]
-struct Lane {
-    number: u64,
-    pass: TurnPass<Numbers>,
-}
-
 // In each of 500 turns the pass adds one number.
 fn add_500(rt: &impl Wait, lock: &TurnLock<Numbers>, lane: Lane) -> TurnPass<Numbers>
     requires number { ((known lane.pass).number ≡ lane.number) × (lane.number < 2 ^ 32) }
-    requires pass { IsPassOf (λ n. []) lock.now lane.pass × IsReady lane.pass }
-    ensures { IsPassOf (λ n. []) lock.now result × IsReady result }
+    requires pass { IsPassOf (λ n. n.series ∷ []) lock.now lane.pass × IsReady lane.pass }
+    ensures { IsPassOf (λ n. n.series ∷ []) lock.now result × IsReady result }
 {
     let Lane { number, mut pass } = lane;
     for at in 0u64..500 {
-        add_one(rt, lock, &mut pass, 1000 * number + at);
+        let _ = add_one(rt, lock, &mut pass, 1000 * number + at);
     }
     pass
-}
-
-fn lanes(
-    alloc: Global,
-    lock: &TurnLock<Numbers>,
-    mut passes: List<TurnPass<Numbers>>,
-) -> Result<Vec<Lane>, NoMemory>
-    requires { AreFresh (lock_id lock.now) (lock_name (λ n. []) lock.now) passes × (length passes < 2 ^ 32) }
-    ensures len { IfOk result (λ v. vec_len v ≡ length passes) }
-    ensures each { IfOk result (λ v. All (λ l. ((known l.pass).number ≡ l.number) × (l.number < 2 ^ 32) × IsPassOf (λ n. []) lock.now l.pass × IsReady l.pass) v.items) }
-{
-    let mut lanes = Vec::new(alloc);
-    while let Some(pass) = passes.pop() {
-        let number = passes.len() as u64;
-        lanes.push(Lane { number, pass })?;
-    }
-    Ok(lanes)
 }
 
 fn given_back(
@@ -68,6 +44,7 @@ fn add_in_threads<R: Threads + Wait + Sync>(
     requires { 1 ≤ count }
 {
     let numbers = Numbers {
+        series: 1,
         items: Vec::with_capacity(alloc, 500 * count as usize)?,
     };
     let (lock, passes) = TurnLock::make(alloc, numbers, count)?;
@@ -76,8 +53,8 @@ fn add_in_threads<R: Threads + Wait + Sync>(
         rt,
         lanes,
         &|lane: Lane| -> TurnPass<Numbers>
-            requires { ((known lane.pass).number ≡ lane.number) × (lane.number < 2 ^ 32) × IsPassOf (λ n. []) lock lane.pass × IsReady lane.pass }
-            ensures { IsPassOf (λ n. []) lock result × IsReady result }
+            requires { ((known lane.pass).number ≡ lane.number) × (lane.number < 2 ^ 32) × IsPassOf (λ n. n.series ∷ []) lock lane.pass × IsReady lane.pass }
+            ensures { IsPassOf (λ n. n.series ∷ []) lock result × IsReady result }
         { add_500(rt, &lock, lane) },
     )?;
     Ok(lock.close(given_back(alloc, done)?))
@@ -126,15 +103,18 @@ fn only_pass<T: Kept>(
 #[test]
 fn a_take_in_mid_run(rt: HostRuntime) -> Result<(), Fail> {
     let numbers = Numbers {
+        series: 1,
         items: Vec::with_capacity(rt.alloc(), 2)?,
     };
     let (lock, passes) = TurnLock::make(rt.alloc(), numbers, 1)?;
     let mut pass = only_pass(&lock, passes)?;
-    add_one(&rt, &lock, &mut pass, 5);
+    add_one(&rt, &lock, &mut pass, 5)?;
     let mut turn = lock.turn(&rt, &mut pass);
-    turn.value_mut().add(6);
-    assert_eq!(rt; turn.value().count(), 2);
+    let added = turn.value_mut().add(6);
+    let count = turn.value().count();
     let numbers = turn.take();
+    added?;
+    assert_eq!(rt; count, 2);
     assert_eq!(rt; numbers.items.as_slice(), [5u64, 6].as_slice());
     Ok(())
 }
@@ -147,10 +127,12 @@ fn a_value_without_entries(rt: HostRuntime) -> Result<(), Fail> {
     };
     let (lock, passes) = TurnLock::make(rt.alloc(), shelf, 1)?;
     let mut pass = only_pass(&lock, passes)?;
-    assert_eq!(rt; take_off(&rt, &lock, &mut pass), Some(3));
+    let mut turn = lock.turn(&rt, &mut pass);
+    let item = turn.value_mut().items.pop();
+    lock.end(&mut pass, turn);
     let mut passes = List::new(rt.alloc());
     passes.push(pass)?;
     let shelf = lock.close(passes);
-    assert!(rt; shelf.number == 7 && shelf.items.len() == 1);
+    assert!(rt; item == Some(3) && shelf.number == 7 && shelf.items.len() == 1);
     Ok(())
 }
