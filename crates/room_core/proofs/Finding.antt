@@ -6,7 +6,8 @@ use Rattle.room_core.specs.Gauges.{clock_of}
 use Rattle.room_core.specs.Description.{tally}
 use Rattle.room_core.specs.Readings.{known}
 use Rattle.room_core.specs.State.{State, Caller, Scanner}
-use Rattle.room_core.specs.Duty.{OwnerFinds, ScannerFinds, ShardFinds, FindsTally, FindsTime}
+use Rattle.room_core.specs.Duty.{IsOnDuty, OwnerFinds, ScannerFinds, ShardFinds, FindsTally, FindsTime, owner_readings, met_readings}
+use Rattle.room_core.specs.Checks.{IsDuty}
 use Rattle.room_core.proofs.Tallies.{tally_rises}
 
 unwrap_rises : (o : Option ℕ) (v w : ℕ) → v ≤ w → unwrap_or o v ≤ unwrap_or o w
@@ -39,3 +40,30 @@ module _ {F G : (ℕ → Option ℕ) → Type 0} (finds : (r : ℕ → Option �
 -- either way goes on
 pub either_too : {A B C D : Type 0} → (A → C) → (B → D) → A ⊎ B → C ⊎ D
 either_too f g = ⊎_elim (λ a. inl (f a)) (λ b. inr (g b))
+
+-- who keeps the duty and knows no less finds the operation too
+module _ (shape : Shape) (words value : ℕ → ℕ) (old new : Caller) (duty : IsOnDuty old.stage → IsOnDuty new.stage) (knows : (g : ℕ) → known (owner_readings old.stage old.readings) value g ≤ known (owner_readings new.stage new.readings) value g) where
+  pub owner_tally : OwnerFinds (FindsTally words value) old → OwnerFinds (FindsTally words value) new
+  owner_tally f = record {
+    on_duty = duty f.on_duty;
+    found = tally_knows words value value (owner_readings old.stage old.readings) (owner_readings new.stage new.readings) knows f.found;
+  }
+
+  pub owner_time : OwnerFinds (FindsTime shape words value) old → OwnerFinds (FindsTime shape words value) new
+  owner_time f = record {
+    on_duty = duty f.on_duty;
+    found = time_knows shape words value value (owner_readings old.stage old.readings) (owner_readings new.stage new.readings) knows f.found;
+  }
+
+module _ (shape : Shape) (words value : ℕ → ℕ) (old new : Scanner) (pass generation : ℕ) (duty : IsDuty (old.duties pass) generation → IsDuty (new.duties pass) generation) (knows : (g : ℕ) → known (met_readings old.meeting old.readings pass) value g ≤ known (met_readings new.meeting new.readings pass) value g) where
+  pub scanner_tally : ScannerFinds (FindsTally words value) old pass generation → ScannerFinds (FindsTally words value) new pass generation
+  scanner_tally f = record {
+    on_duty = duty f.on_duty;
+    found = tally_knows words value value (met_readings old.meeting old.readings pass) (met_readings new.meeting new.readings pass) knows f.found;
+  }
+
+  pub scanner_time : ScannerFinds (FindsTime shape words value) old pass generation → ScannerFinds (FindsTime shape words value) new pass generation
+  scanner_time f = record {
+    on_duty = duty f.on_duty;
+    found = time_knows shape words value value (met_readings old.meeting old.readings pass) (met_readings new.meeting new.readings pass) knows f.found;
+  }

@@ -2,9 +2,35 @@
 pub mod Puts
 -- sums over needs
 pub mod Tallies
+-- tests, and the phases and stages that they tell
+pub mod Tests
 -- who finds an operation, under other values, readings and parts
 pub mod Finding
+-- what is known by readings that were taken, or lost
+pub mod Known
 -- what is carried, without the wins
 pub mod Kept
+-- an event that changes one caller alone
+pub mod Callers
+-- an event that changes one scanner alone
+pub mod Scanners
+-- an event's change of one word of a pass alone
+pub mod Words
+-- wins where nobody wins, and where one does
+pub mod Winners
 -- Store
 pub mod Storing
+-- Hush
+pub mod Hushing
+-- Hear
+pub mod Hearing
+-- Relieve
+pub mod Relieving
+-- Learn
+pub mod Learning
+-- Read, by a pass
+pub mod PassReading
+-- Read, by a scanner
+pub mod ScannerReading
+-- Peek
+pub mod Peeking

@@ -21,26 +21,26 @@ IsOnDuty Waiting = ⊥
 IsOnDuty (Over how by) = ⊥
 
 -- an owner's readings are those of its check
-unfoldable pub owner_readings : Caller → ℕ → Option ℕ
-owner_readings caller = if is_checking caller.stage then caller.readings else unread
+unfoldable pub owner_readings : Stage → (ℕ → Option ℕ) → ℕ → Option ℕ
+owner_readings stage readings = if is_checking stage then readings else unread
 
 abbrev pub is_met : Option Meeting → ℕ → Bool
 is_met None pass = false
 is_met (Some meeting) pass = meeting.pass == pass
 
 -- a scanner's readings are those of its meeting of the pass
-unfoldable pub met_readings : Scanner → ℕ → ℕ → Option ℕ
-met_readings scanner pass = if is_met scanner.meeting pass then scanner.readings else unread
+unfoldable pub met_readings : Option Meeting → (ℕ → Option ℕ) → ℕ → ℕ → Option ℕ
+met_readings meeting readings pass = if is_met meeting pass then readings else unread
 
 -- the owner has the duty, and finds the operation by its readings
 pub record OwnerFinds (finds : (ℕ → Option ℕ) → Type 0) (caller : Caller) : Type 0 where
   pub on_duty : IsOnDuty caller.stage
-  pub found : finds (owner_readings caller)
+  pub found : finds (owner_readings caller.stage caller.readings)
 
 -- a scanner has a duty on the operation of this generation, and finds it by its readings
 pub record ScannerFinds (finds : (ℕ → Option ℕ) → Type 0) (scanner : Scanner) (pass generation : ℕ) : Type 0 where
   pub on_duty : IsDuty (scanner.duties pass) generation
-  pub found : finds (met_readings scanner pass)
+  pub found : finds (met_readings scanner.meeting scanner.readings pass)
 
 -- a shard's scanner does
 pub record ShardFinds (finds : (ℕ → Option ℕ) → Type 0) (scanner : ℕ → Scanner) (pass generation : ℕ) : Type 0 where

@@ -1,12 +1,57 @@
-//! Laws of the machine. They do nothing.
+//! Laws of the machine: each event keeps what is carried. They do nothing.
 ghost use Rattle.std.specs.Prelude.{ℕ};
+ghost use Rattle.room_core.specs.declared.event.How.{How};
 ghost use Rattle.room_core.specs.Carried.{IsCarried};
-ghost use Rattle.room_core.specs.Quiet.{IsQuiet};
-ghost use Rattle.room_core.specs.Scans.{CanStore, storing};
+ghost use Rattle.room_core.specs.Checks.{CanReadPass, CanReadScanner, pass_reading, scanner_reading};
+ghost use Rattle.room_core.specs.Meetings.{CanLearn, learning};
+ghost use Rattle.room_core.specs.Passes.{CanPeek, peeking};
+ghost use Rattle.room_core.specs.Scans.{CanHear, CanHush, CanRelieve, CanStore, hearing, hushing, relieving, storing};
 ghost use Rattle.room_core.specs.State.{State};
-ghost use Rattle.room_core.specs.Step.{IsAllowed, changed};
 
 /// Law: a source that stores keeps what is carried.
 pub fn store_keeps()
-    ensures { (s : State) (gauge value : ℕ) → IsCarried s → CanStore s gauge value → IsCarried (storing s gauge value) }
+    ensures { (s : State) (gauge value : ℕ) → IsCarried s → CanStore s gauge value
+        → IsCarried (storing s gauge value) }
+{}
+
+/// Law: a source that sees what is asked keeps what is carried.
+pub fn hush_keeps()
+    ensures { (s : State) (gauge : ℕ) → IsCarried s → CanHush s gauge
+        → IsCarried (hushing s gauge) }
+{}
+
+/// Law: a scanner that hears what is asked keeps what is carried.
+pub fn hear_keeps()
+    ensures { (s : State) (scanner gauge : ℕ) → IsCarried s → CanHear s scanner gauge
+        → IsCarried (hearing s scanner gauge) }
+{}
+
+/// Law: a pass that sees a scan begun keeps what is carried.
+pub fn relieve_keeps()
+    ensures { (s : State) (pass gauge : ℕ) → IsCarried s → CanRelieve s pass gauge
+        → IsCarried (relieving s pass gauge) }
+{}
+
+/// Law: a scanner that learns a word keeps what is carried.
+pub fn learn_keeps()
+    ensures { (s : State) (scanner pass at : ℕ) → IsCarried s → CanLearn s scanner pass at
+        → IsCarried (learning s scanner pass at) }
+{}
+
+/// Law: a pass that reads a value keeps what is carried.
+pub fn pass_reading_keeps()
+    ensures { (s : State) (pass gauge : ℕ) → IsCarried s → CanReadPass s pass gauge
+        → IsCarried (pass_reading s pass gauge) }
+{}
+
+/// Law: a scanner that reads a value keeps what is carried.
+pub fn scanner_reading_keeps()
+    ensures { (s : State) (scanner gauge : ℕ) → IsCarried s → CanReadScanner s scanner gauge
+        → IsCarried (scanner_reading s scanner gauge) }
+{}
+
+/// Law: a pass that looks at its word keeps what is carried.
+pub fn peek_keeps()
+    ensures { (s : State) (pass : ℕ) → IsCarried s → CanPeek s pass
+        → IsCarried (peeking s pass) }
 {}
