@@ -28,9 +28,13 @@ pub mod Hearing
 pub mod Relieving
 -- Learn
 pub mod Learning
+-- Marked
+pub mod SeeingMarks
 -- Read, by a pass
 pub mod PassReading
 -- Read, by a scanner
 pub mod ScannerReading
+-- Leave, by the owner
+pub mod PassLeaving
 -- Peek
 pub mod Peeking

@@ -2,9 +2,9 @@
 ghost use Rattle.std.specs.Prelude.{ℕ};
 ghost use Rattle.room_core.specs.declared.event.How.{How};
 ghost use Rattle.room_core.specs.Carried.{IsCarried};
-ghost use Rattle.room_core.specs.Checks.{CanReadPass, CanReadScanner, pass_reading, scanner_reading};
+ghost use Rattle.room_core.specs.Checks.{CanLeavePass, CanReadPass, CanReadScanner, pass_leaving, pass_reading, scanner_reading};
 ghost use Rattle.room_core.specs.Meetings.{CanLearn, learning};
-ghost use Rattle.room_core.specs.Passes.{CanPeek, peeking};
+ghost use Rattle.room_core.specs.Passes.{CanPeek, CanSeeMark, peeking, seeing_mark};
 ghost use Rattle.room_core.specs.Scans.{CanHear, CanHush, CanRelieve, CanStore, hearing, hushing, relieving, storing};
 ghost use Rattle.room_core.specs.State.{State};
 
@@ -38,6 +38,12 @@ pub fn learn_keeps()
         → IsCarried (learning s scanner pass at) }
 {}
 
+/// Law: a pass that sees a mark keeps what is carried.
+pub fn marked_keeps()
+    ensures { (s : State) (pass at : ℕ) → IsCarried s → CanSeeMark s pass at
+        → IsCarried (seeing_mark s pass at) }
+{}
+
 /// Law: a pass that reads a value keeps what is carried.
 pub fn pass_reading_keeps()
     ensures { (s : State) (pass gauge : ℕ) → IsCarried s → CanReadPass s pass gauge
@@ -48,6 +54,12 @@ pub fn pass_reading_keeps()
 pub fn scanner_reading_keeps()
     ensures { (s : State) (scanner gauge : ℕ) → IsCarried s → CanReadScanner s scanner gauge
         → IsCarried (scanner_reading s scanner gauge) }
+{}
+
+/// Law: a pass that leaves its check keeps what is carried.
+pub fn pass_leaving_keeps()
+    ensures { (s : State) (pass gauge : ℕ) → IsCarried s → CanLeavePass s pass gauge
+        → IsCarried (pass_leaving s pass gauge) }
 {}
 
 /// Law: a pass that looks at its word keeps what is carried.
