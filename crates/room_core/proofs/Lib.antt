@@ -18,6 +18,8 @@ pub mod Scanners
 pub mod Words
 -- wins where nobody wins, and where one does
 pub mod Winners
+-- a scanner that drops duties and entries
+pub mod Dropping
 -- Store
 pub mod Storing
 -- Hush
@@ -26,6 +28,8 @@ pub mod Hushing
 pub mod Hearing
 -- Relieve
 pub mod Relieving
+-- Meet
+pub mod Meetings
 -- Learn
 pub mod Learning
 -- Marked
@@ -36,5 +40,7 @@ pub mod PassReading
 pub mod ScannerReading
 -- Leave, by the owner
 pub mod PassLeaving
+-- Leave, by a scanner
+pub mod ScannerLeaving
 -- Peek
 pub mod Peeking

@@ -2,8 +2,8 @@
 ghost use Rattle.std.specs.Prelude.{ℕ};
 ghost use Rattle.room_core.specs.declared.event.How.{How};
 ghost use Rattle.room_core.specs.Carried.{IsCarried};
-ghost use Rattle.room_core.specs.Checks.{CanLeavePass, CanReadPass, CanReadScanner, pass_leaving, pass_reading, scanner_reading};
-ghost use Rattle.room_core.specs.Meetings.{CanLearn, learning};
+ghost use Rattle.room_core.specs.Checks.{CanLeavePass, CanLeaveScanner, CanReadPass, CanReadScanner, pass_leaving, pass_reading, scanner_leaving, scanner_reading};
+ghost use Rattle.room_core.specs.Meetings.{CanLearn, CanMeet, learning, scanner_meeting};
 ghost use Rattle.room_core.specs.Passes.{CanPeek, CanSeeMark, peeking, seeing_mark};
 ghost use Rattle.room_core.specs.Scans.{CanHear, CanHush, CanRelieve, CanStore, hearing, hushing, relieving, storing};
 ghost use Rattle.room_core.specs.State.{State};
@@ -30,6 +30,12 @@ pub fn hear_keeps()
 pub fn relieve_keeps()
     ensures { (s : State) (pass gauge : ℕ) → IsCarried s → CanRelieve s pass gauge
         → IsCarried (relieving s pass gauge) }
+{}
+
+/// Law: a scanner that meets a pass keeps what is carried.
+pub fn meet_keeps()
+    ensures { (s : State) (scanner pass : ℕ) → IsCarried s → CanMeet s scanner pass
+        → IsCarried (scanner_meeting s scanner pass) }
 {}
 
 /// Law: a scanner that learns a word keeps what is carried.
@@ -60,6 +66,12 @@ pub fn scanner_reading_keeps()
 pub fn pass_leaving_keeps()
     ensures { (s : State) (pass gauge : ℕ) → IsCarried s → CanLeavePass s pass gauge
         → IsCarried (pass_leaving s pass gauge) }
+{}
+
+/// Law: a scanner that leaves its check keeps what is carried.
+pub fn scanner_leaving_keeps()
+    ensures { (s : State) (scanner pass gauge : ℕ) → IsCarried s → CanLeaveScanner s scanner pass gauge
+        → IsCarried (scanner_leaving s scanner pass gauge) }
 {}
 
 /// Law: a pass that looks at its word keeps what is carried.
