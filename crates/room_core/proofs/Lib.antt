@@ -22,6 +22,8 @@ pub mod Winners
 pub mod Dropping
 -- Store
 pub mod Storing
+-- Ask
+pub mod Asking
 -- Hush
 pub mod Hushing
 -- Hear
@@ -32,6 +34,8 @@ pub mod Relieving
 pub mod Meetings
 -- Learn
 pub mod Learning
+-- Mark
+pub mod Marking
 -- Marked
 pub mod SeeingMarks
 -- Read, by a pass

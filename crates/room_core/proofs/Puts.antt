@@ -1,5 +1,5 @@
 -- Tables with one value given anew.
-use Rattle.std.proofs.Common.{⊎_elim, ◌≡◌, ◌≢◌, ◌⊎◌, ℕ, sym, ap, refl, subst, cond}
+use Rattle.std.proofs.Common.{⊎_elim, ◌≡◌, ◌≢◌, ◌⊎◌, ℕ, sym, ap, refl, subst, cond, ◌∙◌}
 use Rattle.std.proofs.lemmas.Bool.{eq-eqb, ne_eqb, cases_eq}
 use Rattle.room_core.specs.Put.{put}
 
@@ -29,3 +29,11 @@ at-puts f g i x y P here other j =
     (λ (n : j ≢ i).
     subst (λ a. P j a (put g i y j)) (sym (put-other f i x j n)) (subst (P j (f j)) (sym (put-other g i y j n)) (other j n)))
     (cases_eq j i)
+
+-- one value of a table of tables
+pub at-place : {A : Type 0} (f : ℕ → ℕ → A) (i p : ℕ) (x : A) (P : ℕ → ℕ → A → Type 0) → P i p x → ((j q : ℕ) → P j q (f j q)) → (j q : ℕ) → P j q (put f i (put (f i) p x) j q)
+at-place f i p x P here other =
+    at-put f i (put (f i) p x) (λ j row. (q : ℕ) → P j q (row q)) (at-put (f i) p x (P i) here (λ q n. other i q)) (λ j n q. other j q)
+
+pub place-same : {A : Type 0} (f : ℕ → ℕ → A) (i p : ℕ) (x : A) → put f i (put (f i) p x) i p ≡ x
+place-same f i p x = ap (λ row. row p) (put-same f i (put (f i) p x)) ∙ put-same (f i) p x

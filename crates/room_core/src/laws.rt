@@ -3,15 +3,21 @@ ghost use Rattle.std.specs.Prelude.{ℕ};
 ghost use Rattle.room_core.specs.declared.event.How.{How};
 ghost use Rattle.room_core.specs.Carried.{IsCarried};
 ghost use Rattle.room_core.specs.Checks.{CanLeavePass, CanLeaveScanner, CanReadPass, CanReadScanner, pass_leaving, pass_reading, scanner_leaving, scanner_reading};
-ghost use Rattle.room_core.specs.Meetings.{CanLearn, CanMeet, learning, scanner_meeting};
+ghost use Rattle.room_core.specs.Meetings.{CanLearn, CanMark, CanMeet, learning, marking, scanner_meeting};
 ghost use Rattle.room_core.specs.Passes.{CanPeek, CanSeeMark, peeking, seeing_mark};
-ghost use Rattle.room_core.specs.Scans.{CanHear, CanHush, CanRelieve, CanStore, hearing, hushing, relieving, storing};
+ghost use Rattle.room_core.specs.Scans.{CanAsk, CanHear, CanHush, CanRelieve, CanStore, asking, hearing, hushing, relieving, storing};
 ghost use Rattle.room_core.specs.State.{State};
 
 /// Law: a source that stores keeps what is carried.
 pub fn store_keeps()
     ensures { (s : State) (gauge value : ℕ) → IsCarried s → CanStore s gauge value
         → IsCarried (storing s gauge value) }
+{}
+
+/// Law: a pass that asks for a scan keeps what is carried.
+pub fn ask_keeps()
+    ensures { (s : State) (pass gauge value : ℕ) → IsCarried s → CanAsk s pass gauge value
+        → IsCarried (asking s pass gauge value) }
 {}
 
 /// Law: a source that sees what is asked keeps what is carried.
@@ -42,6 +48,12 @@ pub fn meet_keeps()
 pub fn learn_keeps()
     ensures { (s : State) (scanner pass at : ℕ) → IsCarried s → CanLearn s scanner pass at
         → IsCarried (learning s scanner pass at) }
+{}
+
+/// Law: a scanner that lists and marks an operation keeps what is carried.
+pub fn mark_keeps()
+    ensures { (s : State) (scanner pass at : ℕ) → IsCarried s → CanMark s scanner pass at
+        → IsCarried (marking s scanner pass at) }
 {}
 
 /// Law: a pass that sees a mark keeps what is carried.
