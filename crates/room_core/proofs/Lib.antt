@@ -30,6 +30,10 @@ pub mod Hushing
 pub mod Hearing
 -- Relieve
 pub mod Relieving
+-- Describe
+pub mod Describing
+-- Open
+pub mod Opening
 -- Meet
 pub mod Meetings
 -- Learn
@@ -48,3 +52,5 @@ pub mod PassLeaving
 pub mod ScannerLeaving
 -- Peek
 pub mod Peeking
+-- Idle
+pub mod Idling

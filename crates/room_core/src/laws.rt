@@ -4,7 +4,7 @@ ghost use Rattle.room_core.specs.declared.event.How.{How};
 ghost use Rattle.room_core.specs.Carried.{IsCarried};
 ghost use Rattle.room_core.specs.Checks.{CanLeavePass, CanLeaveScanner, CanReadPass, CanReadScanner, pass_leaving, pass_reading, scanner_leaving, scanner_reading};
 ghost use Rattle.room_core.specs.Meetings.{CanLearn, CanMark, CanMeet, learning, marking, scanner_meeting};
-ghost use Rattle.room_core.specs.Passes.{CanPeek, CanSeeMark, peeking, seeing_mark};
+ghost use Rattle.room_core.specs.Passes.{CanDescribe, CanIdle, CanOpen, CanPeek, CanSeeMark, describing, idling, opening, peeking, seeing_mark};
 ghost use Rattle.room_core.specs.Scans.{CanAsk, CanHear, CanHush, CanRelieve, CanStore, asking, hearing, hushing, relieving, storing};
 ghost use Rattle.room_core.specs.State.{State};
 
@@ -36,6 +36,18 @@ pub fn hear_keeps()
 pub fn relieve_keeps()
     ensures { (s : State) (pass gauge : ℕ) → IsCarried s → CanRelieve s pass gauge
         → IsCarried (relieving s pass gauge) }
+{}
+
+/// Law: a pass that describes its operation keeps what is carried.
+pub fn describe_keeps()
+    ensures { (s : State) (pass at word : ℕ) → IsCarried s → CanDescribe s pass at
+        → IsCarried (describing s pass at word) }
+{}
+
+/// Law: a pass that opens its operation keeps what is carried.
+pub fn open_keeps()
+    ensures { (s : State) (pass : ℕ) → IsCarried s → CanOpen s pass
+        → IsCarried (opening s pass) }
 {}
 
 /// Law: a scanner that meets a pass keeps what is carried.
@@ -90,4 +102,10 @@ pub fn scanner_leaving_keeps()
 pub fn peek_keeps()
     ensures { (s : State) (pass : ℕ) → IsCarried s → CanPeek s pass
         → IsCarried (peeking s pass) }
+{}
+
+/// Law: a pass that takes how its operation ended keeps what is carried.
+pub fn idle_keeps()
+    ensures { (s : State) (pass : ℕ) → IsCarried s → CanIdle s pass
+        → IsCarried (idling s pass) }
 {}

@@ -1,0 +1,80 @@
+-- Win, by the owner: the operation is open no more, and the owner is Over as the word says.
+use Rattle.std.proofs.Common.{⊎_elim, inl, inr, ◌≡◌, ◌≢◌, ◌⊎◌, ℕ, ◌+◌, ◌-◌, ◌<◌, ◌≤◌, List, [], ◌∷◌, ◌++◌, Bool, true, false, cond, sym, ap, refl, subst, ◌∙◌, arith}
+use Rattle.std.specs.Prelude.{nat_lt}
+use Rattle.std.proofs.lemmas.Bool.{cases_eq, cases_lt, lt-ltb, le-ltb}
+use Rattle.room_core.specs.declared.event.How.{How}
+use Rattle.room_core.specs.declared.parts.Phase.{Phase}
+use Rattle.room_core.specs.declared.parts.Phase.TheVariants.{Open, Won}
+use Rattle.room_core.specs.declared.parts.Session.{Session}
+use Rattle.room_core.specs.declared.parts.Prize.{Prize}
+use Rattle.room_core.specs.declared.parts.Stage.{Stage}
+use Rattle.room_core.specs.declared.parts.Stage.TheVariants.{Listing, Checking}
+use Rattle.room_core.specs.Put.{put}
+use Rattle.room_core.specs.Duty.{IsOpen, OwnerFinds, FindsTally, FindsTime}
+use Rattle.room_core.specs.Sound.{Agree, WinsAreSound}
+use Rattle.room_core.specs.Meetings.{is_live}
+use Rattle.room_core.specs.Wins.{prizes_as, taken_as, won_as, taken_at, won_at, wins_of}
+use Rattle.room_core.specs.Passes.{peeked}
+use Rattle.room_core.specs.Checks.{CanWinPass, pass_winning, caller_wins, exchanged, with_prize}
+use Rattle.room_core.specs.Carried.{IsCarried}
+use Rattle.room_core.specs.State.{State, Caller, Scanner}
+use Rattle.room_core.proofs.Puts.{at-put, put-same, put-other}
+use Rattle.room_core.proofs.Tests.{live_open, live_generation}
+use Rattle.room_core.proofs.Words.{kept_by_exchange, with_session, exchanged_or}
+use Rattle.room_core.proofs.Kept.{IsKept, kept_of, carried}
+use Rattle.room_core.proofs.Callers.{CallerStays, kept_by_caller}
+use Rattle.room_core.proofs.Peeking.{peeked_agrees, peeked_open}
+use Rattle.room_core.proofs.Winners.{wins_of-same}
+use Rattle.room_core.proofs.Prizes.{prize_or, wins_of-caller, wins_of-others, prize_counted, won_once}
+
+module _ (s : State) (p : ℕ) (how : How) (k : IsKept s) (can : CanWinPass s p how) where
+  middle : IsKept (with_session s p (exchanged (s.session p) (s.caller p).generation how (17 + p)))
+  middle = kept_by_exchange s p (s.caller p).generation how (17 + p) k
+
+  here : put s.session p (exchanged (s.session p) (s.caller p).generation how (17 + p)) p ≡ exchanged (s.session p) (s.caller p).generation how (17 + p)
+  here = put-same s.session p (exchanged (s.session p) (s.caller p).generation how (17 + p))
+
+  as_before : (P : Stage → Type 0) → IsOpen (with_session s p (exchanged (s.session p) (s.caller p).generation how (17 + p))) p → P (s.caller p).stage
+      → P (peeked (exchanged (s.session p) (s.caller p).generation how (17 + p)).phase (s.caller p).stage)
+  as_before P o = subst P (sym (peeked_open (exchanged (s.session p) (s.caller p).generation how (17 + p)).phase (s.caller p).stage (subst (λ w. w.phase ≡ Open) here o)))
+
+  stays : CallerStays (with_session s p (exchanged (s.session p) (s.caller p).generation how (17 + p))) p (caller_wins (s.caller p) p how (s.session p))
+  stays = record {
+    owed = middle.debts.owed p;
+    owes = λ g l h. h;
+    greatest = middle.readings.greatest p;
+    readings = middle.readings.owner p;
+    generation = refl;
+    description = λ at. refl;
+    stage =
+      subst (λ w. Agree (peeked (exchanged (s.session p) (s.caller p).generation how (17 + p)).phase (s.caller p).stage) w.phase) (sym here)
+      (peeked_agrees (exchanged (s.session p) (s.caller p).generation how (17 + p)).phase (s.caller p).stage
+      (subst (λ w. Agree (s.caller p).stage w.phase) here (middle.owners.stage p)));
+    busy = λ b e. let c : (s.caller p).stage ≡ Checking = can.1 in cc;
+    seen = middle.listings.seen p;
+    complete = λ i o n. middle.listings.complete p i o (λ e. let c : (s.caller p).stage ≡ Checking = can.1 in cc);
+    tally = λ o f. as_before (λ st. OwnerFinds (FindsTally (s.description p) s.value) (record (caller_wins (s.caller p) p how (s.session p)) { stage = st })) o (record { on_duty = f.on_duty; found = f.found });
+    time = λ o f. as_before (λ st. OwnerFinds (FindsTime s.shape (s.description p) s.value) (record (caller_wins (s.caller p) p how (s.session p)) { stage = st })) o (record { on_duty = f.on_duty; found = f.found });
+    taken = refl;
+  }
+
+  pub kept : IsKept (pass_winning s p how)
+  kept = kept_by_caller (with_session s p (exchanged (s.session p) (s.caller p).generation how (17 + p))) p (caller_wins (s.caller p) p how (s.session p)) middle stays
+
+  taken_same : (q : ℕ) → (put s.caller p (caller_wins (s.caller p) p how (s.session p)) q).taken ≡ (s.caller q).taken
+  taken_same = at-put s.caller p (caller_wins (s.caller p) p how (s.session p)) (λ q c. c.taken ≡ (s.caller q).taken) refl (λ q n. refl)
+
+  won : is_live (s.session p) (s.caller p).generation ≡ true → WinsAreSound s → WinsAreSound (pass_winning s p how)
+  won live w = record {
+    counted = λ by pass generation as.
+      prize_counted s.session p (17 + p) how (s.caller p).generation live (wins_of s.scanner s.caller) (wins_of s.scanner (put s.caller p (caller_wins (s.caller p) p how (s.session p))))
+      (λ q. (s.caller q).taken) w.counted
+      (wins_of-caller s.scanner s.caller p (caller_wins (s.caller p) p how (s.session p)) ∙ prize_or (s.session p) (s.caller p).generation (s.caller p).wins _ live
+      ∙ ap (λ x. x ++ record { pass = p; generation = (s.caller p).generation; how = how } ∷ []) (wins_of-own s.scanner s.caller p))
+      (wins_of-others s.scanner s.caller p (caller_wins (s.caller p) p how (s.session p)))
+      by pass generation as
+      ∙ ap (λ x. taken_as x generation as by + won_as (put s.session p (exchanged (s.session p) (s.caller p).generation how (17 + p)) pass) generation as by) (sym (taken_same pass));
+    once = λ pass generation.
+      subst (λ x. taken_at x generation + won_at (put s.session p (exchanged (s.session p) (s.caller p).generation how (17 + p)) pass) generation ≤ 1) (sym (taken_same pass))
+      (won_once s p (s.caller p).generation how (17 + p) k w pass generation);
+  }
