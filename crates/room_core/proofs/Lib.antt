@@ -18,6 +18,8 @@ pub mod Scanners
 pub mod Words
 -- wins where nobody wins, and where one does
 pub mod Winners
+-- a win more
+pub mod Prizes
 -- a scanner that drops duties and entries
 pub mod Dropping
 -- Store
@@ -50,6 +52,10 @@ pub mod ScannerReading
 pub mod PassLeaving
 -- Leave, by a scanner
 pub mod ScannerLeaving
+-- Win, by the owner
+pub mod PassWinning
+-- Win, by a scanner
+pub mod ScannerWinning
 -- Peek
 pub mod Peeking
 -- Idle

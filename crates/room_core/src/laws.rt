@@ -2,7 +2,7 @@
 ghost use Rattle.std.specs.Prelude.{ℕ};
 ghost use Rattle.room_core.specs.declared.event.How.{How};
 ghost use Rattle.room_core.specs.Carried.{IsCarried};
-ghost use Rattle.room_core.specs.Checks.{CanLeavePass, CanLeaveScanner, CanReadPass, CanReadScanner, pass_leaving, pass_reading, scanner_leaving, scanner_reading};
+ghost use Rattle.room_core.specs.Checks.{CanLeavePass, CanLeaveScanner, CanReadPass, CanReadScanner, CanWinPass, CanWinScanner, pass_leaving, pass_reading, pass_winning, scanner_leaving, scanner_reading, scanner_winning};
 ghost use Rattle.room_core.specs.Meetings.{CanLearn, CanMark, CanMeet, learning, marking, scanner_meeting};
 ghost use Rattle.room_core.specs.Passes.{CanDescribe, CanIdle, CanOpen, CanPeek, CanSeeMark, describing, idling, opening, peeking, seeing_mark};
 ghost use Rattle.room_core.specs.Scans.{CanAsk, CanHear, CanHush, CanRelieve, CanStore, asking, hearing, hushing, relieving, storing};
@@ -96,6 +96,18 @@ pub fn pass_leaving_keeps()
 pub fn scanner_leaving_keeps()
     ensures { (s : State) (scanner pass gauge : ℕ) → IsCarried s → CanLeaveScanner s scanner pass gauge
         → IsCarried (scanner_leaving s scanner pass gauge) }
+{}
+
+/// Law: a pass that tries to win its operation keeps what is carried.
+pub fn pass_winning_keeps()
+    ensures { (s : State) (pass : ℕ) (how : How) → IsCarried s → CanWinPass s pass how
+        → IsCarried (pass_winning s pass how) }
+{}
+
+/// Law: a scanner that tries to win an operation keeps what is carried.
+pub fn scanner_winning_keeps()
+    ensures { (s : State) (scanner pass : ℕ) (how : How) → IsCarried s → CanWinScanner s scanner pass how
+        → IsCarried (scanner_winning s scanner pass how) }
 {}
 
 /// Law: a pass that looks at its word keeps what is carried.
