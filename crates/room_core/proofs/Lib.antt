@@ -30,6 +30,8 @@ pub mod Asking
 pub mod Hushing
 -- Hear
 pub mod Hearing
+-- Begin
+pub mod Beginning
 -- Relieve
 pub mod Relieving
 -- Describe

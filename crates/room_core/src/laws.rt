@@ -5,7 +5,7 @@ ghost use Rattle.room_core.specs.Carried.{IsCarried};
 ghost use Rattle.room_core.specs.Checks.{CanLeavePass, CanLeaveScanner, CanReadPass, CanReadScanner, CanWinPass, CanWinScanner, pass_leaving, pass_reading, pass_winning, scanner_leaving, scanner_reading, scanner_winning};
 ghost use Rattle.room_core.specs.Meetings.{CanLearn, CanMark, CanMeet, learning, marking, scanner_meeting};
 ghost use Rattle.room_core.specs.Passes.{CanDescribe, CanIdle, CanOpen, CanPeek, CanSeeMark, describing, idling, opening, peeking, seeing_mark};
-ghost use Rattle.room_core.specs.Scans.{CanAsk, CanHear, CanHush, CanRelieve, CanStore, asking, hearing, hushing, relieving, storing};
+ghost use Rattle.room_core.specs.Scans.{CanAsk, CanBegin, CanHear, CanHush, CanRelieve, CanStore, asking, beginning, hearing, hushing, relieving, storing};
 ghost use Rattle.room_core.specs.State.{State};
 
 /// Law: a source that stores keeps what is carried.
@@ -30,6 +30,12 @@ pub fn hush_keeps()
 pub fn hear_keeps()
     ensures { (s : State) (scanner gauge : ℕ) → IsCarried s → CanHear s scanner gauge
         → IsCarried (hearing s scanner gauge) }
+{}
+
+/// Law: a scanner that begins a scan keeps what is carried.
+pub fn begin_keeps()
+    ensures { (s : State) (scanner gauge : ℕ) → IsCarried s → CanBegin s scanner gauge
+        → IsCarried (beginning s scanner gauge) }
 {}
 
 /// Law: a pass that sees a scan begun keeps what is carried.
