@@ -62,3 +62,9 @@ pub mod ScannerWinning
 pub mod Peeking
 -- Idle
 pub mod Idling
+-- the start
+pub mod Starting
+-- every event, and every run
+pub mod Steps
+-- a sound and quiet state
+pub mod Quiets

@@ -28,3 +28,7 @@ pub mod Sound
 pub mod Carried
 -- a state in which nothing is left to do
 pub mod Quiet
+-- the state at the start
+pub mod Start
+-- a whole run
+pub mod Run

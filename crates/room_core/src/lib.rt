@@ -4,7 +4,7 @@
 #![tactic(auto)]
 
 mod event;
-mod laws;
+pub mod laws;
 mod parts;
 mod shape;
 
