@@ -2,3 +2,5 @@
 pub mod Operation
 -- what counts of a value for a need, and the sum over the needs
 pub mod Tally
+-- values that rose
+pub mod Rising

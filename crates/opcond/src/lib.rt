@@ -4,6 +4,12 @@
 //! or overdue stays so.
 #![tactic(auto)]
 
+mod laws;
 mod need;
+mod op;
+mod reached;
 
+pub use laws::{answerable_stays, one_part_changes, tally_rises};
 pub use need::Need;
+pub use op::Op;
+pub use reached::{is_overdue, is_satisfied, tally};
