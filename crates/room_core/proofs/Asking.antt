@@ -1,12 +1,12 @@
 -- Ask: asked only rises, and where it rose this pass owes it.
-use Rattle.std.proofs.Common.{⊎_elim, inl, inr, ◌≡◌, ◌≢◌, ◌⊎◌, ℕ, ◌<◌, ◌≤◌, max, sym, ap, refl, subst, ◌∙◌, arith, true, Some}
+use Rattle.std.proofs.Common.{⊎_elim, ◌≡◌, ◌≢◌, ℕ, ◌<◌, ◌≤◌, max, sym, refl, subst, arith, true, Some}
 use Rattle.std.proofs.lemmas.Bool.{cases_lt}
 use Rattle.room_core.specs.declared.parts.Stage.{Stage}
 use Rattle.room_core.specs.declared.parts.Stage.TheVariants.{Listing}
 use Rattle.room_core.specs.Put.{put}
 use Rattle.room_core.specs.Description.{IsMark, IsOperation, marked_gauge}
 use Rattle.room_core.specs.Duty.{IsOpen, OwnerFinds, FindsTally, FindsTime}
-use Rattle.room_core.specs.Sound.{Agree, IsListed, IsOwed, ValuesAreSound, DebtsAreSound, ReadingsAreSound, OwnersAreSound, GenerationsAreSound, ListingsAreSound, WinsAreSound}
+use Rattle.room_core.specs.Sound.{Agree, IsListed, IsOwed, ValuesAreSound, OwnersAreSound, GenerationsAreSound, ListingsAreSound, WinsAreSound}
 use Rattle.room_core.specs.Wins.{taken_at}
 use Rattle.room_core.specs.Scans.{CanAsk, asking, caller_asks}
 use Rattle.room_core.specs.Carried.{IsCarried}
@@ -76,7 +76,10 @@ module _ (s : State) (p gauge value : ℕ) (k : IsKept s) (can : CanAsk s p gaug
 
   generations : GenerationsAreSound (asking s p gauge value)
   generations = record {
-    learned = k.generations.learned; meeting = k.generations.meeting; entry = k.generations.entry; mark = k.generations.mark;
+    learned = k.generations.learned;
+    meeting = k.generations.meeting;
+    entry = k.generations.entry;
+    mark = k.generations.mark;
     taken = as_before (λ q c. (generation : ℕ) → (s.session q).generation < generation → taken_at c.taken generation ≡ 0) (k.generations.taken p) k.generations.taken;
     untaken = as_before (λ q c. c.stage ≢ Stage.Idle → taken_at c.taken (s.session q).generation ≡ 0) (k.generations.untaken p) k.generations.untaken;
     newest = k.generations.newest;
@@ -104,16 +107,16 @@ module _ (s : State) (p gauge value : ℕ) (k : IsKept s) (can : CanAsk s p gaug
     generations = generations;
     listings = listings;
     tally = λ pass o sat.
-      either_too
-      (either_too
-      (as_before (λ q c. OwnerFinds (FindsTally (s.description q) s.value) (s.caller q) → OwnerFinds (FindsTally (s.description q) s.value) c) (λ f. record { on_duty = f.on_duty; found = f.found }) (λ q f. f) pass)
-      (λ f. f))
-      (λ l. l) (k.tally pass o sat);
+        either_too
+        (either_too
+        (as_before (λ q c. OwnerFinds (FindsTally (s.description q) s.value) (s.caller q) → OwnerFinds (FindsTally (s.description q) s.value) c) (λ f. record { on_duty = f.on_duty; found = f.found }) (λ q f. f) pass)
+        (λ f. f))
+        (λ l. l) (k.tally pass o sat);
     time = λ pass o d.
-      either_too
-      (as_before (λ q c. OwnerFinds (FindsTime s.shape (s.description q) s.value) (s.caller q) → OwnerFinds (FindsTime s.shape (s.description q) s.value) c) (λ f. record { on_duty = f.on_duty; found = f.found }) (λ q f. f) pass)
-      (λ f. f)
-      (k.time pass o d);
+        either_too
+        (as_before (λ q c. OwnerFinds (FindsTime s.shape (s.description q) s.value) (s.caller q) → OwnerFinds (FindsTime s.shape (s.description q) s.value) c) (λ f. record { on_duty = f.on_duty; found = f.found }) (λ q f. f) pass)
+        (λ f. f)
+        (k.time pass o d);
     opened = as_before (λ q c. c.stage ≢ Stage.Idle → 1 ≤ (s.session q).generation) (k.opened p) k.opened;
     scanners = k.scanners;
   }

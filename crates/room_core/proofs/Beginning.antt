@@ -1,7 +1,7 @@
 -- Begin: who was late is now listed under the gauge, and so a duty; and so is whose deadline has come.
-use Rattle.std.proofs.Common.{⊎_elim, inl, inr, ◌≡◌, ◌≢◌, ◌⊎◌, ℕ, ◌+◌, ◌-◌, ◌%◌, ◌<◌, ◌≤◌, max, Bool, true, false, not, cond, sym, ap, refl, subst, ◌∙◌, arith, Option, Some, None}
+use Rattle.std.proofs.Common.{⊎_elim, inl, inr, ◌≡◌, ◌≢◌, ◌⊎◌, ℕ, ◌-◌, ◌%◌, ◌<◌, ◌≤◌, max, Bool, true, false, not, cond, sym, ap, refl, subst, ◌∙◌, arith, Option, Some, None}
 use Rattle.std.specs.Prelude.{◌==◌, ◌&&◌, ◌||◌, nat_lt, nat_le}
-use Rattle.std.proofs.lemmas.Bool.{cases_lt, eq-eqb, ne_eqb, lt-ltb, le-leb}
+use Rattle.std.proofs.lemmas.Bool.{cases_lt, ne_eqb, lt-ltb, le-leb}
 use Rattle.room_core.specs.declared.shape.Shape.{Shape}
 use Rattle.room_core.specs.declared.parts.Stage.{Stage}
 use Rattle.room_core.specs.declared.parts.Stage.TheVariants.{Listing, Checking, Waiting, Over}
@@ -12,15 +12,15 @@ use Rattle.room_core.specs.Put.{put}
 use Rattle.room_core.specs.Gauges.{IsGauge, IsGaugeOf, IsShape, clock_of, scanner_of}
 use Rattle.room_core.specs.Description.{IsOperation, needs_of, gauge_of, deadline_of, tally, marked_gauge}
 use Rattle.room_core.specs.Readings.{known, unread}
-use Rattle.room_core.specs.Duty.{IsOpen, IsOnDuty, IsLate, OwnerFinds, ShardFinds, ScannerFinds, FindsTally, FindsTime, IsSatisfiedNow, IsFoundByTally, IsFoundByTime, owner_readings, met_readings}
+use Rattle.room_core.specs.Duty.{IsOpen, IsOnDuty, IsLate, ShardFinds, ScannerFinds, FindsTally, FindsTime, IsSatisfiedNow, IsFoundByTally, IsFoundByTime, owner_readings, met_readings}
 use Rattle.room_core.specs.Sound.{ValuesAreSound, IsEntry, IsListed, IsNeeded, IsRightEntry, ListingsAreSound, GenerationsAreSound, WinsAreSound}
 use Rattle.room_core.specs.Checks.{IsDuty}
 use Rattle.room_core.specs.Scans.{CanBegin, beginning, scanner_begins, number_heard, IsHeard, duty_of, is_due}
 use Rattle.room_core.specs.Carried.{IsCarried, ScannerIsKept}
-use Rattle.room_core.specs.State.{State, Scanner}
+use Rattle.room_core.specs.State.{State}
 use Rattle.room_core.proofs.Puts.{at-put, put-same, put-other}
 use Rattle.room_core.proofs.Tallies.{late_or, tally_rises}
-use Rattle.room_core.proofs.Known.{of_either, unread_below, met_forgets}
+use Rattle.room_core.proofs.Known.{of_either, unread_below}
 use Rattle.room_core.proofs.Finding.{either_too}
 use Rattle.room_core.proofs.Kept.{IsKept, kept_of, carried}
 use Rattle.room_core.proofs.Marking.{marked_need, marked_clock, clock_own}
@@ -115,12 +115,12 @@ module _ (s : State) (k g : ℕ) (r : IsKept s) (can : CanBegin s k g) where
     stored = r.values.stored;
     loud = r.values.loud;
     own =
-      at-put s.begun g (max (s.begun g) (number_heard (s.scanner k).heard)) (λ x b. IsGauge s.shape x → b ≡ ((put s.scanner k (scanner_begins s.shape (s.scanner k) g (s.begun g))) (scanner_of s.shape x)).began x)
-      (λ i.
-      subst (λ j. (max (s.begun g) (number_heard (s.scanner k).heard)) ≡ ((put s.scanner k (scanner_begins s.shape (s.scanner k) g (s.begun g))) j).began g) (sym own.scans)
-      (subst (λ x. (max (s.begun g) (number_heard (s.scanner k).heard)) ≡ x.began g) (sym (put-same s.scanner k (scanner_begins s.shape (s.scanner k) g (s.begun g)))) (sym (put-same (s.scanner k).began g (max (s.begun g) (number_heard (s.scanner k).heard))))))
-      (λ x n i.
-      r.values.own x i ∙ at-put s.scanner k (scanner_begins s.shape (s.scanner k) g (s.begun g)) (λ j y. (s.scanner j).began x ≡ y.began x) (sym (put-other (s.scanner k).began g (max (s.begun g) (number_heard (s.scanner k).heard)) x n)) (λ j m. refl) (scanner_of s.shape x));
+        at-put s.begun g (max (s.begun g) (number_heard (s.scanner k).heard)) (λ x b. IsGauge s.shape x → b ≡ ((put s.scanner k (scanner_begins s.shape (s.scanner k) g (s.begun g))) (scanner_of s.shape x)).began x)
+        (λ i.
+        subst (λ j. (max (s.begun g) (number_heard (s.scanner k).heard)) ≡ ((put s.scanner k (scanner_begins s.shape (s.scanner k) g (s.begun g))) j).began g) (sym own.scans)
+        (subst (λ x. (max (s.begun g) (number_heard (s.scanner k).heard)) ≡ x.began g) (sym (put-same s.scanner k (scanner_begins s.shape (s.scanner k) g (s.begun g)))) (sym (put-same (s.scanner k).began g (max (s.begun g) (number_heard (s.scanner k).heard))))))
+        (λ x n i.
+        r.values.own x i ∙ at-put s.scanner k (scanner_begins s.shape (s.scanner k) g (s.begun g)) (λ j y. (s.scanner j).began x ≡ y.began x) (sym (put-other (s.scanner k).began g (max (s.begun g) (number_heard (s.scanner k).heard)) x n)) (λ j m. refl) (scanner_of s.shape x));
   }
 
   still_listed : (j gauge pass generation : ℕ) → IsEntry ((s.scanner j).listing gauge pass) generation → IsEntry (((put s.scanner k (scanner_begins s.shape (s.scanner k) g (s.begun g))) j).listing gauge pass) generation
@@ -130,20 +130,20 @@ module _ (s : State) (k g : ℕ) (r : IsKept s) (can : CanBegin s k g) where
   generations : GenerationsAreSound (beginning s k g)
   generations = record {
     learned = λ j at word meeting.
-      at-put s.scanner k (scanner_begins s.shape (s.scanner k) g (s.begun g)) (λ i x. x.meeting ≡ Some meeting → IsOpen s meeting.pass → (s.session meeting.pass).generation ≡ meeting.generation → x.learned at ≡ Some word → word ≡ s.description meeting.pass at)
-      (λ m. absurd (cc)) (λ i n. r.generations.learned i at word meeting) j;
+        at-put s.scanner k (scanner_begins s.shape (s.scanner k) g (s.begun g)) (λ i x. x.meeting ≡ Some meeting → IsOpen s meeting.pass → (s.session meeting.pass).generation ≡ meeting.generation → x.learned at ≡ Some word → word ≡ s.description meeting.pass at)
+        (λ m. absurd (cc)) (λ i n. r.generations.learned i at word meeting) j;
     meeting = λ j meeting.
-      at-put s.scanner k (scanner_begins s.shape (s.scanner k) g (s.begun g)) (λ i x. x.meeting ≡ Some meeting → meeting.generation ≤ (s.session meeting.pass).generation)
-      (λ m. absurd (cc)) (λ i n. r.generations.meeting i meeting) j;
+        at-put s.scanner k (scanner_begins s.shape (s.scanner k) g (s.begun g)) (λ i x. x.meeting ≡ Some meeting → meeting.generation ≤ (s.session meeting.pass).generation)
+        (λ m. absurd (cc)) (λ i n. r.generations.meeting i meeting) j;
     entry = λ j gauge pass entry.
-      at-put s.scanner k (scanner_begins s.shape (s.scanner k) g (s.begun g)) (λ i x. x.listing gauge pass ≡ Some entry → entry.generation ≤ (s.session pass).generation)
-      (r.generations.entry k gauge pass entry) (λ i n. r.generations.entry i gauge pass entry) j;
+        at-put s.scanner k (scanner_begins s.shape (s.scanner k) g (s.begun g)) (λ i x. x.listing gauge pass ≡ Some entry → entry.generation ≤ (s.session pass).generation)
+        (r.generations.entry k gauge pass entry) (λ i n. r.generations.entry i gauge pass entry) j;
     mark = r.generations.mark;
     taken = r.generations.taken;
     untaken = r.generations.untaken;
     newest = λ j gauge meeting entry.
-      at-put s.scanner k (scanner_begins s.shape (s.scanner k) g (s.begun g)) (λ i x. x.meeting ≡ Some meeting → x.listing gauge meeting.pass ≡ Some entry → entry.generation ≤ meeting.generation)
-      (λ m. absurd (cc)) (λ i n. r.generations.newest i gauge meeting entry) j;
+        at-put s.scanner k (scanner_begins s.shape (s.scanner k) g (s.begun g)) (λ i x. x.meeting ≡ Some meeting → x.listing gauge meeting.pass ≡ Some entry → entry.generation ≤ meeting.generation)
+        (λ m. absurd (cc)) (λ i n. r.generations.newest i gauge meeting entry) j;
   }
 
   listings : ListingsAreSound (beginning s k g)
@@ -152,8 +152,8 @@ module _ (s : State) (k g : ℕ) (r : IsKept s) (can : CanBegin s k g) where
     seen = λ pass i o l m. still_listed _ _ pass _ (r.listings.seen pass i o l m);
     complete = λ pass i o l m. still_listed _ _ pass _ (r.listings.complete pass i o l m);
     right = λ j gauge pass entry o.
-      at-put s.scanner k (scanner_begins s.shape (s.scanner k) g (s.begun g)) (λ i x. x.listing gauge pass ≡ Some entry → entry.generation ≡ (s.session pass).generation → IsRightEntry s gauge pass entry)
-      (r.listings.right k gauge pass entry o) (λ i n. r.listings.right i gauge pass entry o) j;
+        at-put s.scanner k (scanner_begins s.shape (s.scanner k) g (s.begun g)) (λ i x. x.listing gauge pass ≡ Some entry → entry.generation ≡ (s.session pass).generation → IsRightEntry s gauge pass entry)
+        (r.listings.right k gauge pass entry o) (λ i n. r.listings.right i gauge pass entry o) j;
   }
 
   -- who found an operation wasn't this scanner, which had no duty
@@ -180,9 +180,9 @@ module _ (s : State) (k g : ℕ) (r : IsKept s) (can : CanBegin s k g) where
       inl (record {
         on_duty = subst IsOnDuty (sym l) tt;
         found =
-          let t : tally (s.description pass) s.value ≤ tally (s.description pass) (known (owner_readings (s.caller pass).stage (s.caller pass).readings) s.value) =
+            let t : tally (s.description pass) s.value ≤ tally (s.description pass) (known (owner_readings (s.caller pass).stage (s.caller pass).readings) s.value) =
             tally_rises (s.description pass) s.value (known (owner_readings (s.caller pass).stage (s.caller pass).readings) s.value) (λ i m. owner_listing (s.caller pass).stage (s.caller pass).readings s.value _ l) in
-          omega (arith, sat, t);
+            omega (arith, sat, t);
       }))
       (λ (n : (s.caller pass).stage ≢ Listing).
       inr (record {
@@ -190,11 +190,11 @@ module _ (s : State) (k g : ℕ) (r : IsKept s) (can : CanBegin s k g) where
         shard = shard_few s.shape k g r.shape own.scans no_clock;
         here = subst (λ x. ScannerFinds (FindsTally (s.description pass) s.value) x pass (s.session pass).generation) (sym (put-same s.scanner k (scanner_begins s.shape (s.scanner k) g (s.begun g)))) (record {
           on_duty = duty_listed s.shape g (s.begun g) (number_heard (s.scanner k).heard) ((s.scanner k).listing g pass) (s.session pass).generation no_clock
-            (listed pass need (marked_need s.shape (s.description pass) need small ∙ e) (r.listings.complete pass need o n (inl within)));
+              (listed pass need (marked_need s.shape (s.description pass) need small ∙ e) (r.listings.complete pass need o n (inl within)));
           found =
-            let t : tally (s.description pass) s.value ≤ tally (s.description pass) (known (met_readings None unread pass) s.value) =
+              let t : tally (s.description pass) s.value ≤ tally (s.description pass) (known (met_readings None unread pass) s.value) =
               tally_rises (s.description pass) s.value (known (met_readings None unread pass) s.value) (λ i m. unmet_knows pass s.value _) in
-            omega (arith, sat, t);
+              omega (arith, sat, t);
         });
       }))
       (listing_or (s.caller pass).stage)
@@ -228,13 +228,13 @@ module _ (s : State) (k g : ℕ) (r : IsKept s) (can : CanBegin s k g) where
       inr (subst (λ j. ScannerFinds (FindsTime s.shape (s.description pass) s.value) ((put s.scanner k (scanner_begins s.shape (s.scanner k) g (s.begun g))) j) pass (s.session pass).generation) sixteen
       (subst (λ x. ScannerFinds (FindsTime s.shape (s.description pass) s.value) x pass (s.session pass).generation) (sym (put-same s.scanner k (scanner_begins s.shape (s.scanner k) g (s.begun g)))) (record {
         on_duty =
-          duty_due s.shape g (s.begun g) (number_heard (s.scanner k).heard) (deadline_of (s.description pass)) ((s.scanner k).listing g pass) (s.session pass).generation
-          (λ entry e q.
-          ⊎_elim
-          (λ (needed : IsNeeded (s.description pass) g). absurd (omega (arith, op.gauges needed.need needed.within, needed.is)))
-          (λ (right : (g ≡ clock_of s.shape) × (entry.deadline ≡ deadline_of (s.description pass))). right.1)
-          (r.listings.right k g pass entry o e q))
-          l m (listed pass 64 (marked_clock s.shape (s.description pass) 64 refl ∙ sym c) (r.listings.complete pass 64 o n (inr refl)));
+            duty_due s.shape g (s.begun g) (number_heard (s.scanner k).heard) (deadline_of (s.description pass)) ((s.scanner k).listing g pass) (s.session pass).generation
+            (λ entry e q.
+            ⊎_elim
+            (λ (needed : IsNeeded (s.description pass) g). absurd (omega (arith, op.gauges needed.need needed.within, needed.is)))
+            (λ (right : (g ≡ clock_of s.shape) × (entry.deadline ≡ deadline_of (s.description pass))). right.1)
+            (r.listings.right k g pass entry o e q))
+            l m (listed pass 64 (marked_clock s.shape (s.description pass) 64 refl ∙ sym c) (r.listings.complete pass 64 o n (inr refl)));
         found = omega (arith, there, unmet_knows pass s.value (clock_of s.shape));
       }))))
       (listing_or (s.caller pass).stage)
@@ -255,11 +255,11 @@ module _ (s : State) (k g : ℕ) (r : IsKept s) (can : CanBegin s k g) where
     heard = (r.scanners k).heard;
     entry = (r.scanners k).entry;
     duty = λ q duty e.
-      let f : (duty.gauge ≡ g) × IsEntry ((s.scanner k).listing g q) duty.generation = duty_from s.shape g (s.begun g) (number_heard (s.scanner k).heard) ((s.scanner k).listing g q) duty e in
-      subst (λ x. IsEntry ((s.scanner k).listing x q) duty.generation) (sym f.0) f.1;
+        let f : (duty.gauge ≡ g) × IsEntry ((s.scanner k).listing g q) duty.generation = duty_from s.shape g (s.begun g) (number_heard (s.scanner k).heard) ((s.scanner k).listing g q) duty e in
+        subst (λ x. IsEntry ((s.scanner k).listing x q) duty.generation) (sym f.0) f.1;
     one_gauge = λ q j duty more e f.
-      (duty_from s.shape g (s.begun g) (number_heard (s.scanner k).heard) ((s.scanner k).listing g q) duty e).0
-      ∙ sym (duty_from s.shape g (s.begun g) (number_heard (s.scanner k).heard) ((s.scanner k).listing g j) more f).0;
+        (duty_from s.shape g (s.begun g) (number_heard (s.scanner k).heard) ((s.scanner k).listing g q) duty e).0
+        ∙ sym (duty_from s.shape g (s.begun g) (number_heard (s.scanner k).heard) ((s.scanner k).listing g j) more f).0;
     met = λ gauge meeting entry m. absurd (cc);
   }
 
@@ -270,7 +270,7 @@ module _ (s : State) (k g : ℕ) (r : IsKept s) (can : CanBegin s k g) where
     debts = record {
       owed = r.debts.owed;
       heard = λ j h.
-        at-put s.scanner k (scanner_begins s.shape (s.scanner k) g (s.begun g)) (λ i x. x.heard ≡ Some h → h.number ≤ s.asked h.gauge) (r.debts.heard k h) (λ i n. r.debts.heard i h) j;
+          at-put s.scanner k (scanner_begins s.shape (s.scanner k) g (s.begun g)) (λ i x. x.heard ≡ Some h → h.number ≤ s.asked h.gauge) (r.debts.heard k h) (λ i n. r.debts.heard i h) j;
       someone = λ x l. r.debts.someone x (omega (arith, rises x));
     };
     readings = record {
@@ -279,7 +279,10 @@ module _ (s : State) (k g : ℕ) (r : IsKept s) (can : CanBegin s k g) where
       scanner = at-put s.scanner k (scanner_begins s.shape (s.scanner k) g (s.begun g)) (λ i x. (gauge value : ℕ) → x.readings gauge ≡ Some value → value ≤ s.value gauge) (unread_below s.value) (λ i n. r.readings.scanner i);
     };
     owners = record {
-      generation = r.owners.generation; description = r.owners.description; stage = r.owners.stage; operation = r.owners.operation;
+      generation = r.owners.generation;
+      description = r.owners.description;
+      stage = r.owners.stage;
+      operation = r.owners.operation;
     };
     generations = generations;
     listings = listings;

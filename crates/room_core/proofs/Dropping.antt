@@ -1,19 +1,19 @@
 -- A scanner that drops duties and entries.
-use Rattle.std.proofs.Common.{⊎_elim, ◌≡◌, ◌≢◌, ℕ, ◌<◌, ◌≤◌, sym, ap, refl, subst, ◌∙◌, arith, Option, Some, None}
+use Rattle.std.proofs.Common.{◌≡◌, ℕ, sym, ap, refl, ◌∙◌, Option, Some, None}
 use Rattle.room_core.specs.declared.parts.Duty.{Duty}
 use Rattle.room_core.specs.declared.parts.Entry.{Entry}
 use Rattle.room_core.specs.declared.parts.Meeting.{Meeting}
 use Rattle.room_core.specs.Put.{put}
 use Rattle.room_core.specs.Meetings.{IsMet, generation_met, IsLearned, words_of}
-use Rattle.room_core.specs.Checks.{IsDuty, IsAllLearned}
+use Rattle.room_core.specs.Checks.{IsDuty}
 use Rattle.room_core.specs.Readings.{unread}
 use Rattle.std.specs.Prelude.{unwrap_or, IsSome}
-use Rattle.room_core.specs.Duty.{IsOpen, is_met, met_readings}
+use Rattle.room_core.specs.Duty.{IsOpen, met_readings}
 use Rattle.room_core.specs.Sound.{IsEntry}
-use Rattle.room_core.specs.State.{State, Scanner}
+use Rattle.room_core.specs.State.{State}
 use Rattle.room_core.proofs.Puts.{at-put}
 use Rattle.room_core.proofs.Kept.{IsKept}
-use Rattle.std.proofs.Common.{cond, true}
+use Rattle.std.proofs.Common.{cond}
 use Rattle.std.proofs.lemmas.Bool.{eq-eqb}
 
 -- where one is dropped, the others were there before

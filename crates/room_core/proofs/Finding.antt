@@ -1,11 +1,11 @@
 -- Who finds an operation, under other values, readings and parts.
-use Rattle.std.proofs.Common.{⊎_elim, inl, inr, ◌≡◌, ◌≢◌, ◌⊎◌, ℕ, ◌<◌, ◌≤◌, sym, ap, refl, subst, arith, Option, Some, None}
+use Rattle.std.proofs.Common.{⊎_elim, inl, inr, ◌⊎◌, ℕ, ◌≤◌, arith, Option, Some, None}
 use Rattle.std.specs.Prelude.{unwrap_or}
 use Rattle.room_core.specs.declared.shape.Shape.{Shape}
 use Rattle.room_core.specs.Gauges.{clock_of}
 use Rattle.room_core.specs.Description.{tally}
 use Rattle.room_core.specs.Readings.{known}
-use Rattle.room_core.specs.State.{State, Caller, Scanner}
+use Rattle.room_core.specs.State.{Caller, Scanner}
 use Rattle.room_core.specs.Duty.{IsOnDuty, OwnerFinds, ScannerFinds, ShardFinds, FindsTally, FindsTime, owner_readings, met_readings}
 use Rattle.room_core.specs.Checks.{IsDuty}
 use Rattle.room_core.proofs.Tallies.{tally_rises}

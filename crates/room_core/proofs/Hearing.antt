@@ -1,11 +1,10 @@
 -- Hear: what is heard is asked, of a gauge of the scanner's own.
-use Rattle.std.proofs.Common.{⊎_elim, ◌≡◌, ℕ, ◌<◌, ◌≤◌, sym, ap, refl, subst, arith, Some}
+use Rattle.std.proofs.Common.{◌≡◌, ℕ, ◌≤◌, refl, subst, arith, Some}
 use Rattle.room_core.specs.declared.parts.Heard.{Heard}
-use Rattle.room_core.specs.Put.{put}
 use Rattle.room_core.specs.Gauges.{IsGaugeOf}
 use Rattle.room_core.specs.Scans.{CanHear, hearing, scanner_hears}
 use Rattle.room_core.specs.Carried.{IsCarried}
-use Rattle.room_core.specs.State.{State, Scanner}
+use Rattle.room_core.specs.State.{State}
 use Rattle.room_core.proofs.Kept.{IsKept, kept_of, carried}
 use Rattle.room_core.proofs.Scanners.{ScannerStays, kept_by_scanner}
 use Rattle.room_core.proofs.Winners.{scanner_wins_nothing}
@@ -34,7 +33,10 @@ module _ (s : State) (k gauge : ℕ) (r : IsKept s) (can : CanHear s k gauge) wh
     tally = λ pass b o f. record { on_duty = f.on_duty; found = f.found };
     time = λ pass b o f. record { on_duty = f.on_duty; found = f.found };
     kept = record {
-      heard = own; entry = (r.scanners k).entry; duty = (r.scanners k).duty; one_gauge = (r.scanners k).one_gauge;
+      heard = own;
+      entry = (r.scanners k).entry;
+      duty = (r.scanners k).duty;
+      one_gauge = (r.scanners k).one_gauge;
       met = (r.scanners k).met;
     };
   }

@@ -1,17 +1,16 @@
 -- Idle: what the word said is now among what was taken.
-use Rattle.std.proofs.Common.{⊎_elim, inl, inr, ◌≡◌, ◌≢◌, ◌⊎◌, ℕ, ◌+◌, ◌<◌, ◌≤◌, List, [], ◌∷◌, ◌++◌, Bool, true, false, cond, sym, ap, refl, subst, ◌∙◌, arith, Option, Some, None}
+use Rattle.std.proofs.Common.{◌≡◌, ◌≢◌, ◌⊎◌, ℕ, ◌+◌, ◌<◌, ◌≤◌, true, sym, ap, refl, ◌∙◌, arith, Some}
 use Rattle.room_core.specs.declared.event.How.{How}
 use Rattle.room_core.specs.declared.parts.Phase.{Phase}
 use Rattle.room_core.specs.declared.parts.Phase.TheVariants.{Open, Won}
 use Rattle.room_core.specs.declared.parts.Session.{Session}
 use Rattle.room_core.specs.declared.parts.Stage.{Stage}
 use Rattle.room_core.specs.declared.parts.Stage.TheVariants.{Listing, Checking, Waiting, Over}
-use Rattle.room_core.specs.declared.parts.Taken.{Taken}
 use Rattle.room_core.specs.Put.{put}
 use Rattle.room_core.specs.Gauges.{clock_of, scanner_of}
 use Rattle.room_core.specs.Description.{IsMark, IsOperation, deadline_of, marked_gauge}
-use Rattle.room_core.specs.Duty.{IsOpen, IsLate, OwnerFinds, ShardFinds, ScannerFinds, FindsTally, FindsTime, IsSatisfiedNow}
-use Rattle.room_core.specs.Sound.{Agree, IsEntry, IsListed, IsRightEntry, IsOwed, GenerationsAreSound, ListingsAreSound, OwnersAreSound, WinsAreSound}
+use Rattle.room_core.specs.Duty.{IsLate, OwnerFinds, ShardFinds, ScannerFinds, FindsTally, FindsTime, IsSatisfiedNow}
+use Rattle.room_core.specs.Sound.{Agree, IsEntry, IsRightEntry, IsOwed, GenerationsAreSound, ListingsAreSound, OwnersAreSound, WinsAreSound}
 use Rattle.room_core.specs.Wins.{prizes_as, taken_as, won_as, taken_at, won_at}
 use Rattle.room_core.specs.Passes.{CanIdle, idling, caller_idles, IsOver, taken_of}
 use Rattle.room_core.specs.Carried.{IsCarried}
@@ -79,15 +78,15 @@ module _ (s : State) (p : ℕ) (k : IsKept s) (can : CanIdle s p) where
   generations : GenerationsAreSound (idling s p)
   generations = record {
     learned = λ j at w meeting m o g e.
-      k.generations.learned j at w meeting m
-      (word (λ q x. x.phase ≡ Open → (s.session q).phase ≡ Open) (λ y. absurd (cc)) (λ q y. y) meeting.pass o)
-      (sym (generation_same meeting.pass) ∙ g) e;
+        k.generations.learned j at w meeting m
+        (word (λ q x. x.phase ≡ Open → (s.session q).phase ≡ Open) (λ y. absurd (cc)) (λ q y. y) meeting.pass o)
+        (sym (generation_same meeting.pass) ∙ g) e;
     meeting = λ j meeting m. omega (arith, k.generations.meeting j meeting m, generation_same meeting.pass);
     entry = λ j gauge pass entry e. omega (arith, k.generations.entry j gauge pass entry e, generation_same pass);
     mark = λ pass i. omega (arith, k.generations.mark pass i, generation_same pass);
     taken =
-      both (λ q w c. (generation : ℕ) → w.generation < generation → taken_at c.taken generation ≡ 0)
-      (λ g l. omega (arith, taken_at-now g, k.generations.taken p g (omega (arith, same)), won_at-other (s.session p) g (λ e. absurd (omega (arith, same))))) k.generations.taken;
+        both (λ q w c. (generation : ℕ) → w.generation < generation → taken_at c.taken generation ≡ 0)
+        (λ g l. omega (arith, taken_at-now g, k.generations.taken p g (omega (arith, same)), won_at-other (s.session p) g (λ e. absurd (omega (arith, same))))) k.generations.taken;
     untaken = both (λ q w c. c.stage ≢ Stage.Idle → taken_at c.taken w.generation ≡ 0) (λ n. absurd (n refl)) k.generations.untaken;
     newest = k.generations.newest;
   }
@@ -95,17 +94,17 @@ module _ (s : State) (p : ℕ) (k : IsKept s) (can : CanIdle s p) where
   listings : ListingsAreSound (idling s p)
   listings = record {
     marked =
-      word (λ q w. (i : ℕ) → w.phase ≡ Open → i ≤ 64 → s.marks q i ≡ w.generation → IsEntry ((s.scanner (scanner_of s.shape (marked_gauge s.shape (s.description q) i))).listing (marked_gauge s.shape (s.description q) i) q) w.generation)
-      (λ i o. absurd (cc)) k.listings.marked;
+        word (λ q w. (i : ℕ) → w.phase ≡ Open → i ≤ 64 → s.marks q i ≡ w.generation → IsEntry ((s.scanner (scanner_of s.shape (marked_gauge s.shape (s.description q) i))).listing (marked_gauge s.shape (s.description q) i) q) w.generation)
+        (λ i o. absurd (cc)) k.listings.marked;
     seen =
-      both (λ q w c. (i : ℕ) → w.phase ≡ Open → i ≤ 64 → c.seen i ≡ true → IsEntry ((s.scanner (scanner_of s.shape (marked_gauge s.shape (s.description q) i))).listing (marked_gauge s.shape (s.description q) i) q) w.generation)
-      (λ i o. absurd (cc)) k.listings.seen;
+        both (λ q w c. (i : ℕ) → w.phase ≡ Open → i ≤ 64 → c.seen i ≡ true → IsEntry ((s.scanner (scanner_of s.shape (marked_gauge s.shape (s.description q) i))).listing (marked_gauge s.shape (s.description q) i) q) w.generation)
+        (λ i o. absurd (cc)) k.listings.seen;
     complete =
-      both (λ q w c. (i : ℕ) → w.phase ≡ Open → c.stage ≢ Listing → IsMark (s.description q) i → IsEntry ((s.scanner (scanner_of s.shape (marked_gauge s.shape (s.description q) i))).listing (marked_gauge s.shape (s.description q) i) q) w.generation)
-      (λ i o. absurd (cc)) k.listings.complete;
+        both (λ q w c. (i : ℕ) → w.phase ≡ Open → c.stage ≢ Listing → IsMark (s.description q) i → IsEntry ((s.scanner (scanner_of s.shape (marked_gauge s.shape (s.description q) i))).listing (marked_gauge s.shape (s.description q) i) q) w.generation)
+        (λ i o. absurd (cc)) k.listings.complete;
     right = λ j gauge pass entry.
-      word (λ q w. w.phase ≡ Open → (s.scanner j).listing gauge q ≡ Some entry → entry.generation ≡ w.generation → IsRightEntry s gauge q entry)
-      (λ o. absurd (cc)) (λ q. k.listings.right j gauge q entry) pass;
+        word (λ q w. w.phase ≡ Open → (s.scanner j).listing gauge q ≡ Some entry → entry.generation ≡ w.generation → IsRightEntry s gauge q entry)
+        (λ o. absurd (cc)) (λ q. k.listings.right j gauge q entry) pass;
   }
 
   pub kept : IsKept (idling s p)
@@ -116,8 +115,8 @@ module _ (s : State) (p : ℕ) (k : IsKept s) (can : CanIdle s p) where
       owed = as_before (λ q c. (g : ℕ) → c.owed g ≤ s.asked g) (k.debts.owed p) k.debts.owed;
       heard = k.debts.heard;
       someone = λ g l.
-        let o : IsOwed s.caller g (s.asked g) = k.debts.someone g l in
-        record { pass = o.pass; owes = as_before (λ q c. s.asked g ≤ (s.caller q).owed g → s.asked g ≤ c.owed g) (λ x. x) (λ q x. x) o.pass o.owes };
+          let o : IsOwed s.caller g (s.asked g) = k.debts.someone g l in
+          record { pass = o.pass; owes = as_before (λ q c. s.asked g ≤ (s.caller q).owed g → s.asked g ≤ c.owed g) (λ x. x) (λ q x. x) o.pass o.owes };
     };
     readings = record {
       greatest = as_before (λ q c. (g : ℕ) → c.greatest g ≤ s.value g) (k.readings.greatest p) k.readings.greatest;
@@ -128,13 +127,13 @@ module _ (s : State) (p : ℕ) (k : IsKept s) (can : CanIdle s p) where
     generations = generations;
     listings = listings;
     tally =
-      both (λ q w c. w.phase ≡ Open → IsSatisfiedNow s q
+        both (λ q w c. w.phase ≡ Open → IsSatisfiedNow s q
         → (OwnerFinds (FindsTally (s.description q) s.value) c ⊎ ShardFinds (FindsTally (s.description q) s.value) s.scanner q w.generation) ⊎ IsLate (s.description q) s.value s.begun)
-      (λ o. absurd (cc)) k.tally;
+        (λ o. absurd (cc)) k.tally;
     time =
-      both (λ q w c. w.phase ≡ Open → deadline_of (s.description q) ≤ s.begun (clock_of s.shape)
+        both (λ q w c. w.phase ≡ Open → deadline_of (s.description q) ≤ s.begun (clock_of s.shape)
         → OwnerFinds (FindsTime s.shape (s.description q) s.value) c ⊎ ScannerFinds (FindsTime s.shape (s.description q) s.value) (s.scanner 16) q w.generation)
-      (λ o. absurd (cc)) k.time;
+        (λ o. absurd (cc)) k.time;
     opened = both (λ q w c. c.stage ≢ Stage.Idle → 1 ≤ w.generation) (λ n. absurd (n refl)) k.opened;
     scanners = k.scanners;
   }
@@ -142,15 +141,15 @@ module _ (s : State) (p : ℕ) (k : IsKept s) (can : CanIdle s p) where
   wins : WinsAreSound s → WinsAreSound (idling s p)
   wins w = record {
     counted = λ by pass generation how.
-      ap (λ x. prizes_as x pass generation how)
-      (wins_of-same s.scanner s.scanner s.caller (put s.caller p (caller_idles (s.caller p))) (λ j. refl) (as_before (λ q c. c.wins ≡ (s.caller q).wins) refl (λ q. refl)) by)
-      ∙ w.counted by pass generation how
-      ∙ both (λ q x c. taken_as (s.caller q).taken generation how by + won_as (s.session q) generation how by ≡ taken_as c.taken generation how by + won_as x generation how by)
-      (omega (arith, taken_as-now generation how by, won_as-none (record { generation = (s.caller p).generation; phase = Phase.Idle }) generation how by refl))
-      (λ q. refl) pass;
+        ap (λ x. prizes_as x pass generation how)
+        (wins_of-same s.scanner s.scanner s.caller (put s.caller p (caller_idles (s.caller p))) (λ j. refl) (as_before (λ q c. c.wins ≡ (s.caller q).wins) refl (λ q. refl)) by)
+        ∙ w.counted by pass generation how
+        ∙ both (λ q x c. taken_as (s.caller q).taken generation how by + won_as (s.session q) generation how by ≡ taken_as c.taken generation how by + won_as x generation how by)
+        (omega (arith, taken_as-now generation how by, won_as-none (record { generation = (s.caller p).generation; phase = Phase.Idle }) generation how by refl))
+        (λ q. refl) pass;
     once =
-      both (λ q x c. (generation : ℕ) → taken_at c.taken generation + won_at x generation ≤ 1)
-      (λ generation. omega (arith, w.once p generation, taken_at-now generation, won_at-none (record { generation = (s.caller p).generation; phase = Phase.Idle }) generation refl)) w.once;
+        both (λ q x c. (generation : ℕ) → taken_at c.taken generation + won_at x generation ≤ 1)
+        (λ generation. omega (arith, w.once p generation, taken_at-now generation, won_at-none (record { generation = (s.caller p).generation; phase = Phase.Idle }) generation refl)) w.once;
   }
 
 pub keeps : (s : State) (pass : ℕ) → IsCarried s → CanIdle s pass → IsCarried (idling s pass)

@@ -1,8 +1,8 @@
 -- What is known by readings that were taken, or lost.
-use Rattle.std.proofs.Common.{⊎_elim, inl, inr, ◌≡◌, ◌≢◌, ◌⊎◌, ℕ, ◌<◌, ◌≤◌, max, Bool, true, false, cond, sym, ap, refl, subst, arith, Option, Some, None}
-use Rattle.std.specs.Prelude.{unwrap_or, is_some, IsSome}
+use Rattle.std.proofs.Common.{⊎_elim, ◌≡◌, ℕ, ◌≤◌, Bool, true, false, cond, ap, refl, arith, Option, Some, None}
+use Rattle.std.specs.Prelude.{unwrap_or, IsSome}
 use Rattle.room_core.specs.declared.parts.Stage.{Stage}
-use Rattle.room_core.specs.declared.parts.Stage.TheVariants.{Listing, Checking, Waiting, Over}
+use Rattle.room_core.specs.declared.parts.Stage.TheVariants.{Checking}
 use Rattle.room_core.specs.declared.parts.Meeting.{Meeting}
 use Rattle.room_core.specs.Put.{put}
 use Rattle.room_core.specs.Readings.{known, read_only, unread}

@@ -1,11 +1,10 @@
 -- Learn: what is learned is the description while that generation is open.
-use Rattle.std.proofs.Common.{⊎_elim, ◌≡◌, ℕ, ◌<◌, ◌≤◌, sym, ap, refl, subst, ◌∙◌, arith, Option, Some, None}
+use Rattle.std.proofs.Common.{◌≡◌, ℕ, sym, ap, refl, ◌∙◌, Option, Some, None}
 use Rattle.room_core.specs.declared.parts.Meeting.{Meeting}
-use Rattle.room_core.specs.Put.{put}
 use Rattle.room_core.specs.Duty.{IsOpen}
 use Rattle.room_core.specs.Meetings.{CanLearn, learning, scanner_learns, IsMet}
 use Rattle.room_core.specs.Carried.{IsCarried}
-use Rattle.room_core.specs.State.{State, Scanner}
+use Rattle.room_core.specs.State.{State}
 use Rattle.room_core.proofs.Puts.{at-put}
 use Rattle.room_core.proofs.Kept.{IsKept, kept_of, carried}
 use Rattle.room_core.proofs.Scanners.{ScannerStays, kept_by_scanner}
@@ -37,7 +36,10 @@ module _ (s : State) (k pass at : ℕ) (r : IsKept s) (can : CanLearn s k pass a
     tally = λ p b o f. record { on_duty = f.on_duty; found = f.found };
     time = λ p b o f. record { on_duty = f.on_duty; found = f.found };
     kept = record {
-      heard = (r.scanners k).heard; entry = (r.scanners k).entry; duty = (r.scanners k).duty; one_gauge = (r.scanners k).one_gauge;
+      heard = (r.scanners k).heard;
+      entry = (r.scanners k).entry;
+      duty = (r.scanners k).duty;
+      one_gauge = (r.scanners k).one_gauge;
       met = (r.scanners k).met;
     };
   }

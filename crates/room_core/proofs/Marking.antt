@@ -1,19 +1,17 @@
 -- Mark: by what was learned, the entry is the description's if the generation is open.
-use Rattle.std.proofs.Common.{⊎_elim, inl, inr, ◌≡◌, ◌≢◌, ◌⊎◌, ℕ, ◌+◌, ◌*◌, ◌-◌, ◌%◌, ◌<◌, ◌≤◌, cond, sym, ap, refl, subst, ◌∙◌, arith, Option, Some, None}
+use Rattle.std.proofs.Common.{⊎_elim, inl, inr, ◌≡◌, ℕ, ◌+◌, ◌*◌, ◌-◌, ◌%◌, ◌<◌, ◌≤◌, cond, sym, ap, refl, subst, ◌∙◌, arith, Option, Some, None}
 use Rattle.std.proofs.lemmas.Bool.{eq-eqb, ne_eqb}
 use Rattle.room_core.specs.declared.shape.Shape.{Shape}
 use Rattle.room_core.specs.declared.parts.Entry.{Entry}
-use Rattle.room_core.specs.declared.parts.Duty.{Duty}
-use Rattle.room_core.specs.declared.parts.Meeting.{Meeting}
 use Rattle.room_core.specs.Put.{put}
 use Rattle.room_core.specs.Gauges.{IsShape, IsGaugeOf, clock_of, scanner_of}
-use Rattle.room_core.specs.Description.{gauge_of, needs_of, deadline_of, marked_gauge}
+use Rattle.room_core.specs.Description.{gauge_of, deadline_of, marked_gauge}
 use Rattle.room_core.specs.Duty.{IsOpen}
 use Rattle.room_core.specs.Sound.{IsEntry, IsRightEntry, IsListed, WinsAreSound}
 use Rattle.room_core.specs.Meetings.{CanMark, marking, scanner_marks, MayMarkNeed, MayMarkClock, generation_met, words_of, entry_for}
 use Rattle.room_core.specs.Carried.{IsCarried, ScannerIsKept}
-use Rattle.room_core.specs.State.{State, Scanner}
-use Rattle.room_core.proofs.Puts.{at-put, put-same, at-place, place-same}
+use Rattle.room_core.specs.State.{State}
+use Rattle.room_core.proofs.Puts.{put-same, at-place, place-same}
 use Rattle.room_core.proofs.Dropping.{meeting_with, learned_is}
 use Rattle.room_core.proofs.Kept.{IsKept, kept_of, carried}
 use Rattle.room_core.proofs.Scanners.{ScannerStays, kept_by_scanner, with_scanner}
@@ -67,8 +65,10 @@ module _ (s : State) (k pass at : ℕ) (r : IsKept s) (can : CanMark s k pass at
         is = sym (learned_is s k pass (3 + 3 * at) r can.2 o g m.gauge) ∙ sym (marked_need s.shape (words_of (s.scanner k)) at m.need);
       }))
       (λ (m : MayMarkClock k (s.scanner k) at).
-      inr (marked_clock s.shape (words_of (s.scanner k)) at m.clock,
-      ap (λ b. cond b (deadline_of (words_of (s.scanner k))) 0) (eq-eqb at 64 m.clock) ∙ learned_is s k pass 1 r can.2 o g m.deadline))
+      inr (
+        marked_clock s.shape (words_of (s.scanner k)) at m.clock,
+        ap (λ b. cond b (deadline_of (words_of (s.scanner k))) 0) (eq-eqb at 64 m.clock) ∙ learned_is s k pass 1 r can.2 o g m.deadline,
+      ))
       can.3
 
   gauge_same : IsOpen s pass → (s.session pass).generation ≡ generation_met (s.scanner k).meeting
@@ -94,16 +94,16 @@ module _ (s : State) (k pass at : ℕ) (r : IsKept s) (can : CanMark s k pass at
   kept = record {
     heard = (r.scanners k).heard;
     entry = λ gauge q entry.
-      at-place (s.scanner k).listing (marked_gauge s.shape (words_of (s.scanner k)) at) pass (Some (entry_for (s.scanner k) at))
-      (λ h j o. o ≡ Some entry → IsGaugeOf s.shape k h) (λ e. own) (λ h j e. (r.scanners k).entry h j entry e) gauge q;
+        at-place (s.scanner k).listing (marked_gauge s.shape (words_of (s.scanner k)) at) pass (Some (entry_for (s.scanner k) at))
+        (λ h j o. o ≡ Some entry → IsGaugeOf s.shape k h) (λ e. own) (λ h j e. (r.scanners k).entry h j entry e) gauge q;
     duty = λ q duty d. stays_at duty.generation duty.gauge q ((r.scanners k).duty q duty d);
     one_gauge = (r.scanners k).one_gauge;
     met = λ gauge meeting entry m e.
-      at-place (s.scanner k).listing (marked_gauge s.shape (words_of (s.scanner k)) at) pass (Some (entry_for (s.scanner k) at))
-      (λ h j o. j ≡ meeting.pass → o ≡ Some entry → entry.generation ≡ meeting.generation)
-      (λ p q. let z : entry_for (s.scanner k) at ≡ entry = cc in ap (λ y. y.generation) (sym z) ∙ ap generation_met m)
-      (λ h j p q. (r.scanners k).met h meeting entry m (subst (λ i. (s.scanner k).listing h i ≡ Some entry) p q))
-      gauge meeting.pass refl e;
+        at-place (s.scanner k).listing (marked_gauge s.shape (words_of (s.scanner k)) at) pass (Some (entry_for (s.scanner k) at))
+        (λ h j o. j ≡ meeting.pass → o ≡ Some entry → entry.generation ≡ meeting.generation)
+        (λ p q. let z : entry_for (s.scanner k) at ≡ entry = cc in ap (λ y. y.generation) (sym z) ∙ ap generation_met m)
+        (λ h j p q. (r.scanners k).met h meeting entry m (subst (λ i. (s.scanner k).listing h i ≡ Some entry) p q))
+        gauge meeting.pass refl e;
   }
 
   pub stays : ScannerStays s k (scanner_marks s.shape (s.scanner k) pass at)
@@ -114,16 +114,16 @@ module _ (s : State) (k pass at : ℕ) (r : IsKept s) (can : CanMark s k pass at
     learned = r.generations.learned k;
     meeting = r.generations.meeting k;
     entry = λ gauge q entry.
-      at-place (s.scanner k).listing (marked_gauge s.shape (words_of (s.scanner k)) at) pass (Some (entry_for (s.scanner k) at))
-      (λ h j o. o ≡ Some entry → entry.generation ≤ (s.session j).generation)
-      (λ e. let z : entry_for (s.scanner k) at ≡ entry = cc in subst (λ y. y.generation ≤ (s.session pass).generation) z below)
-      (λ h j e. r.generations.entry k h j entry e) gauge q;
+        at-place (s.scanner k).listing (marked_gauge s.shape (words_of (s.scanner k)) at) pass (Some (entry_for (s.scanner k) at))
+        (λ h j o. o ≡ Some entry → entry.generation ≤ (s.session j).generation)
+        (λ e. let z : entry_for (s.scanner k) at ≡ entry = cc in subst (λ y. y.generation ≤ (s.session pass).generation) z below)
+        (λ h j e. r.generations.entry k h j entry e) gauge q;
     live = λ gauge q o. stays_at (s.session q).generation gauge q;
     right = λ gauge q entry.
-      at-place (s.scanner k).listing (marked_gauge s.shape (words_of (s.scanner k)) at) pass (Some (entry_for (s.scanner k) at))
-      (λ h j x. IsOpen s j → x ≡ Some entry → entry.generation ≡ (s.session j).generation → IsRightEntry s h j entry)
-      (λ o e g. let z : entry_for (s.scanner k) at ≡ entry = cc in subst (IsRightEntry s (marked_gauge s.shape (words_of (s.scanner k)) at) pass) z (right_here o (sym g ∙ ap (λ y. y.generation) (sym z))))
-      (λ h j o e g. r.listings.right k h j entry o e g) gauge q;
+        at-place (s.scanner k).listing (marked_gauge s.shape (words_of (s.scanner k)) at) pass (Some (entry_for (s.scanner k) at))
+        (λ h j x. IsOpen s j → x ≡ Some entry → entry.generation ≡ (s.session j).generation → IsRightEntry s h j entry)
+        (λ o e g. let z : entry_for (s.scanner k) at ≡ entry = cc in subst (IsRightEntry s (marked_gauge s.shape (words_of (s.scanner k)) at) pass) z (right_here o (sym g ∙ ap (λ y. y.generation) (sym z))))
+        (λ h j o e g. r.listings.right k h j entry o e g) gauge q;
     tally = λ q b o f. record { on_duty = f.on_duty; found = f.found };
     time = λ q b o f. record { on_duty = f.on_duty; found = f.found };
     kept = kept;

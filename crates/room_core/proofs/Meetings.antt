@@ -1,5 +1,5 @@
 -- Meet: only entries and duties go that aren't of the open generation.
-use Rattle.std.proofs.Common.{⊎_elim, inl, inr, ◌≡◌, ◌≢◌, ◌⊎◌, ℕ, ◌<◌, ◌≤◌, Bool, true, false, cond, sym, ap, refl, subst, ◌∙◌, arith, Option, Some, None}
+use Rattle.std.proofs.Common.{◌≡◌, ℕ, ◌≤◌, true, cond, sym, ap, refl, subst, ◌∙◌, arith, Option, Some, None}
 use Rattle.std.specs.Prelude.{◌&&◌, ◌==◌}
 use Rattle.std.proofs.lemmas.Bool.{eq-eqb}
 use Rattle.room_core.specs.declared.parts.Phase.TheVariants.{Open}
@@ -7,19 +7,17 @@ use Rattle.room_core.specs.declared.parts.Session.{Session}
 use Rattle.room_core.specs.declared.parts.Entry.{Entry}
 use Rattle.room_core.specs.declared.parts.Duty.{Duty}
 use Rattle.room_core.specs.declared.parts.Meeting.{Meeting}
-use Rattle.room_core.specs.Put.{put}
 use Rattle.room_core.specs.Readings.{known, unread}
-use Rattle.room_core.specs.Duty.{IsOpen, ScannerFinds, FindsTally, FindsTime, met_readings}
+use Rattle.room_core.specs.Duty.{IsOpen, met_readings}
 use Rattle.room_core.specs.Sound.{IsEntry}
 use Rattle.room_core.specs.Checks.{IsDuty}
 use Rattle.room_core.specs.Meetings.{CanMeet, scanner_meeting, scanner_meets, met, live_entry, live_duty, is_live, is_open}
-use Rattle.room_core.specs.Carried.{IsCarried, ScannerIsKept}
-use Rattle.room_core.specs.State.{State, Scanner}
+use Rattle.room_core.specs.Carried.{IsCarried}
+use Rattle.room_core.specs.State.{State}
 use Rattle.room_core.proofs.Puts.{at-put}
-use Rattle.room_core.proofs.Tests.{true_or_false, open_phase, live_generation}
+use Rattle.room_core.proofs.Tests.{open_phase, live_generation}
 use Rattle.room_core.proofs.Known.{unread_below, met_forgets, of_either}
 use Rattle.room_core.proofs.Finding.{scanner_tally, scanner_time}
-use Rattle.room_core.proofs.Dropping.{is_entry}
 use Rattle.room_core.proofs.Kept.{IsKept, kept_of, carried}
 use Rattle.room_core.proofs.Scanners.{ScannerStays, kept_by_scanner}
 use Rattle.room_core.proofs.Winners.{scanner_wins_nothing}
@@ -114,8 +112,8 @@ module _ (s : State) (k pass : ℕ) (r : IsKept s) where
     readings = unread_below s.value;
     learned = λ at word meeting m o g e. absurd (cc);
     meeting = λ meeting m.
-      let is : meeting ≡ record { pass = pass; generation = (s.session pass).generation } = (met_as (s.session pass) pass meeting m).1 in
-      subst (λ y. y.generation ≤ (s.session y.pass).generation) (sym is) (omega arith);
+        let is : meeting ≡ record { pass = pass; generation = (s.session pass).generation } = (met_as (s.session pass) pass meeting m).1 in
+        subst (λ y. y.generation ≤ (s.session y.pass).generation) (sym is) (omega arith);
     entry = λ gauge q entry e. r.generations.entry k gauge q entry (entry_before gauge q entry e);
     live = λ gauge q o e. entries_stay gauge q _ (live_at q o) e;
     right = λ gauge q entry o e. r.listings.right k gauge q entry o (entry_before gauge q entry e);

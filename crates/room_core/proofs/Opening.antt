@@ -1,17 +1,15 @@
 -- Open: all that others know is of older generations, and the owner finds while it is Listing.
-use Rattle.std.proofs.Common.{⊎_elim, inl, inr, ◌≡◌, ◌≢◌, ◌⊎◌, ℕ, ◌+◌, ◌<◌, ◌≤◌, Bool, true, false, cond, sym, ap, refl, subst, ◌∙◌, arith, Option, Some, None}
-use Rattle.room_core.specs.declared.event.How.{How}
-use Rattle.room_core.specs.declared.parts.Phase.{Phase}
+use Rattle.std.proofs.Common.{inl, ◌≡◌, ◌≢◌, ◌⊎◌, ℕ, ◌+◌, ◌<◌, ◌≤◌, true, sym, ap, refl, subst, ◌∙◌, arith, Some}
 use Rattle.room_core.specs.declared.parts.Phase.TheVariants.{Open}
 use Rattle.room_core.specs.declared.parts.Session.{Session}
 use Rattle.room_core.specs.declared.parts.Stage.{Stage}
 use Rattle.room_core.specs.declared.parts.Stage.TheVariants.{Listing}
 use Rattle.room_core.specs.Put.{put}
 use Rattle.room_core.specs.Gauges.{clock_of, scanner_of}
-use Rattle.room_core.specs.Description.{IsMark, IsOperation, IsSatisfied, least_of, deadline_of, marked_gauge, tally}
+use Rattle.room_core.specs.Description.{IsMark, IsOperation, deadline_of, marked_gauge, tally}
 use Rattle.room_core.specs.Readings.{known, unread}
 use Rattle.room_core.specs.Duty.{IsOpen, IsLate, OwnerFinds, ShardFinds, ScannerFinds, FindsTally, FindsTime, IsSatisfiedNow, owner_readings}
-use Rattle.room_core.specs.Sound.{Agree, IsEntry, IsListed, IsRightEntry, IsOwed, GenerationsAreSound, ListingsAreSound, OwnersAreSound, WinsAreSound}
+use Rattle.room_core.specs.Sound.{Agree, IsEntry, IsRightEntry, IsOwed, GenerationsAreSound, ListingsAreSound, OwnersAreSound, WinsAreSound}
 use Rattle.room_core.specs.Wins.{prizes_as, taken_as, won_as, taken_at, won_at, is_won}
 use Rattle.room_core.specs.Passes.{CanOpen, opening, caller_opens}
 use Rattle.room_core.specs.Carried.{IsCarried}
@@ -59,40 +57,40 @@ module _ (s : State) (p : ℕ) (k : IsKept s) (can : CanOpen s p) where
   generations : GenerationsAreSound (opening s p)
   generations = record {
     learned = λ j at w meeting m o g e.
-      word (λ q x. q ≡ meeting.pass → x.phase ≡ Open → x.generation ≡ meeting.generation → w ≡ s.description q at)
-      (λ q x y. absurd (
-      let l : meeting.generation ≤ (s.session p).generation = subst (λ i. meeting.generation ≤ (s.session i).generation) (sym q) (k.generations.meeting j meeting m) in
-      omega (arith, l, same, y)))
-      (λ i q x y.
-      subst (λ h. w ≡ s.description h at) (sym q)
-      (k.generations.learned j at w meeting m (subst (IsOpen s) q x) (subst (λ h. (s.session h).generation ≡ meeting.generation) q y) e))
-      meeting.pass refl o g;
+        word (λ q x. q ≡ meeting.pass → x.phase ≡ Open → x.generation ≡ meeting.generation → w ≡ s.description q at)
+        (λ q x y. absurd (
+        let l : meeting.generation ≤ (s.session p).generation = subst (λ i. meeting.generation ≤ (s.session i).generation) (sym q) (k.generations.meeting j meeting m) in
+        omega (arith, l, same, y)))
+        (λ i q x y.
+        subst (λ h. w ≡ s.description h at) (sym q)
+        (k.generations.learned j at w meeting m (subst (IsOpen s) q x) (subst (λ h. (s.session h).generation ≡ meeting.generation) q y) e))
+        meeting.pass refl o g;
     meeting = λ j meeting m. omega (arith, k.generations.meeting j meeting m, rises meeting.pass);
     entry = λ j gauge pass entry e. omega (arith, k.generations.entry j gauge pass entry e, rises pass);
     mark = λ pass i. omega (arith, k.generations.mark pass i, rises pass);
     taken =
-      both (λ q w c. (generation : ℕ) → w.generation < generation → taken_at c.taken generation ≡ 0)
-      (λ g l. k.generations.taken p g (omega (arith, same))) k.generations.taken;
+        both (λ q w c. (generation : ℕ) → w.generation < generation → taken_at c.taken generation ≡ 0)
+        (λ g l. k.generations.taken p g (omega (arith, same))) k.generations.taken;
     untaken =
-      both (λ q w c. c.stage ≢ Stage.Idle → taken_at c.taken w.generation ≡ 0)
-      (λ n. k.generations.taken p ((s.caller p).generation + 1) (omega (arith, same))) k.generations.untaken;
+        both (λ q w c. c.stage ≢ Stage.Idle → taken_at c.taken w.generation ≡ 0)
+        (λ n. k.generations.taken p ((s.caller p).generation + 1) (omega (arith, same))) k.generations.untaken;
     newest = k.generations.newest;
   }
 
   listings : ListingsAreSound (opening s p)
   listings = record {
     marked =
-      word (λ q w. (i : ℕ) → w.phase ≡ Open → i ≤ 64 → s.marks q i ≡ w.generation → IsEntry ((s.scanner (scanner_of s.shape (marked_gauge s.shape (s.description q) i))).listing (marked_gauge s.shape (s.description q) i) q) w.generation)
-      (λ i o l e. absurd (omega (arith, k.generations.mark p i, same))) k.listings.marked;
+        word (λ q w. (i : ℕ) → w.phase ≡ Open → i ≤ 64 → s.marks q i ≡ w.generation → IsEntry ((s.scanner (scanner_of s.shape (marked_gauge s.shape (s.description q) i))).listing (marked_gauge s.shape (s.description q) i) q) w.generation)
+        (λ i o l e. absurd (omega (arith, k.generations.mark p i, same))) k.listings.marked;
     seen =
-      both (λ q w c. (i : ℕ) → w.phase ≡ Open → i ≤ 64 → c.seen i ≡ true → IsEntry ((s.scanner (scanner_of s.shape (marked_gauge s.shape (s.description q) i))).listing (marked_gauge s.shape (s.description q) i) q) w.generation)
-      (λ i o l e. absurd (cc)) k.listings.seen;
+        both (λ q w c. (i : ℕ) → w.phase ≡ Open → i ≤ 64 → c.seen i ≡ true → IsEntry ((s.scanner (scanner_of s.shape (marked_gauge s.shape (s.description q) i))).listing (marked_gauge s.shape (s.description q) i) q) w.generation)
+        (λ i o l e. absurd (cc)) k.listings.seen;
     complete =
-      both (λ q w c. (i : ℕ) → w.phase ≡ Open → c.stage ≢ Listing → IsMark (s.description q) i → IsEntry ((s.scanner (scanner_of s.shape (marked_gauge s.shape (s.description q) i))).listing (marked_gauge s.shape (s.description q) i) q) w.generation)
-      (λ i o n. absurd (n refl)) k.listings.complete;
+        both (λ q w c. (i : ℕ) → w.phase ≡ Open → c.stage ≢ Listing → IsMark (s.description q) i → IsEntry ((s.scanner (scanner_of s.shape (marked_gauge s.shape (s.description q) i))).listing (marked_gauge s.shape (s.description q) i) q) w.generation)
+        (λ i o n. absurd (n refl)) k.listings.complete;
     right = λ j gauge pass entry.
-      word (λ q w. w.phase ≡ Open → (s.scanner j).listing gauge q ≡ Some entry → entry.generation ≡ w.generation → IsRightEntry s gauge q entry)
-      (λ o e g. absurd (omega (arith, k.generations.entry j gauge p entry e, same))) (λ q. k.listings.right j gauge q entry) pass;
+        word (λ q w. w.phase ≡ Open → (s.scanner j).listing gauge q ≡ Some entry → entry.generation ≡ w.generation → IsRightEntry s gauge q entry)
+        (λ o e g. absurd (omega (arith, k.generations.entry j gauge p entry e, same))) (λ q. k.listings.right j gauge q entry) pass;
   }
 
   pub kept : IsKept (opening s p)
@@ -103,8 +101,8 @@ module _ (s : State) (p : ℕ) (k : IsKept s) (can : CanOpen s p) where
       owed = as_before (λ q c. (g : ℕ) → c.owed g ≤ s.asked g) (k.debts.owed p) k.debts.owed;
       heard = k.debts.heard;
       someone = λ g l.
-        let o : IsOwed s.caller g (s.asked g) = k.debts.someone g l in
-        record { pass = o.pass; owes = as_before (λ q c. s.asked g ≤ (s.caller q).owed g → s.asked g ≤ c.owed g) (λ x. x) (λ q x. x) o.pass o.owes };
+          let o : IsOwed s.caller g (s.asked g) = k.debts.someone g l in
+          record { pass = o.pass; owes = as_before (λ q c. s.asked g ≤ (s.caller q).owed g → s.asked g ≤ c.owed g) (λ x. x) (λ q x. x) o.pass o.owes };
     };
     readings = record {
       greatest = as_before (λ q c. (g : ℕ) → c.greatest g ≤ s.value g) (k.readings.greatest p) k.readings.greatest;
@@ -115,23 +113,23 @@ module _ (s : State) (p : ℕ) (k : IsKept s) (can : CanOpen s p) where
     generations = generations;
     listings = listings;
     tally =
-      both (λ q w c. w.phase ≡ Open → IsSatisfiedNow s q
+        both (λ q w c. w.phase ≡ Open → IsSatisfiedNow s q
         → (OwnerFinds (FindsTally (s.description q) s.value) c ⊎ ShardFinds (FindsTally (s.description q) s.value) s.scanner q w.generation) ⊎ IsLate (s.description q) s.value s.begun)
-      (λ o sat. inl (inl (record {
-        on_duty = tt;
-        found =
-          let t : tally (s.description p) s.value ≤ tally (s.description p) (known (owner_readings Listing unread) s.value) = tally_rises (s.description p) s.value (known (owner_readings Listing unread) s.value) (λ i l. unread_knows Listing s.value _) in
-          omega (arith, sat, t);
-      })))
-      k.tally;
+        (λ o sat. inl (inl (record {
+          on_duty = tt;
+          found =
+              let t : tally (s.description p) s.value ≤ tally (s.description p) (known (owner_readings Listing unread) s.value) = tally_rises (s.description p) s.value (known (owner_readings Listing unread) s.value) (λ i l. unread_knows Listing s.value _) in
+              omega (arith, sat, t);
+        })))
+        k.tally;
     time =
-      both (λ q w c. w.phase ≡ Open → deadline_of (s.description q) ≤ s.begun (clock_of s.shape)
+        both (λ q w c. w.phase ≡ Open → deadline_of (s.description q) ≤ s.begun (clock_of s.shape)
         → OwnerFinds (FindsTime s.shape (s.description q) s.value) c ⊎ ScannerFinds (FindsTime s.shape (s.description q) s.value) (s.scanner 16) q w.generation)
-      (λ o d. inl (record {
-        on_duty = tt;
-        found = omega (arith, d, k.values.begun (clock_of s.shape), k.values.asked (clock_of s.shape), unread_knows Listing s.value (clock_of s.shape));
-      }))
-      k.time;
+        (λ o d. inl (record {
+          on_duty = tt;
+          found = omega (arith, d, k.values.begun (clock_of s.shape), k.values.asked (clock_of s.shape), unread_knows Listing s.value (clock_of s.shape));
+        }))
+        k.time;
     opened = both (λ q w c. c.stage ≢ Stage.Idle → 1 ≤ w.generation) (λ n. omega arith) k.opened;
     scanners = k.scanners;
   }
@@ -139,15 +137,15 @@ module _ (s : State) (p : ℕ) (k : IsKept s) (can : CanOpen s p) where
   wins : WinsAreSound s → WinsAreSound (opening s p)
   wins w = record {
     counted = λ by pass generation how.
-      ap (λ x. prizes_as x pass generation how)
-      (wins_of-same s.scanner s.scanner s.caller (put s.caller p (caller_opens (s.caller p))) (λ j. refl) (as_before (λ q c. c.wins ≡ (s.caller q).wins) refl (λ q. refl)) by)
-      ∙ w.counted by pass generation how
-      ∙ both (λ q x c. taken_as (s.caller q).taken generation how by + won_as (s.session q) generation how by ≡ taken_as c.taken generation how by + won_as x generation how by)
-      (omega (arith, won_as-none (s.session p) generation how by (ap is_won (idle_closed s p k can.1)), won_as-none (record { generation = (s.caller p).generation + 1; phase = Open }) generation how by refl))
-      (λ q. refl) pass;
+        ap (λ x. prizes_as x pass generation how)
+        (wins_of-same s.scanner s.scanner s.caller (put s.caller p (caller_opens (s.caller p))) (λ j. refl) (as_before (λ q c. c.wins ≡ (s.caller q).wins) refl (λ q. refl)) by)
+        ∙ w.counted by pass generation how
+        ∙ both (λ q x c. taken_as (s.caller q).taken generation how by + won_as (s.session q) generation how by ≡ taken_as c.taken generation how by + won_as x generation how by)
+        (omega (arith, won_as-none (s.session p) generation how by (ap is_won (idle_closed s p k can.1)), won_as-none (record { generation = (s.caller p).generation + 1; phase = Open }) generation how by refl))
+        (λ q. refl) pass;
     once =
-      both (λ q x c. (generation : ℕ) → taken_at c.taken generation + won_at x generation ≤ 1)
-      (λ generation. omega (arith, w.once p generation, won_at-none (record { generation = (s.caller p).generation + 1; phase = Open }) generation refl)) w.once;
+        both (λ q x c. (generation : ℕ) → taken_at c.taken generation + won_at x generation ≤ 1)
+        (λ generation. omega (arith, w.once p generation, won_at-none (record { generation = (s.caller p).generation + 1; phase = Open }) generation refl)) w.once;
   }
 
 pub keeps : (s : State) (pass : ℕ) → IsCarried s → CanOpen s pass → IsCarried (opening s pass)

@@ -1,18 +1,17 @@
 -- Leave, by the owner: with all wanted readings taken, who leaves didn't find the operation.
-use Rattle.std.proofs.Common.{⊎_elim, inl, inr, ◌≡◌, ◌≢◌, ◌⊎◌, ℕ, ◌+◌, ◌*◌, ◌<◌, ◌≤◌, max, Bool, true, false, cond, sym, ap, refl, subst, ◌∙◌, arith, Option, Some}
+use Rattle.std.proofs.Common.{◌≡◌, ℕ, ◌+◌, ◌*◌, ◌<◌, ◌≤◌, max, false, sym, refl, subst, arith, Option, Some}
 use Rattle.std.specs.Prelude.{◌||◌}
 use Rattle.std.proofs.lemmas.Bool.{leb-false}
-use Rattle.room_core.specs.declared.parts.Stage.{Stage}
-use Rattle.room_core.specs.declared.parts.Stage.TheVariants.{Listing, Checking, Waiting}
+use Rattle.room_core.specs.declared.parts.Stage.TheVariants.{Checking, Waiting}
 use Rattle.room_core.specs.Put.{put}
 use Rattle.room_core.specs.Gauges.{clock_of}
 use Rattle.room_core.specs.Description.{needs_of, gauge_of, least_of, deadline_of, tally}
 use Rattle.room_core.specs.Readings.{known, read_only}
-use Rattle.room_core.specs.Duty.{IsOpen, OwnerFinds, FindsTally, FindsTime, owner_readings}
+use Rattle.room_core.specs.Duty.{OwnerFinds, FindsTally, FindsTime, owner_readings}
 use Rattle.room_core.specs.Sound.{Agree}
 use Rattle.room_core.specs.Checks.{CanLeavePass, pass_leaving, caller_leaves, is_satisfied, is_overdue, AreRead, IsRead}
 use Rattle.room_core.specs.Carried.{IsCarried}
-use Rattle.room_core.specs.State.{State, Caller}
+use Rattle.room_core.specs.State.{State}
 use Rattle.room_core.proofs.Puts.{at-put}
 use Rattle.room_core.proofs.Tallies.{tally_rises, tally_agrees}
 use Rattle.room_core.proofs.Tests.{or_false}
@@ -58,9 +57,9 @@ module _ (s : State) (pass gauge : ℕ) (k : IsKept s) (can : CanLeavePass s pas
   in_time : (is_satisfied (s.caller pass).description (put (s.caller pass).readings gauge (Some (s.value gauge))) || is_overdue s.shape (s.caller pass).description (put (s.caller pass).readings gauge (Some (s.value gauge)))) ≡ false → OwnerFinds (FindsTime s.shape (s.description pass) s.value) (s.caller pass) → ⊥
   in_time e f =
       let d : deadline_of (s.caller pass).description ≤ read_only (put (s.caller pass).readings gauge (Some (s.value gauge))) (clock_of s.shape) =
-        not_overdue (clock_of s.shape) (s.description pass) (s.caller pass).description s.value (s.caller pass).readings gauge (k.readings.owner pass)
-        (sym (k.owners.description pass 1)) can.4
-        (subst (FindsTime s.shape (s.description pass) s.value) (owner_checking (s.caller pass).stage (s.caller pass).readings can.2) f.found) in
+      not_overdue (clock_of s.shape) (s.description pass) (s.caller pass).description s.value (s.caller pass).readings gauge (k.readings.owner pass)
+      (sym (k.owners.description pass 1)) can.4
+      (subst (FindsTime s.shape (s.description pass) s.value) (owner_checking (s.caller pass).stage (s.caller pass).readings can.2) f.found) in
       omega (arith, leb-false (deadline_of (s.caller pass).description) (read_only (put (s.caller pass).readings gauge (Some (s.value gauge))) (clock_of s.shape)) (or_false (is_satisfied (s.caller pass).description (put (s.caller pass).readings gauge (Some (s.value gauge)))) _ e).1)
 
   pub stays : CallerStays s pass (caller_leaves s.shape (s.caller pass) gauge (s.value gauge))
@@ -68,8 +67,8 @@ module _ (s : State) (pass gauge : ℕ) (k : IsKept s) (can : CanLeavePass s pas
     owed = k.debts.owed pass;
     owes = λ g l h. h;
     greatest =
-      at-put (s.caller pass).greatest gauge (max ((s.caller pass).greatest gauge) (s.value gauge)) (λ g x. x ≤ s.value g)
-      (omega (arith, k.readings.greatest pass gauge)) (λ g n. k.readings.greatest pass g);
+        at-put (s.caller pass).greatest gauge (max ((s.caller pass).greatest gauge) (s.value gauge)) (λ g x. x ≤ s.value g)
+        (omega (arith, k.readings.greatest pass gauge)) (λ g n. k.readings.greatest pass g);
     readings = taken_below (s.caller pass).readings s.value gauge (k.readings.owner pass);
     generation = refl;
     description = λ at. refl;
@@ -78,13 +77,13 @@ module _ (s : State) (pass gauge : ℕ) (k : IsKept s) (can : CanLeavePass s pas
     seen = k.listings.seen pass;
     complete = λ i o n. k.listings.complete pass i o (λ e. let l : (s.caller pass).stage ≡ Checking = can.2 in cc);
     tally = λ o f.
-      of_either (λ st. OwnerFinds (FindsTally (s.description pass) s.value) (record (caller_leaves s.shape (s.caller pass) gauge (s.value gauge)) { stage = st })) (is_satisfied (s.caller pass).description (put (s.caller pass).readings gauge (Some (s.value gauge))) || is_overdue s.shape (s.caller pass).description (put (s.caller pass).readings gauge (Some (s.value gauge)))) Checking Waiting
-      (λ e. owner_tally s.shape (s.description pass) s.value (s.caller pass) (record (caller_leaves s.shape (s.caller pass) gauge (s.value gauge)) { stage = Checking }) (λ d. tt) knows f)
-      (λ e. absurd (unsatisfied e f));
+        of_either (λ st. OwnerFinds (FindsTally (s.description pass) s.value) (record (caller_leaves s.shape (s.caller pass) gauge (s.value gauge)) { stage = st })) (is_satisfied (s.caller pass).description (put (s.caller pass).readings gauge (Some (s.value gauge))) || is_overdue s.shape (s.caller pass).description (put (s.caller pass).readings gauge (Some (s.value gauge)))) Checking Waiting
+        (λ e. owner_tally s.shape (s.description pass) s.value (s.caller pass) (record (caller_leaves s.shape (s.caller pass) gauge (s.value gauge)) { stage = Checking }) (λ d. tt) knows f)
+        (λ e. absurd (unsatisfied e f));
     time = λ o f.
-      of_either (λ st. OwnerFinds (FindsTime s.shape (s.description pass) s.value) (record (caller_leaves s.shape (s.caller pass) gauge (s.value gauge)) { stage = st })) (is_satisfied (s.caller pass).description (put (s.caller pass).readings gauge (Some (s.value gauge))) || is_overdue s.shape (s.caller pass).description (put (s.caller pass).readings gauge (Some (s.value gauge)))) Checking Waiting
-      (λ e. owner_time s.shape (s.description pass) s.value (s.caller pass) (record (caller_leaves s.shape (s.caller pass) gauge (s.value gauge)) { stage = Checking }) (λ d. tt) knows f)
-      (λ e. absurd (in_time e f));
+        of_either (λ st. OwnerFinds (FindsTime s.shape (s.description pass) s.value) (record (caller_leaves s.shape (s.caller pass) gauge (s.value gauge)) { stage = st })) (is_satisfied (s.caller pass).description (put (s.caller pass).readings gauge (Some (s.value gauge))) || is_overdue s.shape (s.caller pass).description (put (s.caller pass).readings gauge (Some (s.value gauge)))) Checking Waiting
+        (λ e. owner_time s.shape (s.description pass) s.value (s.caller pass) (record (caller_leaves s.shape (s.caller pass) gauge (s.value gauge)) { stage = Checking }) (λ d. tt) knows f)
+        (λ e. absurd (in_time e f));
     taken = refl;
   }
 

@@ -1,11 +1,11 @@
 -- Read, by a pass: to take the present value as a reading never lowers what is known.
-use Rattle.std.proofs.Common.{⊎_elim, ◌≡◌, ℕ, ◌<◌, ◌≤◌, max, sym, ap, refl, subst, arith, Some}
+use Rattle.std.proofs.Common.{ℕ, ◌≤◌, max, refl, arith, Some}
 use Rattle.room_core.specs.Put.{put}
 use Rattle.room_core.specs.Checks.{CanReadPass, pass_reading, caller_reads, is_checking}
 use Rattle.room_core.specs.Readings.{known}
 use Rattle.room_core.specs.Duty.{owner_readings}
 use Rattle.room_core.specs.Carried.{IsCarried}
-use Rattle.room_core.specs.State.{State, Caller}
+use Rattle.room_core.specs.State.{State}
 use Rattle.room_core.proofs.Puts.{at-put}
 use Rattle.room_core.proofs.Finding.{owner_tally, owner_time}
 use Rattle.room_core.proofs.Known.{AreBelow, of_either, taken_below, known_taken, owner_takes}
@@ -24,11 +24,11 @@ module _ (s : State) (pass gauge : ℕ) (k : IsKept s) where
     owed = k.debts.owed pass;
     owes = λ g l h. h;
     greatest =
-      at-put (s.caller pass).greatest gauge (max ((s.caller pass).greatest gauge) (s.value gauge)) (λ g x. x ≤ s.value g)
-      (omega (arith, k.readings.greatest pass gauge)) (λ g n. k.readings.greatest pass g);
+        at-put (s.caller pass).greatest gauge (max ((s.caller pass).greatest gauge) (s.value gauge)) (λ g x. x ≤ s.value g)
+        (omega (arith, k.readings.greatest pass gauge)) (λ g n. k.readings.greatest pass g);
     readings =
-      of_either (λ r. AreBelow r s.value) (is_checking (s.caller pass).stage) (put (s.caller pass).readings gauge (Some (s.value gauge))) (s.caller pass).readings
-      (λ e. taken_below (s.caller pass).readings s.value gauge (k.readings.owner pass)) (λ e. k.readings.owner pass);
+        of_either (λ r. AreBelow r s.value) (is_checking (s.caller pass).stage) (put (s.caller pass).readings gauge (Some (s.value gauge))) (s.caller pass).readings
+        (λ e. taken_below (s.caller pass).readings s.value gauge (k.readings.owner pass)) (λ e. k.readings.owner pass);
     generation = refl;
     description = λ at. refl;
     stage = k.owners.stage pass;

@@ -1,26 +1,21 @@
 -- Win, by the owner: the operation is open no more, and the owner is Over as the word says.
-use Rattle.std.proofs.Common.{⊎_elim, inl, inr, ◌≡◌, ◌≢◌, ◌⊎◌, ℕ, ◌+◌, ◌-◌, ◌<◌, ◌≤◌, List, [], ◌∷◌, ◌++◌, Bool, true, false, cond, sym, ap, refl, subst, ◌∙◌, arith}
-use Rattle.std.specs.Prelude.{nat_lt}
-use Rattle.std.proofs.lemmas.Bool.{cases_eq, cases_lt, lt-ltb, le-ltb}
+use Rattle.std.proofs.Common.{⊎_elim, ◌≡◌, ℕ, ◌+◌, ◌≤◌, [], ◌∷◌, ◌++◌, true, false, sym, ap, refl, subst, ◌∙◌}
 use Rattle.room_core.specs.declared.event.How.{How}
-use Rattle.room_core.specs.declared.parts.Phase.{Phase}
-use Rattle.room_core.specs.declared.parts.Phase.TheVariants.{Open, Won}
-use Rattle.room_core.specs.declared.parts.Session.{Session}
-use Rattle.room_core.specs.declared.parts.Prize.{Prize}
+use Rattle.room_core.specs.declared.parts.Phase.TheVariants.{Open}
 use Rattle.room_core.specs.declared.parts.Stage.{Stage}
-use Rattle.room_core.specs.declared.parts.Stage.TheVariants.{Listing, Checking}
+use Rattle.room_core.specs.declared.parts.Stage.TheVariants.{Checking}
 use Rattle.room_core.specs.Put.{put}
 use Rattle.room_core.specs.Duty.{IsOpen, OwnerFinds, FindsTally, FindsTime}
 use Rattle.room_core.specs.Sound.{Agree, WinsAreSound}
 use Rattle.room_core.specs.Meetings.{is_live}
 use Rattle.room_core.specs.Wins.{prizes_as, taken_as, won_as, taken_at, won_at, wins_of}
 use Rattle.room_core.specs.Passes.{peeked}
-use Rattle.room_core.specs.Checks.{CanWinPass, pass_winning, caller_wins, exchanged, with_prize}
+use Rattle.room_core.specs.Checks.{CanWinPass, pass_winning, caller_wins, exchanged}
 use Rattle.room_core.specs.Carried.{IsCarried}
-use Rattle.room_core.specs.State.{State, Caller, Scanner}
-use Rattle.room_core.proofs.Puts.{at-put, put-same, put-other}
+use Rattle.room_core.specs.State.{State}
+use Rattle.room_core.proofs.Puts.{at-put, put-same}
 use Rattle.room_core.proofs.Tests.{true_or_false}
-use Rattle.room_core.proofs.Words.{kept_by_exchange, with_session, exchanged_or}
+use Rattle.room_core.proofs.Words.{kept_by_exchange, with_session}
 use Rattle.room_core.proofs.Kept.{IsKept, kept_of, carried}
 use Rattle.room_core.proofs.Callers.{CallerStays, kept_by_caller}
 use Rattle.room_core.proofs.Peeking.{peeked_agrees, peeked_open}
@@ -47,9 +42,9 @@ module _ (s : State) (p : ℕ) (how : How) (k : IsKept s) (can : CanWinPass s p 
     generation = refl;
     description = λ at. refl;
     stage =
-      subst (λ w. Agree (peeked (exchanged (s.session p) (s.caller p).generation how (17 + p)).phase (s.caller p).stage) w.phase) (sym here)
-      (peeked_agrees (exchanged (s.session p) (s.caller p).generation how (17 + p)).phase (s.caller p).stage
-      (subst (λ w. Agree (s.caller p).stage w.phase) here (middle.owners.stage p)));
+        subst (λ w. Agree (peeked (exchanged (s.session p) (s.caller p).generation how (17 + p)).phase (s.caller p).stage) w.phase) (sym here)
+        (peeked_agrees (exchanged (s.session p) (s.caller p).generation how (17 + p)).phase (s.caller p).stage
+        (subst (λ w. Agree (s.caller p).stage w.phase) here (middle.owners.stage p)));
     busy = λ b e. let c : (s.caller p).stage ≡ Checking = can.1 in cc;
     seen = middle.listings.seen p;
     complete = λ i o n. middle.listings.complete p i o (λ e. let c : (s.caller p).stage ≡ Checking = can.1 in cc);
@@ -89,11 +84,11 @@ module _ (s : State) (p : ℕ) (how : How) (k : IsKept s) (can : CanWinPass s p 
   wins : WinsAreSound s → WinsAreSound (pass_winning s p how)
   wins w = record {
     counted = λ by pass generation way.
-      counted w by pass generation way
-      ∙ ap (λ x. taken_as x generation way by + won_as (put s.session p (exchanged (s.session p) (s.caller p).generation how (17 + p)) pass) generation way by) (sym (taken_same pass));
+        counted w by pass generation way
+        ∙ ap (λ x. taken_as x generation way by + won_as (put s.session p (exchanged (s.session p) (s.caller p).generation how (17 + p)) pass) generation way by) (sym (taken_same pass));
     once = λ pass generation.
-      subst (λ x. taken_at x generation + won_at (put s.session p (exchanged (s.session p) (s.caller p).generation how (17 + p)) pass) generation ≤ 1) (sym (taken_same pass))
-      (won_once s p (s.caller p).generation how (17 + p) k w pass generation);
+        subst (λ x. taken_at x generation + won_at (put s.session p (exchanged (s.session p) (s.caller p).generation how (17 + p)) pass) generation ≤ 1) (sym (taken_same pass))
+        (won_once s p (s.caller p).generation how (17 + p) k w pass generation);
   }
 
 pub keeps : (s : State) (pass : ℕ) (how : How) → IsCarried s → CanWinPass s pass how → IsCarried (pass_winning s pass how)

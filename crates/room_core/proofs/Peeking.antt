@@ -1,14 +1,14 @@
 -- Peek: the word, where it is won, is what Over says.
-use Rattle.std.proofs.Common.{⊎_elim, ◌≡◌, ◌≢◌, ℕ, ◌<◌, ◌≤◌, sym, ap, refl, subst, ◌∙◌, arith}
+use Rattle.std.proofs.Common.{◌≡◌, ◌≢◌, ℕ, sym, refl, subst}
 use Rattle.room_core.specs.declared.parts.Phase.{Phase}
 use Rattle.room_core.specs.declared.parts.Phase.TheVariants.{Open, Won}
 use Rattle.room_core.specs.declared.parts.Stage.{Stage}
-use Rattle.room_core.specs.declared.parts.Stage.TheVariants.{Listing, Checking, Waiting, Over}
+use Rattle.room_core.specs.declared.parts.Stage.TheVariants.{Listing}
 use Rattle.room_core.specs.Duty.{IsOpen, OwnerFinds, FindsTally, FindsTime}
 use Rattle.room_core.specs.Sound.{Agree}
 use Rattle.room_core.specs.Passes.{CanPeek, peeking, peeked, caller_peeks}
 use Rattle.room_core.specs.Carried.{IsCarried}
-use Rattle.room_core.specs.State.{State, Caller}
+use Rattle.room_core.specs.State.{State}
 use Rattle.room_core.proofs.Kept.{IsKept, kept_of, carried}
 use Rattle.room_core.proofs.Callers.{CallerStays, kept_by_caller}
 use Rattle.room_core.proofs.Winners.{caller_wins_nothing}

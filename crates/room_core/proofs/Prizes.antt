@@ -1,10 +1,10 @@
 -- A win more: it stands once in one winner's wins, and in the word.
-use Rattle.std.proofs.Common.{⊎_elim, inl, inr, ◌≡◌, ◌≢◌, ◌⊎◌, ℕ, ◌+◌, ◌-◌, ◌<◌, ◌≤◌, List, [], ◌∷◌, ◌++◌, Bool, true, false, cond, sym, ap, refl, subst, ◌∙◌, arith}
+use Rattle.std.proofs.Common.{⊎_elim, ◌≡◌, ◌≢◌, ℕ, ◌+◌, ◌-◌, ◌<◌, ◌≤◌, List, [], ◌∷◌, ◌++◌, Bool, true, false, cond, sym, ap, refl, subst, ◌∙◌, arith}
 use Rattle.std.specs.Prelude.{nat_lt, ◌&&◌, ◌==◌}
 use Rattle.std.proofs.lemmas.Bool.{cases_eq, cases_lt, lt-ltb, le-ltb, eq-eqb, ne_eqb}
 use Rattle.room_core.specs.declared.event.How.{How}
 use Rattle.room_core.specs.declared.parts.Phase.{Phase}
-use Rattle.room_core.specs.declared.parts.Phase.TheVariants.{Open, Won}
+use Rattle.room_core.specs.declared.parts.Phase.TheVariants.{Won}
 use Rattle.room_core.specs.declared.parts.Session.{Session}
 use Rattle.room_core.specs.declared.parts.Prize.{Prize}
 use Rattle.room_core.specs.declared.parts.Taken.{Taken}
@@ -16,7 +16,7 @@ use Rattle.room_core.specs.Meetings.{is_live}
 use Rattle.room_core.specs.Wins.{prizes_as, taken_as, won_as, taken_at, won_at, wins_of, same_how, is_won}
 use Rattle.room_core.specs.Checks.{exchanged, with_prize}
 use Rattle.room_core.specs.State.{State, Caller, Scanner}
-use Rattle.room_core.proofs.Puts.{at-put, put-same, put-other}
+use Rattle.room_core.proofs.Puts.{at-put, put-other}
 use Rattle.room_core.proofs.Tests.{live_open, live_generation}
 use Rattle.room_core.proofs.Words.{exchanged_or}
 use Rattle.room_core.proofs.Kept.{IsKept}

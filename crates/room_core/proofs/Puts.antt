@@ -1,5 +1,5 @@
 -- Tables with one value given anew.
-use Rattle.std.proofs.Common.{⊎_elim, ◌≡◌, ◌≢◌, ◌⊎◌, ℕ, sym, ap, refl, subst, cond, ◌∙◌}
+use Rattle.std.proofs.Common.{⊎_elim, ◌≡◌, ◌≢◌, ℕ, sym, ap, refl, subst, cond, ◌∙◌}
 use Rattle.std.proofs.lemmas.Bool.{eq-eqb, ne_eqb, cases_eq}
 use Rattle.room_core.specs.Put.{put}
 

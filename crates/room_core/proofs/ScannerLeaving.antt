@@ -1,20 +1,17 @@
 -- Leave, by a scanner: with all wanted readings taken, who leaves didn't find the operation.
-use Rattle.std.proofs.Common.{⊎_elim, inl, inr, ◌≡◌, ◌≢◌, ◌⊎◌, ℕ, ◌+◌, ◌*◌, ◌<◌, ◌≤◌, Bool, true, false, cond, sym, ap, refl, subst, ◌∙◌, arith, Option, Some, None}
-use Rattle.std.specs.Prelude.{◌==◌}
+use Rattle.std.proofs.Common.{◌≡◌, ℕ, ◌+◌, ◌*◌, ◌<◌, ◌≤◌, true, false, cond, sym, refl, subst, arith, Option, Some, None}
 use Rattle.std.proofs.lemmas.Bool.{leb-false, eq-eqb, ne_eqb}
-use Rattle.room_core.specs.declared.parts.Meeting.{Meeting}
-use Rattle.room_core.specs.declared.parts.Duty.{Duty}
 use Rattle.room_core.specs.Put.{put}
 use Rattle.room_core.specs.Gauges.{clock_of}
-use Rattle.room_core.specs.Description.{needs_of, gauge_of, least_of, deadline_of, tally}
+use Rattle.room_core.specs.Description.{needs_of, deadline_of}
 use Rattle.room_core.specs.Readings.{known, read_only, unread}
 use Rattle.room_core.specs.Duty.{IsOpen, ScannerFinds, FindsTally, FindsTime, met_readings}
-use Rattle.room_core.specs.Meetings.{IsMet, generation_met, words_of}
-use Rattle.room_core.specs.Checks.{CanLeaveScanner, scanner_leaving, scanner_leaves, scanner_answers, scanner_takes, scanner_lets_go, is_satisfied, is_overdue, AreRead, IsRead, IsDuty}
-use Rattle.room_core.specs.Carried.{IsCarried, ScannerIsKept}
-use Rattle.room_core.specs.State.{State, Scanner}
+use Rattle.room_core.specs.Meetings.{words_of}
+use Rattle.room_core.specs.Checks.{CanLeaveScanner, scanner_leaving, scanner_leaves, scanner_answers, scanner_takes, scanner_lets_go, is_satisfied, is_overdue, IsDuty}
+use Rattle.room_core.specs.Carried.{IsCarried}
+use Rattle.room_core.specs.State.{State}
 use Rattle.room_core.proofs.Puts.{at-put}
-use Rattle.room_core.proofs.Known.{AreBelow, of_either, unread_below, taken_below, known_taken, met_takes, met_forgets}
+use Rattle.room_core.proofs.Known.{of_either, unread_below, taken_below, known_taken, met_takes, met_forgets}
 use Rattle.room_core.proofs.Dropping.{dropped, duty_is, met_is, learned_is}
 use Rattle.room_core.proofs.Finding.{tally_knows, time_knows, scanner_tally, scanner_time}
 use Rattle.room_core.proofs.Kept.{IsKept, kept_of, carried}
@@ -41,7 +38,10 @@ module _ (s : State) (k pass gauge : ℕ) (r : IsKept s) (can : CanLeaveScanner 
     tally = λ q b o. scanner_tally s.shape (s.description q) s.value (s.scanner k) (scanner_takes (s.scanner k) gauge (s.value gauge)) q _ (λ d. d) (knows q);
     time = λ q b o. scanner_time s.shape (s.description q) s.value (s.scanner k) (scanner_takes (s.scanner k) gauge (s.value gauge)) q _ (λ d. d) (knows q);
     kept = record {
-      heard = (r.scanners k).heard; entry = (r.scanners k).entry; duty = (r.scanners k).duty; one_gauge = (r.scanners k).one_gauge;
+      heard = (r.scanners k).heard;
+      entry = (r.scanners k).entry;
+      duty = (r.scanners k).duty;
+      one_gauge = (r.scanners k).one_gauge;
       met = (r.scanners k).met;
     };
   }
@@ -66,10 +66,10 @@ module _ (s : State) (k pass gauge : ℕ) (r : IsKept s) (can : CanLeaveScanner 
       → ScannerFinds (FindsTime s.shape (s.description pass) s.value) (s.scanner k) pass (s.session pass).generation → ⊥
   in_time e b o f =
       let d : deadline_of (words_of (s.scanner k)) ≤ read_only (put (s.scanner k).readings gauge (Some (s.value gauge))) (clock_of s.shape) =
-        not_overdue (clock_of s.shape) (s.description pass) (words_of (s.scanner k)) s.value (s.scanner k).readings gauge (r.readings.scanner k)
-        (same o f.on_duty 1 (omega arith)) (can.5 b) (readings_are (FindsTime s.shape (s.description pass) s.value) f.found) in
+      not_overdue (clock_of s.shape) (s.description pass) (words_of (s.scanner k)) s.value (s.scanner k).readings gauge (r.readings.scanner k)
+      (same o f.on_duty 1 (omega arith)) (can.5 b) (readings_are (FindsTime s.shape (s.description pass) s.value) f.found) in
       let n : is_overdue s.shape (words_of (s.scanner k)) (put (s.scanner k).readings gauge (Some (s.value gauge))) ≡ false =
-        subst (λ t. cond t (is_overdue s.shape (words_of (s.scanner k)) (put (s.scanner k).readings gauge (Some (s.value gauge)))) (is_satisfied (words_of (s.scanner k)) (put (s.scanner k).readings gauge (Some (s.value gauge)))) ≡ false) (eq-eqb k 16 b) e in
+      subst (λ t. cond t (is_overdue s.shape (words_of (s.scanner k)) (put (s.scanner k).readings gauge (Some (s.value gauge)))) (is_satisfied (words_of (s.scanner k)) (put (s.scanner k).readings gauge (Some (s.value gauge)))) ≡ false) (eq-eqb k 16 b) e in
       omega (arith, d, leb-false (deadline_of (words_of (s.scanner k))) (read_only (put (s.scanner k).readings gauge (Some (s.value gauge))) (clock_of s.shape)) n)
 
   still : (q : ℕ) → (F : (ℕ → Option ℕ) → Type 0) → (q ≡ pass → ScannerFinds F (s.scanner k) q (s.session q).generation → ⊥)

@@ -1,13 +1,12 @@
 -- Read, by a scanner: to take the present value as a reading never lowers what is known.
-use Rattle.std.proofs.Common.{⊎_elim, ◌≡◌, ℕ, ◌<◌, ◌≤◌, max, sym, ap, refl, subst, arith, Some}
+use Rattle.std.proofs.Common.{ℕ, ◌≤◌, refl, Some}
 use Rattle.std.specs.Prelude.{is_some}
 use Rattle.room_core.specs.Put.{put}
 use Rattle.room_core.specs.Readings.{known}
 use Rattle.room_core.specs.Duty.{met_readings}
 use Rattle.room_core.specs.Checks.{CanReadScanner, scanner_reading, scanner_reads}
 use Rattle.room_core.specs.Carried.{IsCarried}
-use Rattle.room_core.specs.State.{State, Scanner}
-use Rattle.room_core.proofs.Puts.{at-put}
+use Rattle.room_core.specs.State.{State}
 use Rattle.room_core.proofs.Finding.{scanner_tally, scanner_time}
 use Rattle.room_core.proofs.Known.{AreBelow, of_either, taken_below, known_taken, met_takes}
 use Rattle.room_core.proofs.Kept.{IsKept, kept_of, carried}
@@ -25,8 +24,8 @@ module _ (s : State) (k gauge : ℕ) (r : IsKept s) where
     began = λ g. refl;
     heard = r.debts.heard k;
     readings =
-      of_either (λ q. AreBelow q s.value) (is_some (s.scanner k).meeting) (put (s.scanner k).readings gauge (Some (s.value gauge))) (s.scanner k).readings
-      (λ e. taken_below (s.scanner k).readings s.value gauge (r.readings.scanner k)) (λ e. r.readings.scanner k);
+        of_either (λ q. AreBelow q s.value) (is_some (s.scanner k).meeting) (put (s.scanner k).readings gauge (Some (s.value gauge))) (s.scanner k).readings
+        (λ e. taken_below (s.scanner k).readings s.value gauge (r.readings.scanner k)) (λ e. r.readings.scanner k);
     learned = r.generations.learned k;
     meeting = r.generations.meeting k;
     entry = r.generations.entry k;
@@ -35,7 +34,10 @@ module _ (s : State) (k gauge : ℕ) (r : IsKept s) where
     tally = λ pass b o. scanner_tally s.shape (s.description pass) s.value (s.scanner k) (scanner_reads (s.scanner k) gauge (s.value gauge)) pass _ (λ d. d) (knows pass);
     time = λ pass b o. scanner_time s.shape (s.description pass) s.value (s.scanner k) (scanner_reads (s.scanner k) gauge (s.value gauge)) pass _ (λ d. d) (knows pass);
     kept = record {
-      heard = (r.scanners k).heard; entry = (r.scanners k).entry; duty = (r.scanners k).duty; one_gauge = (r.scanners k).one_gauge;
+      heard = (r.scanners k).heard;
+      entry = (r.scanners k).entry;
+      duty = (r.scanners k).duty;
+      one_gauge = (r.scanners k).one_gauge;
       met = (r.scanners k).met;
     };
   }

@@ -1,5 +1,5 @@
 -- Win, by a scanner: the operation of its duty is open no more.
-use Rattle.std.proofs.Common.{⊎_elim, inl, inr, ◌≡◌, ◌≢◌, ◌⊎◌, ℕ, ◌+◌, ◌-◌, ◌<◌, ◌≤◌, List, [], ◌∷◌, ◌++◌, Bool, true, false, cond, sym, ap, refl, subst, ◌∙◌, arith, Option, Some, None}
+use Rattle.std.proofs.Common.{⊎_elim, ◌≡◌, ◌≢◌, ℕ, ◌+◌, ◌-◌, ◌<◌, [], ◌∷◌, ◌++◌, true, false, cond, sym, ap, refl, subst, ◌∙◌, arith, Option, Some, None}
 use Rattle.std.specs.Prelude.{◌==◌, ◌&&◌}
 use Rattle.std.proofs.lemmas.Bool.{eq-eqb, ne_eqb}
 use Rattle.room_core.specs.declared.event.How.{How}
@@ -7,19 +7,17 @@ use Rattle.room_core.specs.declared.parts.Phase.TheVariants.{Open, Won}
 use Rattle.room_core.specs.declared.parts.Session.{Session}
 use Rattle.room_core.specs.declared.parts.Entry.{Entry}
 use Rattle.room_core.specs.declared.parts.Duty.{Duty}
-use Rattle.room_core.specs.declared.parts.Meeting.{Meeting}
-use Rattle.room_core.specs.declared.parts.Prize.{Prize}
 use Rattle.room_core.specs.declared.shape.Shape.{Shape}
 use Rattle.room_core.specs.Put.{put}
 use Rattle.room_core.specs.Gauges.{IsScanner, IsShape}
-use Rattle.room_core.specs.Readings.{known, unread}
-use Rattle.room_core.specs.Duty.{IsOpen, ScannerFinds, FindsTally, FindsTime, met_readings}
+use Rattle.room_core.specs.Readings.{unread}
+use Rattle.room_core.specs.Duty.{IsOpen, met_readings}
 use Rattle.room_core.specs.Sound.{IsEntry, WinsAreSound}
 use Rattle.room_core.specs.Meetings.{is_live, is_open, generation_met}
-use Rattle.room_core.specs.Wins.{prizes_as, taken_as, won_as, taken_at, won_at, wins_of}
-use Rattle.room_core.specs.Checks.{CanWinScanner, scanner_winning, scanner_wins, exchanged, with_prize, other_entry, gauge_of_duty, IsDuty}
-use Rattle.room_core.specs.Carried.{IsCarried, ScannerIsKept}
-use Rattle.room_core.specs.State.{State, Scanner}
+use Rattle.room_core.specs.Wins.{prizes_as, taken_as, won_as, wins_of}
+use Rattle.room_core.specs.Checks.{CanWinScanner, scanner_winning, scanner_wins, exchanged, other_entry, gauge_of_duty, IsDuty}
+use Rattle.room_core.specs.Carried.{IsCarried}
+use Rattle.room_core.specs.State.{State}
 use Rattle.room_core.proofs.Puts.{at-put, put-same, at-place}
 use Rattle.room_core.proofs.Tests.{true_or_false}
 use Rattle.room_core.proofs.Known.{of_either, unread_below, met_forgets}
@@ -97,8 +95,8 @@ module _ (s : State) (k p : ℕ) (how : How) (r : IsKept s) (can : CanWinScanner
     meeting = λ meeting m. absurd (cc);
     entry = λ gauge q entry e. middle.generations.entry k gauge q entry (entry_before gauge q entry e);
     live = λ gauge q o.
-      entries_stay gauge q (put s.session p (exchanged (s.session p) (generation_met (s.scanner k).meeting) how k) q).generation
-      (λ e g. closed (subst (IsOpen (with_session s p (exchanged (s.session p) (generation_met (s.scanner k).meeting) how k))) e o) (subst (λ j. (put s.session p (exchanged (s.session p) (generation_met (s.scanner k).meeting) how k) j).generation ≡ (generation_met (s.scanner k).meeting)) e g));
+        entries_stay gauge q (put s.session p (exchanged (s.session p) (generation_met (s.scanner k).meeting) how k) q).generation
+        (λ e g. closed (subst (IsOpen (with_session s p (exchanged (s.session p) (generation_met (s.scanner k).meeting) how k))) e o) (subst (λ j. (put s.session p (exchanged (s.session p) (generation_met (s.scanner k).meeting) how k) j).generation ≡ (generation_met (s.scanner k).meeting)) e g));
     right = λ gauge q entry o e. middle.listings.right k gauge q entry o (entry_before gauge q entry e);
     tally = λ q b o f. record {
       on_duty = duties_stay q o f.on_duty;
@@ -112,8 +110,8 @@ module _ (s : State) (k p : ℕ) (how : How) (r : IsKept s) (can : CanWinScanner
       heard = (r.scanners k).heard;
       entry = λ gauge q entry e. (r.scanners k).entry gauge q entry (entry_before gauge q entry e);
       duty = λ q duty d.
-        entries_stay duty.gauge q duty.generation (λ e. absurd (other_duty q duty d e))
-        ((r.scanners k).duty q duty (dropped (s.scanner k).duties p q duty d));
+          entries_stay duty.gauge q duty.generation (λ e. absurd (other_duty q duty d e))
+          ((r.scanners k).duty q duty (dropped (s.scanner k).duties p q duty d));
       one_gauge = λ q j duty more d e. (r.scanners k).one_gauge q j duty more (dropped (s.scanner k).duties p q duty d) (dropped (s.scanner k).duties p j more e);
       met = λ g meeting entry m. absurd (cc);
     };

@@ -1,17 +1,15 @@
 -- Marked: seen by the mark; with the last one the owner is Checking without readings.
-use Rattle.std.proofs.Common.{⊎_elim, inl, inr, ◌≡◌, ◌≢◌, ◌⊎◌, ℕ, zero, suc, ◌<◌, ◌≤◌, Bool, true, false, cond, sym, ap, refl, subst, ◌∙◌, arith}
-use Rattle.std.specs.Prelude.{◌==◌, ◌&&◌}
+use Rattle.std.proofs.Common.{⊎_elim, ◌≡◌, ◌≢◌, ℕ, zero, suc, ◌<◌, ◌≤◌, Bool, true, false, cond, sym, refl, subst, ◌∙◌, arith}
+use Rattle.std.specs.Prelude.{◌==◌}
 use Rattle.std.proofs.lemmas.Bool.{eqb-true, cases_lt}
 use Rattle.room_core.specs.declared.parts.Stage.{Stage}
 use Rattle.room_core.specs.declared.parts.Stage.TheVariants.{Listing, Checking}
-use Rattle.room_core.specs.Put.{put}
 use Rattle.room_core.specs.Description.{IsMark, needs_of, marked_gauge}
-use Rattle.room_core.specs.Readings.{unread}
 use Rattle.room_core.specs.Duty.{IsOpen, IsOnDuty}
 use Rattle.room_core.specs.Sound.{Agree, IsListed}
 use Rattle.room_core.specs.Passes.{CanSeeMark, seeing_mark, caller_sees_mark, seen_with, all_seen, all_below}
 use Rattle.room_core.specs.Carried.{IsCarried}
-use Rattle.room_core.specs.State.{State, Caller}
+use Rattle.room_core.specs.State.{State}
 use Rattle.room_core.proofs.Puts.{at-put}
 use Rattle.room_core.proofs.Tests.{and_left, and_right}
 use Rattle.room_core.proofs.Known.{of_either, unread_below, owner_forgets}

@@ -1,17 +1,14 @@
 -- The start is sound.
-use Rattle.std.proofs.Common.{⊎_elim, inl, inr, ◌≡◌, ◌≢◌, ℕ, ◌-◌, ◌<◌, ◌≤◌, Bool, true, false, cond, [], sym, ap, refl, subst, ◌∙◌, arith}
+use Rattle.std.proofs.Common.{◌≡◌, ℕ, [], ap, refl, arith}
 use Rattle.std.specs.Prelude.{nat_lt}
 use Rattle.room_core.specs.declared.event.How.{How}
-use Rattle.room_core.specs.declared.parts.Prize.{Prize}
 use Rattle.room_core.specs.declared.parts.Phase.{Phase}
-use Rattle.room_core.specs.declared.parts.Session.{Session}
 use Rattle.room_core.specs.declared.shape.Shape.{Shape}
 use Rattle.room_core.specs.Gauges.{IsShape}
 use Rattle.room_core.specs.Start.{start_of, idle_caller, idle_scanner}
 use Rattle.room_core.specs.Sound.{WinsAreSound}
-use Rattle.room_core.specs.Wins.{prizes_as, taken_as, won_as, taken_at, won_at, wins_of}
-use Rattle.room_core.specs.Carried.{IsCarried, ScannerIsKept}
-use Rattle.room_core.specs.State.{State}
+use Rattle.room_core.specs.Wins.{prizes_as, taken_as, taken_at, wins_of}
+use Rattle.room_core.specs.Carried.{IsCarried}
 use Rattle.room_core.proofs.Kept.{IsKept, carried}
 use Rattle.room_core.proofs.Known.{of_either}
 use Rattle.room_core.proofs.Winners.{won_as-none, won_at-none}
@@ -35,8 +32,8 @@ nothing_taken generation = refl
 wins : (shape : Shape) → WinsAreSound (start_of shape)
 wins shape = record {
   counted = λ by pass generation how.
-    let a : prizes_as (wins_of (λ k. idle_scanner) (λ p. idle_caller) by) pass generation how ≡ prizes_as [] pass generation how = ap (λ x. prizes_as x pass generation how) (no_wins by) in
-    omega (arith, a, no_prizes pass generation how, none_taken generation how by, won_as-none (record { generation = 0; phase = Phase.Idle }) generation how by refl);
+      let a : prizes_as (wins_of (λ k. idle_scanner) (λ p. idle_caller) by) pass generation how ≡ prizes_as [] pass generation how = ap (λ x. prizes_as x pass generation how) (no_wins by) in
+      omega (arith, a, no_prizes pass generation how, none_taken generation how by, won_as-none (record { generation = 0; phase = Phase.Idle }) generation how by refl);
   once = λ pass generation. omega (arith, nothing_taken generation, won_at-none (record { generation = 0; phase = Phase.Idle }) generation refl);
 }
 

@@ -1,18 +1,16 @@
 -- Store: where the value rose on a need's gauge, it is above begun; elsewhere nothing that a duty sees changes.
-use Rattle.std.proofs.Common.{⊎_elim, ◌≡◌, ◌≢◌, ◌⊎◌, ℕ, ◌<◌, ◌≤◌, sym, refl, subst, arith, true}
-use Rattle.room_core.specs.declared.parts.Source.{Source}
+use Rattle.std.proofs.Common.{⊎_elim, ◌≡◌, ℕ, ◌<◌, ◌≤◌, refl, arith, true}
 use Rattle.room_core.specs.Put.{put}
-use Rattle.room_core.specs.Description.{needs_of, gauge_of, tally, least_of}
-use Rattle.room_core.specs.Readings.{known}
-use Rattle.room_core.specs.Sound.{ValuesAreSound, ReadingsAreSound, WinsAreSound}
-use Rattle.room_core.specs.Duty.{IsLate, OwnerFinds, ShardFinds, FindsTally, FindsTime, IsOpen, IsSatisfiedNow, IsFoundByTally, IsFoundByTime}
+use Rattle.room_core.specs.Description.{needs_of, gauge_of, tally}
+use Rattle.room_core.specs.Sound.{ValuesAreSound, ReadingsAreSound}
+use Rattle.room_core.specs.Duty.{IsLate, IsOpen, IsSatisfiedNow, IsFoundByTally}
 use Rattle.room_core.specs.Carried.{IsCarried}
 use Rattle.room_core.specs.Scans.{CanStore, storing}
 use Rattle.room_core.specs.State.{State}
 use Rattle.room_core.proofs.Puts.{at-put, at-puts}
 use Rattle.room_core.proofs.Tallies.{late_or, tally_rises}
 use Rattle.room_core.proofs.Finding.{known_rises, tally_knows, time_knows, owner_too, scanner_too, shard_too, either_too}
-use Rattle.room_core.proofs.Kept.{IsKept, kept_of, carried}
+use Rattle.room_core.proofs.Kept.{IsKept, carried}
 
 module _ (s : State) (gauge value : ℕ) (c : IsCarried s) (can : CanStore s gauge value) where
   rises : (g : ℕ) → s.value g ≤ put s.value gauge value g
@@ -56,24 +54,32 @@ module _ (s : State) (gauge value : ℕ) (c : IsCarried s) (can : CanStore s gau
     debts = record { owed = c.sound.debts.owed; heard = c.sound.debts.heard; someone = c.sound.debts.someone };
     readings = readings;
     owners = record {
-      generation = c.sound.owners.generation; description = c.sound.owners.description; stage = c.sound.owners.stage;
+      generation = c.sound.owners.generation;
+      description = c.sound.owners.description;
+      stage = c.sound.owners.stage;
       operation = c.sound.owners.operation;
     };
     generations = record {
-      learned = c.sound.generations.learned; meeting = c.sound.generations.meeting; entry = c.sound.generations.entry;
-      mark = c.sound.generations.mark; taken = c.sound.generations.taken; untaken = c.sound.generations.untaken;
+      learned = c.sound.generations.learned;
+      meeting = c.sound.generations.meeting;
+      entry = c.sound.generations.entry;
+      mark = c.sound.generations.mark;
+      taken = c.sound.generations.taken;
+      untaken = c.sound.generations.untaken;
       newest = c.sound.generations.newest;
     };
     listings = record {
-      marked = c.sound.listings.marked; seen = c.sound.listings.seen; complete = c.sound.listings.complete;
+      marked = c.sound.listings.marked;
+      seen = c.sound.listings.seen;
+      complete = c.sound.listings.complete;
       right = c.sound.listings.right;
     };
     tally = λ pass o sat. late_or _ _ _ (tallied pass o sat);
     time = λ pass o d.
-      either_too
-      (owner_too (λ r. time_knows s.shape (s.description pass) s.value (put s.value gauge value) r r (known_rises r _ _ rises)) (s.caller pass))
-      (scanner_too (λ r. time_knows s.shape (s.description pass) s.value (put s.value gauge value) r r (known_rises r _ _ rises)) (s.scanner 16) pass _)
-      (c.sound.time pass o d);
+        either_too
+        (owner_too (λ r. time_knows s.shape (s.description pass) s.value (put s.value gauge value) r r (known_rises r _ _ rises)) (s.caller pass))
+        (scanner_too (λ r. time_knows s.shape (s.description pass) s.value (put s.value gauge value) r r (known_rises r _ _ rises)) (s.scanner 16) pass _)
+        (c.sound.time pass o d);
     opened = c.opened;
     scanners = c.scanners;
   }

@@ -1,10 +1,10 @@
 -- Sums over needs.
-use Rattle.std.proofs.Common.{⊎_elim, ◌≡◌, ◌≢◌, ◌⊎◌, ℕ, zero, suc, ◌+◌, ◌*◌, ◌-◌, ◌<◌, ◌≤◌, min, inl, inr, ◌∙◌, sym, ap, refl, subst, cond, arith, Option, Some, None}
+use Rattle.std.proofs.Common.{⊎_elim, ◌≡◌, ◌⊎◌, ℕ, zero, suc, ◌+◌, ◌*◌, ◌-◌, ◌<◌, ◌≤◌, min, inl, inr, ◌∙◌, ap, refl, subst, arith, Option, Some, None}
 use Rattle.std.proofs.lemmas.Bool.{cases_lt}
-use Rattle.std.specs.Prelude.{unwrap_or, IsSome}
+use Rattle.std.specs.Prelude.{unwrap_or}
 use Rattle.opcond.specs.Tally.{counted}
-use Rattle.room_core.specs.Description.{least_of, deadline_of, needs_of, gauge_of, need_of, tally_below, tally}
-use Rattle.room_core.specs.Readings.{known, read_only, unread}
+use Rattle.room_core.specs.Description.{needs_of, gauge_of, need_of, tally_below, tally}
+use Rattle.room_core.specs.Readings.{known}
 use Rattle.room_core.specs.Duty.{IsLate}
 
 pub counted_rises : (start cap v w : ℕ) → v ≤ w → min cap (v - start) ≤ min cap (w - start)

@@ -1,5 +1,5 @@
 -- An event's change of one pass's word alone: a session word that is won, and a mark.
-use Rattle.std.proofs.Common.{⊎_elim, ◌∙◌, inl, inr, cond, false, ◌≡◌, ◌≢◌, ◌⊎◌, ℕ, ◌<◌, ◌≤◌, sym, ap, refl, subst, arith, true, Some}
+use Rattle.std.proofs.Common.{⊎_elim, ◌∙◌, inl, inr, cond, false, ◌≡◌, ◌⊎◌, ℕ, ◌≤◌, sym, ap, refl, subst, arith, true}
 use Rattle.room_core.specs.declared.event.How.{How}
 use Rattle.room_core.specs.declared.parts.Phase.{Phase}
 use Rattle.room_core.specs.declared.parts.Phase.TheVariants.{Open, Won}
@@ -73,17 +73,17 @@ module _ (s : State) (p : ℕ) (new : Session) (k : IsKept s) (c : WordStays (s.
       right = λ j gauge pass entry o e g. k.listings.right j gauge pass entry (before pass o) e (g ∙ same pass);
     };
     tally = λ pass o sat.
-      either_too
-      (either_too
-      (λ f. f)
-      (λ f. subst (ShardFinds (FindsTally (s.description pass) s.value) s.scanner pass) (sym (same pass)) f))
-      (λ l. l)
-      (k.tally pass (before pass o) sat);
+        either_too
+        (either_too
+        (λ f. f)
+        (λ f. subst (ShardFinds (FindsTally (s.description pass) s.value) s.scanner pass) (sym (same pass)) f))
+        (λ l. l)
+        (k.tally pass (before pass o) sat);
     time = λ pass o d.
-      either_too
-      (λ f. f)
-      (λ f. subst (ScannerFinds (FindsTime s.shape (s.description pass) s.value) (s.scanner 16) pass) (sym (same pass)) f)
-      (k.time pass (before pass o) d);
+        either_too
+        (λ f. f)
+        (λ f. subst (ScannerFinds (FindsTime s.shape (s.description pass) s.value) (s.scanner 16) pass) (sym (same pass)) f)
+        (k.time pass (before pass o) d);
     opened = λ pass b. omega (arith, k.opened pass b, same pass);
     scanners = k.scanners;
   }
@@ -136,23 +136,32 @@ kept_by_mark s p i generation k below listed = record {
   debts = record { owed = k.debts.owed; heard = k.debts.heard; someone = k.debts.someone };
   readings = record { greatest = k.readings.greatest; owner = k.readings.owner; scanner = k.readings.scanner };
   owners = record {
-    generation = k.owners.generation; description = k.owners.description; stage = k.owners.stage; operation = k.owners.operation;
+    generation = k.owners.generation;
+    description = k.owners.description;
+    stage = k.owners.stage;
+    operation = k.owners.operation;
   };
   generations = record {
-    learned = k.generations.learned; meeting = k.generations.meeting; entry = k.generations.entry;
+    learned = k.generations.learned;
+    meeting = k.generations.meeting;
+    entry = k.generations.entry;
     mark =
-      at-put s.marks p (put (s.marks p) i generation) (λ q m. (j : ℕ) → m j ≤ (s.session q).generation)
-      (at-put (s.marks p) i generation (λ j m. m ≤ (s.session p).generation) below (λ j n. k.generations.mark p j))
-      (λ q n. k.generations.mark q);
-    taken = k.generations.taken; untaken = k.generations.untaken; newest = k.generations.newest;
+        at-put s.marks p (put (s.marks p) i generation) (λ q m. (j : ℕ) → m j ≤ (s.session q).generation)
+        (at-put (s.marks p) i generation (λ j m. m ≤ (s.session p).generation) below (λ j n. k.generations.mark p j))
+        (λ q n. k.generations.mark q);
+    taken = k.generations.taken;
+    untaken = k.generations.untaken;
+    newest = k.generations.newest;
   };
   listings = record {
     marked =
-      at-put s.marks p (put (s.marks p) i generation) (λ q m. (j : ℕ) → IsOpen s q → j ≤ 64 → m j ≡ (s.session q).generation → IsListed s (marked_gauge s.shape (s.description q) j) q)
-      (at-put (s.marks p) i generation (λ j m. IsOpen s p → j ≤ 64 → m ≡ (s.session p).generation → IsListed s (marked_gauge s.shape (s.description p) j) p)
-      listed (λ j n. k.listings.marked p j))
-      (λ q n. k.listings.marked q);
-    seen = k.listings.seen; complete = k.listings.complete; right = k.listings.right;
+        at-put s.marks p (put (s.marks p) i generation) (λ q m. (j : ℕ) → IsOpen s q → j ≤ 64 → m j ≡ (s.session q).generation → IsListed s (marked_gauge s.shape (s.description q) j) q)
+        (at-put (s.marks p) i generation (λ j m. IsOpen s p → j ≤ 64 → m ≡ (s.session p).generation → IsListed s (marked_gauge s.shape (s.description p) j) p)
+        listed (λ j n. k.listings.marked p j))
+        (λ q n. k.listings.marked q);
+    seen = k.listings.seen;
+    complete = k.listings.complete;
+    right = k.listings.right;
   };
   tally = k.tally;
   time = k.time;

@@ -1,6 +1,6 @@
 -- The events of a check, which a pass makes of its own operation, and a scanner of one that it has met: it reads gauges, and
 -- then leaves the operation or wins it.
-use Rattle.std.specs.Prelude.{◌≡◌, ◌≢◌, ◌⊎◌, ℕ, ◌+◌, ◌*◌, ◌<◌, ◌≤◌, max, Bool, true, false, ◌&&◌, ◌||◌, ◌==◌, nat_le, if◌then◌else◌, Option, Some, None, is_some, IsSome, List, [], ◌∷◌, ◌++◌}
+use Rattle.std.specs.Prelude.{◌≡◌, ◌≢◌, ◌⊎◌, ℕ, ◌+◌, ◌*◌, ◌<◌, ◌≤◌, max, Bool, true, false, ◌||◌, ◌==◌, nat_le, if◌then◌else◌, Option, Some, None, is_some, IsSome, List, [], ◌∷◌, ◌++◌}
 use Rattle.room_core.specs.declared.shape.Shape.{Shape}
 use Rattle.room_core.specs.declared.event.How.{How}
 use Rattle.room_core.specs.declared.event.How.TheVariants.{Satisfied, Expired}

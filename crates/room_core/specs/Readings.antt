@@ -1,5 +1,5 @@
 -- Readings of a check, by gauge.
-use Rattle.std.specs.Prelude.{ℕ, ◌≡◌, Option, Some, None, unwrap_or}
+use Rattle.std.specs.Prelude.{ℕ, Option, None, unwrap_or}
 
 -- nothing was read
 abbrev pub unread : ℕ → Option ℕ

@@ -1,8 +1,8 @@
 -- The nine facts of a sound state.
-use Rattle.std.specs.Prelude.{◌≡◌, ◌≢◌, ◌⊎◌, ℕ, ◌+◌, ◌<◌, ◌≤◌, Bool, true, Option, Some, None}
+use Rattle.std.specs.Prelude.{◌≡◌, ◌≢◌, ◌⊎◌, ℕ, ◌+◌, ◌<◌, ◌≤◌, true, Option, Some, None}
 use Rattle.room_core.specs.declared.event.How.{How}
 use Rattle.room_core.specs.declared.parts.Phase.{Phase}
-use Rattle.room_core.specs.declared.parts.Phase.TheVariants.{Open, Won}
+use Rattle.room_core.specs.declared.parts.Phase.TheVariants.{Won}
 use Rattle.room_core.specs.declared.parts.Stage.{Stage}
 use Rattle.room_core.specs.declared.parts.Stage.TheVariants.{Listing, Checking, Waiting, Over}
 use Rattle.room_core.specs.declared.parts.Heard.{Heard}

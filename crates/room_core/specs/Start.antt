@@ -1,5 +1,5 @@
 -- The state at the start: zeros, empty lists, no source loud, and every pass idle.
-use Rattle.std.specs.Prelude.{ℕ, false, None, []}
+use Rattle.std.specs.Prelude.{false, None, []}
 use Rattle.room_core.specs.declared.shape.Shape.{Shape}
 use Rattle.room_core.specs.declared.parts.Phase.{Phase}
 use Rattle.room_core.specs.declared.parts.Stage.{Stage}

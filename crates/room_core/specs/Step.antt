@@ -1,8 +1,7 @@
 -- The machine: which events are allowed in a state, and what each changes.
-use Rattle.std.specs.Prelude.{◌≡◌, ℕ, List, [], ◌∷◌, ⊤}
+use Rattle.std.specs.Prelude.{◌≡◌, ⊤}
 use Rattle.room_core.specs.declared.event.CoreEvent.{CoreEvent}
 use Rattle.room_core.specs.declared.event.CoreEvent.TheVariants.{Store, Ask, Hush, Hear, Begin, Relieve, Describe, Open, Meet, Learn, Mark, Marked, Read, Leave, Win, Peek, Idle, Part}
-use Rattle.room_core.specs.declared.event.Party.{Party}
 use Rattle.room_core.specs.declared.event.Party.TheVariants.{Pass, Scanner}
 use Rattle.room_core.specs.State.{State}
 use Rattle.room_core.specs.Scans.{CanStore, storing, CanAsk, asking, CanHush, hushing, CanHear, hearing, CanBegin, beginning, CanRelieve, relieving}

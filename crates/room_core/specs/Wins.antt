@@ -1,5 +1,5 @@
 -- How often an exchange stands in a winner's wins, among what its pass has taken, and in the pass's word.
-use Rattle.std.specs.Prelude.{ℕ, ◌+◌, ◌-◌, Bool, true, false, ◌&&◌, ◌==◌, nat_lt, if◌then◌else◌, List, count_by}
+use Rattle.std.specs.Prelude.{ℕ, ◌-◌, Bool, true, false, ◌&&◌, ◌==◌, nat_lt, if◌then◌else◌, List, count_by}
 use Rattle.room_core.specs.declared.event.How.{How}
 use Rattle.room_core.specs.declared.event.How.TheVariants.{Satisfied, Expired}
 use Rattle.room_core.specs.declared.parts.Phase.{Phase}
