@@ -1,5 +1,5 @@
 -- Tallies, need by need.
-use Rattle.std.proofs.Common.{◌≡◌, ℕ, zero, suc, ◌+◌, ◌*◌, ◌-◌, ◌^◌, ◌<◌, ◌≤◌, min, List, [], ◌∷◌, length, get_or, set, drop, sym, ap, refl, ◌∙◌, arith, add-one, drop-cons}
+use Rattle.std.proofs.Common.{◌≡◌, ℕ, zero, suc, ◌+◌, ◌<◌, ◌≤◌, List, [], ◌∷◌, length, get_or, set, arith}
 use Rattle.opcond.specs.declared.need.Need.{Need}
 use Rattle.opcond.specs.Tally.{counted, tally}
 
@@ -22,8 +22,3 @@ tally-set (need ∷ needs) (v ∷ values) zero value d l m = omega arith
 tally-set (need ∷ needs) (v ∷ values) (suc i) value d l m =
     let e : tally needs (set values i value) + counted (get_or needs i d) (get_or values i 0) ≡ tally needs values + counted (get_or needs i d) value = tally-set needs values i value d (omega arith) (omega arith) in
     omega (arith, e)
-
--- one need more
-pub tally-next : (needs : List Need) (values : List ℕ) (i : ℕ) (d : Need) → i < length needs → i < length values
-    → tally (drop i needs) (drop i values) ≡ counted (get_or needs i d) (get_or values i 0) + tally (drop (i + 1) needs) (drop (i + 1) values)
-tally-next needs values i d l m = rw (add-one, drop-cons needs i d l, drop-cons values i 0 m) refl

@@ -13,3 +13,6 @@ pub use laws::{answerable_stays, one_part_changes, tally_rises};
 pub use need::Need;
 pub use op::Op;
 pub use reached::{is_overdue, is_satisfied, tally};
+
+#[cfg(test)]
+mod tests;
