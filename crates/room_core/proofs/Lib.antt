@@ -68,3 +68,5 @@ pub mod Starting
 pub mod Steps
 -- a sound and quiet state
 pub mod Quiets
+-- a won word stands once
+pub mod Once

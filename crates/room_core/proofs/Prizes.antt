@@ -80,7 +80,7 @@ prize_there p generation how q g h n =
     ap (λ x. 0 + x) e ∙ (omega arith)
 
 -- nobody else won it
-prize_by : (generation : ℕ) (how : How) (by other g : ℕ) (h : How) → other ≢ by → won_as (record { generation = generation; phase = Won how by }) g h other ≡ 0
+pub prize_by : (generation : ℕ) (how : How) (by other g : ℕ) (h : How) → other ≢ by → won_as (record { generation = generation; phase = Won how by }) g h other ≡ 0
 unfolding won_as
 prize_by generation how by other g h n =
     ap (λ b. cond ((generation == g) && (same_how how h && b)) 1 0) (ne_eqb by other (λ x. n (sym x)))
