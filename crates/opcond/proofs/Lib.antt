@@ -1,0 +1,2 @@
+-- tallies, need by need
+pub mod Tallies

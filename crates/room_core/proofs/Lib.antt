@@ -1,0 +1,72 @@
+-- tables with one value given anew
+pub mod Puts
+-- sums over needs
+pub mod Tallies
+-- tests, and the phases and stages that they tell
+pub mod Tests
+-- who finds an operation, under other values, readings and parts
+pub mod Finding
+-- what is known by readings that were taken, or lost
+pub mod Known
+-- what is carried, without the wins
+pub mod Kept
+-- an event that changes one caller alone
+pub mod Callers
+-- an event that changes one scanner alone
+pub mod Scanners
+-- an event's change of one word of a pass alone
+pub mod Words
+-- wins where nobody wins, and where one does
+pub mod Winners
+-- a win more
+pub mod Prizes
+-- a scanner that drops duties and entries
+pub mod Dropping
+-- Store
+pub mod Storing
+-- Ask
+pub mod Asking
+-- Hush
+pub mod Hushing
+-- Hear
+pub mod Hearing
+-- Begin
+pub mod Beginning
+-- Relieve
+pub mod Relieving
+-- Describe
+pub mod Describing
+-- Open
+pub mod Opening
+-- Meet
+pub mod Meetings
+-- Learn
+pub mod Learning
+-- Mark
+pub mod Marking
+-- Marked
+pub mod SeeingMarks
+-- Read, by a pass
+pub mod PassReading
+-- Read, by a scanner
+pub mod ScannerReading
+-- Leave, by the owner
+pub mod PassLeaving
+-- Leave, by a scanner
+pub mod ScannerLeaving
+-- Win, by the owner
+pub mod PassWinning
+-- Win, by a scanner
+pub mod ScannerWinning
+-- Peek
+pub mod Peeking
+-- Idle
+pub mod Idling
+-- the start
+pub mod Starting
+-- every event, and every run
+pub mod Steps
+-- a sound and quiet state
+pub mod Quiets
+-- a won word stands once
+pub mod Once

@@ -1,0 +1,54 @@
+-- A description is a table of words: the least tally, the deadline, the number of needs, and of each need its gauge, start
+-- and cap.
+use Rattle.std.specs.Prelude.{◌≡◌, ◌≢◌, ◌⊎◌, ℕ, zero, suc, ◌+◌, ◌*◌, ◌^◌, ◌<◌, ◌≤◌, ◌==◌, if◌then◌else◌}
+use Rattle.opcond.specs.declared.need.Need.{Need}
+use Rattle.opcond.specs.Tally.{counted}
+use Rattle.room_core.specs.declared.shape.Shape.{Shape}
+use Rattle.room_core.specs.Gauges.{clock_of}
+
+abbrev pub least_of : (ℕ → ℕ) → ℕ
+least_of words = words 0
+
+abbrev pub deadline_of : (ℕ → ℕ) → ℕ
+deadline_of words = words 1
+
+abbrev pub needs_of : (ℕ → ℕ) → ℕ
+needs_of words = words 2
+
+-- the gauge of a need
+abbrev pub gauge_of : (ℕ → ℕ) → ℕ → ℕ
+gauge_of words i = words (3 + 3 * i)
+
+abbrev pub need_of : (ℕ → ℕ) → ℕ → Need
+need_of words i = record { gauge = words (3 + 3 * i); start = words (4 + 3 * i); cap = words (5 + 3 * i) }
+
+-- at most 64 needs, of distinct gauges, each there and not the clock; the caps and the least tally below 2^31
+pub record IsOperation (shape : Shape) (words : ℕ → ℕ) : Type 0 where
+  pub few : needs_of words ≤ 64
+  pub gauges : (i : ℕ) → i < needs_of words → gauge_of words i < clock_of shape
+  pub distinct : (i j : ℕ) → i < j → j < needs_of words → gauge_of words i ≢ gauge_of words j
+  pub caps : (i : ℕ) → i < needs_of words → words (5 + 3 * i) < 2 ^ 31
+  pub least : least_of words < 2 ^ 31
+
+-- the sum, over the first needs, of what counts of the gauges' values
+unfoldable pub tally_below : (ℕ → ℕ) → (ℕ → ℕ) → ℕ → ℕ
+tally_below words value zero = 0
+tally_below words value (suc n) = tally_below words value n + counted (need_of words n) (value (gauge_of words n))
+
+-- the tally at these values of the gauges
+abbrev pub tally : (ℕ → ℕ) → (ℕ → ℕ) → ℕ
+tally words value = tally_below words value (needs_of words)
+
+abbrev pub IsSatisfied : (ℕ → ℕ) → (ℕ → ℕ) → Type 0
+IsSatisfied words value = least_of words ≤ tally words value
+
+abbrev pub IsOverdue : (ℕ → ℕ) → ℕ → Type 0
+IsOverdue words moment = deadline_of words ≤ moment
+
+-- the number of a mark: a need's, or 64 for the clock's
+abbrev pub IsMark : (ℕ → ℕ) → ℕ → Type 0
+IsMark words i = (i < needs_of words) ⊎ (i ≡ 64)
+
+-- the gauge under which the operation is listed for a mark
+unfoldable pub marked_gauge : Shape → (ℕ → ℕ) → ℕ → ℕ
+marked_gauge shape words i = if i == 64 then clock_of shape else gauge_of words i

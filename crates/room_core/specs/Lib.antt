@@ -1,0 +1,34 @@
+-- functions of a number, and one of their values given anew
+pub mod Put
+-- the state of the room: words by number, and a part for each source, caller and scanner
+pub mod State
+-- gauges, the clock, and which scanner scans which gauge
+pub mod Gauges
+-- a description's needs, when it is an operation, and its tally
+pub mod Description
+-- readings, and present values beyond them
+pub mod Readings
+-- the events of values: what is stored, asked, heard and begun
+pub mod Scans
+-- the events of a pass: describing, opening, seeing the end, taking
+pub mod Passes
+-- the events of a scanner that meets a pass: meeting, learning, listing
+pub mod Meetings
+-- the events of a check: reading, leaving, winning
+pub mod Checks
+-- when an event is allowed, and what it changes
+pub mod Step
+-- who has the duty to find an operation answerable
+pub mod Duty
+-- how often an exchange stands in a winner's wins, in a word and among what was taken
+pub mod Wins
+-- the nine facts of a sound state
+pub mod Sound
+-- what is carried from event to event: soundness, and what keeps it
+pub mod Carried
+-- a state in which nothing is left to do
+pub mod Quiet
+-- the state at the start
+pub mod Start
+-- a whole run
+pub mod Run

@@ -1,0 +1,46 @@
+//! Laws of the machine. They do nothing.
+ghost use Rattle.std.specs.Prelude.{◌≡◌, ◌≢◌, ℕ, List};
+ghost use Rattle.room_core.specs.declared.event.CoreEvent.{CoreEvent as Event};
+ghost use Rattle.room_core.specs.declared.event.How.{How as Way};
+ghost use Rattle.room_core.specs.declared.parts.Phase.TheVariants.{Won};
+ghost use Rattle.room_core.specs.declared.shape.Shape.{Shape as Size};
+ghost use Rattle.room_core.specs.Carried.{IsCarried};
+ghost use Rattle.room_core.specs.Duty.{IsOpen, IsOverdueNow, IsSatisfiedNow};
+ghost use Rattle.room_core.specs.Gauges.{IsShape};
+ghost use Rattle.room_core.specs.Quiet.{IsQuiet};
+ghost use Rattle.room_core.specs.Run.{IsRun};
+ghost use Rattle.room_core.specs.Sound.{IsSound};
+ghost use Rattle.room_core.specs.Start.{start_of};
+ghost use Rattle.room_core.specs.State.{State};
+ghost use Rattle.room_core.specs.Step.{IsAllowed, changed};
+ghost use Rattle.room_core.specs.Wins.{prizes_as, wins_of};
+
+/// Law: from every state that meets it, every event that is allowed keeps what is carried, soundness with it.
+pub fn event_keeps()
+    ensures { (s : State) (event : Event) → IsCarried s → IsAllowed s event → IsCarried (changed s event) }
+{}
+
+/// Law: the start meets what is carried, and so does every state that any events lead to from there.
+pub fn runs_are_sound()
+    ensures start { (shape : Size) → IsShape shape → IsCarried (start_of shape) }
+    ensures run { (shape : Size) (events : List Event) (last : State) → IsShape shape
+        → IsRun (start_of shape) events last → IsCarried last }
+{}
+
+/// Law: in a sound and quiet state no open operation is answerable.
+pub fn quiet_is_answered()
+    ensures tally { (s : State) → IsSound s → IsQuiet s
+        → (pass : ℕ) → IsOpen s pass → IsSatisfiedNow s pass → ⊥ }
+    ensures time { (s : State) → IsSound s → IsQuiet s
+        → (pass : ℕ) → IsOpen s pass → IsOverdueNow s pass → ⊥ }
+{}
+
+/// Law: a word that is won stands once in the wins of the winner that it names, and in nobody else's.
+pub fn wins_stand_once()
+    ensures mine { (s : State) → IsSound s → (pass : ℕ) (how : Way) (by : ℕ)
+        → (s.session pass).phase ≡ Won how by
+        → prizes_as (wins_of s.scanner s.caller by) pass (s.session pass).generation how ≡ 1 }
+    ensures others { (s : State) → IsSound s → (pass : ℕ) (how : Way) (by : ℕ)
+        → (s.session pass).phase ≡ Won how by → (other : ℕ) (way : Way) → other ≢ by
+        → prizes_as (wins_of s.scanner s.caller other) pass (s.session pass).generation way ≡ 0 }
+{}

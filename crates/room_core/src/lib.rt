@@ -1,0 +1,13 @@
+//! The room as a pure machine: each event is one atomic step of one thread on one word.
+//!
+//! The layer above may use `CoreEvent` and the laws: whatever events come, no open operation is forgotten.
+#![tactic(auto)]
+
+mod event;
+pub mod laws;
+mod parts;
+mod shape;
+
+pub use event::{CoreEvent, How, Party};
+pub use parts::{Duty, Entry, Heard, Meeting, Phase, Prize, Session, Source, Stage, Taken};
+pub use shape::Shape;
