@@ -100,3 +100,5 @@ pub mod Ready
 pub mod AtOnce
 -- traces whose sessions receive such streams
 pub mod ArePlainStreams
+-- what is told to a produce or a fetch
+pub mod IsData

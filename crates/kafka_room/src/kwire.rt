@@ -14,6 +14,7 @@ pub mod read_produce;
 pub mod read_request;
 pub mod repeats;
 pub mod reply;
+pub mod reply_bytes;
 pub mod request;
 
 pub use config::{Config, ConfigFault, Topic};
@@ -22,4 +23,5 @@ pub use inbox::Inbox;
 pub use next_frame::next_frame;
 pub use read_request::read_request;
 pub use reply::{FetchedPart, FetchedTopic, ProducedPart, ProducedTopic, Reply, Told, TopicInfo};
+pub use reply_bytes::reply_bytes;
 pub use request::{Ask, FetchPart, FetchTopic, ProducePart, ProduceTopic, Request};

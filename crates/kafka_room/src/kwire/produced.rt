@@ -10,7 +10,7 @@ use kbytes::{Bytes, NoMemory, put_array, put_i16, put_i32, put_i64, put_string};
 use std::alloc::Global;
 
 /// The frame of a body, which has at most 2,147,483,647 bytes.
-fn frame(alloc: Global, body: &[u8]) -> Result<Bytes, NoMemory>
+pub fn frame(alloc: Global, body: &[u8]) -> Result<Bytes, NoMemory>
     requires { length body.now < 2 ^ 31 }
     ensures { IfOk result (λ frame. frame ≡ framed body.now) }
 {

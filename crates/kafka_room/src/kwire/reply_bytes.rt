@@ -1,0 +1,59 @@
+//! The frame of a reply.
+
+ghost use Rattle.std.specs.Prelude.{◌≡◌, ◌++◌, IfOk, OnOk};
+ghost use Rattle.kbytes.specs.Field.{fields};
+ghost use Rattle.kafka_room.specs.declared.kwire.reply.Told.TheVariants.{Produced, Fetched};
+ghost use Rattle.kafka_room.specs.IsData.{IsData};
+ghost use Rattle.kafka_room.specs.IsSpellable.{AreInRange, IsSpellable};
+ghost use Rattle.kafka_room.specs.Spelling.{told_fields, spelling};
+
+use crate::kwire::produced::frame;
+use crate::kwire::put_fetched::put_fetched;
+use crate::kwire::put_produced::put_produced;
+use crate::kwire::reply::{FetchedTopic, ProducedTopic, Reply, Told};
+use kbytes::{Bytes, NoMemory, put_i32};
+use std::alloc::Global;
+
+// The throttle time 0 stands behind the topics.
+fn put_produced_told(out: &mut Bytes, topics: &[ProducedTopic]) -> Result<(), NoMemory>
+    requires { AreInRange (told_fields (Produced topics.now)) }
+    ensures { OnOk result (out.new ≡ out.old ++ fields (told_fields (Produced topics.now))) }
+{
+    put_produced(out, topics)?;
+    put_i32(out, 0)
+}
+
+// The throttle time 0 stands before the topics.
+fn put_fetched_told(out: &mut Bytes, isolation: i8, topics: &[FetchedTopic]) -> Result<(), NoMemory>
+    requires { AreInRange (told_fields (Fetched isolation topics.now)) }
+    ensures { OnOk result (out.new ≡ out.old ++ fields (told_fields (Fetched isolation topics.now))) }
+{
+    put_i32(out, 0)?;
+    put_fetched(out, isolation, topics)
+}
+
+fn put_told(out: &mut Bytes, told: &Told) -> Result<(), NoMemory>
+    requires data { IsData told.now }
+    requires in_range { AreInRange (told_fields told.now) }
+    ensures { OnOk result (out.new ≡ out.old ++ fields (told_fields told.now)) }
+{
+    match told {
+        Told::Produced { topics } => put_produced_told(out, topics.as_slice()),
+        Told::Fetched { isolation, topics } => {
+            put_fetched_told(out, *isolation, topics.as_slice())
+        }
+        Told::Metadata { .. } | Told::Versions { .. } => unreachable!(),
+    }
+}
+
+/// The frame of the reply to a produce or a fetch: its size, the correlation id, and the reply's fields.
+pub fn reply_bytes(alloc: Global, reply: &Reply) -> Result<Bytes, NoMemory>
+    requires data { IsData reply.now.told }
+    requires spellable { IsSpellable reply.now }
+    ensures { IfOk result (λ frame. frame ≡ spelling reply.now) }
+{
+    let mut body = Bytes::new(alloc);
+    put_i32(&mut body, reply.correlation)?;
+    put_told(&mut body, &reply.told)?;
+    frame(alloc, body.as_slice())
+}
