@@ -46,3 +46,4 @@ pub mod Spelled
 pub mod Tallies
 pub mod ReadingSteps
 pub mod PlainStreams
+pub mod SpellableLaws
