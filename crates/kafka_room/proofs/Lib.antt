@@ -40,3 +40,5 @@ pub mod StreamLaws
 pub mod PartReadings
 pub mod Reporting
 pub mod ReportLaws
+pub mod Gathering
+pub mod Alike

@@ -92,3 +92,7 @@ pub mod PlainStream
 pub mod UnderWay
 -- from what a reply that needn't wait is computed
 pub mod Replying
+-- which replies have a frame
+pub mod IsSpellable
+-- what is read of the named partitions as their logs are
+pub mod Gathered

@@ -12,6 +12,7 @@ pub mod read_produce;
 pub mod read_request;
 pub mod repeats;
 pub mod reply;
+pub mod reply_bytes;
 pub mod request;
 
 pub use config::{Config, ConfigFault, Topic};
@@ -19,4 +20,5 @@ pub use frame::{Frame, WireFault};
 pub use next_frame::next_frame;
 pub use read_request::read_request;
 pub use reply::{FetchedPart, FetchedTopic, ProducedPart, ProducedTopic, Reply, Told, TopicInfo};
+pub use reply_bytes::reply_bytes;
 pub use request::{Ask, FetchPart, FetchTopic, ProducePart, ProduceTopic, Request};
