@@ -2,6 +2,7 @@
 
 ghost use Rattle.std.specs.Prelude.{◌≡◌, ◌≤◌, ◌+◌, ◌++◌, ◌∷◌, [], length, All, List as Items, IfOk, OnOk, sum_by, map};
 ghost use Rattle.std.specs.List.{AllByRecursion, flat_map};
+ghost use Rattle.kafka_room.specs.declared.kanswer.accepted.Reading.{Reading as TheReading};
 ghost use Rattle.kafka_room.specs.Delayed.{Shown};
 ghost use Rattle.kafka_room.specs.Answer.{answer};
 ghost use Rattle.kafka_room.specs.AreReadings.{AreReadings, IsCarriable, HasCarriable, named_count, budget_of};
@@ -155,7 +156,9 @@ fn gather(
     }
 }
 
-/// The frame of the reply, from what became of each named partition and from the logs as they are.
+/// The frame of the reply, from what became of each named partition and from the logs as they are. A fetch reads the logs of the
+/// partitions that are seen; a produce that doesn't ask for all replicas needs none. The caller knows that a reply of so few bytes
+/// of records has a frame.
 pub fn reply_frame(
     alloc: Global,
     config: &Config,
@@ -167,7 +170,9 @@ pub fn reply_frame(
     requires size { length accepted.now ≡ named_count request.now.ask }
     requires logs { AllByRecursion (HasLog parts.now) accepted.now }
     requires offsets { All IsCarriable accepted.now }
-    requires spellable { IsSpellable (answer config.now request.now (shown_now parts.now accepted.now)) }
+    requires spellable { (readings : Items TheReading) → AreReadings request.now.ask accepted.now readings (shown_now parts.now accepted.now)
+        → All HasCarriable readings → bytes_read readings ≤ most_left (budget_of request.now.ask)
+        → IsSpellable (answer config.now request.now (shown_now parts.now accepted.now)) }
     ensures { IfOk result (λ frame. (shown : Items Shown) → ShowsLogs parts.now request.now.ask accepted.now shown
         → frame ≡ spelling (answer config.now request.now shown)) }
 {

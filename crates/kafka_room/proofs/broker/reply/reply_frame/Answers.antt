@@ -14,7 +14,7 @@ pub reply_bytes-requires : goal.reply_bytes-requires
 reply_bytes-requires c =
     let now = shown_now c.args.parts.now c.args.accepted.now in
     let are = subst (λ (rs : List Reading). AreReadings c.args.request.now.ask c.args.accepted.now rs now) (sym c.as_slice.ensures) c.in_ok-readings.ensures.read in
-    subst IsSpellable (sym (c.in_ok-reply.ensures now are)) c.requires.spellable
+    subst IsSpellable (sym (c.in_ok-reply.ensures now are)) (c.requires.spellable c.in_ok-readings.readings c.in_ok-readings.ensures.read c.in_ok-readings.ensures.offsets c.in_ok-readings.ensures.room)
 
 pub returns : goal.returns
 returns c =
