@@ -47,3 +47,5 @@ pub mod Tallies
 pub mod ReadingSteps
 pub mod PlainStreams
 pub mod SpellableLaws
+pub mod Gathering
+pub mod Alike

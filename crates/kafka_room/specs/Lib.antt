@@ -102,3 +102,5 @@ pub mod AtOnce
 pub mod ArePlainStreams
 -- what is told to a produce or a fetch
 pub mod IsData
+-- what is read of the named partitions as their logs are
+pub mod Gathered
