@@ -5,6 +5,7 @@ pub mod came;
 pub mod desk;
 pub mod handle;
 pub mod plain;
+pub mod answering;
 pub mod reply;
 pub mod summary;
 pub mod tally;

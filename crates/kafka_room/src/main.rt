@@ -3,6 +3,7 @@
 
 mod audit;
 mod broker;
+mod dev;
 mod exit;
 mod first_form;
 mod kanswer;
