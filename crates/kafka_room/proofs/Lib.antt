@@ -50,3 +50,5 @@ pub mod SpellableLaws
 pub mod Gathering
 pub mod Alike
 pub mod Servable
+pub mod Answering
+pub mod PlainSpellable

@@ -1,13 +1,12 @@
 //! The reply to a request that was accepted and needn't wait.
 
-ghost use Rattle.std.specs.Prelude.{◌≡◌, ◌≤◌, ◌+◌, ◌++◌, ◌∷◌, [], length, All, List as Items, IfOk, OnOk, sum_by, map};
+ghost use Rattle.std.specs.Prelude.{ℕ, ◌≡◌, ◌≤◌, ◌+◌, ◌++◌, ◌∷◌, [], length, All, List as Items, IfOk, OnOk, sum_by, map};
 ghost use Rattle.std.specs.List.{AllByRecursion, flat_map};
-ghost use Rattle.kafka_room.specs.declared.kanswer.accepted.Reading.{Reading as TheReading};
 ghost use Rattle.kafka_room.specs.Delayed.{Shown};
 ghost use Rattle.kafka_room.specs.Answer.{answer};
 ghost use Rattle.kafka_room.specs.AreReadings.{AreReadings, IsCarriable, HasCarriable, named_count, budget_of};
+ghost use Rattle.kafka_room.specs.IsRequest.{IsRequest};
 ghost use Rattle.kafka_room.specs.Gathered.{reading_now, left_now, readings_now, left_behind, bytes_read, most_left, shown_now, nothing_read};
-ghost use Rattle.kafka_room.specs.IsSpellable.{IsSpellable};
 ghost use Rattle.kafka_room.specs.Spelling.{spelling};
 ghost use Rattle.kafka_room.specs.PlainStream.{IsPlainAsk};
 ghost use Rattle.kafka_room.specs.Replying.{HasLog, ShowsLogs};
@@ -157,8 +156,8 @@ fn gather(
 }
 
 /// The frame of the reply, from what became of each named partition and from the logs as they are. A fetch reads the logs of the
-/// partitions that are seen; a produce that doesn't ask for all replicas needs none. The caller knows that a reply of so few bytes
-/// of records has a frame.
+/// partitions that are seen; a produce that doesn't ask for all replicas needs none. The request was read from a body, so
+/// that its reply has a frame.
 pub fn reply_frame(
     alloc: Global,
     config: &Config,
@@ -170,9 +169,7 @@ pub fn reply_frame(
     requires size { length accepted.now ≡ named_count request.now.ask }
     requires logs { AllByRecursion (HasLog parts.now) accepted.now }
     requires offsets { All IsCarriable accepted.now }
-    requires spellable { (readings : Items TheReading) → AreReadings request.now.ask accepted.now readings (shown_now parts.now accepted.now)
-        → All HasCarriable readings → bytes_read readings ≤ most_left (budget_of request.now.ask)
-        → IsSpellable (answer config.now request.now (shown_now parts.now accepted.now)) }
+    requires asked { (body : Items ℕ) × IsRequest body request.now }
     ensures { IfOk result (λ frame. (shown : Items Shown) → ShowsLogs parts.now request.now.ask accepted.now shown
         → frame ≡ spelling (answer config.now request.now shown)) }
 {

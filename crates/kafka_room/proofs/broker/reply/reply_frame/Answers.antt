@@ -4,17 +4,27 @@ use Rattle.kafka_room.specs.declared.kwire.reply.Reply.{Reply}
 use Rattle.kafka_room.specs.AreReadings.{AreReadings}
 use Rattle.kafka_room.specs.Answer.{answer}
 use Rattle.kafka_room.specs.Gathered.{shown_now}
+use Rattle.kafka_room.specs.IsData.{IsData}
 use Rattle.kafka_room.specs.IsSpellable.{IsSpellable}
 use Rattle.kafka_room.specs.Spelling.{spelling}
 use Rattle.kafka_room.proofs.Gathering.{if_ok_then}
 use Rattle.kafka_room.proofs.Alike.{same_answer}
+use Rattle.kafka_room.proofs.PlainSpellable.{plain_spellable, plain_data}
 use Rattle.kafka_room.proofs.broker.reply.reply_frame.Goals as goal
 
 pub reply_bytes-requires : goal.reply_bytes-requires
 reply_bytes-requires c =
-    let now = shown_now c.args.parts.now c.args.accepted.now in
-    let are = subst (λ (rs : List Reading). AreReadings c.args.request.now.ask c.args.accepted.now rs now) (sym c.as_slice.ensures) c.in_ok-readings.ensures.read in
-    subst IsSpellable (sym (c.in_ok-reply.ensures now are)) (c.requires.spellable c.in_ok-readings.readings c.in_ok-readings.ensures.read c.in_ok-readings.ensures.offsets c.in_ok-readings.ensures.room)
+    let config = c.args.config.now in
+    let request = c.args.request.now in
+    let accepted = c.args.accepted.now in
+    let readings = c.in_ok-readings.readings in
+    let now = shown_now c.args.parts.now accepted in
+    let are = subst (λ (rs : List Reading). AreReadings request.ask accepted rs now) (sym c.as_slice.ensures) c.in_ok-readings.ensures.read in
+    let is : c.in_ok-reply.reply ≡ answer config request now = c.in_ok-reply.ensures now are in
+    record {
+      «data» = subst (λ (reply : Reply). IsData reply.told) (sym is) (plain_data config request.ask now c.requires.plain);
+      spellable = subst IsSpellable (sym is) (plain_spellable config request c.requires.asked.0 accepted readings now c.requires.asked.1 c.requires.plain c.in_ok-readings.ensures.read c.in_ok-readings.ensures.room);
+    }
 
 pub returns : goal.returns
 returns c =

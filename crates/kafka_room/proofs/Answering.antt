@@ -1,0 +1,91 @@
+-- A request that needn't wait, and what its reply needs.
+use Rattle.std.proofs.Common.{◌≡◌, ◌≢◌, ℕ, zero, suc, ◌+◌, ◌≤◌, ◌<◌, ◌⊎◌, ℤ, pos, negsuc, Bool, true, false, cond, List, [], ◌∷◌, ◌++◌, length, map, refl, sym, ap, subst, ◌∙◌, arith, inl, inr, All}
+use Rattle.std.specs.List.{AllByRecursion, AllZip}
+use lib.Signed.{◌≤ℤ◌}
+use Rattle.partlog.specs.History.{History}
+use Rattle.partlog.specs.Kept.{IsKept}
+use Rattle.kafka_room.specs.declared.kanswer.accepted.Accepted.{Accepted}
+use Rattle.kafka_room.specs.declared.kwire.request.Ask.{Ask}
+use Rattle.kafka_room.specs.declared.kwire.request.Ask.TheVariants.{Produce, Fetch, Metadata, Versions}
+use Rattle.kafka_room.specs.AreReadings.{named_count, IsCarriable}
+use Rattle.kafka_room.specs.Configuration.{Configuration, partitions_of}
+use Rattle.kafka_room.specs.Accepting.{Decision, Refuse, AskLog, Decides, produce_parts, fetch_parts}
+use Rattle.kafka_room.specs.Acceptance.{accept_all, shown_of}
+use Rattle.kafka_room.specs.Board.{history_at}
+use Rattle.kafka_room.specs.Carried.{HasNoFollowers}
+use Rattle.kafka_room.specs.Delayed.{Shown, results_of, becomes_delayed, at_least_zero}
+use Rattle.kafka_room.specs.PlainStream.{IsPlainAsk}
+use Rattle.kafka_room.specs.Replying.{HasLog, ShowsLog, ShowsLogs}
+use Rattle.kafka_room.proofs.Accepts.{IsFair}
+use Rattle.kafka_room.proofs.Fair.{decides_fair}
+use Rattle.kafka_room.proofs.ShownLogs.{IsThere, IsLooking, looking_shows, putting_shows, all_put, all_look}
+use Rattle.kafka_room.proofs.Servable.{IsServable, all_servable, decides_honest, decided_count, results_count, servable_log, servable_offset}
+
+-- ---- it isn't delayed
+
+nothing_waited : (z : ℤ) → z ≤ℤ pos 0 → at_least_zero z ≡ 0
+nothing_waited (pos n) le = omega (arith, le)
+nothing_waited (negsuc n) le = refl
+
+pub plain_undelayed : (ask : Ask) (shown : List Shown) → IsPlainAsk ask → becomes_delayed ask shown ≡ false
+plain_undelayed (Produce transactional acks timeout topics) shown plain =
+    elim plain [
+      inl e ↦ subst (λ (a : ℤ). becomes_delayed (Produce transactional a timeout topics) shown ≡ false) (sym e) refl
+      | inr e ↦ subst (λ (a : ℤ). becomes_delayed (Produce transactional a timeout topics) shown ≡ false) (sym e) refl
+    ]
+plain_undelayed (Fetch replica (pos zero) min_bytes max_bytes isolation topics) shown plain = refl
+plain_undelayed (Fetch replica (pos (suc n)) min_bytes max_bytes isolation topics) shown plain = omega (arith, plain)
+plain_undelayed (Fetch replica (negsuc n) min_bytes max_bytes isolation topics) shown plain = refl
+plain_undelayed (Metadata topics) shown plain = refl
+plain_undelayed (Versions version) shown plain = refl
+
+-- ---- after the whole acceptance each log shows what it showed at its entry
+
+fair_there : (n : ℕ) (decisions : List Decision) → AllByRecursion (IsFair n) decisions → AllByRecursion (IsThere n) decisions
+fair_there n [] fair = tt
+fair_there n (Refuse code ∷ decisions) fair = (tt, fair_there n decisions fair.1)
+fair_there n (AskLog part outcome ∷ decisions) fair = (fair.0.0, fair_there n decisions fair.1)
+
+states_shown : (config : Configuration) (ask : Ask) (by seq : ℕ) (decisions : List Decision) (parts : List History) → length parts ≡ partitions_of config.topics → HasNoFollowers config.topics
+    → IsPlainAsk ask → Decides config ask decisions → AllByRecursion (ShowsLog (accept_all by seq decisions parts).1) (shown_of (accept_all by seq decisions parts).0)
+states_shown config (Produce transactional acks timeout topics) by seq decisions parts size alone plain d =
+    putting_shows (accept_all by seq decisions parts).1 by seq decisions parts (all_put config transactional acks (produce_parts topics) decisions d)
+states_shown config (Fetch replica max_wait min_bytes max_bytes isolation topics) by seq decisions parts size alone plain d =
+    looking_shows by seq (partitions_of config.topics) decisions parts size
+    (subst (AllByRecursion IsLooking) (sym d) (all_look config replica (fetch_parts topics) alone))
+    (fair_there (partitions_of config.topics) decisions (decides_fair config (Fetch replica max_wait min_bytes max_bytes isolation topics) decisions d))
+states_shown config (Metadata topics) by seq decisions parts size alone plain d = absurd plain
+states_shown config (Versions version) by seq decisions parts size alone plain d = absurd plain
+
+pub logs_shown : (config : Configuration) (ask : Ask) (by seq : ℕ) (decisions : List Decision) (parts : List History) → length parts ≡ partitions_of config.topics → HasNoFollowers config.topics
+    → IsPlainAsk ask → Decides config ask decisions → ShowsLogs (accept_all by seq decisions parts).1 ask (results_of (shown_of (accept_all by seq decisions parts).0)) (shown_of (accept_all by seq decisions parts).0)
+logs_shown config ask by seq decisions parts size alone plain d = record { results = refl; states = states_shown config ask by seq decisions parts size alone plain d }
+
+-- ---- what the reply needs
+
+all_logs : (parts : List History) (results : List Accepted) → AllByRecursion (IsServable parts) results → AllByRecursion (HasLog parts) results
+all_logs parts [] s = tt
+all_logs parts (result ∷ results) s = (servable_log parts result s.0, all_logs parts results s.1)
+
+all_offsets : (parts : List History) (results : List Accepted) → ((p : ℕ) → p < length parts → IsKept (history_at parts p).log (history_at parts p).events) → AllByRecursion (IsServable parts) results → All IsCarriable results
+all_offsets parts [] kept s = tt
+all_offsets parts (result ∷ results) kept s = (servable_offset parts result kept s.0, all_offsets parts results kept s.1)
+
+-- of the results of a whole acceptance
+pub record IsReplied (config : Configuration) (ask : Ask) (after : List History) (results : List Accepted) : Type 0 where
+  pub size : length results ≡ named_count ask
+  pub logs : AllByRecursion (HasLog after) results
+  pub offsets : All IsCarriable results
+
+pub replied : (config : Configuration) (ask : Ask) (by seq : ℕ) (decisions : List Decision) (parts : List History) → length parts ≡ partitions_of config.topics → Decides config ask decisions
+    → length (accept_all by seq decisions parts).1 ≡ length parts
+    → ((p : ℕ) → p < length (accept_all by seq decisions parts).1 → IsKept (history_at (accept_all by seq decisions parts).1 p).log (history_at (accept_all by seq decisions parts).1 p).events)
+    → IsReplied config ask (accept_all by seq decisions parts).1 (results_of (shown_of (accept_all by seq decisions parts).0))
+replied config ask by seq decisions parts size d same kept =
+    let served = all_servable by seq (partitions_of config.topics) decisions parts size (decides_fair config ask decisions d) (decides_honest config ask decisions d)
+        (length (accept_all by seq decisions parts).1) refl (same ∙ size) in
+    record {
+      size = results_count by seq decisions parts ∙ decided_count config ask decisions d;
+      logs = all_logs (accept_all by seq decisions parts).1 (results_of (shown_of (accept_all by seq decisions parts).0)) served;
+      offsets = all_offsets (accept_all by seq decisions parts).1 (results_of (shown_of (accept_all by seq decisions parts).0)) kept served;
+    }
