@@ -49,3 +49,4 @@ pub mod PlainStreams
 pub mod SpellableLaws
 pub mod Gathering
 pub mod Alike
+pub mod Openings

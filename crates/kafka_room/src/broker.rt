@@ -4,8 +4,8 @@ pub mod accept;
 pub mod came;
 pub mod desk;
 pub mod handle;
+pub mod opening;
 pub mod plain;
 pub mod reply;
 pub mod summary;
 pub mod tally;
-
