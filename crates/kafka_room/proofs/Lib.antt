@@ -50,3 +50,4 @@ pub mod SpellableLaws
 pub mod Gathering
 pub mod Alike
 pub mod Openings
+pub mod Closings

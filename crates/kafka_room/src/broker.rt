@@ -2,6 +2,7 @@
 
 pub mod accept;
 pub mod came;
+pub mod closing;
 pub mod desk;
 pub mod handle;
 pub mod opening;
