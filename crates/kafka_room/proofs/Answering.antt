@@ -23,10 +23,6 @@ use Rattle.kafka_room.proofs.Servable.{IsServable, all_servable, decides_honest,
 
 -- ---- it isn't delayed
 
-nothing_waited : (z : ℤ) → z ≤ℤ pos 0 → at_least_zero z ≡ 0
-nothing_waited (pos n) le = omega (arith, le)
-nothing_waited (negsuc n) le = refl
-
 pub plain_undelayed : (ask : Ask) (shown : List Shown) → IsPlainAsk ask → becomes_delayed ask shown ≡ false
 plain_undelayed (Produce transactional acks timeout topics) shown plain =
     elim plain [
@@ -34,7 +30,7 @@ plain_undelayed (Produce transactional acks timeout topics) shown plain =
       | inr e ↦ subst (λ (a : ℤ). becomes_delayed (Produce transactional a timeout topics) shown ≡ false) (sym e) refl
     ]
 plain_undelayed (Fetch replica (pos zero) min_bytes max_bytes isolation topics) shown plain = refl
-plain_undelayed (Fetch replica (pos (suc n)) min_bytes max_bytes isolation topics) shown plain = omega (arith, plain)
+plain_undelayed (Fetch replica (pos (suc n)) min_bytes max_bytes isolation topics) shown plain = absurd plain.le
 plain_undelayed (Fetch replica (negsuc n) min_bytes max_bytes isolation topics) shown plain = refl
 plain_undelayed (Metadata topics) shown plain = refl
 plain_undelayed (Versions version) shown plain = refl
@@ -68,8 +64,9 @@ all_logs parts [] s = tt
 all_logs parts (result ∷ results) s = (servable_log parts result s.0, all_logs parts results s.1)
 
 all_offsets : (parts : List History) (results : List Accepted) → ((p : ℕ) → p < length parts → IsKept (history_at parts p).log (history_at parts p).events) → AllByRecursion (IsServable parts) results → All IsCarriable results
-all_offsets parts [] kept s = tt
-all_offsets parts (result ∷ results) kept s = (servable_offset parts result kept s.0, all_offsets parts results kept s.1)
+all_offsets parts [] kept s k d lt = omega (arith, lt)
+all_offsets parts (result ∷ results) kept s zero d lt = servable_offset parts result kept s.0
+all_offsets parts (result ∷ results) kept s (suc k) d lt = all_offsets parts results kept s.1 k d (omega (arith, lt))
 
 -- of the results of a whole acceptance
 pub record IsReplied (config : Configuration) (ask : Ask) (after : List History) (results : List Accepted) : Type 0 where

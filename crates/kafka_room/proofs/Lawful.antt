@@ -82,7 +82,7 @@ the_ends n (seat ∷ seats) tame = put_follow (option_to_list seat.transcript) (
 not_won : (w : ℕ) (how : CallHow) → (how ≡ Quiet) ⊎ (how ≡ AtOnce) → is_won_as w how ≡ false
 not_won w how plain = elim plain [ inl e ↦ ap (is_won_as w) e | inr e ↦ ap (is_won_as w) e ]
 
-none_won : (w : ℕ) (calls : List Call) → AllByRecursion IsPlainCall calls → count_by (is_won_by w) calls ≡ 0
+pub none_won : (w : ℕ) (calls : List Call) → AllByRecursion IsPlainCall calls → count_by (is_won_by w) calls ≡ 0
 none_won w [] plain = refl
 none_won w (call ∷ calls) plain =
     sum_by-cons (λ c. cond (is_won_by w c) 1 0) call calls ∙ ap (λ (b : Bool). cond b 1 0 + count_by (is_won_by w) calls) (not_won w call.how plain.0) ∙ omega (arith, none_won w calls plain.1)

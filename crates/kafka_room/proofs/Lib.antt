@@ -52,3 +52,5 @@ pub mod Alike
 pub mod Servable
 pub mod Answering
 pub mod PlainSpellable
+pub mod Openings
+pub mod Closings

@@ -2,11 +2,12 @@
 
 pub mod accept;
 pub mod came;
+pub mod closing;
 pub mod desk;
 pub mod handle;
+pub mod opening;
 pub mod plain;
 pub mod answering;
 pub mod reply;
 pub mod summary;
 pub mod tally;
-

@@ -138,6 +138,13 @@ impl PartLog {
         self.log.as_slice()
     }
 
+    /// How many followers the partition has.
+    pub fn followers(&self) -> u32
+        ensures { result ≡ self.now.followers }
+    {
+        self.followers
+    }
+
     /// The log end and the gauges, each at most 67,108,864. It takes no memory.
     pub fn numbers(&self) -> Numbers
         ensures numbers { result ≡ numbers_of (state_of self.now) }
