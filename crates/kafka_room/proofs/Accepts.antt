@@ -1,19 +1,17 @@
 -- What accepting a request leaves in the histories: the entries, their owner and places, and the states at them.
-use Rattle.std.proofs.Common.{◌≡◌, ◌≢◌, ℕ, zero, suc, ◌+◌, ◌≤◌, ◌<◌, ◌⊎◌, Bool, true, false, cond, eqb, List, [], ◌∷◌, ◌++◌, length, map, filter, set, Option, Some, None, unwrap_or, refl, sym, ap, subst, ◌∙◌, arith, inl, inr, append_assoc, append-nil, eq-eqb}
+use Rattle.std.proofs.Common.{◌≡◌, ◌≢◌, ℕ, zero, suc, ◌≤◌, ◌<◌, true, false, eqb, List, [], ◌∷◌, ◌++◌, length, map, set, Option, Some, refl, sym, ap, subst, ◌∙◌, arith, inl, inr, append_assoc, append-nil, eq-eqb}
 use Rattle.std.proofs.lemmas.List.{length-set}
-use Rattle.std.proofs.lemmas.Option.{slice_get_within}
 use Rattle.std.specs.Prelude.{slice_get}
 use Rattle.std.specs.List.{AllByRecursion, AllZip, range_with_len}
 use Rattle.partlog.specs.declared.event.PartEvent.{PartEvent}
-use Rattle.partlog.specs.declared.event.PartEvent.TheVariants.{Append, Follow, Look}
 use Rattle.partlog.specs.History.{History}
-use Rattle.partlog.specs.State.{PartState, state_of, state_before, state_at}
+use Rattle.partlog.specs.State.{PartState, state_of}
 use Rattle.kafka_room.specs.declared.audit.account.Account.{Account}
 use Rattle.kafka_room.specs.declared.audit.account.PartAccount.{PartAccount}
 use Rattle.kafka_room.specs.declared.audit.account.Point.{Point}
-use Rattle.kafka_room.specs.Histories.{Owner, owner_of, owners_of, owners_in, history_of, before_in, at_in, before_point, at_point, event_at, event_in, no_state}
-use Rattle.kafka_room.specs.Accepting.{Entry, Put, Followed, Looked, Outcome, Decision, Refuse, AskLog}
-use Rattle.kafka_room.specs.Handled.{Step, IsStep, IsEntry, AsksLog, step_points, shown_as_accepted}
+use Rattle.kafka_room.specs.Histories.{owner_of, owners_of, history_of, before_in, at_in, before_point, at_point, event_at, event_in, no_state}
+use Rattle.kafka_room.specs.Accepting.{Entry, Put, Followed, Looked, Decision, Refuse, AskLog}
+use Rattle.kafka_room.specs.Handled.{IsStep, IsEntry, step_points, shown_as_accepted}
 use Rattle.kafka_room.specs.IsLawful.{places_in}
 use Rattle.kafka_room.specs.Board.{history_at, empty_history}
 use Rattle.kafka_room.specs.Acceptance.{Noted, entered, accept_all, steps_of, shown_of}

@@ -1,10 +1,10 @@
 -- The reply to a request that needn't wait comes from what became of its partitions and the logs of those that are seen.
-use Rattle.std.proofs.Common.{◌≡◌, ℕ, zero, suc, ◌+◌, ℤ, pos, List, [], ◌∷◌, length, take, drop, map, inl, inr, refl, sym, ap, subst, ◌∙◌}
+use Rattle.std.proofs.Common.{◌≡◌, ℕ, zero, suc, ◌+◌, ℤ, pos, List, [], ◌∷◌, length, take, drop, inl, inr, refl, sym, ap, ◌∙◌}
 use Rattle.std.specs.Prelude.{◌⊎◌}
 use Rattle.std.specs.List.{AllByRecursion}
 use Rattle.partlog.specs.History.{History}
 use Rattle.partlog.specs.Batches.{StoredBatch}
-use Rattle.partlog.specs.State.{PartState, state_of}
+use Rattle.partlog.specs.State.{PartState}
 use Rattle.kafka_room.specs.Configuration.{Configuration}
 use Rattle.kafka_room.specs.declared.kwire.request.Request.{Request}
 use Rattle.kafka_room.specs.declared.kwire.request.Ask.{Ask}

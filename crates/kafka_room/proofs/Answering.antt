@@ -1,7 +1,7 @@
 -- A request that needn't wait, and what its reply needs.
-use Rattle.std.proofs.Common.{◌≡◌, ◌≢◌, ℕ, zero, suc, ◌+◌, ◌≤◌, ◌<◌, ◌⊎◌, ℤ, pos, negsuc, Bool, true, false, cond, List, [], ◌∷◌, ◌++◌, length, map, refl, sym, ap, subst, ◌∙◌, arith, inl, inr, All}
-use Rattle.std.specs.List.{AllByRecursion, AllZip}
-use lib.Signed.{◌≤ℤ◌}
+use Rattle.std.proofs.Common.{◌≡◌, ℕ, zero, suc, ◌<◌, ℤ, pos, negsuc, Bool, true, false, cond, List, [], ◌∷◌, ◌++◌, length, refl, sym, ap, subst, ◌∙◌, arith, inl, inr, All}
+use Rattle.std.specs.List.{AllByRecursion}
+use lib.Dec.{leb→le}
 use Rattle.partlog.specs.History.{History}
 use Rattle.partlog.specs.Kept.{IsKept}
 use Rattle.kafka_room.specs.declared.kanswer.accepted.Accepted.{Accepted}
@@ -10,15 +10,24 @@ use Rattle.kafka_room.specs.declared.kwire.request.Ask.TheVariants.{Produce, Fet
 use Rattle.kafka_room.specs.AreReadings.{named_count, IsCarriable}
 use Rattle.kafka_room.specs.Configuration.{Configuration, partitions_of}
 use Rattle.kafka_room.specs.Accepting.{Decision, Refuse, AskLog, Decides, produce_parts, fetch_parts}
-use Rattle.kafka_room.specs.Acceptance.{accept_all, shown_of}
+use Rattle.kafka_room.specs.Acceptance.{accept_all, shown_of, steps_of}
 use Rattle.kafka_room.specs.Board.{history_at}
 use Rattle.kafka_room.specs.Carried.{HasNoFollowers}
-use Rattle.kafka_room.specs.Delayed.{Shown, results_of, becomes_delayed, at_least_zero}
+use Rattle.kafka_room.specs.Delayed.{Shown, results_of, becomes_delayed}
 use Rattle.kafka_room.specs.PlainStream.{IsPlainAsk}
 use Rattle.kafka_room.specs.Replying.{HasLog, ShowsLog, ShowsLogs}
+use Rattle.kafka_room.specs.declared.broker.came.Came.{Came}
+use Rattle.kafka_room.specs.declared.kwire.request.Request.{Request}
+use Rattle.kafka_room.specs.Answer.{answer}
+use Rattle.kafka_room.specs.AtOnce.{IsAnsweredAtOnce, text_at_once}
+use Rattle.kafka_room.specs.Carried.{IsCarried}
+use Rattle.kafka_room.specs.Delayed.{is_quiet}
+use Rattle.kafka_room.specs.Handled.{step_points}
+use Rattle.kafka_room.specs.Printed.{reply_line}
 use Rattle.kafka_room.proofs.Accepts.{IsFair}
 use Rattle.kafka_room.proofs.Fair.{decides_fair}
 use Rattle.kafka_room.proofs.ShownLogs.{IsThere, IsLooking, looking_shows, putting_shows, all_put, all_look}
+use Rattle.kafka_room.proofs.ProduceParts.{carried_size}
 use Rattle.kafka_room.proofs.Servable.{IsServable, all_servable, decides_honest, decided_count, results_count, servable_log, servable_offset}
 
 -- ---- it isn't delayed
@@ -26,11 +35,11 @@ use Rattle.kafka_room.proofs.Servable.{IsServable, all_servable, decides_honest,
 pub plain_undelayed : (ask : Ask) (shown : List Shown) → IsPlainAsk ask → becomes_delayed ask shown ≡ false
 plain_undelayed (Produce transactional acks timeout topics) shown plain =
     elim plain [
-      inl e ↦ subst (λ (a : ℤ). becomes_delayed (Produce transactional a timeout topics) shown ≡ false) (sym e) refl
+      | inl e ↦ subst (λ (a : ℤ). becomes_delayed (Produce transactional a timeout topics) shown ≡ false) (sym e) refl
       | inr e ↦ subst (λ (a : ℤ). becomes_delayed (Produce transactional a timeout topics) shown ≡ false) (sym e) refl
     ]
 plain_undelayed (Fetch replica (pos zero) min_bytes max_bytes isolation topics) shown plain = refl
-plain_undelayed (Fetch replica (pos (suc n)) min_bytes max_bytes isolation topics) shown plain = absurd plain.le
+plain_undelayed (Fetch replica (pos (suc n)) min_bytes max_bytes isolation topics) shown plain = absurd (omega (arith, leb→le (suc n) 0 plain.le))
 plain_undelayed (Fetch replica (negsuc n) min_bytes max_bytes isolation topics) shown plain = refl
 plain_undelayed (Metadata topics) shown plain = refl
 plain_undelayed (Versions version) shown plain = refl
@@ -64,7 +73,7 @@ all_logs parts [] s = tt
 all_logs parts (result ∷ results) s = (servable_log parts result s.0, all_logs parts results s.1)
 
 all_offsets : (parts : List History) (results : List Accepted) → ((p : ℕ) → p < length parts → IsKept (history_at parts p).log (history_at parts p).events) → AllByRecursion (IsServable parts) results → All IsCarriable results
-all_offsets parts [] kept s k d lt = omega (arith, lt)
+all_offsets parts [] kept s k d lt = absurd (omega (arith, lt))
 all_offsets parts (result ∷ results) kept s zero d lt = servable_offset parts result kept s.0
 all_offsets parts (result ∷ results) kept s (suc k) d lt = all_offsets parts results kept s.1 k d (omega (arith, lt))
 
@@ -80,9 +89,56 @@ pub replied : (config : Configuration) (ask : Ask) (by seq : ℕ) (decisions : L
     → IsReplied config ask (accept_all by seq decisions parts).1 (results_of (shown_of (accept_all by seq decisions parts).0))
 replied config ask by seq decisions parts size d same kept =
     let served = all_servable by seq (partitions_of config.topics) decisions parts size (decides_fair config ask decisions d) (decides_honest config ask decisions d)
-        (length (accept_all by seq decisions parts).1) refl (same ∙ size) in
+    (length (accept_all by seq decisions parts).1) refl (same ∙ size) in
     record {
       size = results_count by seq decisions parts ∙ decided_count config ask decisions d;
       logs = all_logs (accept_all by seq decisions parts).1 (results_of (shown_of (accept_all by seq decisions parts).0)) served;
       offsets = all_offsets (accept_all by seq decisions parts).1 (results_of (shown_of (accept_all by seq decisions parts).0)) kept served;
     }
+
+-- ---- the request as a whole
+
+-- what has come of it stands in a list that was empty
+pub results_are : (by seq : ℕ) (decisions : List Decision) (before after : List History) (came later : Came) → came ≡ record { accepted = []; points = [] }
+    → IsCarried by seq decisions before after came later → later.accepted ≡ results_of (shown_of (accept_all by seq decisions before).0)
+results_are by seq decisions before after came later empty carried =
+    carried.accepted ∙ ap (λ (k : Came). k.accepted ++ results_of (shown_of (accept_all by seq decisions before).0)) empty
+
+pub replied_now : (config : Configuration) (ask : Ask) (by seq : ℕ) (decisions : List Decision) (before after : List History) (came later : Came) → length before ≡ partitions_of config.topics
+    → Decides config ask decisions → came ≡ record { accepted = []; points = [] } → IsCarried by seq decisions before after came later
+    → ((p : ℕ) → p < length after → IsKept (history_at after p).log (history_at after p).events) → IsReplied config ask after later.accepted
+replied_now config ask by seq decisions before after came later size d empty carried kept =
+    let left = (accept_all by seq decisions before).1 in
+    let same : length left ≡ length before = ap length (sym carried.histories) ∙ carried_size by seq decisions before after came later carried in
+    let whole = replied config ask by seq decisions before size d same
+    (subst (λ (ps : List History). (p : ℕ) → p < length ps → IsKept (history_at ps p).log (history_at ps p).events) carried.histories kept) in
+    subst (λ (ps : List History). IsReplied config ask ps later.accepted) (sym carried.histories)
+    (subst (λ (rs : List Accepted). IsReplied config ask left rs) (sym (results_are by seq decisions before after came later empty carried)) whole)
+
+pub shown_now_is : (config : Configuration) (ask : Ask) (by seq : ℕ) (decisions : List Decision) (before after : List History) (came later : Came) → length before ≡ partitions_of config.topics
+    → HasNoFollowers config.topics → IsPlainAsk ask → Decides config ask decisions → came ≡ record { accepted = []; points = [] } → IsCarried by seq decisions before after came later
+    → ShowsLogs after ask later.accepted (shown_of (accept_all by seq decisions before).0)
+shown_now_is config ask by seq decisions before after came later size alone plain d empty carried =
+    let shown = shown_of (accept_all by seq decisions before).0 in
+    subst (λ (ps : List History). ShowsLogs ps ask later.accepted shown) (sym carried.histories)
+    (subst (λ (rs : List Accepted). ShowsLogs (accept_all by seq decisions before).1 ask rs shown) (sym (results_are by seq decisions before after came later empty carried))
+    (logs_shown config ask by seq decisions before size alone plain d))
+
+pub told : (config : Configuration) (by : ℕ) (request : Request) (shown : List Shown) → is_quiet request.ask ≡ false → text_at_once config by request shown ≡ reply_line by (answer config request shown)
+told config by request shown e = ap (λ (b : Bool). cond b [] (reply_line by (answer config request shown))) e
+
+pub not_told : (config : Configuration) (by : ℕ) (request : Request) (shown : List Shown) → is_quiet request.ask ≡ true → text_at_once config by request shown ≡ []
+not_told config by request shown e = ap (λ (b : Bool). cond b [] (reply_line by (answer config request shown))) e
+
+pub answered : (config : Configuration) (by seq : ℕ) (request : Request) (decisions : List Decision) (before after : List History) (came later : Came) (text more : List ℕ) → IsPlainAsk request.ask
+    → Decides config request.ask decisions → came ≡ record { accepted = []; points = [] } → IsCarried by seq decisions before after came later
+    → more ≡ text ++ text_at_once config by request (shown_of (accept_all by seq decisions before).0)
+    → IsAnsweredAtOnce config by seq request before after later.points text more
+answered config by seq request decisions before after came later text more plain d empty carried printed = record {
+  decisions = decisions;
+  decided = d;
+  undelayed = plain_undelayed request.ask (shown_of (accept_all by seq decisions before).0) plain;
+  histories = carried.histories;
+  points_are = carried.points ∙ ap (λ (k : Came). k.points ++ step_points (steps_of (accept_all by seq decisions before).0)) empty;
+  printed = printed;
+}

@@ -1,7 +1,7 @@
 -- What is asked: what is read behind the header is what was spelled, and only that.
-use Rattle.std.proofs.Common.{◌≡◌, ℕ, zero, suc, ◌+◌, ◌≤◌, ◌⊎◌, Bool, true, false, cond, ltb, ℤ, pos, negsuc, List, [], ◌∷◌, ◌++◌, ◌||◌, length, map, Option, Some, None, unwrap_or, option_map, Ok, Err, refl, sym, ap, subst, ◌∙◌, arith, inl, inr}
+use Rattle.std.proofs.Common.{◌≡◌, ℕ, ◌+◌, ◌≤◌, ◌⊎◌, Bool, true, cond, ltb, ℤ, pos, List, [], ◌∷◌, ◌++◌, ◌||◌, length, map, Option, Some, None, unwrap_or, option_map, Ok, Err, refl, sym, ap, subst, ◌∙◌, arith, inl, inr}
 use Rattle.std.specs.List.{flat_map, AllByRecursion}
-use Rattle.std.specs.Int.{w8, w16, w32, w64}
+use Rattle.std.specs.Int.{w8, w16, w32}
 use Rattle.std.specs.Ordering.{int_eq}
 use Rattle.std.proofs.lemmas.Bool.{cases_Bool, or_cases, cases_lt, lt-ltb, le-ltb}
 use Rattle.std.proofs.lemmas.Bool.Decides.{Decides-int_eq}
@@ -10,7 +10,7 @@ use Rattle.std.proofs.lemmas.List.Concat.{flat_map_single}
 use Rattle.kbytes.specs.Octets.{IsBytes}
 use Rattle.kbytes.specs.Cursor.{Cursor, rest_of, moved}
 use Rattle.kbytes.specs.Reading.{◌>>=◌, integer_at, sized_at, string_at, array_at}
-use Rattle.kbytes.specs.Field.{Field, Int8, Int16, Int32, String, NullableString, Array, field, fields}
+use Rattle.kbytes.specs.Field.{Field, Int8, Int16, Int32, String, NullableString, Array, fields}
 use Rattle.kbytes.specs.FitsField.{FitsField}
 use Rattle.kafka_room.specs.declared.kwire.frame.WireFault.TheVariants.{BadRequest, TooMany}
 use Rattle.kafka_room.specs.declared.kwire.request.Ask.{Ask}
@@ -19,12 +19,12 @@ use Rattle.kafka_room.specs.declared.kwire.request.ProducePart.{ProducePart}
 use Rattle.kafka_room.specs.declared.kwire.request.ProduceTopic.{ProduceTopic}
 use Rattle.kafka_room.specs.declared.kwire.request.FetchPart.{FetchPart}
 use Rattle.kafka_room.specs.declared.kwire.request.FetchTopic.{FetchTopic}
-use Rattle.kafka_room.specs.IsRequest.{Named, produce_topic_fields, fetch_topic_fields, ask_fields, key_of, version_of, named_of, topics_named, IsKnownIsolation}
-use Rattle.kafka_room.specs.Refusal.{Read, wire, count_at, items_at, produce_topics_at, fetch_topics_at, produce_at, isolation_at, fetch_at, name_at, names_at, metadata_at, known_version}
-use Rattle.kafka_room.proofs.Codecs.{Codec, Backed, got, fault, same_got, went_on, of_field, join, join_field, keep, made, recast, said}
+use Rattle.kafka_room.specs.IsRequest.{Named, produce_topic_fields, fetch_topic_fields, ask_fields, key_of, named_of, topics_named, IsKnownIsolation}
+use Rattle.kafka_room.specs.Refusal.{Read, wire, count_at, items_at, produce_topics_at, fetch_topics_at, produce_at, isolation_at, fetch_at, name_at, names_at, metadata_at}
+use Rattle.kafka_room.proofs.Codecs.{Codec, Backed, got, fault, same_got, went_on, of_field, join, join_field, keep, made, recast}
 use Rattle.kafka_room.proofs.FieldLaws.{int8_field, int16_field, int32_field, string_field, nullable_string_field, array_field}
 use Rattle.kafka_room.proofs.RequestCodecs.{count, items}
-use Rattle.kafka_room.proofs.TopicCodecs.{Within, within_all, all_within, Counted, produce_size, produce_topics, fetch_size, fetch_topics}
+use Rattle.kafka_room.proofs.TopicCodecs.{within_all, all_within, Counted, produce_size, produce_topics, fetch_size, fetch_topics}
 
 -- what an ask of this api says beside its fields
 pub record IsAsk (key : ℤ) (ask : Ask) : Type 0 where

@@ -1,5 +1,5 @@
 -- Decisions that are carried out one after the other.
-use Rattle.std.proofs.Common.{◌≡◌, ℕ, zero, suc, ◌+◌, ◌≤◌, ◌<◌, Bool, true, false, cond, ltb, pos, List, [], ◌∷◌, ◌++◌, length, get_or, map, set, Option, Some, None, Result, Ok, Err, unwrap_or, refl, sym, ap, subst, ◌∙◌, arith, append_assoc, append-nil, inl, inr}
+use Rattle.std.proofs.Common.{◌≡◌, ℕ, ◌+◌, ◌≤◌, ◌<◌, Bool, true, false, cond, ltb, pos, List, [], ◌∷◌, ◌++◌, length, get_or, set, Option, Some, None, Result, Ok, Err, unwrap_or, refl, sym, ap, ◌∙◌, arith, append_assoc, append-nil, inl, inr}
 use Rattle.std.proofs.lemmas.List.{map-append}
 use Rattle.std.proofs.lemmas.List.Elements.{filter_map-append}
 use Rattle.std.proofs.lemmas.Bool.{le-ltb, lt-ltb}
@@ -8,7 +8,7 @@ use Rattle.std.specs.Prelude.{slice_get, OnOk}
 use Rattle.std.specs.List.{AllZip}
 use Rattle.partlog.specs.History.{History}
 use Rattle.partlog.specs.State.{PartState, state_of}
-use Rattle.partlog.specs.Gauges.{gauges_of, bytes_in}
+use Rattle.partlog.specs.Gauges.{gauges_of}
 use Rattle.partlog.specs.Kept.{IsKept}
 use Rattle.partlog.specs.Added.{log_end_of}
 use Rattle.partlog.specs.Appended.{appended}
@@ -19,8 +19,8 @@ use Rattle.partlog.proofs.Appending.{bytes_in-batches}
 use Rattle.kafka_room.specs.declared.audit.account.Point.{Point}
 use Rattle.kafka_room.specs.declared.broker.came.Came.{Came}
 use Rattle.kafka_room.specs.declared.kanswer.accepted.Accepted.{Accepted}
-use Rattle.kafka_room.specs.declared.kanswer.accepted.Accepted.TheVariants.{Refused, Appended, Seen}
-use Rattle.kafka_room.specs.Accepting.{Entry, Put, Looked, Outcome, Decision, Refuse, AskLog, look, append_outcome}
+use Rattle.kafka_room.specs.declared.kanswer.accepted.Accepted.TheVariants.{Refused, Appended}
+use Rattle.kafka_room.specs.Accepting.{Put, Outcome, Decision, Refuse, AskLog, look, append_outcome}
 use Rattle.kafka_room.specs.Acceptance.{Noted, entered, accept_all, steps_of, shown_of}
 use Rattle.kafka_room.specs.Board.{history_at, empty_history}
 use Rattle.kafka_room.specs.Carried.{IsCarried}

@@ -1,10 +1,9 @@
 -- What is decided of a request asks only logs that are there, and puts batches whole.
-use Rattle.std.proofs.Common.{◌≡◌, ℕ, zero, suc, ◌+◌, ◌≤◌, ◌<◌, ◌⊎◌, ℤ, pos, negsuc, Bool, true, false, cond, ltb, List, [], ◌∷◌, ◌++◌, length, map, Option, Some, None, unwrap_or, refl, sym, ap, subst, ◌∙◌, arith, inl, inr, length-append}
+use Rattle.std.proofs.Common.{◌≡◌, ℕ, zero, suc, ◌+◌, ◌<◌, ℤ, pos, negsuc, Bool, true, false, cond, List, [], ◌∷◌, length, map, Option, Some, None, unwrap_or, refl, sym, ap, subst, ◌∙◌, arith, inl, inr, length-append}
 use Rattle.std.proofs.lemmas.List.Sums.{sum_by-cons}
-use Rattle.std.proofs.lemmas.List.Concat.{length-flat_map}
 use Rattle.std.proofs.lemmas.Bool.{ltb-true}
-use Rattle.std.specs.Prelude.{MatchOption, MatchBool, replicate, slice_get, slice_index, sum_by, ◌&&◌, nat_lt, nat_le}
-use Rattle.std.specs.List.{AllByRecursion, AllZip, flat_map}
+use Rattle.std.specs.Prelude.{MatchOption, MatchBool, replicate, slice_index, ◌&&◌, nat_lt, nat_le}
+use Rattle.std.specs.List.{AllByRecursion, AllZip}
 use Rattle.std.specs.Cmp.Lexicographic.{pointwise}
 use Rattle.std.specs.Bool.{nat_eq}
 use Rattle.kbatch.specs.declared.record.Record.{Record}
@@ -12,7 +11,7 @@ use Rattle.kbatch.specs.Batch.{IsBatch}
 use Rattle.kbatch.specs.Record.{records_from}
 use Rattle.kbatch.specs.Stamp.{stamped}
 use Rattle.kbatch.proofs.Batches.{stamped_len}
-use Rattle.partlog.specs.State.{PartState, state_of}
+use Rattle.partlog.specs.State.{PartState}
 use Rattle.partlog.specs.History.{History}
 use Rattle.partlog.specs.Gauges.{gauges_of}
 use Rattle.partlog.specs.Start.{start_of}
@@ -21,10 +20,9 @@ use Rattle.kafka_room.specs.declared.kwire.request.Ask.{Ask}
 use Rattle.kafka_room.specs.declared.kwire.request.Ask.TheVariants.{Produce, Fetch, Metadata, Versions}
 use Rattle.kafka_room.specs.declared.kwire.request.ProducePart.{ProducePart}
 use Rattle.kafka_room.specs.declared.kwire.request.FetchPart.{FetchPart}
-use Rattle.kafka_room.specs.declared.kanswer.accepted.Accepted.{Accepted}
 use Rattle.kafka_room.specs.declared.kanswer.accepted.Accepted.TheVariants.{Refused, Appended, Seen}
 use Rattle.kafka_room.specs.Configuration.{Configuration, partitions_of, followers_of}
-use Rattle.kafka_room.specs.Accepting.{Entry, Put, Followed, Looked, Outcome, Decision, Refuse, AskLog, Decides, ProduceDecides, BatchDecides, append_outcome, fetch_decision, fetch_outcome, in_range_outcome, offset_of, look, code_of, part_from, part_of, produce_parts, fetch_parts, is_acks}
+use Rattle.kafka_room.specs.Accepting.{Entry, Put, Followed, Looked, Outcome, Decision, Refuse, Decides, ProduceDecides, BatchDecides, append_outcome, fetch_decision, fetch_outcome, in_range_outcome, offset_of, look, code_of, part_from, part_of, produce_parts, fetch_parts, is_acks}
 use Rattle.kafka_room.proofs.Cuts.{some_is}
 use Rattle.kafka_room.proofs.Growth.{IsSized}
 use Rattle.kafka_room.proofs.Accepts.{IsFair}

@@ -1,5 +1,5 @@
 -- Each field of a request alone: read again, in its range, and spelled so.
-use Rattle.std.proofs.Common.{◌≡◌, ℕ, zero, suc, ◌<◌, ◌^◌, ltb, ℤ, pos, negsuc, Bool, true, false, cond, List, [], ◌∷◌, length, take, Option, Some, None, Result, Ok, Err, refl, sym, ap, subst, ◌∙◌, arith}
+use Rattle.std.proofs.Common.{◌≡◌, ℕ, zero, suc, ◌<◌, ◌^◌, ltb, ℤ, pos, negsuc, Bool, true, false, cond, List, length, take, Option, Some, None, Result, Ok, Err, refl, sym, ap, subst, ◌∙◌, arith}
 use Rattle.std.specs.Prelude.{FitsSigned, IfSome}
 use Rattle.std.specs.Int.{Width, w8, w16, w32, w64, byte_len, from_be_bytes, cast_signed}
 use mir.Val.{hbits}
@@ -10,7 +10,7 @@ use Rattle.kbytes.specs.declared.fault.ByteFault.TheVariants.{Short, BadLength}
 use Rattle.kbytes.specs.Octets.{IsBytes}
 use Rattle.kbytes.specs.Cursor.{Cursor, rest_of, moved}
 use Rattle.kbytes.specs.Reading.{◌>>=◌, Spells, integer_at, after_length, sized_at, not_null, string_at, count_from, array_at}
-use Rattle.kbytes.specs.Field.{Field, Int8, Int16, Int32, Int64, String, NullableString, Records, Array, field, integer, sized, count_or_null}
+use Rattle.kbytes.specs.Field.{Field, Int8, Int16, Int32, Int64, String, NullableString, Records, Array, field, integer, count_or_null}
 use Rattle.kbytes.specs.Fronts.{Leads}
 use Rattle.kbytes.proofs.Integers.{IsWide, wide_8, wide_16, wide_32, wide_64, cut, whole, front_of, Leads-spells}
 use Rattle.kbytes.proofs.Sized.{sized_spells, string_spells}

@@ -1,17 +1,15 @@
 -- A whole frame at the front of a stream, both ways.
-use Rattle.std.proofs.Common.{◌≡◌, ℕ, zero, suc, ◌+◌, ◌-◌, ◌^◌, ◌<◌, ◌≤◌, Bool, true, false, cond, ltb, ℤ, pos, negsuc, List, [], ◌∷◌, ◌++◌, length, take, drop, refl, sym, ap, subst, ◌∙◌, append_assoc, arith, lit<, inl, inr}
+use Rattle.std.proofs.Common.{◌≡◌, ℕ, ◌+◌, ◌-◌, ◌≤◌, false, cond, ltb, ℤ, pos, negsuc, List, ◌++◌, length, take, drop, refl, sym, ap, subst, ◌∙◌, append_assoc, arith, inl, inr}
 use Rattle.std.specs.Prelude.{FitsSigned}
 use Rattle.std.specs.Int.{w32, from_be_bytes, cast_signed, cast_unsigned}
-use mir.Val.{bits}
 use Rattle.std.proofs.lemmas.Bool.{cases_lt, lt-ltb, le-ltb}
 use Rattle.std.proofs.lemmas.Int.{to_z-of_z}
-use Rattle.std.proofs.lemmas.List.{length-take, length-drop, length-append, take_at, drop_at, drop-drop, take-append-drop}
+use Rattle.std.proofs.lemmas.List.{length-take, length-drop, length-append, take_at, drop-drop, take-append-drop}
 use Rattle.std.proofs.Math.Facts.{Fits-of_z}
 use Rattle.kbytes.specs.Field.{integer}
 use Rattle.kbytes.specs.Octets.{IsBytes}
 use Rattle.kbytes.proofs.Octets.{IsBytes-take}
 use Rattle.kbytes.proofs.Integers.{wide_32, integer_back}
-use Rattle.kafka_room.specs.declared.kwire.frame.Frame.{Frame}
 use Rattle.kafka_room.specs.declared.kwire.frame.Frame.TheVariants.{Whole, NotYet, TooLong}
 use Rattle.kafka_room.specs.Frames.{framed, IsFrameBody, frame_of_size, next_frame_of}
 

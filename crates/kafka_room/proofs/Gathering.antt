@@ -1,7 +1,7 @@
 -- What is read of the logs for a reply, and how many bytes of records that are.
-use Rattle.std.proofs.Common.{◌≡◌, ◌≤◌, ◌<◌, ◌+◌, ◌-◌, ◌||◌, ℕ, zero, suc, ℤ, pos, Bool, true, false, cond, ltb, List, [], ◌∷◌, ◌++◌, length, get_or, take, drop, map, filter, min, sum_by, Option, Some, None, Result, Ok, Err, IfOk, OnOk, All, length-append, refl, sym, ap, subst, ◌∙◌, arith, inl, inr}
-use Rattle.std.specs.Prelude.{slice_get, unwrap_or, ⊤}
-use Rattle.std.specs.List.{flat_map, AllByRecursion}
+use Rattle.std.proofs.Common.{◌≡◌, ◌≤◌, ◌<◌, ◌+◌, ◌-◌, ◌||◌, ℕ, suc, ℤ, pos, Bool, true, false, cond, ltb, List, [], ◌∷◌, ◌++◌, length, get_or, take, drop, map, filter, min, sum_by, Option, Result, Ok, Err, IfOk, OnOk, All, length-append, refl, sym, ap, subst, ◌∙◌, arith, inl, inr}
+use Rattle.std.specs.Prelude.{unwrap_or, ⊤}
+use Rattle.std.specs.List.{flat_map}
 use Rattle.std.proofs.lemmas.Bool.{lt-ltb, cases_lt}
 use Rattle.std.proofs.lemmas.Option.{slice_get-get_or}
 use Rattle.std.proofs.lemmas.List.{append_assoc, drop-drop, drop_more, take_more, map-append}
@@ -10,7 +10,7 @@ use Rattle.std.proofs.lemmas.List.Elements.{All-nil, All-push, All-append}
 use Rattle.partlog.specs.History.{History}
 use Rattle.partlog.specs.Batches.{StoredBatch}
 use Rattle.partlog.specs.State.{PartState, state_of}
-use Rattle.partlog.specs.Gauges.{bytes_in, numbers_of}
+use Rattle.partlog.specs.Gauges.{bytes_in}
 use Rattle.partlog.specs.Taken.{batches_past, fitting, taken, joined}
 use Rattle.partlog.proofs.Fronts.{bytes_in-cons, fitting-more, fitting-none, past-le}
 use Rattle.partlog.proofs.Bounds.{sum_by-filter-le}
@@ -23,7 +23,7 @@ use Rattle.kafka_room.specs.declared.kanswer.accepted.Accepted.TheVariants.{Refu
 use Rattle.kafka_room.specs.declared.kanswer.accepted.Reading.{Reading}
 use Rattle.kafka_room.specs.declared.kanswer.accepted.Budget.{Budget}
 use Rattle.kafka_room.specs.Board.{history_at, empty_history}
-use Rattle.kafka_room.specs.Delayed.{Shown, at_least_zero}
+use Rattle.kafka_room.specs.Delayed.{at_least_zero}
 use Rattle.kafka_room.specs.Answer.{is_readable, read_of, batches_as, budget_after, first_budget}
 use Rattle.kafka_room.specs.AreReadings.{AreReadings, HasNumbers, ProduceReadings, HasRecords, FetchReadings, HasCarriable, named_count, budget_of}
 use Rattle.kafka_room.specs.Gathered.{nothing_read, state_now, shown_now, reading_now, left_now, readings_now, left_behind, bytes_read, most_left}

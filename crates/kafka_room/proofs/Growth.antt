@@ -1,15 +1,15 @@
 -- How histories grow, and what stays of their states.
-use Rattle.std.proofs.Common.{◌≡◌, ℕ, zero, suc, ◌+◌, ◌≤◌, ◌<◌, List, [], ◌∷◌, ◌++◌, length, take, drop, Option, Some, None, refl, sym, ap, subst, ◌∙◌, arith, append_assoc, append-nil, length-append, length-drop}
+use Rattle.std.proofs.Common.{◌≡◌, ℕ, ◌+◌, ◌≤◌, List, [], ◌∷◌, ◌++◌, length, take, drop, refl, sym, ap, ◌∙◌, arith, append_assoc, append-nil, length-append, length-drop}
 use Rattle.std.proofs.Math.Seq.{take-append_seam, drop-append_seam, take-length}
 use Rattle.std.proofs.lemmas.List.{take-append-le, drop-append-le}
 use Rattle.std.proofs.lemmas.List.Sums.{sum_by-cons, sum_by_push}
 use Rattle.partlog.specs.declared.event.PartEvent.{PartEvent}
 use Rattle.partlog.specs.declared.event.PartEvent.TheVariants.{Append, Follow, Look}
 use Rattle.kbatch.specs.Stamp.{stamped}
-use Rattle.partlog.specs.Added.{added_bytes, added_count, bytes_of, log_end_of}
+use Rattle.partlog.specs.Added.{added_bytes, bytes_of, log_end_of}
 use Rattle.partlog.specs.Batches.{StoredBatch, batches_of, batches_after}
 use Rattle.partlog.specs.History.{History}
-use Rattle.partlog.specs.State.{PartState, state_of, state_before, state_at, front_of}
+use Rattle.partlog.specs.State.{state_of, state_before, state_at, front_of}
 use Rattle.partlog.proofs.Appending.{batches-append}
 use Rattle.kafka_room.specs.Accepting.{Entry, Put, Followed, Looked}
 use Rattle.kafka_room.specs.Acceptance.{entered}

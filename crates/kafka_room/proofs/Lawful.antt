@@ -1,10 +1,9 @@
 -- The account of a broker in which nothing waits is lawful.
-use Rattle.std.proofs.Common.{◌≡◌, ◌≢◌, ℕ, zero, suc, ◌+◌, ◌≤◌, ◌<◌, ◌⊎◌, Bool, true, false, cond, eqb, List, [], ◌∷◌, ◌++◌, length, map, Option, Some, None, unwrap_or, refl, sym, ap, subst, ◌∙◌, arith, inl, inr, append-nil, eq-eqb}
+use Rattle.std.proofs.Common.{◌≡◌, ℕ, zero, suc, ◌+◌, ◌⊎◌, Bool, true, false, cond, eqb, List, [], ◌∷◌, ◌++◌, map, Option, Some, None, unwrap_or, refl, sym, ap, subst, ◌∙◌, arith, inl, inr, append-nil, eq-eqb}
 use Rattle.std.proofs.lemmas.List.Sums.{sum_by-cons}
 use Rattle.std.specs.Prelude.{slice_get, count_by, option_to_list, IfSome}
 use Rattle.std.specs.List.{AllByRecursion, flat_map}
 use Rattle.std.specs.List.Sorted.{IsStrictlyIncreasing}
-use Rattle.partlog.specs.declared.event.PartEvent.{PartEvent}
 use Rattle.partlog.specs.declared.clock_event.ClockEvent.{ClockEvent}
 use Rattle.partlog.specs.History.{History}
 use Rattle.kafka_room.specs.declared.audit.account.Account.{Account}
@@ -15,20 +14,18 @@ use Rattle.kafka_room.specs.declared.audit.account.CallHow.{CallHow}
 use Rattle.kafka_room.specs.declared.audit.account.CallHow.TheVariants.{Quiet, AtOnce}
 use Rattle.kafka_room.specs.declared.audit.account.SessionEnd.{SessionEnd}
 use Rattle.kafka_room.specs.declared.audit.account.Point.{Point}
-use Rattle.kafka_room.specs.declared.kwire.request.Ask.{Ask}
 use Rattle.kafka_room.specs.declared.kwire.request.Request.{Request}
-use Rattle.kafka_room.specs.Histories.{Owner, owner_of, clock_owner_of, owners_of, owners_in, history_of, points_of, calls_in, calls_of, call_of, all_calls, ticks_of}
-use Rattle.kafka_room.specs.Delayed.{becomes_delayed, is_quiet}
-use Rattle.kafka_room.specs.Handled.{Step, IsLawfulCall, LooksAtClock, Completes, shown_as_accepted, is_delayed}
-use Rattle.kafka_room.specs.IsLawful.{IsLawful, HasEntries, HasLogs, IsWholeLog, places_in, is_point, is_won_by, is_won_as, EndsAs, EndWell, FollowOn}
+use Rattle.kafka_room.specs.Histories.{Owner, owner_of, clock_owner_of, owners_of, owners_in, points_of, calls_in, calls_of, call_of, all_calls, ticks_of}
+use Rattle.kafka_room.specs.Delayed.{is_quiet}
+use Rattle.kafka_room.specs.Handled.{Step, IsLawfulCall, LooksAtClock, Completes, is_delayed}
+use Rattle.kafka_room.specs.IsLawful.{IsLawful, IsWholeLog, places_in, is_point, is_won_by, is_won_as, EndsAs, EndWell, FollowOn}
 use Rattle.kafka_room.specs.Board.{Board, Seat, empty_seat, transcript_at, new_transcript, put_before, passes_of, part_account, account_of}
-use Rattle.kafka_room.specs.Handling.{how_at_once}
 pub use Rattle.kafka_room.specs.Fed.{IsPlainCall, IsTameTranscript}
 use Rattle.kafka_room.proofs.Cuts.{some_is, not_same}
 use Rattle.kafka_room.proofs.Growth.{longer_self}
 use Rattle.kafka_room.proofs.Places.{same_or_not}
 use Rattle.kafka_room.proofs.Accepts.{the_owner, AllWhole, Follows}
-use Rattle.kafka_room.proofs.Steady.{IsSteady, IsDone, all_points}
+use Rattle.kafka_room.proofs.Steady.{IsSteady, IsDone}
 
 -- the seats from this number on
 abbrev pub AreTame : ℕ → List Seat → Type 0

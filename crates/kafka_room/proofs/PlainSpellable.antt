@@ -1,5 +1,5 @@
 -- The reply to a plain request has a frame.
-use Rattle.std.proofs.Common.{◌≡◌, ℕ, ◌+◌, ◌<◌, ◌≤◌, ◌^◌, ℤ, List, [], ◌∷◌, ◌++◌, length, take, drop, map, sum_by, subst, refl, arith, length-append, inl, inr}
+use Rattle.std.proofs.Common.{◌≡◌, ℕ, ◌<◌, ◌≤◌, ◌^◌, ℤ, List, [], ◌∷◌, ◌++◌, length, take, drop, map, sum_by, subst, refl, arith, length-append, inl, inr}
 use Rattle.std.proofs.lemmas.List.{length-map}
 use Rattle.std.proofs.lemmas.List.Sums.{sum_by-cons, sum_by-take-drop}
 use Rattle.std.specs.List.{flat_map, AllByRecursion}
@@ -27,7 +27,7 @@ use Rattle.kafka_room.specs.IsData.{IsData}
 use Rattle.kafka_room.specs.IsRequest.{IsRequest, Named, named_of, topics_named, ask_fields, produce_part_fields, produce_topic_fields, fetch_part_fields, fetch_topic_fields}
 use Rattle.kafka_room.specs.IsSpellable.{IsSpellable}
 use Rattle.kafka_room.specs.PlainStream.{IsPlainAsk}
-use Rattle.kafka_room.specs.Reported.{parts_by, topics_by, fetched_part, fetched_topic, fetched_of}
+use Rattle.kafka_room.specs.Reported.{parts_by, fetched_part, fetched_topic, fetched_of}
 use Rattle.kafka_room.proofs.ReportLaws.{fetched_is}
 use Rattle.kafka_room.proofs.SpellableLaws.{IsProducedTopic, IsFetchedPart, IsFetchedTopic, records_in, produced_spellable, fetched_spellable}
 

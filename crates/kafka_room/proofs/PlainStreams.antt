@@ -1,18 +1,14 @@
 -- Streams of requests that wait for nothing, frame by frame.
-use Rattle.std.proofs.Common.{◌≡◌, ◌≢◌, ◌↔◌, ℕ, ◌+◌, ◌-◌, ◌≤◌, Bool, true, false, ℤ, List, [], ◌∷◌, ◌++◌, length, take, drop, Result, Ok, Err, refl, sym, ap, subst, ◌∙◌, arith, append-nil, IsTrue}
-use Rattle.std.specs.List.{flat_map, AllByRecursion}
+use Rattle.std.proofs.Common.{◌≡◌, ◌≢◌, ◌↔◌, ℕ, ◌-◌, ◌≤◌, Bool, true, false, ℤ, List, [], ◌∷◌, ◌++◌, length, take, drop, refl, sym, ap, subst, ◌∙◌, arith, append-nil, IsTrue}
+use Rattle.std.specs.List.{AllByRecursion}
 use Rattle.std.proofs.lemmas.List.{take_all, length-drop}
 use Rattle.kbytes.specs.Octets.{IsBytes}
 use Rattle.kbytes.proofs.Octets.{IsBytes-drop}
 use Rattle.kafka_room.specs.declared.kwire.frame.Frame.{Frame}
 use Rattle.kafka_room.specs.declared.kwire.frame.Frame.TheVariants.{Whole, NotYet, TooLong}
-use Rattle.kafka_room.specs.declared.kwire.frame.WireFault.{WireFault}
-use Rattle.kafka_room.specs.declared.kwire.request.Request.{Request}
 use Rattle.kafka_room.specs.Frames.{framed, IsFrameBody, next_frame_of}
-use Rattle.kafka_room.specs.IsRequest.{IsRequest}
-use Rattle.kafka_room.specs.Refusal.{request_at}
-use Rattle.kafka_room.specs.PlainStream.{IsPlainAsk, IsPlainBody, IsPlainStream}
-use Rattle.kafka_room.proofs.FrameLaws.{IsParted, whole_parts}
+use Rattle.kafka_room.specs.PlainStream.{IsPlainBody, IsPlainStream}
+use Rattle.kafka_room.proofs.FrameLaws.{whole_parts}
 use Rattle.kafka_room.proofs.StreamLaws.{IsNextBody, next_body, not_too_long, nothing_left}
 
 abbrev body_at : ℕ → List ℕ → List ℕ

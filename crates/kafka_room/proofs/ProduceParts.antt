@@ -1,16 +1,12 @@
 -- What is decided of the partitions of a produce or a fetch, one after the other.
-use Rattle.std.proofs.Common.{◌≡◌, ℕ, ◌+◌, ◌<◌, ◌≤◌, ℤ, pos, negsuc, Bool, true, false, cond, ltb, List, [], ◌∷◌, ◌++◌, length, get_or, map, take, Option, Some, None, unwrap_or, refl, sym, ap, subst, ◌∙◌, arith, append-nil}
-use Rattle.std.proofs.lemmas.List.{map-append, take_more, take_all}
-use Rattle.std.proofs.lemmas.Bool.{lt-ltb, le-ltb}
+use Rattle.std.proofs.Common.{◌≡◌, ℕ, ◌+◌, ◌<◌, ℤ, pos, Bool, true, false, List, [], ◌∷◌, ◌++◌, length, get_or, map, take, Option, Some, None, unwrap_or, refl, sym, ap, subst, ◌∙◌, append-nil}
+use Rattle.std.proofs.lemmas.List.{map-append, take_more}
 use Rattle.std.proofs.lemmas.Grind.{flat_map-append}
 use Rattle.std.specs.Prelude.{MatchOption, MatchBool, is_some}
-use Rattle.std.specs.List.{AllZip, AllByRecursion, flat_map}
+use Rattle.std.specs.List.{AllZip, flat_map}
 use Rattle.partlog.specs.History.{History}
-use Rattle.partlog.specs.State.{PartState, state_of}
-use Rattle.partlog.specs.Start.{start_of}
 use Rattle.kafka_room.specs.declared.broker.came.Came.{Came}
 use Rattle.kafka_room.specs.declared.broker.accept.Terms.{Terms}
-use Rattle.kafka_room.specs.declared.kwire.config.Topic.{Topic}
 use Rattle.kafka_room.specs.declared.kwire.request.ProducePart.{ProducePart}
 use Rattle.kafka_room.specs.declared.kwire.request.ProduceTopic.{ProduceTopic}
 use Rattle.kafka_room.specs.declared.kwire.request.FetchPart.{FetchPart}

@@ -1,26 +1,20 @@
 -- The parts of requests: what is read of them is what was spelled, and only that.
-use Rattle.std.proofs.Common.{◌≡◌, ℕ, zero, suc, ◌+◌, ◌≤◌, ◌<◌, ◌⊎◌, Bool, true, false, cond, ltb, ℤ, pos, negsuc, List, [], ◌∷◌, ◌++◌, length, map, Option, Some, None, unwrap_or, option_map, Result, Ok, Err, refl, sym, ap, subst, ◌∙◌, arith, inl, inr}
+use Rattle.std.proofs.Common.{◌≡◌, ℕ, zero, suc, ◌+◌, ◌≤◌, ℤ, List, [], ◌∷◌, ◌++◌, length, Option, Some, None, Ok, refl, ap, subst, ◌∙◌, arith, inl, inr}
 use Rattle.std.specs.List.{flat_map, AllByRecursion}
-use Rattle.std.specs.Int.{w8, w16, w32, w64}
+use Rattle.std.specs.Int.{w32, w64}
 use Rattle.std.proofs.lemmas.Bool.{cases_lt, lt-ltb, le-ltb}
-use Rattle.std.proofs.lemmas.List.{append-nil, length-append, length-map}
 use Rattle.kbytes.specs.Octets.{IsBytes}
 use Rattle.kbytes.specs.Cursor.{Cursor, rest_of, moved}
-use Rattle.kbytes.specs.Reading.{◌>>=◌, integer_at, sized_at, string_at, array_at}
-use Rattle.kbytes.specs.Field.{Field, Int8, Int16, Int32, Int64, String, NullableString, Records, Array, field, fields}
+use Rattle.kbytes.specs.Reading.{◌>>=◌, integer_at, sized_at, array_at}
+use Rattle.kbytes.specs.Field.{Field, Int32, Int64, Records, Array, fields}
 use Rattle.kbytes.specs.FitsField.{FitsField}
-use Rattle.kafka_room.specs.declared.kwire.frame.WireFault.{WireFault}
 use Rattle.kafka_room.specs.declared.kwire.frame.WireFault.TheVariants.{BadRequest, TooMany}
-use Rattle.kafka_room.specs.declared.kwire.request.Ask.{Ask}
-use Rattle.kafka_room.specs.declared.kwire.request.Ask.TheVariants.{Produce, Fetch, Metadata, Versions}
 use Rattle.kafka_room.specs.declared.kwire.request.ProducePart.{ProducePart}
-use Rattle.kafka_room.specs.declared.kwire.request.ProduceTopic.{ProduceTopic}
 use Rattle.kafka_room.specs.declared.kwire.request.FetchPart.{FetchPart}
-use Rattle.kafka_room.specs.declared.kwire.request.FetchTopic.{FetchTopic}
-use Rattle.kafka_room.specs.IsRequest.{produce_part_fields, produce_topic_fields, fetch_part_fields, fetch_topic_fields, ask_fields, key_of, named_of, topics_named, IsKnownIsolation}
-use Rattle.kafka_room.specs.Refusal.{Read, wire, counted, count_at, items_at, produce_part_at, fetch_part_at, produce_topic_at, fetch_topic_at, produce_topics_at, fetch_topics_at, produce_at, isolation_at, fetch_at}
-use Rattle.kafka_room.proofs.Codecs.{Codec, Backed, got, fault, same_got, went_on, Follows, of_field, join, join_field, keep, more, no_more, recast, said}
-use Rattle.kafka_room.proofs.FieldLaws.{int8_field, int16_field, int32_field, int64_field, string_field, nullable_string_field, records_field, array_field}
+use Rattle.kafka_room.specs.IsRequest.{produce_part_fields, fetch_part_fields}
+use Rattle.kafka_room.specs.Refusal.{Read, wire, counted, count_at, items_at, produce_part_at, fetch_part_at}
+use Rattle.kafka_room.proofs.Codecs.{Codec, Backed, got, fault, same_got, went_on, Follows, of_field, join_field, keep, more, no_more, said}
+use Rattle.kafka_room.proofs.FieldLaws.{int32_field, int64_field, records_field, array_field}
 
 -- ---- counts
 

@@ -1,7 +1,6 @@
 -- A body is a request exactly where reading it gives that request.
-use Rattle.std.proofs.Common.{◌≡◌, ◌≢◌, ◌↔◌, ℕ, zero, suc, ◌+◌, ◌≤◌, Bool, true, false, cond, eqb, ℤ, pos, negsuc, List, [], ◌∷◌, ◌++◌, ◌||◌, length, drop, Option, Some, None, Result, Ok, Err, refl, sym, ap, subst, ◌∙◌, append_assoc, arith, lit<, inl, inr}
+use Rattle.std.proofs.Common.{◌≡◌, ◌≢◌, ℕ, Bool, true, false, cond, eqb, ℤ, pos, List, [], ◌∷◌, ◌++◌, ◌||◌, length, Option, Some, None, Result, Ok, Err, refl, sym, ap, subst, ◌∙◌, append_assoc, arith, lit<, inl, inr}
 use Rattle.std.specs.Int.{w16, w32}
-use Rattle.std.specs.List.{AllByRecursion, AllPairs}
 use Rattle.std.specs.Ordering.{int_eq}
 use Rattle.std.proofs.lemmas.Bool.{cases_Bool, or_cases, eqb-true, true≢false}
 use Rattle.std.proofs.lemmas.Bool.Decides.{Decides-int_eq}
@@ -9,20 +8,19 @@ use Rattle.std.proofs.lemmas.List.{append-nil}
 use Rattle.kbytes.specs.Octets.{IsBytes}
 use Rattle.kbytes.specs.Cursor.{Cursor, rest_of, moved}
 use Rattle.kbytes.specs.Reading.{◌>>=◌, integer_at, sized_at}
-use Rattle.kbytes.specs.Field.{Field, Int16, Int32, NullableString, field, fields}
-use Rattle.kbytes.specs.FitsField.{FitsField}
+use Rattle.kbytes.specs.Field.{Field, Int16, Int32, NullableString, fields}
 use Rattle.kafka_room.specs.declared.kwire.frame.WireFault.{WireFault}
 use Rattle.kafka_room.specs.declared.kwire.frame.WireFault.TheVariants.{BadRequest, UnknownApi, Unsupported, Twice}
 use Rattle.kafka_room.specs.declared.kwire.request.Request.{Request}
 use Rattle.kafka_room.specs.declared.kwire.request.Ask.{Ask}
 use Rattle.kafka_room.specs.declared.kwire.request.Ask.TheVariants.{Produce, Fetch, Metadata, Versions}
-use Rattle.kafka_room.specs.IsRequest.{Named, IsWhole, IsOtherVersion, IsRequest, key_of, version_of, named_of, IsKnownIsolation, ask_fields, head_fields, request_fields}
+use Rattle.kafka_room.specs.IsRequest.{Named, IsWhole, IsOtherVersion, IsRequest, key_of, version_of, IsKnownIsolation, ask_fields, head_fields, request_fields}
 use Rattle.kafka_room.specs.Refusal.{Read, wire, ask_at, mentions_of, repeat_after, unless_repeated, ended, is_known, known_version, body_at, by_version, request_at, Mention}
 use Rattle.std.specs.Prelude.{IfOk, IsErrAnd, FitsSigned}
 use mir.Val.{of_z, to_z}
 use Rattle.std.proofs.lemmas.Int.{to_z-of_z}
 use Rattle.kafka_room.specs.Reads.{IsFaultOf, Answers}
-use Rattle.kafka_room.proofs.Codecs.{Codec, Backed, Covers, AllFit, covers_both, behind, fields-append, got, fault, same_got, went_on, of_field, join, join_field, keep, recast, said}
+use Rattle.kafka_room.proofs.Codecs.{Codec, Covers, AllFit, covers_both, behind, fields-append, got, went_on, of_field, join_field, keep, said}
 use Rattle.kafka_room.proofs.FieldLaws.{int16_field, int32_field, nullable_string_field}
 use Rattle.kafka_room.proofs.AskCodecs.{IsAsk, produce, fetch, metadata, versions}
 use Rattle.kafka_room.proofs.Repeats.{none_repeated, no_two}

@@ -2,23 +2,20 @@
 -- and its account is that of their run.
 use Rattle.std.proofs.Common.{◌≡◌, ◌≢◌, ℕ, zero, suc, ◌+◌, ◌-◌, ◌≤◌, ◌<◌, ◌⊎◌, pos, Bool, true, false, ◌||◌, cond, eqb, max, List, [], ◌∷◌, ◌++◌, length, take, drop, set, Option, Some, None, unwrap_or, MatchBool, refl, sym, ap, subst, ◌∙◌, arith, inl, inr, append-nil, append_assoc, length-append, eq-eqb}
 use Rattle.std.proofs.lemmas.Bool.{or_cases, eqb-true, cases_Bool, cases_lt}
-use Rattle.std.proofs.lemmas.Bool.Decides.{nat_tests}
 use Rattle.std.proofs.lemmas.List.{length-set, length-replicate, get_or-replicate}
 use Rattle.std.proofs.lemmas.List.Elements.{All-tail}
 use Rattle.std.proofs.lemmas.List.Folds.{list_any-append}
 use Rattle.std.proofs.lemmas.Grind.{flat_map-append}
-use Rattle.std.proofs.lemmas.Option.{slice_get_past, slice_get_within, unwrap_or-slice_get}
+use Rattle.std.proofs.lemmas.Option.{slice_get_past, unwrap_or-slice_get}
 use Rattle.std.specs.Prelude.{slice_get, option_to_list, IfSome}
 use Rattle.std.specs.Int.{w32}
-use Rattle.std.specs.List.{All, AllByRecursion, flat_map, list_any, find, range_with_len}
+use Rattle.std.specs.List.{All, AllByRecursion, find, range_with_len}
 use Rattle.kbytes.specs.Octets.{IsBytes}
 use Rattle.kbytes.specs.Field.{integer}
 use Rattle.kbytes.proofs.Integers.{wide_32}
 use Rattle.partlog.specs.History.{History}
-use Rattle.kafka_room.specs.declared.audit.account.Account.{Account}
 use Rattle.kafka_room.specs.declared.audit.account.Transcript.{Transcript}
 use Rattle.kafka_room.specs.declared.audit.account.Call.{Call}
-use Rattle.kafka_room.specs.declared.audit.account.CallHow.TheVariants.{Quiet, AtOnce}
 use Rattle.kafka_room.specs.declared.kwire.frame.Frame.{Frame}
 use Rattle.kafka_room.specs.declared.kwire.frame.Frame.TheVariants.{Whole, NotYet, TooLong}
 use Rattle.kafka_room.specs.declared.trace_file.line.Line.{Line}
@@ -26,8 +23,8 @@ use Rattle.kafka_room.specs.declared.trace_file.line.Line.TheVariants.{Topic, Fe
 use Rattle.kafka_room.specs.Configuration.{Configuration}
 use Rattle.kafka_room.specs.Frames.{framed, IsFrameBody, next_frame_of}
 use Rattle.kafka_room.specs.Histories.{all_calls, ticks_of}
-use Rattle.kafka_room.specs.Fits.{Fits, EndFits, IsUnfinished}
-use Rattle.kafka_room.specs.RunOf.{configuration_of, bytes_in, names, shuts, input_of, is_named, is_shut, sessions_of, rising_from, IsNotCut, IsSessionOf, IsRunOf}
+use Rattle.kafka_room.specs.Fits.{EndFits, IsUnfinished}
+use Rattle.kafka_room.specs.RunOf.{configuration_of, bytes_in, names, input_of, is_named, is_shut, sessions_of, rising_from, IsNotCut, IsSessionOf, IsRunOf}
 use Rattle.kafka_room.specs.Trace.{IsPlainLine}
 use Rattle.kafka_room.specs.Board.{Board, Seat, Waiting, empty_seat, new_transcript, seat_at, transcript_at, opening, put_before, passes_of, account_of}
 use Rattle.kafka_room.specs.Handling.{Turned, with_call, seat_with}
@@ -36,7 +33,7 @@ use Rattle.kafka_room.specs.Acting.{is_there, can_act, next_to_act, shows_work}
 use Rattle.kafka_room.specs.Play.{brought}
 use Rattle.kafka_room.proofs.Cuts.{not_same}
 use Rattle.kafka_room.proofs.Places.{same_or_not, get_set_same, get_set_other, get_there, all_append}
-use Rattle.kafka_room.proofs.FrameLaws.{IsParted, whole_parts}
+use Rattle.kafka_room.proofs.FrameLaws.{whole_parts}
 pub use Rattle.kafka_room.specs.Fed.{frames_of, IsFedSeat, IsFedBy, IsAtRest}
 use Rattle.kafka_room.proofs.Lawful.{IsPlainCall, IsTameTranscript, AreTame, passes_get, all_plain}
 

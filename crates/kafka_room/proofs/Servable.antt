@@ -1,10 +1,9 @@
 -- What became of the partitions of a request stands for logs that are there, and for offsets that they have.
-use Rattle.std.proofs.Common.{◌≡◌, ◌≢◌, ℕ, zero, suc, ◌+◌, ◌≤◌, ◌<◌, ◌⊎◌, ℤ, pos, negsuc, Bool, true, false, cond, List, [], ◌∷◌, ◌++◌, length, get_or, map, set, Option, Some, None, unwrap_or, refl, sym, ap, subst, ◌∙◌, arith, inl, inr, length-append}
+use Rattle.std.proofs.Common.{◌≡◌, ◌≢◌, ℕ, suc, ◌+◌, ◌≤◌, ◌<◌, ℤ, pos, negsuc, Bool, true, false, cond, List, [], ◌∷◌, length, get_or, map, set, Option, Some, None, unwrap_or, refl, sym, ap, subst, ◌∙◌, arith, inl, inr, length-append}
 use Rattle.std.proofs.lemmas.List.{length-set}
 use Rattle.std.proofs.lemmas.List.Sums.{sum_by_push, sum_by-cons}
-use Rattle.std.specs.Prelude.{slice_get, MatchOption, MatchBool, nat_lt, nat_le, ◌&&◌, sum_by}
+use Rattle.std.specs.Prelude.{MatchOption, MatchBool, nat_lt, nat_le, ◌&&◌, sum_by}
 use Rattle.std.specs.List.{AllByRecursion, AllZip, flat_map}
-use Rattle.partlog.specs.declared.event.PartEvent.{PartEvent}
 use Rattle.partlog.specs.Added.{added_count, log_end_of}
 use Rattle.partlog.specs.History.{History}
 use Rattle.partlog.specs.Kept.{IsKept}
@@ -18,18 +17,16 @@ use Rattle.kafka_room.specs.declared.kwire.request.Ask.{Ask}
 use Rattle.kafka_room.specs.declared.kwire.request.Ask.TheVariants.{Produce, Fetch, Metadata, Versions}
 use Rattle.kafka_room.specs.declared.kwire.request.FetchPart.{FetchPart}
 use Rattle.kafka_room.specs.declared.kwire.request.ProducePart.{ProducePart}
-use Rattle.kafka_room.specs.declared.kwire.request.FetchTopic.{FetchTopic}
-use Rattle.kafka_room.specs.declared.kwire.request.ProduceTopic.{ProduceTopic}
 use Rattle.kafka_room.specs.Configuration.{Configuration, followers_of}
-use Rattle.kafka_room.specs.Accepting.{Entry, Put, Looked, Followed, Outcome, Decision, Refuse, AskLog, Decides, BatchDecides, ProduceDecides, append_outcome, fetch_decision, fetch_outcome, in_range_outcome, offset_of, look, part_of, is_acks, code_of, produce_parts, fetch_parts}
-use Rattle.kafka_room.specs.Acceptance.{Noted, entered, accept_all, steps_of, shown_of}
+use Rattle.kafka_room.specs.Accepting.{Entry, Put, Looked, Followed, Outcome, Decision, Refuse, AskLog, Decides, BatchDecides, ProduceDecides, fetch_decision, fetch_outcome, in_range_outcome, offset_of, look, part_of, is_acks, produce_parts, fetch_parts}
+use Rattle.kafka_room.specs.Acceptance.{entered, accept_all, shown_of}
 use Rattle.kafka_room.specs.AreReadings.{IsCarriable, named_count}
 use Rattle.kafka_room.specs.Board.{history_at, empty_history}
-use Rattle.kafka_room.specs.Delayed.{Shown, results_of}
+use Rattle.kafka_room.specs.Delayed.{results_of}
 use Rattle.kafka_room.specs.Replying.{HasLog}
 use Rattle.kafka_room.proofs.Accepts.{IsFair}
 use Rattle.kafka_room.proofs.Growth.{entered_events, event_of}
-use Rattle.kafka_room.proofs.Places.{same_or_not, get_set_same, get_set_other, get_there}
+use Rattle.kafka_room.proofs.Places.{same_or_not, get_set_same, get_set_other}
 
 -- the outcome speaks of its own partition, and of an append at the log end
 abbrev pub IsHonestAs : ℕ → PartState → Accepted → Entry → Type 0
@@ -45,7 +42,7 @@ history_there : (parts : List History) (part p : ℕ) (h : History) → part < l
     → (p ≡ part → P (log_end_of h.events)) → (p ≢ part → P (log_end_of (history_at parts p).events)) → P (log_end_of (history_at (set parts part h) p).events)
 history_there parts part p h lt P same other =
     elim (same_or_not p part) [
-      inl e ↦
+      | inl e ↦
           let here : history_at (set parts part h) p ≡ h = ap (λ (i : ℕ). history_at (set parts part h) i) e ∙ ap (λ (o : Option History). unwrap_or o (empty_history 0)) (get_set_same parts part h lt) in
           subst (λ (x : History). P (log_end_of x.events)) (sym here) (same e)
       | inr ne ↦ subst (λ (o : Option History). P (log_end_of (unwrap_or o (empty_history 0)).events)) (sym (get_set_other parts part p h ne)) (other ne)
@@ -65,8 +62,8 @@ ends_grow by seq n (AskLog part outcome ∷ decisions) parts size fair p =
     let left = entered found by seq entry in
     let rest = ends_grow by seq n decisions (set parts part left) (length-set parts part left ∙ size) fair.1 p in
     let here : log_end_of (history_at parts p).events ≤ log_end_of (history_at (set parts part left) p).events =
-        history_there parts part p left (omega (arith, size, fair.0.0)) (λ k. log_end_of (history_at parts p).events ≤ k)
-        (λ e. let same : log_end_of (history_at parts p).events ≡ log_end_of found.events = ap (λ (i : ℕ). log_end_of (history_at parts i).events) e in omega (arith, same, entered_end found by seq entry)) (λ ne. omega arith) in
+    history_there parts part p left (omega (arith, size, fair.0.0)) (λ k. log_end_of (history_at parts p).events ≤ k)
+    (λ e. let same : log_end_of (history_at parts p).events ≡ log_end_of found.events = ap (λ (i : ℕ). log_end_of (history_at parts i).events) e in omega (arith, same, entered_end found by seq entry)) (λ ne. omega arith) in
     omega (arith, rest, here)
 
 -- a result's partition is there, and what it appended is below its log end
@@ -97,13 +94,14 @@ all_servable by seq n (AskLog part outcome ∷ decisions) parts size fair honest
     let within : part < length parts = omega (arith, size, fair.0.0) in
     let grown = ends_grow by seq n decisions (set parts part left) size1 fair.1 part in
     let stands : log_end_of left.events ≤ log_end_of (history_at (set parts part left) part).events =
-        history_there parts part part left within (λ k. log_end_of left.events ≤ k) (λ e. omega arith) (λ ne. absurd (ne refl)) in
-    (served later.1 part n (state_of found) came.result came.entry (omega (arith, fair.0.0, is, same)) (honest.0 (state_of found))
-    (λ count batch e.
-        let end : log_end_of left.events ≡ log_end_of found.events + added_count (event_of by seq came.entry) = entered_end found by seq came.entry in
-        let adds : added_count (event_of by seq came.entry) ≡ count = ap (λ (x : Entry). added_count (event_of by seq x)) e in
-        omega (arith, end, adds, stands, grown)),
-    all_servable by seq n decisions (set parts part left) size1 fair.1 honest.1 last is same)
+    history_there parts part part left within (λ k. log_end_of left.events ≤ k) (λ e. omega arith) (λ ne. absurd (ne refl)) in (
+      served later.1 part n (state_of found) came.result came.entry (omega (arith, fair.0.0, is, same)) (honest.0 (state_of found))
+          (λ count batch e.
+          let end : log_end_of left.events ≡ log_end_of found.events + added_count (event_of by seq came.entry) = entered_end found by seq came.entry in
+          let adds : added_count (event_of by seq came.entry) ≡ count = ap (λ (x : Entry). added_count (event_of by seq x)) e in
+          omega (arith, end, adds, stands, grown)),
+      all_servable by seq n decisions (set parts part left) size1 fair.1 honest.1 last is same,
+    )
 
 -- ---- what is decided of a request is honest
 
@@ -114,7 +112,7 @@ either_honest part state false x y a c = c
 batch_honest : (part : ℕ) (bytes : List ℕ) (decision : Decision) → BatchDecides part bytes decision → IsHonest decision
 batch_honest part bytes decision d =
     elim d [
-      inl fault ↦ subst IsHonest (sym fault.2) tt
+      | inl fault ↦ subst IsHonest (sym fault.2) tt
       | inr batch ↦ subst IsHonest (sym batch.2) (λ state. either_honest part state (nat_lt 67108864 ((gauges_of state).bytes + length bytes)) (look (Refused (pos 6))) (record { result = Appended part state.log_end (length batch.0); entry = Put (length batch.0) bytes }) tt (refl, refl, (bytes, refl)))
     ]
 

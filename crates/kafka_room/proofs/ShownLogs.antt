@@ -1,10 +1,10 @@
 -- What the reply to a request that needn't wait is computed from: after the whole acceptance each log shows what it showed at
 -- its entry, since looks change no state, and a produce shows no log.
-use Rattle.std.proofs.Common.{◌≡◌, ◌≢◌, ℕ, zero, suc, ◌+◌, ◌≤◌, ◌<◌, ◌⊎◌, ℤ, pos, negsuc, Bool, true, false, cond, List, [], ◌∷◌, ◌++◌, length, get_or, map, set, Option, Some, None, unwrap_or, refl, sym, ap, subst, ◌∙◌, arith, inl, inr, append-nil}
+use Rattle.std.proofs.Common.{◌≡◌, ℕ, ◌+◌, ◌<◌, ℤ, pos, negsuc, Bool, true, false, cond, List, [], ◌∷◌, ◌++◌, length, get_or, map, set, Option, Some, None, unwrap_or, refl, sym, ap, subst, ◌∙◌, arith, inl, inr, append-nil}
 use Rattle.std.proofs.lemmas.List.{length-set}
 use Rattle.std.proofs.lemmas.List.Sums.{sum_by_push}
 use Rattle.std.proofs.lemmas.List.Elements.{filter_map-append}
-use Rattle.std.specs.Prelude.{slice_get, fold, max, MatchOption, MatchBool, nat_lt, nat_le, ◌&&◌}
+use Rattle.std.specs.Prelude.{fold, max, MatchOption, MatchBool, nat_lt}
 use Rattle.std.specs.List.{AllByRecursion, AllZip, filter_map, range_with_len}
 use Rattle.partlog.specs.declared.event.PartEvent.{PartEvent}
 use Rattle.partlog.specs.declared.event.PartEvent.TheVariants.{Look}
@@ -21,11 +21,10 @@ use Rattle.kafka_room.specs.declared.kwire.config.Topic.{Topic}
 use Rattle.kafka_room.specs.declared.kwire.request.FetchPart.{FetchPart}
 use Rattle.kafka_room.specs.declared.kwire.request.ProducePart.{ProducePart}
 use Rattle.kafka_room.specs.Configuration.{Configuration, followers_of}
-use Rattle.kafka_room.specs.Accepting.{Entry, Put, Looked, Followed, Outcome, Decision, Refuse, AskLog, BatchDecides, ProduceDecides, append_outcome, fetch_decision, fetch_outcome, in_range_outcome, offset_of, look, part_of, is_acks, code_of}
-use Rattle.kafka_room.specs.Acceptance.{Noted, entered, accept_all, steps_of, shown_of}
+use Rattle.kafka_room.specs.Accepting.{Entry, Put, Looked, Outcome, Decision, Refuse, AskLog, BatchDecides, ProduceDecides, fetch_decision, fetch_outcome, in_range_outcome, look, part_of, is_acks}
+use Rattle.kafka_room.specs.Acceptance.{entered, accept_all, shown_of}
 use Rattle.kafka_room.specs.Board.{history_at, empty_history}
 use Rattle.kafka_room.specs.Carried.{HasNoFollowers}
-use Rattle.kafka_room.specs.Delayed.{Shown}
 use Rattle.kafka_room.specs.Replying.{ShowsLog}
 use Rattle.kafka_room.proofs.Places.{same_or_not, get_set_same, get_set_other}
 use Rattle.kafka_room.proofs.FetchParts.{fetch_of_no_follower}

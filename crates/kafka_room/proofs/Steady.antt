@@ -1,36 +1,33 @@
 -- The histories and calls of a broker in which nothing waits stay lawful as one call more is answered at once.
-use Rattle.std.proofs.Common.{◌≡◌, ◌≢◌, ℕ, zero, suc, ◌+◌, ◌-◌, ◌≤◌, ◌<◌, ◌⊎◌, Bool, true, false, cond, eqb, List, [], ◌∷◌, ◌++◌, length, get_or, map, filter, set, Option, Some, None, refl, sym, ap, subst, ◌∙◌, arith, inl, inr, length-append, append-nil, unwrap_or}
-use Rattle.std.proofs.lemmas.List.{length-set, map-append}
-use Rattle.std.proofs.lemmas.Option.{slice_get_within, slice_get_past}
+use Rattle.std.proofs.Common.{◌≡◌, ◌≢◌, ℕ, zero, suc, ◌+◌, ◌≤◌, ◌<◌, ◌⊎◌, false, eqb, List, [], ◌∷◌, ◌++◌, length, map, Option, Some, None, refl, sym, ap, subst, ◌∙◌, arith, inl, inr, length-append, append-nil, unwrap_or}
+use Rattle.std.proofs.lemmas.List.{map-append}
+use Rattle.std.proofs.lemmas.Option.{slice_get_within}
 use Rattle.std.proofs.lemmas.Grind.{flat_map-append}
-use Rattle.std.proofs.lemmas.List.FromFn.{length-range_with_len}
 use Rattle.std.specs.Prelude.{slice_get, count_by}
-use Rattle.std.specs.List.{AllByRecursion, AllZip, range_with_len, flat_map}
+use Rattle.std.specs.List.{AllByRecursion}
 use Rattle.std.specs.List.Sorted.{IsStrictlyIncreasing}
 use Rattle.partlog.specs.declared.event.PartEvent.{PartEvent}
 use Rattle.partlog.specs.History.{History}
-use Rattle.partlog.specs.State.{state_of}
 use Rattle.kafka_room.specs.declared.audit.account.Account.{Account}
 use Rattle.kafka_room.specs.declared.audit.account.Call.{Call}
-use Rattle.kafka_room.specs.declared.audit.account.CallHow.{CallHow}
 use Rattle.kafka_room.specs.declared.audit.account.Point.{Point}
 use Rattle.kafka_room.specs.declared.kwire.request.Request.{Request}
-use Rattle.kafka_room.specs.Configuration.{Configuration, followers_of}
+use Rattle.kafka_room.specs.Configuration.{Configuration}
 use Rattle.kafka_room.specs.IsRequest.{IsRequest}
 use Rattle.kafka_room.specs.Histories.{Owner, owner_of, owners_of, history_of, points_of}
-use Rattle.kafka_room.specs.Accepting.{Decision, Refuse, AskLog, Decides}
-use Rattle.kafka_room.specs.Delayed.{Shown, becomes_delayed}
-use Rattle.kafka_room.specs.Handled.{Step, IsAcceptance, step_points, shown_as_accepted, is_delayed}
+use Rattle.kafka_room.specs.Accepting.{Decision, Decides}
+use Rattle.kafka_room.specs.Delayed.{becomes_delayed}
+use Rattle.kafka_room.specs.Handled.{step_points}
 use Rattle.kafka_room.specs.IsLawful.{places_in, is_point}
-use Rattle.kafka_room.specs.Board.{history_at, empty_history}
-use Rattle.kafka_room.specs.Acceptance.{Noted, entered, accept_all, steps_of, shown_of}
+use Rattle.kafka_room.specs.Board.{empty_history}
+use Rattle.kafka_room.specs.Acceptance.{Noted, accept_all, steps_of, shown_of}
 use Rattle.kafka_room.specs.Handling.{how_at_once}
 pub use Rattle.kafka_room.specs.Steady.{IsDone, StaysDone, all_points, IsSteady}
 use Rattle.kafka_room.proofs.Cuts.{some_is}
-use Rattle.kafka_room.proofs.Growth.{Longer, IsWhole, longer_on}
-use Rattle.kafka_room.proofs.Places.{same_or_not, get_set_same, get_set_other, get_there, get_seam, get_front, get_within, get_behind}
+use Rattle.kafka_room.proofs.Growth.{longer_on}
+use Rattle.kafka_room.proofs.Places.{same_or_not, get_there, get_seam, get_front, get_within, get_behind}
 use Rattle.kafka_room.proofs.Runs.{AllBelow, below_more, range_below, rises_on, count_one, count_point, places_append}
-use Rattle.kafka_room.proofs.Accepts.{the_owner, Left, AllLeft, AllWhole, IsFair, Follows, accepted_left, accepted_size, accepted_shows, accepted_followers, accepted_nowhere}
+use Rattle.kafka_room.proofs.Accepts.{the_owner, Left, AllLeft, IsFair, Follows, accepted_left, accepted_size, accepted_shows, accepted_followers, accepted_nowhere}
 
 same_owner : (by seq by1 seq1 : ℕ) → the_owner by seq ≡ the_owner by1 seq1 → (by ≡ by1) × (seq ≡ seq1)
 same_owner by seq by1 seq1 e =

@@ -1,19 +1,19 @@
 -- The topics of a produce and of a fetch, of which some were named before.
-use Rattle.std.proofs.Common.{◌≡◌, ℕ, zero, suc, ◌+◌, ◌≤◌, List, [], ◌∷◌, ◌++◌, length, map, Some, Ok, refl, sym, ap, subst, ◌∙◌, arith}
+use Rattle.std.proofs.Common.{◌≡◌, ℕ, zero, suc, ◌+◌, ◌≤◌, List, [], ◌∷◌, length, Some, Ok, refl, ap, arith}
 use Rattle.std.specs.List.{flat_map}
 use Rattle.std.proofs.lemmas.List.{length-append}
 use Rattle.kbytes.specs.Cursor.{Cursor}
 use Rattle.kbytes.specs.Reading.{◌>>=◌, string_at}
-use Rattle.kbytes.specs.Field.{Field, String, Array}
+use Rattle.kbytes.specs.Field.{String, Array}
 use Rattle.kafka_room.specs.declared.kwire.request.ProducePart.{ProducePart}
 use Rattle.kafka_room.specs.declared.kwire.request.ProduceTopic.{ProduceTopic}
 use Rattle.kafka_room.specs.declared.kwire.request.FetchPart.{FetchPart}
 use Rattle.kafka_room.specs.declared.kwire.request.FetchTopic.{FetchTopic}
 use Rattle.kafka_room.specs.IsRequest.{produce_part_fields, produce_topic_fields, fetch_part_fields, fetch_topic_fields}
-use Rattle.kafka_room.specs.Refusal.{Read, wire, count_at, items_at, produce_part_at, fetch_part_at, produce_topic_at, fetch_topic_at, produce_topics_at, fetch_topics_at}
+use Rattle.kafka_room.specs.Refusal.{Read, count_at, items_at, produce_part_at, fetch_part_at, produce_topic_at, fetch_topic_at, produce_topics_at, fetch_topics_at}
 use Rattle.kafka_room.proofs.Codecs.{Codec, Follows, join, join_field, keep, more, no_more, said}
 use Rattle.kafka_room.proofs.FieldLaws.{string_field}
-use Rattle.kafka_room.proofs.RequestCodecs.{count, items, produce_part, fetch_part, nil_length, length_nil}
+use Rattle.kafka_room.proofs.RequestCodecs.{count, items, produce_part, fetch_part, length_nil}
 
 -- ---- sums that stay at 64 or below
 

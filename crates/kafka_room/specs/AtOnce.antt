@@ -6,12 +6,9 @@ use Rattle.kafka_room.specs.declared.kwire.request.Request.{Request}
 use Rattle.kafka_room.specs.Acceptance.{accept_all, steps_of, shown_of}
 use Rattle.kafka_room.specs.Accepting.{Decision, Decides}
 use Rattle.kafka_room.specs.Answer.{answer}
-use Rattle.kafka_room.specs.Board.{Board, next_call}
 use Rattle.kafka_room.specs.Configuration.{Configuration}
 use Rattle.kafka_room.specs.Delayed.{Shown, becomes_delayed, is_quiet}
 use Rattle.kafka_room.specs.Handled.{step_points}
-use Rattle.kafka_room.specs.Handling.{answered_at_once}
-use Rattle.kafka_room.specs.IsRequest.{IsRequest}
 use Rattle.kafka_room.specs.Printed.{reply_line}
 
 abbrev pub text_at_once : Configuration → ℕ → Request → List Shown → List ℕ
@@ -25,13 +22,3 @@ pub record IsAnsweredAtOnce (config : Configuration) (by seq : ℕ) (request : R
   pub histories : after ≡ (accept_all by seq decisions before).1
   pub points_are : points ≡ step_points (steps_of (accept_all by seq decisions before).0)
   pub printed : more ≡ text ++ text_at_once config by request (shown_of (accept_all by seq decisions before).0)
-
--- the whole of it
-pub record IsHandled (board : Board) (session : ℕ) (body : List ℕ) (later : Board) (text more : List ℕ) : Type 0 where
-  pub request : Request
-  pub decisions : List Decision
-  pub asked : IsRequest body request
-  pub decided : Decides board.config request.ask decisions
-  pub undelayed : becomes_delayed request.ask (shown_of (accept_all session (next_call board session) decisions board.parts).0) ≡ false
-  pub board_is : later ≡ (answered_at_once board session body request (accept_all session (next_call board session) decisions board.parts)).board
-  pub printed : more ≡ text ++ (answered_at_once board session body request (accept_all session (next_call board session) decisions board.parts)).text

@@ -1,10 +1,9 @@
 -- What the one-thread broker keeps: the histories, what each session received and did, and one list of the requests that wait,
 -- in no order. The account of a run is read off it.
-use Rattle.std.specs.Prelude.{ℕ, ◌+◌, Bool, false, List, [], ◌∷◌, length, map, replicate, count_by, Option, Some, None, option_to_list, unwrap_or, slice_get}
+use Rattle.std.specs.Prelude.{ℕ, ◌+◌, Bool, false, List, [], ◌∷◌, length, map, replicate, count_by, Option, None, option_to_list, unwrap_or, slice_get}
 use Rattle.std.specs.List.{flat_map}
 use Rattle.partlog.specs.declared.clock_event.ClockEvent.{ClockEvent}
 use Rattle.partlog.specs.History.{History}
-use Rattle.partlog.specs.State.{PartState as State, state_of}
 use Rattle.kafka_room.specs.declared.audit.account.Account.{Account}
 use Rattle.kafka_room.specs.declared.audit.account.PartAccount.{PartAccount}
 use Rattle.kafka_room.specs.declared.audit.account.Transcript.{Transcript}

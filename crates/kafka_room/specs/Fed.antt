@@ -1,5 +1,5 @@
 -- What a broker keeps of the lines that it was given, where no session was closed, no time passed and nothing waits.
-use Rattle.std.specs.Prelude.{ℕ, ◌≡◌, ◌⊎◌, ◌<◌, Bool, true, false, List, [], ◌++◌, length, Option, Some, None, unwrap_or, MatchBool}
+use Rattle.std.specs.Prelude.{ℕ, ◌≡◌, ◌⊎◌, ◌<◌, Bool, true, false, List, [], ◌++◌, length, Some, None, unwrap_or, MatchBool}
 use Rattle.std.specs.List.{AllByRecursion, flat_map}
 use Rattle.kafka_room.specs.declared.audit.account.Transcript.{Transcript}
 use Rattle.kafka_room.specs.declared.audit.account.Call.{Call}

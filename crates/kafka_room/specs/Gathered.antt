@@ -1,6 +1,6 @@
 -- What is read of the named partitions as their logs are: of one that is seen its numbers and the batches that the reply takes
 -- of it, of the others nothing.
-use Rattle.std.specs.Prelude.{ℕ, ◌+◌, ℤ, false, List, [], ◌∷◌, length, sum_by, map, if◌then◌else◌}
+use Rattle.std.specs.Prelude.{ℕ, ◌+◌, ℤ, List, [], ◌∷◌, length, sum_by, map, if◌then◌else◌}
 use Rattle.partlog.specs.History.{History}
 use Rattle.partlog.specs.State.{PartState as State, state_of}
 use Rattle.partlog.specs.Gauges.{numbers_of}

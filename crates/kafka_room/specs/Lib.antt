@@ -88,14 +88,10 @@ pub mod Steady
 pub mod Fed
 -- streams of requests that wait for nothing
 pub mod PlainStream
--- a broker between two lines of such a trace
-pub mod UnderWay
 -- from what a reply that needn't wait is computed
 pub mod Replying
 -- which replies have a frame
 pub mod IsSpellable
--- a broker that can handle the frame at the front of a session's bytes
-pub mod Ready
 -- a request that needn't wait was accepted and answered
 pub mod AtOnce
 -- traces whose sessions receive such streams

@@ -1,6 +1,6 @@
 -- Streams of requests that wait for nothing: whole frames one after the other, each a produce with acks 0 or 1, or a fetch
 -- that waits for no time.
-use Rattle.std.specs.Prelude.{ℕ, ◌≡◌, ◌⊎◌, ℤ, pos, List}
+use Rattle.std.specs.Prelude.{ℕ, ◌≡◌, ◌⊎◌, pos, List}
 use Rattle.std.specs.List.{AllByRecursion, flat_map}
 use lib.Signed.{◌≤ℤ◌}
 use Rattle.kafka_room.specs.declared.kwire.request.Ask.{Ask}

@@ -1,6 +1,6 @@
 -- The one-thread broker, line by line: what a trace comes to. After each line the waiting requests are scanned and the least
 -- session that can act acts once, until neither has anything left to do.
-use Rattle.std.specs.Prelude.{ℕ, zero, suc, ◌+◌, ◌≡◌, Bool, true, List, [], ◌∷◌, ◌++◌, nat_lt, slice_set, if◌then◌else◌, Option, Some, None}
+use Rattle.std.specs.Prelude.{ℕ, zero, suc, ◌≡◌, Bool, true, List, [], ◌∷◌, ◌++◌, nat_lt, slice_set, if◌then◌else◌, Some, None}
 use Rattle.partlog.specs.declared.clock_event.ClockEvent.TheVariants as clocks
 use Rattle.partlog.specs.Moment.{moment_of}
 use Rattle.kafka_room.specs.declared.audit.account.Account.{Account}
@@ -8,7 +8,7 @@ use Rattle.kafka_room.specs.declared.trace_file.line.Line.{Line}
 use Rattle.kafka_room.specs.declared.trace_file.line.Line.TheVariants.{Topic, Feed, Shut, Clock, End}
 use Rattle.kafka_room.specs.Configuration.{Configuration}
 use Rattle.kafka_room.specs.Printed.{summary_of}
-use Rattle.kafka_room.specs.Board.{Board, Seat, seat_at, transcript_at, opening, account_of}
+use Rattle.kafka_room.specs.Board.{Board, seat_at, transcript_at, opening, account_of}
 use Rattle.kafka_room.specs.Handling.{Turned}
 use Rattle.kafka_room.specs.Completing.{scanned}
 use Rattle.kafka_room.specs.Acting.{is_there, next_to_act, Acts}

@@ -1,14 +1,12 @@
 -- From what the reply to a request that needn't wait is computed: what became of each named partition, and its log as it is
 -- after the whole acceptance. A produce that doesn't ask for all replicas needs no state, and a look changes none.
-use Rattle.std.specs.Prelude.{ℕ, ◌≡◌, ◌<◌, ◌≤◌, List, length, map, slice_get, Some, ⊤}
-use Rattle.std.specs.List.{AllZip, AllByRecursion}
+use Rattle.std.specs.Prelude.{◌≡◌, ◌<◌, List, length, ⊤}
+use Rattle.std.specs.List.{AllByRecursion}
 use Rattle.partlog.specs.History.{History}
 use Rattle.partlog.specs.State.{state_of}
 use Rattle.kafka_room.specs.declared.kwire.request.Ask.{Ask}
-use Rattle.kafka_room.specs.declared.kwire.request.Ask.TheVariants.{Produce, Fetch, Metadata, Versions}
 use Rattle.kafka_room.specs.declared.kanswer.accepted.Accepted.{Accepted}
 use Rattle.kafka_room.specs.declared.kanswer.accepted.Accepted.TheVariants.{Refused, Appended, Seen}
-use Rattle.kafka_room.specs.AreReadings.{named_count}
 use Rattle.kafka_room.specs.Board.{history_at}
 use Rattle.kafka_room.specs.Delayed.{Shown, results_of}
 

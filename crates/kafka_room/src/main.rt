@@ -3,7 +3,6 @@
 
 mod audit;
 mod broker;
-mod dev;
 mod exit;
 mod first_form;
 mod kanswer;

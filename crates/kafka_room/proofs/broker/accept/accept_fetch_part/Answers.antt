@@ -1,7 +1,7 @@
-use Rattle.std.proofs.Common.{◌≡◌, ℕ, ℤ, List, [], ◌∷◌, Option, None, Some, true, false, get_or, length, ◌<◌, arith, refl, sym, ap, subst, ◌∙◌, pos, rules}
+use Rattle.std.proofs.Common.{◌≡◌, ℕ, [], ◌∷◌, Option, Some, get_or, length, ◌<◌, arith, sym, ap, subst, ◌∙◌, pos, rules}
 use Rattle.std.proofs.lemmas.Int.{to_z-of_z}
 use Rattle.std.proofs.lemmas.Option.{slice_get-get_or}
-use Rattle.std.specs.Prelude.{slice_get, unwrap_or}
+use Rattle.std.specs.Prelude.{unwrap_or}
 use Rattle.std.specs.Int.{w32}
 use mir.Val.{SFits}
 use lib.Signed.{le_z}
@@ -11,7 +11,7 @@ use Rattle.partlog.specs.Start.{start_of}
 use Rattle.partlog.specs.declared.numbers.Numbers.{Numbers}
 use Rattle.kafka_room.specs.Configuration.{followers_of}
 use Rattle.partlog.specs.State.{state_of}
-use Rattle.kafka_room.specs.Accepting.{AskLog, Decision, fetch_decision, part_of, fetch_outcome}
+use Rattle.kafka_room.specs.Accepting.{fetch_decision, part_of}
 use Rattle.kafka_room.specs.Board.{history_at, empty_history}
 use Rattle.kafka_room.specs.Carried.{IsCarried}
 use Rattle.kafka_room.proofs.Carrying.{on_ok}

@@ -1,4 +1,4 @@
-use Rattle.std.proofs.Common.{◌≡◌, ◌<◌, ℕ, ℤ, pos, sym, List, [], ◌∷◌, length, get_or, take, ◌+◌, refl, ap, subst, ◌∙◌, arith}
+use Rattle.std.proofs.Common.{◌≡◌, ◌<◌, ℕ, ℤ, pos, sym, List, [], ◌∷◌, length, get_or, take, ◌+◌, ap, subst, ◌∙◌, arith}
 use Rattle.std.proofs.lemmas.Int.{to_z-of_z}
 use Rattle.std.specs.Int.{w32}
 use Rattle.kafka_room.specs.declared.kwire.request.FetchPart.{FetchPart}

@@ -1,4 +1,4 @@
-use Rattle.std.proofs.Common.{◌≡◌, List, [], ◌∷◌, length, take, map}
+use Rattle.std.proofs.Common.{◌≡◌, [], ◌∷◌, length, take}
 use Rattle.kafka_room.specs.Carried.{IsCarried, fetch_decisions}
 use Rattle.kafka_room.proofs.broker.accept.accept_fetch_topic.Given as goal
 

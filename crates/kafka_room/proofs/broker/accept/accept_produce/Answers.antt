@@ -1,4 +1,4 @@
-use Rattle.std.proofs.Common.{◌≡◌, ℕ, List, [], ◌∷◌, length, get_or, refl, ap, subst, ◌∙◌, arith}
+use Rattle.std.proofs.Common.{[], ◌∷◌, refl, ◌∙◌, arith}
 use Rattle.kafka_room.proofs.ProduceParts.{produced_none, produced_on, produce_next_topic}
 use Rattle.kafka_room.proofs.broker.accept.accept_produce.Goals as goal
 

@@ -1,4 +1,4 @@
-use Rattle.std.proofs.Common.{◌≡◌, ℕ, List, [], ◌∷◌, ◌++◌, map, ap, ◌∙◌}
+use Rattle.std.proofs.Common.{ℕ, List, [], ◌∷◌, ◌++◌, map, ap, ◌∙◌}
 use Rattle.kafka_room.specs.Board.{part_account}
 use Rattle.kafka_room.proofs.Closings.{account_made}
 use Rattle.kafka_room.proofs.broker.closing.account.Goals as goal

@@ -1,4 +1,4 @@
-use Rattle.std.proofs.Common.{◌≡◌, ℕ, ℤ, List, [], ◌∷◌, Option, refl, sym, ap, subst, ◌∙◌, rules}
+use Rattle.std.proofs.Common.{◌≡◌, ℤ, List, sym, ap, subst, ◌∙◌, rules}
 use Rattle.std.proofs.lemmas.Int.{to_z-of_z}
 use Rattle.std.specs.Int.{w16, w32}
 use Rattle.std.specs.List.{AllZip}
@@ -6,7 +6,7 @@ use mir.Val.{SFits, to_z, of_z}
 use Rattle.kafka_room.specs.declared.kwire.request.Ask.{Ask}
 use Rattle.kafka_room.specs.declared.kwire.request.ProduceTopic.{ProduceTopic}
 use Rattle.kafka_room.specs.Accepting.{Decision, Decides, ProduceDecides, produce_parts}
-use Rattle.kafka_room.specs.Carried.{IsCarried, fetch_decisions}
+use Rattle.kafka_room.specs.Carried.{fetch_decisions}
 use Rattle.kafka_room.proofs.Carrying.{on_ok}
 use Rattle.kafka_room.proofs.broker.handle.accept.Goals as goal
 
@@ -15,10 +15,13 @@ returns-in-Produce c =
     let fits : SFits w16 c.in-Produce.acks = search rules in
     let config = c.args.config.now in
     let id = c.in-Produce.transactional in
-    on_ok c.accept_produce.result c.accept_produce.ensures (λ p. (p.decisions,
-    subst (λ (a : Ask). Decides config a p.decisions) (sym c.in-Produce.is)
-    (subst (λ (z : ℤ). AllZip (ProduceDecides config id z) (produce_parts c.in-Produce.topics) p.decisions) (to_z-of_z w16 c.in-Produce.acks fits)
-    (subst (λ (ts : List ProduceTopic). AllZip (ProduceDecides config id (to_z w16 (of_z w16 c.in-Produce.acks))) (produce_parts ts) p.decisions) c.as_slice.ensures (p.decided id (sym c.is_some.ensures)))), p.carried))
+    on_ok c.accept_produce.result c.accept_produce.ensures (λ p. (
+      p.decisions,
+      subst (λ (a : Ask). Decides config a p.decisions) (sym c.in-Produce.is)
+          (subst (λ (z : ℤ). AllZip (ProduceDecides config id z) (produce_parts c.in-Produce.topics) p.decisions) (to_z-of_z w16 c.in-Produce.acks fits)
+          (subst (λ (ts : List ProduceTopic). AllZip (ProduceDecides config id (to_z w16 (of_z w16 c.in-Produce.acks))) (produce_parts ts) p.decisions) c.as_slice.ensures (p.decided id (sym c.is_some.ensures)))),
+      p.carried,
+    ))
 
 pub returns-in-Fetch : goal.returns-in-Fetch
 returns-in-Fetch c =
@@ -26,5 +29,5 @@ returns-in-Fetch c =
     let config = c.args.config.now in
     let ds : List Decision = fetch_decisions config (to_z w32 (of_z w32 c.in-Fetch.replica)) c.as_slice-in-Fetch.result.now in
     let same : ds ≡ fetch_decisions config c.in-Fetch.replica c.in-Fetch.topics =
-        ap (λ (r : ℤ). fetch_decisions config r c.as_slice-in-Fetch.result.now) (to_z-of_z w32 c.in-Fetch.replica fits) ∙ ap (fetch_decisions config c.in-Fetch.replica) c.as_slice-in-Fetch.ensures in
+    ap (λ (r : ℤ). fetch_decisions config r c.as_slice-in-Fetch.result.now) (to_z-of_z w32 c.in-Fetch.replica fits) ∙ ap (fetch_decisions config c.in-Fetch.replica) c.as_slice-in-Fetch.ensures in
     on_ok c.accept_fetch.result c.accept_fetch.ensures (λ k. (ds, subst (λ (a : Ask). Decides config a ds) (sym c.in-Fetch.is) same, k))

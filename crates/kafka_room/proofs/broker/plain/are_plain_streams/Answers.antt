@@ -1,7 +1,6 @@
-use Rattle.std.proofs.Common.{rules, ◌≡◌, ◌↔◌, IsTrue, ℕ, ◌+◌, ◌<◌, Bool, true, false, List, refl, sym, ap, subst, ◌∙◌, arith, inl, inr}
+use Rattle.std.proofs.Common.{rules, ◌≡◌, ℕ, true, false, sym, subst, ◌∙◌, arith, inl, inr}
 use Rattle.kafka_room.specs.RunOf.{input_of}
 use Rattle.kafka_room.specs.PlainStream.{IsPlainStream}
-use Rattle.kafka_room.specs.ArePlainStreams.{ArePlainStreams}
 use Rattle.kafka_room.proofs.Places.{same_or_not}
 use Rattle.kafka_room.proofs.broker.plain.are_plain_streams.Goals as goal
 

@@ -1,10 +1,7 @@
-use Rattle.std.proofs.Common.{◌≡◌, ◌≤◌, sym, ap, subst, rules, arith, All, to_z, of_z}
-use Rattle.std.specs.Prelude.{map}
+use Rattle.std.proofs.Common.{sym, subst, rules, to_z, of_z}
 use Rattle.std.proofs.lemmas.Int.{to_z-of_z}
 use Rattle.std.specs.Int.{w32}
 use mir.Val.{SFits}
-use Rattle.kafka_room.specs.AreReadings.{HasCarriable}
-use Rattle.kafka_room.specs.Gathered.{bytes_read, most_left}
 use Rattle.kafka_room.proofs.Gathering.{IsNoFetch, if_ok_then, fetch_read, fetch_size, nothing_read_are, nothing_held, nothing_room}
 use Rattle.kafka_room.proofs.broker.reply.gather.Goals as goal
 

@@ -1,4 +1,4 @@
-use Rattle.std.proofs.Common.{◌≡◌, ◌≤◌, ◌<◌, ◌+◌, arith, length, to_z, of_z}
+use Rattle.std.proofs.Common.{◌<◌, arith, length, to_z, of_z}
 use Rattle.std.specs.Int.{w32}
 use Rattle.kafka_room.proofs.Gathering.{topic_size, topic_read}
 use Rattle.kafka_room.proofs.broker.reply.read_fetch.Goals as goal

@@ -1,4 +1,4 @@
-use Rattle.std.proofs.Common.{◌≡◌, ◌∙◌, ℤ, Some, [], ◌∷◌, ◌++◌, ap, arith, rules}
+use Rattle.std.proofs.Common.{◌∙◌, ℤ, Some, [], ◌∷◌, ◌++◌, ap, rules}
 use Rattle.std.specs.Int.{w8, w16, w32, w64}
 use mir.Val.{SFits}
 use Rattle.std.proofs.lemmas.Int.{to_z-of_z}

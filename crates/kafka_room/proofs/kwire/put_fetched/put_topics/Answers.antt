@@ -1,4 +1,4 @@
-use Rattle.std.proofs.Common.{◌≡◌, ◌++◌, ℤ, refl, sym, ap, subst, ◌∙◌, arith}
+use Rattle.std.proofs.Common.{ℤ, sym, subst}
 use Rattle.std.specs.Int.{w8}
 use mir.Val.{of_z, to_z}
 use Rattle.std.proofs.lemmas.Int.{to_z-of_z}

@@ -1,4 +1,4 @@
-use Rattle.std.proofs.Common.{◌≡◌, pos, refl, sym, ap, subst, ◌∙◌, arith}
+use Rattle.std.proofs.Common.{pos}
 use Rattle.kafka_room.specs.declared.kwire.reply.ProducedPart.{ProducedPart}
 use Rattle.kafka_room.specs.Spelling.{produced_part_fields}
 use Rattle.kafka_room.proofs.Spelled.{put_start, put_next, put_all}

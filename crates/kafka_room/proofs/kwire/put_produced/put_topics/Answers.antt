@@ -1,4 +1,3 @@
-use Rattle.std.proofs.Common.{◌≡◌, ◌++◌, refl, sym, ap, subst, ◌∙◌, arith}
 use Rattle.kafka_room.specs.Spelling.{produced_topic_fields}
 use Rattle.kafka_room.proofs.Spelled.{put_start, put_item, put_all, in_range_item}
 use Rattle.kafka_room.proofs.kwire.put_produced.put_topics.Goals as goal

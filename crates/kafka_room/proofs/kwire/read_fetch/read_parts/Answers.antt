@@ -1,7 +1,7 @@
-use Rattle.std.proofs.Common.{◌≡◌, ◌<◌, ◌+◌, [], ◌∷◌, ◌++◌, length, refl, sym, ap, subst, ◌∙◌, arith}
+use Rattle.std.proofs.Common.{◌<◌, ◌+◌, length, refl, ap, ◌∙◌, arith}
 use Rattle.std.proofs.lemmas.List.{length_push}
 use Rattle.kafka_room.specs.Refusal.{items_at, fetch_part_at}
-use Rattle.kafka_room.proofs.ItemLoops.{ItemsSoFar, items_start, items_more, items_refused, items_whole, fault_on, handed_on}
+use Rattle.kafka_room.proofs.ItemLoops.{items_start, items_more, items_refused, items_whole, fault_on, handed_on}
 use Rattle.kafka_room.proofs.kwire.read_fetch.read_parts.Goals as goal
 
 pub loop-init : goal.loop-init

@@ -1,4 +1,4 @@
-use Rattle.std.proofs.Common.{◌≡◌, ◌<◌, ◌≤◌, ◌+◌, [], ◌∷◌, ◌++◌, length, refl, sym, ap, subst, ◌∙◌, arith}
+use Rattle.std.proofs.Common.{◌<◌, ◌+◌, length, refl, ap, ◌∙◌, arith}
 use Rattle.std.proofs.lemmas.List.{length_push}
 use Rattle.kafka_room.specs.Refusal.{fetch_topic_at, fetch_topics_at}
 use Rattle.kafka_room.proofs.ItemLoops.{fetch_start, fetch_more, fetch_refused, fetch_whole, fault_on, handed_on}

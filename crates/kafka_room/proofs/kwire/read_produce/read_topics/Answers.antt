@@ -1,4 +1,4 @@
-use Rattle.std.proofs.Common.{◌≡◌, ◌<◌, ◌≤◌, ◌+◌, [], ◌∷◌, ◌++◌, length, refl, sym, ap, subst, ◌∙◌, arith}
+use Rattle.std.proofs.Common.{◌<◌, ◌+◌, length, refl, ap, ◌∙◌, arith}
 use Rattle.std.proofs.lemmas.List.{length_push}
 use Rattle.kafka_room.specs.Refusal.{produce_topic_at, produce_topics_at}
 use Rattle.kafka_room.proofs.ItemLoops.{produce_start, produce_more, produce_refused, produce_whole, fault_on, handed_on}

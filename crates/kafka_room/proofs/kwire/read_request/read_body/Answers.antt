@@ -1,10 +1,10 @@
-use Rattle.std.proofs.Common.{◌≡◌, ◌∙◌, true, eqb, length, sym, ap, arith}
+use Rattle.std.proofs.Common.{◌≡◌, ◌∙◌, true, eqb, length, sym, ap}
 use Rattle.std.specs.Int.{w16}
 use Rattle.std.proofs.lemmas.Int.{to_z-of_z}
 use Rattle.std.specs.Option.{option_copied}
 use Rattle.kbytes.specs.Cursor.{rest_of}
 use Rattle.kafka_room.specs.declared.kwire.request.Request.{Request}
-use Rattle.kafka_room.specs.Refusal.{ask_at, mentions_of, repeat_after, unless_repeated, body_at}
+use Rattle.kafka_room.specs.Refusal.{ask_at, body_at}
 use Rattle.kafka_room.proofs.RequestLaws.{body_read, fault_handed}
 use Rattle.kafka_room.proofs.kwire.read_request.read_body.Goals as goal
 

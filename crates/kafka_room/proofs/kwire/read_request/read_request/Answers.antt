@@ -1,4 +1,4 @@
-use Rattle.std.proofs.Common.{◌≡◌, ◌≢◌, ◌∙◌, ℤ, pos, cond, Option, Some, None, Result, Err, refl, sym, ap, subst, arith}
+use Rattle.std.proofs.Common.{◌≡◌, ◌≢◌, ◌∙◌, ℤ, pos, cond, Option, Some, None, Result, Err, refl, sym, ap, subst}
 use Rattle.std.specs.Int.{w16, w32}
 use mir.Val.{of_z, to_z}
 use Rattle.std.proofs.lemmas.Int.{to_z-of_z}

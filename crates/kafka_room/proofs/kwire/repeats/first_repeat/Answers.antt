@@ -1,6 +1,6 @@
-use Rattle.std.proofs.Common.{◌≡◌, ℤ, pos, [], get_or, take, Some, refl, sym, ap, subst, ◌∙◌, arith, rules}
+use Rattle.std.proofs.Common.{ℤ, pos, [], get_or, Some, sym, ap, ◌∙◌, rules}
 use Rattle.std.specs.Int.{w32}
-use mir.Val.{SFits, of_z, to_z}
+use mir.Val.{SFits}
 use Rattle.std.proofs.lemmas.Int.{to_z-of_z}
 use Rattle.kafka_room.specs.declared.kwire.repeats.Mention.{Mention}
 use Rattle.kafka_room.proofs.MentionLoops.{none_start, none_more, repeat_found, none_found}

@@ -1,4 +1,4 @@
-use Rattle.std.proofs.Common.{◌≡◌, List, ◌++◌, length, take, refl, sym, ap, subst, ◌∙◌, arith}
+use Rattle.std.proofs.Common.{List, ◌++◌, sym, ap, ◌∙◌}
 use Rattle.std.proofs.lemmas.List.{take_all}
 use Rattle.kafka_room.specs.Refusal.{Mention, produce_mentions, produce_mentions_from}
 use Rattle.kafka_room.proofs.MentionLoops.{produce_topic_next}

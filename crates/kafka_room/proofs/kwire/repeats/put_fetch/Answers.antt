@@ -1,12 +1,12 @@
-use Rattle.std.proofs.Common.{◌≡◌, ◌≤◌, ℤ, pos, get_or, List, [], ◌∷◌, ◌++◌, length, map, take, refl, sym, ap, subst, ◌∙◌, arith, rules}
+use Rattle.std.proofs.Common.{ℤ, pos, get_or, List, [], ◌∷◌, ◌++◌, map, take, sym, ap, ◌∙◌, rules}
 use Rattle.std.specs.Int.{w32}
-use mir.Val.{SFits, of_z, to_z}
+use mir.Val.{SFits}
 use Rattle.std.proofs.lemmas.Int.{to_z-of_z}
 use Rattle.std.proofs.lemmas.List.{take_all}
 use Rattle.kafka_room.specs.declared.kwire.request.FetchPart.{FetchPart}
 use Rattle.kafka_room.specs.Mentions.{view}
 use Rattle.kafka_room.specs.Refusal.{Mention, fetch_mentions}
-use Rattle.kafka_room.proofs.MentionLoops.{PutBehind, put_one, put_nothing, fetch_next}
+use Rattle.kafka_room.proofs.MentionLoops.{put_one, put_nothing, fetch_next}
 use Rattle.kafka_room.proofs.kwire.repeats.put_fetch.Goals as goal
 
 -- what is read past the end

@@ -1,12 +1,12 @@
-use Rattle.std.proofs.Common.{◌≡◌, ◌≤◌, ℤ, List, [], ◌∷◌, ◌++◌, length, map, take, refl, sym, ap, subst, ◌∙◌, arith, rules}
+use Rattle.std.proofs.Common.{ℤ, List, [], ◌∷◌, ◌++◌, map, take, sym, ap, ◌∙◌, rules}
 use Rattle.std.specs.Int.{w32}
-use mir.Val.{SFits, of_z, to_z}
+use mir.Val.{SFits}
 use Rattle.std.proofs.lemmas.Int.{to_z-of_z}
 use Rattle.std.proofs.lemmas.List.{take_all}
 use Rattle.kafka_room.specs.declared.kwire.request.ProducePart.{ProducePart}
 use Rattle.kafka_room.specs.Mentions.{view}
 use Rattle.kafka_room.specs.Refusal.{Mention, produce_mentions}
-use Rattle.kafka_room.proofs.MentionLoops.{PutBehind, put_one, put_nothing, produce_next}
+use Rattle.kafka_room.proofs.MentionLoops.{put_one, put_nothing, produce_next}
 use Rattle.kafka_room.proofs.kwire.repeats.put_produce.Goals as goal
 
 pub loop-part-init : goal.loop-part-init

@@ -1,4 +1,4 @@
-use Rattle.std.proofs.Common.{◌≡◌, ℤ, pos, ◌<ℤ◌, sym, arith}
+use Rattle.std.proofs.Common.{pos, ◌<ℤ◌, sym, arith}
 use Rattle.std.proofs.lemmas.Int.{ints}
 use Rattle.kafka_room.proofs.Lookups.{part_negative}
 use Rattle.kafka_room.proofs.kwire.config.Config.part_of.Goals as goal
