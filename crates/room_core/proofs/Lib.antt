@@ -70,3 +70,5 @@ pub mod Steps
 pub mod Quiets
 -- a won word stands once
 pub mod Once
+-- a write in a list
+pub mod Views

@@ -32,3 +32,11 @@ pub mod Quiet
 pub mod Start
 -- a whole run
 pub mod Run
+-- the sizes of a caller's tables
+pub mod CallerSize
+-- the part that a caller's tables show
+pub mod CallerTables
+-- the sizes of the code's tables
+pub mod Sizes
+-- the state that the code's tables show
+pub mod Tables

@@ -3,11 +3,14 @@
 //! The layer above may use `CoreEvent` and the laws: whatever events come, no open operation is forgotten.
 #![tactic(auto)]
 
+mod caller_part;
+mod core_state;
 mod event;
 pub mod laws;
 mod parts;
 mod shape;
 
+pub use core_state::CoreState;
 pub use event::{CoreEvent, How, Party};
 pub use parts::{Duty, Entry, Heard, Meeting, Phase, Prize, Session, Source, Stage, Taken};
 pub use shape::Shape;

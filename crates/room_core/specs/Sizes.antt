@@ -1,0 +1,14 @@
+-- Tables by gauge have a place for each gauge, and those by pass one for each pass.
+use Rattle.std.specs.Prelude.{◌≡◌, ℕ, List, Vec, All, length}
+use Rattle.std.specs.declared.alloc.Global.{Global}
+use Rattle.room_core.specs.declared.shape.Shape.{Shape}
+use Rattle.room_core.specs.declared.parts.Source.{Source}
+use Rattle.room_core.specs.declared.caller_part.CallerPart.{CallerPart}
+
+pub record AreSized (shape : Shape) (value asked begun : Vec ℕ Global) (source : Vec Source Global) (caller : Vec CallerPart Global) : Type 0 where
+  pub value_size : length value.items ≡ shape.gauges
+  pub asked_size : length asked.items ≡ shape.gauges
+  pub begun_size : length begun.items ≡ shape.gauges
+  pub source_size : length source.items ≡ shape.gauges
+  pub caller_size : length caller.items ≡ shape.passes
+  pub caller_shape : All (λ c. c.shape ≡ shape) caller.items

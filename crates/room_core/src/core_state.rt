@@ -1,0 +1,103 @@
+ghost use Rattle.std.specs.Prelude.{◌≡◌, ◌↔◌, IsTrue};
+ghost use Rattle.std.specs.Bool.{OnFalse, OnTrue};
+ghost use Rattle.room_core.specs.Scans.{CanAsk, CanHush, CanStore, asking, hushing, source_hushes, storing};
+ghost use Rattle.room_core.specs.Sizes.{AreSized};
+
+use crate::caller_part::CallerPart;
+use crate::parts::{Duty, Entry, Heard, Meeting, Prize, Session, Source};
+use crate::shape::Shape;
+use std::alloc::Global;
+
+/// A scanner's part, in tables by number.
+#[derive(Debug, Drop)]
+pub(crate) struct ScannerPart {
+    pub(crate) heard: Option<Heard>,
+    pub(crate) began: Vec<u64>,
+    pub(crate) listing: Vec<Vec<Option<Entry>>>,
+    pub(crate) duties: Vec<Option<Duty>>,
+    pub(crate) meeting: Option<Meeting>,
+    pub(crate) learned: Vec<Option<u64>>,
+    pub(crate) readings: Vec<Option<u64>>,
+    pub(crate) wins: Vec<Prize>,
+}
+
+/// The state of the room, in tables by number.
+#[derive(Debug, Drop)]
+pub struct CoreState {
+    shape: Shape,
+    value: Vec<u64>,
+    asked: Vec<u64>,
+    begun: Vec<u64>,
+    session: Vec<Session>,
+    description: Vec<Vec<u64>>,
+    marks: Vec<Vec<u32>>,
+    source: Vec<Source>,
+    caller: Vec<CallerPart>,
+    scanner: Vec<ScannerPart>,
+    ghost sized: { AreSized shape value asked begun source caller },
+}
+
+/// What a source knows once it has seen what is asked.
+fn hushed(source: Source, asked: u64) -> Source
+    ensures { result ≡ source_hushes source asked }
+{
+    Source {
+        stored: source.stored,
+        loud: source.stored > asked && source.loud,
+    }
+}
+
+impl CoreState {
+    ghost use Rattle.room_core.specs.Tables.{state_of};
+
+    fn store(&mut self, gauge: u32, value: u64) -> bool
+        ensures allowed { IsTrue result ↔ CanStore (state_of self.old) gauge value }
+        ensures yes { OnTrue result (state_of self.new ≡ storing (state_of self.old) gauge value) }
+        ensures no { OnFalse result (self.new ≡ self.old) }
+    {
+        if gauge >= self.shape.gauges {
+            return false;
+        }
+        let source = self.source[gauge as usize];
+        if source.loud || value < source.stored {
+            return false;
+        }
+        self.value[gauge as usize] = value;
+        self.source[gauge as usize] = Source {
+            stored: value,
+            loud: true,
+        };
+        true
+    }
+
+    fn hush(&mut self, gauge: u32) -> bool
+        ensures allowed { IsTrue result ↔ CanHush (state_of self.old) gauge }
+        ensures yes { OnTrue result (state_of self.new ≡ hushing (state_of self.old) gauge) }
+        ensures no { OnFalse result (self.new ≡ self.old) }
+    {
+        if gauge >= self.shape.gauges {
+            return false;
+        }
+        let source = hushed(self.source[gauge as usize], self.asked[gauge as usize]);
+        self.source[gauge as usize] = source;
+        true
+    }
+
+    fn ask(&mut self, pass: u32, gauge: u32, value: u64) -> bool
+        ensures allowed { IsTrue result ↔ CanAsk (state_of self.old) pass gauge value }
+        ensures yes { OnTrue result (state_of self.new ≡ asking (state_of self.old) pass gauge value) }
+        ensures no { OnFalse result (self.new ≡ self.old) }
+    {
+        if pass >= self.shape.passes || gauge >= self.shape.gauges {
+            return false;
+        }
+        if value > self.caller[pass as usize].greatest[gauge as usize] {
+            return false;
+        }
+        let caller = &mut self.caller[pass as usize];
+        caller.asks(gauge, value);
+        let asked = self.asked[gauge as usize];
+        self.asked[gauge as usize] = asked.max(value);
+        true
+    }
+}
