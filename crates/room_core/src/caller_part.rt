@@ -2,6 +2,7 @@ ghost use Rattle.std.specs.Prelude.{◌≡◌, ◌<◌};
 ghost use Rattle.room_core.specs.Scans.{caller_asks};
 ghost use Rattle.room_core.specs.CallerSize.{CallerIsSized};
 
+use crate::greater::greater;
 use crate::parts::{Prize, Stage, Taken};
 use crate::shape::Shape;
 use std::alloc::Global;
@@ -31,6 +32,6 @@ impl CallerPart {
         ensures shape { self.new.shape ≡ self.old.shape }
     {
         let owed = self.owed[gauge as usize];
-        self.owed[gauge as usize] = owed.max(value);
+        self.owed[gauge as usize] = greater(owed, value);
     }
 }

@@ -4,6 +4,7 @@ ghost use Rattle.room_core.specs.Scans.{CanAsk, CanHush, CanStore, asking, hushi
 ghost use Rattle.room_core.specs.Sizes.{AreSized};
 
 use crate::caller_part::CallerPart;
+use crate::greater::greater;
 use crate::parts::{Duty, Entry, Heard, Meeting, Prize, Session, Source};
 use crate::shape::Shape;
 use std::alloc::Global;
@@ -97,7 +98,7 @@ impl CoreState {
         let caller = &mut self.caller[pass as usize];
         caller.asks(gauge, value);
         let asked = self.asked[gauge as usize];
-        self.asked[gauge as usize] = asked.max(value);
+        self.asked[gauge as usize] = greater(asked, value);
         true
     }
 }

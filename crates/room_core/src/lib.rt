@@ -6,6 +6,7 @@
 mod caller_part;
 mod core_state;
 mod event;
+mod greater;
 pub mod laws;
 mod parts;
 mod shape;
