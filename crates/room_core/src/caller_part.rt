@@ -1,9 +1,10 @@
-ghost use Rattle.std.specs.Prelude.{◌≡◌, ◌<◌};
-ghost use Rattle.room_core.specs.Scans.{caller_asks};
+ghost use Rattle.std.specs.Prelude.{◌≡◌, ◌<◌, nat_le, if◌then◌else◌};
+ghost use Rattle.room_core.specs.Passes.{caller_peeks, peeked};
+ghost use Rattle.room_core.specs.Scans.{caller_asks, caller_relieves};
 ghost use Rattle.room_core.specs.CallerSize.{CallerIsSized};
 
 use crate::greater::greater;
-use crate::parts::{Prize, Stage, Taken};
+use crate::parts::{Phase, Prize, Stage, Taken};
 use crate::shape::Shape;
 use std::alloc::Global;
 
@@ -33,5 +34,39 @@ impl CallerPart {
     {
         let owed = self.owed[gauge as usize];
         self.owed[gauge as usize] = greater(owed, value);
+    }
+
+    pub(crate) fn relieves(&mut self, gauge: u32, begun: u64)
+        requires { gauge < self.old.shape.gauges }
+        ensures part { caller_of self.new ≡ caller_relieves (caller_of self.old) gauge begun }
+        ensures shape { self.new.shape ≡ self.old.shape }
+    {
+        let owed = still_owed(self.owed[gauge as usize], begun);
+        self.owed[gauge as usize] = owed;
+    }
+
+    pub(crate) fn peeks(&mut self, phase: Phase)
+        ensures part { caller_of self.new ≡ caller_peeks (caller_of self.old) phase }
+        ensures shape { self.new.shape ≡ self.old.shape }
+    {
+        self.stage = peeked_stage(phase, self.stage);
+    }
+}
+
+/// What is owed once a scan was begun up to a value.
+fn still_owed(owed: u64, begun: u64) -> u64
+    ensures { result ≡ (if nat_le owed begun then 0 else owed) }
+{
+    if owed <= begun { 0 } else { owed }
+}
+
+/// The stage of an owner that has looked at its word.
+#[tactic(auto, unfolding(crate::specs::Passes::peeked))]
+fn peeked_stage(phase: Phase, stage: Stage) -> Stage
+    ensures { result ≡ peeked phase stage }
+{
+    match phase {
+        Phase::Won { how, by } => Stage::Over { how, by },
+        Phase::Idle | Phase::Open => stage,
     }
 }

@@ -1,6 +1,6 @@
 ghost use Rattle.std.specs.Prelude.{◌≡◌, ◌↔◌, IsTrue};
 ghost use Rattle.std.specs.Bool.{OnFalse, OnTrue};
-ghost use Rattle.room_core.specs.Scans.{CanAsk, CanHush, CanStore, asking, hushing, source_hushes, storing};
+ghost use Rattle.room_core.specs.Scans.{CanAsk, CanHush, CanRelieve, CanStore, asking, hushing, relieving, source_hushes, storing};
 ghost use Rattle.room_core.specs.Sizes.{AreSized};
 
 use crate::caller_part::CallerPart;
@@ -99,6 +99,20 @@ impl CoreState {
         caller.asks(gauge, value);
         let asked = self.asked[gauge as usize];
         self.asked[gauge as usize] = greater(asked, value);
+        true
+    }
+
+    fn relieve(&mut self, pass: u32, gauge: u32) -> bool
+        ensures allowed { IsTrue result ↔ CanRelieve (state_of self.old) pass gauge }
+        ensures yes { OnTrue result (state_of self.new ≡ relieving (state_of self.old) pass gauge) }
+        ensures no { OnFalse result (self.new ≡ self.old) }
+    {
+        if pass >= self.shape.passes || gauge >= self.shape.gauges {
+            return false;
+        }
+        let begun = self.begun[gauge as usize];
+        let caller = &mut self.caller[pass as usize];
+        caller.relieves(gauge, begun);
         true
     }
 }
