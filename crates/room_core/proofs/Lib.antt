@@ -72,3 +72,7 @@ pub mod Quiets
 pub mod Once
 -- a write in a list
 pub mod Views
+-- the tables of the start
+pub mod Idles
+-- runs of the events that are built
+pub mod Runs

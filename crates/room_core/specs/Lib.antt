@@ -36,7 +36,13 @@ pub mod Run
 pub mod CallerSize
 -- the part that a caller's tables show
 pub mod CallerTables
+-- the sizes of a scanner's tables
+pub mod ScannerSize
+-- the part that a scanner's tables show
+pub mod ScannerTables
 -- the sizes of the code's tables
 pub mod Sizes
 -- the state that the code's tables show
 pub mod Tables
+-- the events that the code makes so far
+pub mod Built

@@ -1,12 +1,20 @@
-ghost use Rattle.std.specs.Prelude.{◌≡◌, ◌<◌, nat_le, if◌then◌else◌};
+ghost use Rattle.std.specs.Prelude.{◌≡◌, ◌<◌, IfOk, replicate, false, nat_le, if◌then◌else◌};
 ghost use Rattle.room_core.specs.Passes.{caller_peeks, peeked};
 ghost use Rattle.room_core.specs.Scans.{caller_asks, caller_relieves};
 ghost use Rattle.room_core.specs.CallerSize.{CallerIsSized};
 
+use crate::empty::nothing_read;
 use crate::greater::greater;
 use crate::parts::{Phase, Prize, Stage, Taken};
 use crate::shape::Shape;
+use kbytes::NoMemory;
 use std::alloc::Global;
+
+/// The words of a description: 3, and 3 for each of 64 needs.
+const WORDS: usize = 195;
+
+/// A mark for each of 64 needs, and the clock's.
+const MARKS: usize = 65;
 
 /// A caller's part, in tables by number.
 #[derive(Debug, Drop)]
@@ -24,8 +32,35 @@ pub(crate) struct CallerPart {
     ghost sized: { CallerIsSized shape greatest owed },
 }
 
+/// No mark was seen.
+fn nothing_seen(alloc: Global) -> Result<Vec<bool>, NoMemory>
+    ensures { IfOk result (λ v. v.items ≡ replicate 65 false) }
+{
+    Ok(vec![in alloc; false; MARKS]?)
+}
+
 impl CallerPart {
     ghost use Rattle.room_core.specs.CallerTables.{caller_of};
+    ghost use Rattle.room_core.specs.Start.{idle_caller};
+
+    pub(crate) fn idle(alloc: Global, shape: Shape) -> Result<CallerPart, NoMemory>
+        ensures part { IfOk result (λ c. caller_of c ≡ idle_caller) }
+        ensures shape { IfOk result (λ c. c.shape ≡ shape) }
+    {
+        let gauges = shape.gauges as usize;
+        Ok(CallerPart {
+            shape,
+            generation: 0,
+            description: vec![in alloc; 0; WORDS]?,
+            stage: Stage::Idle,
+            seen: nothing_seen(alloc)?,
+            readings: nothing_read(alloc, gauges)?,
+            greatest: vec![in alloc; 0; gauges]?,
+            owed: vec![in alloc; 0; gauges]?,
+            wins: Vec::new(alloc),
+            taken: Vec::new(alloc),
+        })
+    }
 
     pub(crate) fn asks(&mut self, gauge: u32, value: u64)
         requires { gauge < self.old.shape.gauges }

@@ -5,13 +5,17 @@
 
 mod caller_part;
 mod core_state;
+mod empty;
 mod event;
 mod greater;
 pub mod laws;
 mod parts;
+mod run;
+mod scanner_part;
 mod shape;
 
 pub use core_state::CoreState;
 pub use event::{CoreEvent, How, Party};
 pub use parts::{Duty, Entry, Heard, Meeting, Phase, Prize, Session, Source, Stage, Taken};
+pub use run::run_events;
 pub use shape::Shape;

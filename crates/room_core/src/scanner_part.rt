@@ -1,0 +1,68 @@
+ghost use Rattle.std.specs.Prelude.{◌≡◌, IfOk, length, All, replicate, None};
+ghost use Rattle.room_core.specs.ScannerSize.{ScannerIsSized};
+
+use crate::empty::nothing_read;
+use crate::parts::{Duty, Entry, Heard, Meeting, Prize};
+use crate::shape::Shape;
+use kbytes::NoMemory;
+use std::alloc::Global;
+
+/// The words of a description: 3, and 3 for each of 64 needs.
+const WORDS: usize = 195;
+
+/// A scanner's part, in tables by number.
+#[derive(Debug, Drop)]
+pub(crate) struct ScannerPart {
+    pub(crate) shape: Shape,
+    pub(crate) heard: Option<Heard>,
+    pub(crate) began: Vec<u64>,
+    pub(crate) listing: Vec<Vec<Option<Entry>>>,
+    pub(crate) duties: Vec<Option<Duty>>,
+    pub(crate) meeting: Option<Meeting>,
+    pub(crate) learned: Vec<Option<u64>>,
+    pub(crate) readings: Vec<Option<u64>>,
+    pub(crate) wins: Vec<Prize>,
+    ghost sized: { ScannerIsSized shape began listing duties },
+}
+
+/// A row for each gauge, with nothing listed.
+fn empty_rows(alloc: Global, shape: Shape) -> Result<Vec<Vec<Option<Entry>>>, NoMemory>
+    ensures size { IfOk result (λ v. length v.items ≡ shape.gauges) }
+    ensures rows { IfOk result (λ v. All (λ row. row.items ≡ replicate shape.passes None) v.items) }
+{
+    let mut rows = Vec::new(alloc);
+    for _gauge in 0..shape.gauges {
+        rows.push(vec![in alloc; None; shape.passes as usize]?)?;
+    }
+    Ok(rows)
+}
+
+/// No duty with any pass.
+fn no_duties(alloc: Global, shape: Shape) -> Result<Vec<Option<Duty>>, NoMemory>
+    ensures { IfOk result (λ v. v.items ≡ replicate shape.passes None) }
+{
+    Ok(vec![in alloc; None; shape.passes as usize]?)
+}
+
+impl ScannerPart {
+    ghost use Rattle.room_core.specs.ScannerTables.{scanner_of};
+    ghost use Rattle.room_core.specs.Start.{idle_scanner};
+
+    pub(crate) fn idle(alloc: Global, shape: Shape) -> Result<ScannerPart, NoMemory>
+        ensures part { IfOk result (λ c. scanner_of c ≡ idle_scanner) }
+        ensures shape { IfOk result (λ c. c.shape ≡ shape) }
+    {
+        let gauges = shape.gauges as usize;
+        Ok(ScannerPart {
+            shape,
+            heard: None,
+            began: vec![in alloc; 0; gauges]?,
+            listing: empty_rows(alloc, shape)?,
+            duties: no_duties(alloc, shape)?,
+            meeting: None,
+            learned: nothing_read(alloc, WORDS)?,
+            readings: nothing_read(alloc, gauges)?,
+            wins: Vec::new(alloc),
+        })
+    }
+}
