@@ -28,21 +28,21 @@ one mid next x s = (next, s, refl)
 
 -- what a step's answer says of one event
 alone : (mid next : State) (x : CoreEvent) (made : Bool) → (IsTrue made ↔ (IsBuilt x × IsAllowed mid x)) → OnTrue made (next ≡ changed mid x) → OnFalse made (next ≡ mid) → IsRun mid (built_of (x ∷ [])) next
-alone mid next x true allowed yes no =
+alone mid next x true allowed did _ =
     let both = allowed.0 refl in
-    subst (λ b. IsRun mid (cond b (x ∷ []) []) next) (sym both.0) (one mid next x (inl (both.1, yes)))
-alone mid next x false allowed yes no =
+    subst (λ b. IsRun mid (cond b (x ∷ []) []) next) (sym both.0) (one mid next x (inl (both.1, did)))
+alone mid next x false allowed _ kept =
     ⊎_elim
-    (λ (b : is_built x ≡ true). subst (λ b. IsRun mid (cond b (x ∷ []) []) next) (sym b) (one mid next x (inr ((λ can. let e : false ≡ true = allowed.1 (b, can) in absurd (cc)), no))))
-    (λ (b : is_built x ≡ false). subst (λ b. IsRun mid (cond b (x ∷ []) []) next) (sym b) no)
+    (λ (b : is_built x ≡ true). subst (λ b. IsRun mid (cond b (x ∷ []) []) next) (sym b) (one mid next x (inr ((λ can. let e : false ≡ true = allowed.1 (b, can) in absurd (cc)), kept))))
+    (λ (b : is_built x ≡ false). subst (λ b. IsRun mid (cond b (x ∷ []) []) next) (sym b) kept)
     (true_or_false (is_built x))
 
 same_state : (made : Bool) (old new : CoreState) → OnFalse made (new ≡ old) → OnFalse made (state_of new ≡ state_of old)
-same_state true old new n = n
+same_state true old new _ = tt
 same_state false old new n = ap state_of n
 
 -- a run with one event more
 pub run_more : (s : State) (xs : List CoreEvent) (old new : CoreState) (x : CoreEvent) (made : Bool) → IsRun s (built_of xs) (state_of old) → (IsTrue made ↔ (IsBuilt x × IsAllowed (state_of old) x)) → OnTrue made (state_of new ≡ changed (state_of old) x) → OnFalse made (new ≡ old) → IsRun s (built_of (xs ++ x ∷ [])) (state_of new)
-run_more s xs old new x made r allowed yes no =
+run_more s xs old new x made r allowed did kept =
     subst (λ zs. IsRun s zs (state_of new)) (sym (built_both xs (x ∷ [])))
-    (joined s (built_of xs) (built_of (x ∷ [])) (state_of old) (state_of new) r (alone (state_of old) (state_of new) x made allowed yes (same_state made old new no)))
+    (joined s (built_of xs) (built_of (x ∷ [])) (state_of old) (state_of new) r (alone (state_of old) (state_of new) x made allowed did (same_state made old new kept)))
