@@ -7,8 +7,8 @@ abbrev pub is_built : CoreEvent → Bool
 is_built (Store gauge value) = true
 is_built (Ask pass gauge value) = true
 is_built (Hush gauge) = true
-is_built (Hear scanner gauge) = false
-is_built (Begin scanner gauge) = false
+is_built (Hear scanner gauge) = true
+is_built (Begin scanner gauge) = true
 is_built (Relieve pass gauge) = true
 is_built (Describe pass at word) = false
 is_built (Open pass) = false

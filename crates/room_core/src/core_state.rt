@@ -1,18 +1,20 @@
-ghost use Rattle.std.specs.Prelude.{◌≡◌, ◌↔◌, IfOk, IsTrue, All, false, length, replicate};
+ghost use Rattle.std.specs.Prelude.{◌≡◌, ◌↔◌, IfOk, IsTrue, All, false, length, replicate, slice_get};
 ghost use Rattle.room_core.specs.declared.parts.Phase.TheVariants.{Idle};
 ghost use Rattle.std.specs.Result.{OnErr};
 ghost use Rattle.std.specs.Bool.{OnFalse, OnTrue};
 ghost use Rattle.room_core.specs.Built.{IsBuilt};
 ghost use Rattle.room_core.specs.CallerTables.{caller_of};
-ghost use Rattle.room_core.specs.Gauges.{IsShape};
+ghost use Rattle.room_core.specs.Gauges.{IsScanner, IsShape};
 ghost use Rattle.room_core.specs.Start.{idle_caller, idle_scanner, start_of};
-ghost use Rattle.room_core.specs.ScannerTables.{scanner_of};
+ghost use Rattle.room_core.specs.ScannerTables.{scanner_at, scanner_of as shown_by};
 ghost use Rattle.room_core.specs.Step.{IsAllowed, changed};
-ghost use Rattle.room_core.specs.Scans.{CanAsk, CanHush, CanRelieve, CanStore, asking, hushing, relieving, source_hushes, storing};
+ghost use Rattle.room_core.specs.Scans.{CanAsk, CanBegin, CanHear, CanHush, CanRelieve, CanStore, HasNoDuty, IsHeard, asking, beginning, hearing, hushing, relieving, source_hushes, storing};
 ghost use Rattle.room_core.specs.Sizes.{AreSized};
 
 use crate::caller_part::CallerPart;
+use crate::duties::is_free;
 use crate::event::CoreEvent;
+use crate::gauges::{is_scanner, scanner_of};
 use crate::greater::greater;
 use crate::parts::{Phase, Session, Source};
 use crate::scanner_part::ScannerPart;
@@ -81,7 +83,7 @@ fn idle_callers(alloc: Global, shape: Shape) -> Result<Vec<CallerPart>, NoMemory
 fn idle_scanners(alloc: Global, shape: Shape) -> Result<Vec<ScannerPart>, NoMemory>
     ensures size { IfOk result (λ v. length v.items ≡ 17) }
     ensures shape { IfOk result (λ v. All (λ c. c.shape ≡ shape) v.items) }
-    ensures idle { IfOk result (λ v. All (λ c. scanner_of c ≡ idle_scanner) v.items) }
+    ensures idle { IfOk result (λ v. All (λ c. shown_by c ≡ idle_scanner) v.items) }
 {
     let mut scanners = Vec::new(alloc);
     for _scanner in 0..17u32 {
@@ -125,6 +127,8 @@ impl CoreState {
             CoreEvent::Store { gauge, value } => self.store(gauge, value),
             CoreEvent::Ask { pass, gauge, value } => self.ask(pass, gauge, value),
             CoreEvent::Hush { gauge } => self.hush(gauge),
+            CoreEvent::Hear { scanner, gauge } => self.hear(scanner, gauge),
+            CoreEvent::Begin { scanner, gauge } => self.begin(scanner, gauge),
             CoreEvent::Relieve { pass, gauge } => self.relieve(pass, gauge),
             CoreEvent::Part => true,
             _ => false,
@@ -179,6 +183,70 @@ impl CoreState {
         caller.asks(gauge, value);
         let asked = self.asked[gauge as usize];
         self.asked[gauge as usize] = greater(asked, value);
+        true
+    }
+
+    /// A scanner that is there has no duty.
+    fn has_no_duty(&self, scanner: u32) -> bool
+        requires { IsScanner self.now.shape scanner }
+        ensures { IsTrue result ↔ HasNoDuty (scanner_at (slice_get self.now.scanner.items scanner)) }
+    {
+        is_free(&self.scanner[scanner as usize].duties)
+    }
+
+    /// A scanner that is there has heard of the gauge.
+    fn has_heard(&self, scanner: u32, gauge: u32) -> bool
+        requires { IsScanner self.now.shape scanner }
+        ensures { IsTrue result ↔ IsHeard (scanner_at (slice_get self.now.scanner.items scanner)).heard gauge }
+    {
+        self.scanner[scanner as usize].has_heard(gauge)
+    }
+
+    fn can_hear(&self, scanner: u32, gauge: u32) -> bool
+        ensures { IsTrue result ↔ CanHear (state_of self.now) scanner gauge }
+    {
+        is_scanner(self.shape, scanner)
+            && gauge < self.shape.gauges
+            && scanner_of(self.shape, gauge) == scanner
+            && self.has_no_duty(scanner)
+    }
+
+    fn can_begin(&self, scanner: u32, gauge: u32) -> bool
+        ensures { IsTrue result ↔ CanBegin (state_of self.now) scanner gauge }
+    {
+        is_scanner(self.shape, scanner)
+            && gauge < self.shape.gauges
+            && self.has_heard(scanner, gauge)
+            && self.has_no_duty(scanner)
+    }
+
+    fn hear(&mut self, scanner: u32, gauge: u32) -> bool
+        ensures allowed { IsTrue result ↔ CanHear (state_of self.old) scanner gauge }
+        ensures yes { OnTrue result (state_of self.new ≡ hearing (state_of self.old) scanner gauge) }
+        ensures no { OnFalse result (self.new ≡ self.old) }
+    {
+        if !self.can_hear(scanner, gauge) {
+            return false;
+        }
+        let asked = self.asked[gauge as usize];
+        let part = &mut self.scanner[scanner as usize];
+        part.hears(gauge, asked);
+        true
+    }
+
+    fn begin(&mut self, scanner: u32, gauge: u32) -> bool
+        ensures allowed { IsTrue result ↔ CanBegin (state_of self.old) scanner gauge }
+        ensures yes { OnTrue result (state_of self.new ≡ beginning (state_of self.old) scanner gauge) }
+        ensures no { OnFalse result (self.new ≡ self.old) }
+    {
+        if !self.can_begin(scanner, gauge) {
+            return false;
+        }
+        let begun = self.begun[gauge as usize];
+        let number = self.scanner[scanner as usize].number_heard();
+        let part = &mut self.scanner[scanner as usize];
+        part.begins(gauge, begun);
+        self.begun[gauge as usize] = greater(begun, number);
         true
     }
 

@@ -5,8 +5,10 @@
 
 mod caller_part;
 mod core_state;
+mod duties;
 mod empty;
 mod event;
+mod gauges;
 mod greater;
 pub mod laws;
 mod parts;

@@ -1,7 +1,10 @@
-ghost use Rattle.std.specs.Prelude.{◌≡◌, IfOk, length, All, replicate, None};
+ghost use Rattle.std.specs.Prelude.{◌≡◌, ◌↔◌, ◌<◌, IfOk, IsTrue, length, All, replicate, None};
+ghost use Rattle.room_core.specs.Scans.{IsHeard, number_heard, scanner_begins, scanner_hears};
 ghost use Rattle.room_core.specs.ScannerSize.{ScannerIsSized};
 
+use crate::duties::{forget, make_duties};
 use crate::empty::nothing_read;
+use crate::greater::greater;
 use crate::parts::{Duty, Entry, Heard, Meeting, Prize};
 use crate::shape::Shape;
 use kbytes::NoMemory;
@@ -64,5 +67,55 @@ impl ScannerPart {
             readings: nothing_read(alloc, gauges)?,
             wins: Vec::new(alloc),
         })
+    }
+
+    /// The scanner has heard of the gauge.
+    pub(crate) fn has_heard(&self, gauge: u32) -> bool
+        ensures { IsTrue result ↔ IsHeard self.now.heard gauge }
+    {
+        match self.heard {
+            Some(heard) => heard.gauge == gauge,
+            None => false,
+        }
+    }
+
+    pub(crate) fn number_heard(&self) -> u64
+        ensures { result ≡ number_heard self.now.heard }
+    {
+        match self.heard {
+            Some(heard) => heard.number,
+            None => 0,
+        }
+    }
+
+    pub(crate) fn hears(&mut self, gauge: u32, asked: u64)
+        ensures part { scanner_of self.new ≡ scanner_hears (scanner_of self.old) gauge asked }
+        ensures shape { self.new.shape ≡ self.old.shape }
+    {
+        self.heard = Some(Heard {
+            gauge,
+            number: asked,
+        });
+    }
+
+    pub(crate) fn begins(&mut self, gauge: u32, begun: u64)
+        requires { gauge < self.old.shape.gauges }
+        ensures part { scanner_of self.new ≡ scanner_begins self.old.shape (scanner_of self.old) gauge begun }
+        ensures shape { self.new.shape ≡ self.old.shape }
+    {
+        let number = self.number_heard();
+        let shape = self.shape;
+        self.began[gauge as usize] = greater(begun, number);
+        self.meeting = None;
+        forget(&mut self.learned);
+        forget(&mut self.readings);
+        make_duties(
+            &mut self.duties,
+            &self.listing[gauge as usize],
+            shape,
+            gauge,
+            begun,
+            number,
+        );
     }
 }
