@@ -3,15 +3,12 @@ ghost use Rattle.room_core.specs.Passes.{caller_peeks, peeked};
 ghost use Rattle.room_core.specs.Scans.{caller_asks, caller_relieves};
 ghost use Rattle.room_core.specs.CallerSize.{CallerIsSized};
 
-use crate::empty::nothing_read;
+use crate::empty::{WORDS, nothing_read};
 use crate::greater::greater;
 use crate::parts::{Phase, Prize, Stage, Taken};
 use crate::shape::Shape;
 use kbytes::NoMemory;
 use std::alloc::Global;
-
-/// The words of a description: 3, and 3 for each of 64 needs.
-const WORDS: usize = 195;
 
 /// A mark for each of 64 needs, and the clock's.
 const MARKS: usize = 65;

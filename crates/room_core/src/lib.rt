@@ -1,6 +1,7 @@
 //! The room as a pure machine: each event is one atomic step of one thread on one word.
 //!
-//! The layer above may use `CoreEvent` and the laws: whatever events come, no open operation is forgotten.
+//! The layer above may use `CoreEvent` and the laws: whatever events come, no open operation is forgotten. `CoreState` is the
+//! machine as code, for the events that are built.
 #![tactic(auto)]
 
 mod caller_part;
@@ -21,3 +22,6 @@ pub use event::{CoreEvent, How, Party};
 pub use parts::{Duty, Entry, Heard, Meeting, Phase, Prize, Session, Source, Stage, Taken};
 pub use run::run_events;
 pub use shape::Shape;
+
+#[cfg(test)]
+mod step_tests;

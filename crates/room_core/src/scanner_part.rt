@@ -3,15 +3,12 @@ ghost use Rattle.room_core.specs.Scans.{IsHeard, number_heard, scanner_begins, s
 ghost use Rattle.room_core.specs.ScannerSize.{ScannerIsSized};
 
 use crate::duties::{forget, make_duties};
-use crate::empty::nothing_read;
+use crate::empty::{WORDS, nothing_read};
 use crate::greater::greater;
 use crate::parts::{Duty, Entry, Heard, Meeting, Prize};
 use crate::shape::Shape;
 use kbytes::NoMemory;
 use std::alloc::Global;
-
-/// The words of a description: 3, and 3 for each of 64 needs.
-const WORDS: usize = 195;
 
 /// A scanner's part, in tables by number.
 #[derive(Debug, Drop)]
