@@ -1,5 +1,5 @@
 -- Tables by gauge have a place for each gauge, those by pass one for each pass, and that by scanner 17; the room has a shape.
-use Rattle.std.specs.Prelude.{◌≡◌, ℕ, List, Vec, All, length}
+use Rattle.std.specs.Prelude.{◌≡◌, ℕ, Vec, All, length}
 use Rattle.std.specs.declared.alloc.Global.{Global}
 use Rattle.room_core.specs.declared.shape.Shape.{Shape}
 use Rattle.room_core.specs.declared.parts.Source.{Source}

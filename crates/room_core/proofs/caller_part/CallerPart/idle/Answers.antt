@@ -1,4 +1,4 @@
-use Rattle.std.proofs.Common.{rules, ◌≡◌, replicate, false, None, Option, ℕ, ap, []}
+use Rattle.std.proofs.Common.{rules, ◌≡◌, replicate, false, None, []}
 use Rattle.room_core.specs.Start.{idle_caller}
 use Rattle.room_core.proofs.Idles.{empty_table}
 use Rattle.room_core.proofs.caller_part.CallerPart.idle.Goals as goal

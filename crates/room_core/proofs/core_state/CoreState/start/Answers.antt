@@ -1,4 +1,4 @@
-use Rattle.std.proofs.Common.{rules, ◌≡◌, List, replicate, false, refl, Option, Vec, Global, ℕ, ap, []}
+use Rattle.std.proofs.Common.{rules, ◌≡◌, List, replicate, false, refl, Vec, Global, ℕ, ap, []}
 use Rattle.std.specs.Prelude.{slice_get}
 use Rattle.room_core.specs.declared.parts.Phase.{Phase}
 use Rattle.room_core.specs.declared.parts.Session.{Session}

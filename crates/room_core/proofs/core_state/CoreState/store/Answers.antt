@@ -1,4 +1,4 @@
-use Rattle.std.proofs.Common.{◌≡◌, ◌<◌, length, true, false, arith}
+use Rattle.std.proofs.Common.{◌<◌, length, true, false, arith}
 use Rattle.room_core.specs.Tables.{state_of}
 use Rattle.room_core.proofs.Views.{table_set}
 use Rattle.room_core.proofs.core_state.CoreState.store.Goals as goal

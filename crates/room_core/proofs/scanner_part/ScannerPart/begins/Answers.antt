@@ -1,6 +1,5 @@
 use Rattle.std.proofs.Common.{◌≡◌, ◌<◌, ℕ, length, get_or, max, arith, ◌∙◌, ap, sym, Some, None, subst}
 use Rattle.std.specs.Prelude.{slice_get}
-use Rattle.std.proofs.lemmas.List.{get_or_default}
 use Rattle.std.proofs.lemmas.Option.{slice_get-get_or}
 use Rattle.room_core.specs.ScannerTables.{row, scanner_of}
 use Rattle.room_core.specs.Scans.{duty_of, number_heard}
