@@ -38,5 +38,7 @@ pub mod CallerSize
 pub mod CallerTables
 -- the sizes of the code's tables
 pub mod Sizes
+-- the sizes of the tables of a pass's words
+pub mod WordSizes
 -- the state that the code's tables show
 pub mod Tables

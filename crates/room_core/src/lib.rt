@@ -9,6 +9,7 @@ mod event;
 mod greater;
 pub mod laws;
 mod parts;
+mod pass_steps;
 mod shape;
 
 pub use core_state::CoreState;
