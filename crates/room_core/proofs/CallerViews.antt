@@ -1,9 +1,15 @@
--- A caller's part written in the list of callers.
-use Rattle.std.proofs.Common.{◌≡◌, ℕ, ◌<◌, List, length, get_or, set, sym, ap, ◌∙◌, Some}
-use Rattle.std.specs.Prelude.{slice_get}
+-- A caller's part written in the list of callers, and values read from tables by pass.
+use Rattle.std.proofs.Common.{◌≡◌, ℕ, ◌<◌, List, length, get_or, set, sym, subst, ap, arith, ◌∙◌, Some}
+use Rattle.std.specs.Prelude.{All, Vec, slice_get}
+use Rattle.std.specs.declared.alloc.Global.{Global}
+use Rattle.std.proofs.lemmas.List.{get_or_default}
+use Rattle.std.proofs.lemmas.List.Elements.{All-get_or}
 use Rattle.std.proofs.lemmas.Option.{slice_get-get_or}
 use Rattle.room_core.specs.declared.caller_part.CallerPart.{CallerPart}
+use Rattle.room_core.specs.declared.parts.Phase.{Phase}
+use Rattle.room_core.specs.declared.parts.Session.{Session}
 use Rattle.room_core.specs.State.{Caller}
+use Rattle.room_core.specs.Tables.{row}
 use Rattle.room_core.specs.CallerTables.{caller_at, caller_of}
 use Rattle.room_core.specs.Put.{put}
 use Rattle.room_core.proofs.Views.{part_set, put_as}
@@ -16,3 +22,17 @@ caller_here xs i old l e = ap caller_at (slice_get-get_or xs i old l ∙ ap Some
 pub caller_set : (f : Caller → Caller) (xs : List CallerPart) (i : ℕ) (old new : CallerPart) → i < length xs → old ≡ get_or xs i old → caller_of new ≡ f (caller_of old) → (λ j. caller_at (slice_get (set xs i new) j)) ≡ put (λ k. caller_at (slice_get xs k)) i (f (caller_at (slice_get xs i)))
 caller_set f xs i old new l e made =
     part_set caller_at xs i new l ∙ put_as (λ k. caller_at (slice_get xs k)) i _ _ (made ∙ ap f (sym (caller_here xs i old l e)))
+
+-- the session word that stands past the table's end
+abbrev pub no_session : Session
+no_session = record { generation = 0; phase = Phase.Idle }
+
+row_size : {A : Type 0} (xs : List (Vec A Global)) (i : ℕ) (old : Vec A Global) (n : ℕ) → i < length xs → old ≡ get_or xs i old → All (λ row. length row.items ≡ n) xs → length old.items ≡ n
+row_size {A} xs i old n l e all =
+    subst (λ (v : Vec A Global). length v.items ≡ n) (sym e) (All-get_or (λ (v : Vec A Global). length v.items ≡ n) xs i old l all)
+
+-- a value that was read of a row that was read
+pub row_here : {A : Type 0} (xs : List (Vec A Global)) (i : ℕ) (old : Vec A Global) (n at : ℕ) (x none : A) → i < length xs → old ≡ get_or xs i old → All (λ row. length row.items ≡ n) xs → at < n → x ≡ get_or old.items at x → x ≡ row (slice_get xs i) none at
+row_here xs i old n at x none l e all below is =
+    let size : length old.items ≡ n = row_size xs i old n l e all in
+    is ∙ get_or_default old.items at x none (omega (arith, size)) ∙ ap (λ o. row o none at) (sym (slice_get-get_or xs i old l ∙ ap Some (sym e)))

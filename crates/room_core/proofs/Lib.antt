@@ -74,3 +74,5 @@ pub mod Once
 pub mod Views
 -- a caller's part written in the list of callers
 pub mod CallerViews
+-- a test of each number below another
+pub mod AllBelow

@@ -2,6 +2,7 @@ ghost use Rattle.std.specs.Prelude.{◌≡◌, ◌<◌, nat_le, if◌then◌else
 ghost use Rattle.room_core.specs.Passes.{caller_peeks, peeked};
 ghost use Rattle.room_core.specs.Scans.{caller_asks, caller_relieves};
 ghost use Rattle.room_core.specs.CallerSize.{CallerIsSized};
+ghost use Rattle.room_core.specs.CallerWhole.{CallerIsWhole};
 
 use crate::greater::greater;
 use crate::parts::{Phase, Prize, Stage, Taken};
@@ -22,6 +23,7 @@ pub(crate) struct CallerPart {
     pub(crate) wins: Vec<Prize>,
     pub(crate) taken: Vec<Taken>,
     ghost sized: { CallerIsSized shape greatest owed },
+    ghost whole: { CallerIsWhole shape description seen readings },
 }
 
 impl CallerPart {

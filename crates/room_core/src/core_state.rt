@@ -37,7 +37,7 @@ pub struct CoreState {
     pub(crate) caller: Vec<CallerPart>,
     pub(crate) scanner: Vec<ScannerPart>,
     ghost sized: { AreSized shape value asked begun source caller },
-    ghost words: { WordsAreSized shape session },
+    ghost words: { WordsAreSized shape session description marks },
 }
 
 /// What a source knows once it has seen what is asked.

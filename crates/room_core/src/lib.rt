@@ -4,6 +4,7 @@
 #![tactic(auto)]
 
 mod caller_part;
+mod caller_steps;
 mod core_state;
 mod event;
 mod greater;

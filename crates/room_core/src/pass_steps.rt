@@ -1,9 +1,10 @@
-ghost use Rattle.std.specs.Prelude.{◌≡◌, ◌↔◌, IsTrue};
+ghost use Rattle.std.specs.Prelude.{◌≡◌, ◌↔◌, IfOk, IsTrue, OnErr};
 ghost use Rattle.std.specs.Bool.{OnFalse, OnTrue};
-ghost use Rattle.room_core.specs.Passes.{CanPeek, peeking};
+ghost use Rattle.room_core.specs.Passes.{CanIdle, CanPeek, CanSeeMark, idling, peeking, seeing_mark};
 
 use crate::core_state::CoreState;
-use crate::parts::Stage;
+use crate::parts::{Phase, Session, Stage};
+use kbytes::NoMemory;
 
 /// The steps of a pass as the owner of its operation.
 impl CoreState {
@@ -24,5 +25,44 @@ impl CoreState {
         let caller = &mut self.caller[pass as usize];
         caller.peeks(phase);
         true
+    }
+
+    pub(crate) fn see_mark(&mut self, pass: u32, at: u32) -> bool
+        ensures allowed { IsTrue result ↔ CanSeeMark (state_of self.old) pass at }
+        ensures yes { OnTrue result (state_of self.new ≡ seeing_mark (state_of self.old) pass at) }
+        ensures no { OnFalse result (self.new ≡ self.old) }
+    {
+        if pass >= self.shape.passes || at > 64 {
+            return false;
+        }
+        if !self.caller[pass as usize].awaits_mark(at) {
+            return false;
+        }
+        let mark = self.marks[pass as usize][at as usize];
+        let caller = &mut self.caller[pass as usize];
+        caller.sees_mark(at, mark);
+        true
+    }
+
+    pub(crate) fn idle(&mut self, pass: u32) -> Result<bool, NoMemory>
+        ensures allowed { IfOk result (λ yes. IsTrue yes ↔ CanIdle (state_of self.old) pass) }
+        ensures yes { IfOk result (λ yes. OnTrue yes (state_of self.new ≡ idling (state_of self.old) pass)) }
+        ensures no { IfOk result (λ yes. OnFalse yes (self.new ≡ self.old)) }
+        ensures full { OnErr result (state_of self.new ≡ state_of self.old) }
+    {
+        if pass >= self.shape.passes {
+            return Ok(false);
+        }
+        let Stage::Over { how, by } = self.caller[pass as usize].stage else {
+            return Ok(false);
+        };
+        let generation = self.caller[pass as usize].generation;
+        let caller = &mut self.caller[pass as usize];
+        caller.idles(how, by)?;
+        self.session[pass as usize] = Session {
+            generation,
+            phase: Phase::Idle,
+        };
+        Ok(true)
     }
 }
