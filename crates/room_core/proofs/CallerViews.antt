@@ -12,7 +12,7 @@ use Rattle.room_core.specs.State.{Caller}
 use Rattle.room_core.specs.Tables.{row}
 use Rattle.room_core.specs.CallerTables.{caller_at, caller_of}
 use Rattle.room_core.specs.Put.{put}
-use Rattle.room_core.proofs.Views.{part_set, put_as}
+use Rattle.room_core.proofs.Views.{part_set, put_as, table_set}
 
 -- the part that stands at a place of the list
 pub caller_here : (xs : List CallerPart) (i : ℕ) (old : CallerPart) → i < length xs → old ≡ get_or xs i old → caller_at (slice_get xs i) ≡ caller_of old
@@ -27,7 +27,7 @@ caller_set f xs i old new l e made =
 abbrev pub no_session : Session
 no_session = record { generation = 0; phase = Phase.Idle }
 
-row_size : {A : Type 0} (xs : List (Vec A Global)) (i : ℕ) (old : Vec A Global) (n : ℕ) → i < length xs → old ≡ get_or xs i old → All (λ row. length row.items ≡ n) xs → length old.items ≡ n
+pub row_size : {A : Type 0} (xs : List (Vec A Global)) (i : ℕ) (old : Vec A Global) (n : ℕ) → i < length xs → old ≡ get_or xs i old → All (λ row. length row.items ≡ n) xs → length old.items ≡ n
 row_size {A} xs i old n l e all =
     subst (λ (v : Vec A Global). length v.items ≡ n) (sym e) (All-get_or (λ (v : Vec A Global). length v.items ≡ n) xs i old l all)
 
@@ -36,3 +36,10 @@ pub row_here : {A : Type 0} (xs : List (Vec A Global)) (i : ℕ) (old : Vec A Gl
 row_here xs i old n at x none l e all below is =
     let size : length old.items ≡ n = row_size xs i old n l e all in
     is ∙ get_or_default old.items at x none (omega (arith, size)) ∙ ap (λ o. row o none at) (sym (slice_get-get_or xs i old l ∙ ap Some (sym e)))
+
+-- a value written in a row is a value given anew in its table
+pub row_set : {A : Type 0} (xs : List (Vec A Global)) (i : ℕ) (old new : Vec A Global) (at : ℕ) (x none : A) → i < length xs → old ≡ get_or xs i old → at < length old.items → new.items ≡ set old.items at x → (λ j. row (slice_get (set xs i new) j) none) ≡ put (λ k. row (slice_get xs k) none) i (put (row (slice_get xs i) none) at x)
+row_set {A} xs i old new at x none l e below is =
+    let here : row (slice_get xs i) none ≡ row (Some old) none = ap (λ o. row o none) (slice_get-get_or xs i old l ∙ ap Some (sym e)) in
+    let written : row (Some new) none ≡ put (row (Some old) none) at x = ap (λ (ys : List A). λ k. get_or ys k none) is ∙ table_set old.items at x none below in
+    part_set (λ o. row o none) xs i new l ∙ put_as (λ k. row (slice_get xs k) none) i _ _ (written ∙ ap (λ (f : ℕ → A). put f at x) (sym here))

@@ -76,3 +76,5 @@ pub mod Views
 pub mod CallerViews
 -- a test of each number below another
 pub mod AllBelow
+-- a tally as a loop counts it
+pub mod Counting

@@ -64,7 +64,7 @@ fn still_owed(owed: u64, begun: u64) -> u64
 
 /// The stage of an owner that has looked at its word.
 #[tactic(auto, unfolding(crate::specs::Passes::peeked))]
-fn peeked_stage(phase: Phase, stage: Stage) -> Stage
+pub(crate) fn peeked_stage(phase: Phase, stage: Stage) -> Stage
     ensures { result ≡ peeked phase stage }
 {
     match phase {

@@ -1,13 +1,18 @@
-ghost use Rattle.std.specs.Prelude.{◌≡◌, ◌↔◌, IsTrue, if◌then◌else◌, true, ◌≤◌, OnErr, OnOk, None as Nothing, false, length};
-ghost use Rattle.room_core.specs.CallerTables.{table};
-ghost use Rattle.room_core.specs.Passes.{all_below, all_seen, caller_idles, caller_sees_mark};
+ghost use Rattle.std.specs.Prelude.{◌≡◌, ◌<◌, ◌↔◌, IsTrue, if◌then◌else◌, true, ◌≤◌, OnErr, OnOk, None as Nothing, false, length};
+ghost use Rattle.room_core.specs.CallerTables.{table, with_wins};
+ghost use Rattle.room_core.specs.Meetings.{is_live};
+ghost use Rattle.room_core.specs.Passes.{all_below, all_seen, caller_describes, caller_idles, caller_sees_mark};
+ghost use Rattle.room_core.specs.Checks.{IsWon, caller_reads, caller_wins, exchanged, is_checking, with_prize};
 ghost use Rattle.room_core.specs.Description.{IsMark};
 ghost use Rattle.room_core.specs.Readings.{unread};
 ghost use Rattle.room_core.specs.declared.parts.Stage.TheVariants.{Checking, Listing, Over};
 
-use crate::caller_part::CallerPart;
+use crate::answering::is_won;
+use crate::caller_part::{CallerPart, peeked_stage};
 use crate::event::How;
-use crate::parts::{Stage, Taken};
+use crate::greater::greater;
+use crate::parts::{Phase, Prize, Session, Stage, Taken};
+use crate::shape::Shape;
 use kbytes::NoMemory;
 
 impl CallerPart {
@@ -18,6 +23,68 @@ impl CallerPart {
         ensures { IsTrue result ↔ (((caller_of self.now).stage ≡ Listing) × IsMark (caller_of self.now).description at) }
     {
         self.stage == Stage::Listing && (at == 64 || u64::from(at) < self.description[2])
+    }
+
+    pub(crate) fn describes(&mut self, at: u32, word: u64)
+        requires { at < 195 }
+        ensures part { caller_of self.new ≡ caller_describes (caller_of self.old) at word }
+        ensures shape { self.new.shape ≡ self.old.shape }
+    {
+        self.description[at as usize] = word;
+    }
+
+    pub(crate) fn reads(&mut self, gauge: u32, value: u64)
+        requires { gauge < self.old.shape.gauges }
+        ensures part { caller_of self.new ≡ caller_reads (caller_of self.old) gauge value }
+        ensures shape { self.new.shape ≡ self.old.shape }
+    {
+        let greatest = self.greatest[gauge as usize];
+        self.greatest[gauge as usize] = greater(greatest, value);
+        if !is_checking(self.stage) {
+            return;
+        }
+        self.readings[gauge as usize] = Some(value);
+    }
+
+    /// Whether the owner's check has found its operation answerable in this way.
+    pub(crate) fn has_found(&self, shape: Shape, how: How) -> bool
+        ensures { IsTrue result ↔ (((caller_of self.now).stage ≡ Checking) × IsWon shape how (caller_of self.now).description (caller_of self.now).readings) }
+    {
+        self.stage == Stage::Checking && is_won(shape, how, &self.description, &self.readings)
+    }
+
+    #[tactic(auto, unfolding(crate::specs::Checks::with_prize))]
+    fn keeps_prize(&mut self, session: Session, prize: Prize) -> Result<(), NoMemory>
+        requires { prize.generation ≡ self.old.generation }
+        ensures part { OnOk result (caller_of self.new ≡ with_wins (caller_of self.old) (with_prize session prize.generation (caller_of self.old).wins prize)) }
+        ensures same { OnErr result (caller_of self.new ≡ caller_of self.old) }
+        ensures shape { self.new.shape ≡ self.old.shape }
+    {
+        if !is_live(session, prize.generation) {
+            return Ok(());
+        }
+        self.wins.push(prize)?;
+        Ok(())
+    }
+
+    pub(crate) fn wins_by(&mut self, pass: u32, how: How, session: Session) -> Result<(), NoMemory>
+        requires { pass < 100 }
+        ensures part { OnOk result (caller_of self.new ≡ caller_wins (caller_of self.old) pass how session) }
+        ensures same { OnErr result (caller_of self.new ≡ caller_of self.old) }
+        ensures shape { self.new.shape ≡ self.old.shape }
+    {
+        let generation = self.generation;
+        let word = exchanged(session, generation, how, 17 + pass);
+        self.keeps_prize(
+            session,
+            Prize {
+                pass,
+                generation,
+                how,
+            },
+        )?;
+        self.stage = peeked_stage(word.phase, self.stage);
+        Ok(())
     }
 
     #[tactic(auto, unfolding(crate::specs::Passes::taken_of))]
@@ -46,6 +113,40 @@ impl CallerPart {
         self.seen[at as usize] = seen;
         self.stage = stage_of_marks(is_all_seen(&self.description, &self.seen));
         forget(&mut self.readings);
+    }
+}
+
+/// Whether a session word is open at this generation.
+pub(crate) fn is_live(session: Session, generation: u32) -> bool
+    ensures { result ≡ is_live session generation }
+{
+    match session.phase {
+        Phase::Open => session.generation == generation,
+        Phase::Idle | Phase::Won { how: _, by: _ } => false,
+    }
+}
+
+/// The session word after an exchange from open at this generation.
+#[tactic(auto, unfolding(crate::specs::Checks::exchanged))]
+pub(crate) fn exchanged(session: Session, generation: u32, how: How, by: u32) -> Session
+    ensures { result ≡ exchanged session generation how by }
+{
+    if !is_live(session, generation) {
+        return session;
+    }
+    Session {
+        generation: session.generation,
+        phase: Phase::Won { how, by },
+    }
+}
+
+/// Whether an owner is in its check.
+fn is_checking(stage: Stage) -> bool
+    ensures { result ≡ is_checking stage }
+{
+    match stage {
+        Stage::Checking => true,
+        Stage::Idle | Stage::Listing | Stage::Waiting | Stage::Over { how: _, by: _ } => false,
     }
 }
 

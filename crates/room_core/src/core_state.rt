@@ -1,5 +1,6 @@
 ghost use Rattle.std.specs.Prelude.{◌≡◌, ◌↔◌, IsTrue};
 ghost use Rattle.std.specs.Bool.{OnFalse, OnTrue};
+ghost use Rattle.room_core.specs.Gauges.{IsShape};
 ghost use Rattle.room_core.specs.Scans.{CanAsk, CanHush, CanRelieve, CanStore, asking, hushing, relieving, source_hushes, storing};
 ghost use Rattle.room_core.specs.Sizes.{AreSized};
 ghost use Rattle.room_core.specs.WordSizes.{WordsAreSized};
@@ -37,6 +38,7 @@ pub struct CoreState {
     pub(crate) caller: Vec<CallerPart>,
     pub(crate) scanner: Vec<ScannerPart>,
     ghost sized: { AreSized shape value asked begun source caller },
+    ghost shaped: { IsShape shape },
     ghost words: { WordsAreSized shape session description marks },
 }
 

@@ -3,6 +3,7 @@
 //! The layer above may use `CoreEvent` and the laws: whatever events come, no open operation is forgotten.
 #![tactic(auto)]
 
+mod answering;
 mod caller_part;
 mod caller_steps;
 mod core_state;
