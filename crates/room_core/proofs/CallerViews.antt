@@ -1,5 +1,5 @@
 -- A caller's part written in the list of callers, and values read from tables by pass.
-use Rattle.std.proofs.Common.{◌≡◌, ℕ, ◌<◌, List, length, get_or, set, sym, subst, ap, arith, ◌∙◌, Some}
+use Rattle.std.proofs.Common.{◌≡◌, ℕ, ◌<◌, List, length, max, get_or, set, sym, subst, ap, arith, ◌∙◌, Some}
 use Rattle.std.specs.Prelude.{All, Vec, slice_get}
 use Rattle.std.specs.declared.alloc.Global.{Global}
 use Rattle.std.proofs.lemmas.List.{get_or_default}
@@ -10,7 +10,7 @@ use Rattle.room_core.specs.declared.parts.Phase.{Phase}
 use Rattle.room_core.specs.declared.parts.Session.{Session}
 use Rattle.room_core.specs.State.{Caller}
 use Rattle.room_core.specs.Tables.{row}
-use Rattle.room_core.specs.CallerTables.{caller_at, caller_of}
+use Rattle.room_core.specs.CallerTables.{caller_at, caller_of, table}
 use Rattle.room_core.specs.Put.{put}
 use Rattle.room_core.proofs.Views.{part_set, put_as, table_set}
 
@@ -43,3 +43,8 @@ row_set {A} xs i old new at x none l e below is =
     let here : row (slice_get xs i) none ≡ row (Some old) none = ap (λ o. row o none) (slice_get-get_or xs i old l ∙ ap Some (sym e)) in
     let written : row (Some new) none ≡ put (row (Some old) none) at x = ap (λ (ys : List A). λ k. get_or ys k none) is ∙ table_set old.items at x none below in
     part_set (λ o. row o none) xs i new l ∙ put_as (λ k. row (slice_get xs k) none) i _ _ (written ∙ ap (λ (f : ℕ → A). put f at x) (sym here))
+
+-- the greater of what stood there and what was read
+pub risen : (xs : List ℕ) (i now more value : ℕ) → i < length xs → now ≡ get_or xs i now → more ≡ max now value → table (set xs i more) 0 ≡ put (table xs 0) i (max (table xs 0 i) value)
+risen xs i now more value l e m =
+    table_set xs i more 0 l ∙ put_as (table xs 0) i _ _ (m ∙ ap (λ x. max x value) (e ∙ get_or_default xs i now 0 l))

@@ -78,3 +78,5 @@ pub mod CallerViews
 pub mod AllBelow
 -- a tally as a loop counts it
 pub mod Counting
+-- readings as a loop over the needs looks for them
+pub mod ReadingAll

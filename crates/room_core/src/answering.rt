@@ -1,7 +1,7 @@
-ghost use Rattle.std.specs.Prelude.{◌≡◌, ◌↔◌, ◌+◌, ◌*◌, ◌<◌, IsSome, IsTrue, None as Nothing, length, min};
+ghost use Rattle.std.specs.Prelude.{◌≡◌, ◌↔◌, ◌+◌, ◌*◌, ◌<◌, ◌≤◌, ◌||◌, IsSome, IsTrue, None as Nothing, length, min};
 ghost use Rattle.opcond.specs.Tally.{counted};
 ghost use Rattle.room_core.specs.CallerTables.{table};
-ghost use Rattle.room_core.specs.Checks.{IsWon, is_overdue, is_satisfied};
+ghost use Rattle.room_core.specs.Checks.{AreRead, IsRead, IsWon, is_overdue, is_satisfied};
 ghost use Rattle.room_core.specs.Description.{gauge_of, need_of};
 ghost use Rattle.room_core.specs.Gauges.{clock_of};
 ghost use Rattle.room_core.specs.Readings.{read_only};
@@ -86,4 +86,46 @@ pub(crate) fn is_won(shape: Shape, how: How, words: &[u64], readings: &[Option<u
             has_read(readings, u64::from(clock_of(shape))) && is_overdue(shape, words, readings)
         }
     }
+}
+
+/// The gauge of a need, and 0 past the description's end.
+fn gauge_of(words: &[u64], i: usize) -> u64
+    requires words { length words.now ≡ 195 }
+    requires need { i ≤ 64 }
+    ensures { result ≡ gauge_of (table words.now 0) i }
+{
+    if i == 64 {
+        return 0;
+    }
+    words[3 + 3 * i]
+}
+
+/// Whether a gauge was read, or is the one that is read last.
+pub(crate) fn is_read(readings: &[Option<u64>], last: u32, gauge: u64) -> bool
+    ensures { IsTrue result ↔ IsRead (table readings.now Nothing) last gauge }
+{
+    has_read(readings, gauge) || gauge == u64::from(last)
+}
+
+/// Whether each need's gauge was read, or is the one that is read last. All needs past the 64th read the same words.
+pub(crate) fn are_read(words: &[u64], readings: &[Option<u64>], last: u32) -> bool
+    requires { length words.now ≡ 195 }
+    ensures { IsTrue result ↔ AreRead (table readings.now Nothing) last (table words.now 0) }
+{
+    let needs = lesser(words[2], 65);
+    for i in 0..needs as usize {
+        if !is_read(readings, last, gauge_of(words, i)) {
+            return false;
+        }
+    }
+    true
+}
+
+/// Whether the readings make the operation answerable.
+pub(crate) fn is_answerable(shape: Shape, words: &[u64], readings: &[Option<u64>]) -> bool
+    requires { length words.now ≡ 195 }
+    ensures { result ≡ (is_satisfied (table words.now 0) (table readings.now Nothing)
+        || is_overdue shape (table words.now 0) (table readings.now Nothing)) }
+{
+    is_satisfied(words, readings) || is_overdue(shape, words, readings)
 }

@@ -1,13 +1,14 @@
 ghost use Rattle.std.specs.Prelude.{◌≡◌, ◌<◌, ◌↔◌, IsTrue, if◌then◌else◌, true, ◌≤◌, OnErr, OnOk, None as Nothing, false, length};
 ghost use Rattle.room_core.specs.CallerTables.{table, with_wins};
+ghost use Rattle.room_core.specs.Gauges.{clock_of};
 ghost use Rattle.room_core.specs.Meetings.{is_live};
 ghost use Rattle.room_core.specs.Passes.{all_below, all_seen, caller_describes, caller_idles, caller_sees_mark};
-ghost use Rattle.room_core.specs.Checks.{IsWon, caller_reads, caller_wins, exchanged, is_checking, with_prize};
+ghost use Rattle.room_core.specs.Checks.{AreRead, IsRead, IsWon, caller_leaves, caller_reads, caller_wins, exchanged, is_checking, with_prize};
 ghost use Rattle.room_core.specs.Description.{IsMark};
 ghost use Rattle.room_core.specs.Readings.{unread};
-ghost use Rattle.room_core.specs.declared.parts.Stage.TheVariants.{Checking, Listing, Over};
+ghost use Rattle.room_core.specs.declared.parts.Stage.TheVariants.{Checking, Listing, Over, Waiting};
 
-use crate::answering::is_won;
+use crate::answering::{are_read, clock_of, is_answerable, is_read, is_won};
 use crate::caller_part::{CallerPart, peeked_stage};
 use crate::event::How;
 use crate::greater::greater;
@@ -51,6 +52,28 @@ impl CallerPart {
         ensures { IsTrue result ↔ (((caller_of self.now).stage ≡ Checking) × IsWon shape how (caller_of self.now).description (caller_of self.now).readings) }
     {
         self.stage == Stage::Checking && is_won(shape, how, &self.description, &self.readings)
+    }
+
+    /// Whether the owner's check ends with a reading of this gauge.
+    pub(crate) fn ends_with(&self, shape: Shape, gauge: u32) -> bool
+        ensures { IsTrue result ↔ (((caller_of self.now).stage ≡ Checking)
+            × AreRead (caller_of self.now).readings gauge (caller_of self.now).description
+            × IsRead (caller_of self.now).readings gauge (clock_of shape)) }
+    {
+        self.stage == Stage::Checking
+            && are_read(&self.description, &self.readings, gauge)
+            && is_read(&self.readings, gauge, u64::from(clock_of(shape)))
+    }
+
+    pub(crate) fn leaves(&mut self, shape: Shape, gauge: u32, value: u64)
+        requires { gauge < self.old.shape.gauges }
+        ensures part { caller_of self.new ≡ caller_leaves shape (caller_of self.old) gauge value }
+        ensures shape { self.new.shape ≡ self.old.shape }
+    {
+        let greatest = self.greatest[gauge as usize];
+        self.greatest[gauge as usize] = greater(greatest, value);
+        self.readings[gauge as usize] = Some(value);
+        self.stage = stage_of_check(is_answerable(shape, &self.description, &self.readings));
     }
 
     #[tactic(auto, unfolding(crate::specs::Checks::with_prize))]
@@ -113,6 +136,17 @@ impl CallerPart {
         self.seen[at as usize] = seen;
         self.stage = stage_of_marks(is_all_seen(&self.description, &self.seen));
         forget(&mut self.readings);
+    }
+}
+
+/// The stage of an owner whose check has ended.
+fn stage_of_check(answerable: bool) -> Stage
+    ensures { result ≡ (if answerable then Checking else Waiting) }
+{
+    if answerable {
+        Stage::Checking
+    } else {
+        Stage::Waiting
     }
 }
 

@@ -1,6 +1,6 @@
 ghost use Rattle.std.specs.Prelude.{◌≡◌, ◌↔◌, IfOk, IsTrue, OnErr};
 ghost use Rattle.std.specs.Bool.{OnFalse, OnTrue};
-ghost use Rattle.room_core.specs.Checks.{CanReadPass, CanWinPass, pass_reading, pass_winning};
+ghost use Rattle.room_core.specs.Checks.{CanLeavePass, CanReadPass, CanWinPass, pass_leaving, pass_reading, pass_winning};
 ghost use Rattle.room_core.specs.Passes.{CanDescribe, CanIdle, CanPeek, CanSeeMark, describing, idling, peeking, seeing_mark};
 
 use crate::caller_steps::exchanged;
@@ -119,5 +119,23 @@ impl CoreState {
         caller.wins_by(pass, how, session)?;
         self.session[pass as usize] = exchanged(session, generation, how, 17 + pass);
         Ok(true)
+    }
+
+    pub(crate) fn leave_by_pass(&mut self, pass: u32, gauge: u32) -> bool
+        ensures allowed { IsTrue result ↔ CanLeavePass (state_of self.old) pass gauge }
+        ensures yes { OnTrue result (state_of self.new ≡ pass_leaving (state_of self.old) pass gauge) }
+        ensures no { OnFalse result (self.new ≡ self.old) }
+    {
+        if pass >= self.shape.passes || gauge >= self.shape.gauges {
+            return false;
+        }
+        let shape = self.shape;
+        if !self.caller[pass as usize].ends_with(shape, gauge) {
+            return false;
+        }
+        let value = self.value[gauge as usize];
+        let caller = &mut self.caller[pass as usize];
+        caller.leaves(shape, gauge, value);
+        true
     }
 }

@@ -3,13 +3,9 @@ use Rattle.std.proofs.lemmas.List.{get_or_default}
 use Rattle.room_core.specs.CallerTables.{caller_of, table}
 use Rattle.room_core.specs.Checks.{is_checking}
 use Rattle.room_core.specs.Put.{put}
-use Rattle.room_core.proofs.Views.{table_set, put_as}
+use Rattle.room_core.proofs.CallerViews.{risen}
+use Rattle.room_core.proofs.Views.{table_set}
 use Rattle.room_core.proofs.caller_part.CallerPart.reads.Goals as goal
-
--- the greater of what stood there and what was read
-risen : (xs : List ℕ) (i now more value : ℕ) → i < length xs → now ≡ get_or xs i now → more ≡ max now value → table (set xs i more) 0 ≡ put (table xs 0) i (max (table xs 0 i) value)
-risen xs i now more value l e m =
-    table_set xs i more 0 l ∙ put_as (table xs 0) i _ _ (m ∙ ap (λ x. max x value) (e ∙ get_or_default xs i now 0 l))
 
 pub returns-then-not-is_checking-clause-part : goal.returns-then-not-is_checking-clause-part
 returns-then-not-is_checking-clause-part c =
