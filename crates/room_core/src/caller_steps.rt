@@ -1,17 +1,19 @@
-ghost use Rattle.std.specs.Prelude.{◌≡◌, ◌<◌, ◌↔◌, IsTrue, if◌then◌else◌, true, ◌≤◌, OnErr, OnOk, None as Nothing, false, length};
+ghost use Rattle.std.specs.Prelude.{◌≡◌, ◌^◌, ◌-◌, ◌<◌, ◌↔◌, IsTrue, if◌then◌else◌, true, ◌≤◌, OnErr, OnOk, None as Nothing, false, length};
 ghost use Rattle.room_core.specs.CallerTables.{table, with_wins};
 ghost use Rattle.room_core.specs.Gauges.{clock_of};
 ghost use Rattle.room_core.specs.Meetings.{is_live};
-ghost use Rattle.room_core.specs.Passes.{all_below, all_seen, caller_describes, caller_idles, caller_sees_mark};
+ghost use Rattle.room_core.specs.Passes.{all_below, all_seen, caller_describes, caller_idles, caller_opens, caller_sees_mark};
 ghost use Rattle.room_core.specs.Checks.{AreRead, IsRead, IsWon, caller_leaves, caller_reads, caller_wins, exchanged, is_checking, with_prize};
-ghost use Rattle.room_core.specs.Description.{IsMark};
+ghost use Rattle.room_core.specs.Description.{IsMark, IsOperation};
 ghost use Rattle.room_core.specs.Readings.{unread};
+ghost use Rattle.room_core.specs.declared.parts.Stage.{Stage};
 ghost use Rattle.room_core.specs.declared.parts.Stage.TheVariants.{Checking, Listing, Over, Waiting};
 
 use crate::answering::{are_read, clock_of, is_answerable, is_read, is_won};
 use crate::caller_part::{CallerPart, peeked_stage};
 use crate::event::How;
 use crate::greater::greater;
+use crate::operation::is_operation;
 use crate::parts::{Phase, Prize, Session, Stage, Taken};
 use crate::shape::Shape;
 use kbytes::NoMemory;
@@ -74,6 +76,28 @@ impl CallerPart {
         self.greatest[gauge as usize] = greater(greatest, value);
         self.readings[gauge as usize] = Some(value);
         self.stage = stage_of_check(is_answerable(shape, &self.description, &self.readings));
+    }
+
+    /// Whether the owner may open what it has described.
+    pub(crate) fn may_open(&self, shape: Shape) -> bool
+        ensures { IsTrue result ↔ (((caller_of self.now).stage ≡ Stage.Idle)
+            × IsOperation shape (caller_of self.now).description
+            × ((caller_of self.now).generation < 2 ^ 32 - 1)) }
+    {
+        self.stage == Stage::Idle
+            && is_operation(shape, &self.description)
+            && self.generation < u32::MAX
+    }
+
+    pub(crate) fn opens(&mut self)
+        requires { self.old.generation < 2 ^ 32 - 1 }
+        ensures part { caller_of self.new ≡ caller_opens (caller_of self.old) }
+        ensures shape { self.new.shape ≡ self.old.shape }
+    {
+        self.generation += 1;
+        self.stage = Stage::Listing;
+        unsee(&mut self.seen);
+        forget(&mut self.readings);
     }
 
     #[tactic(auto, unfolding(crate::specs::Checks::with_prize))]
@@ -196,6 +220,14 @@ fn stage_of_marks(all: bool) -> Stage
     ensures { result ≡ (if all then Checking else Listing) }
 {
     if all { Stage::Checking } else { Stage::Listing }
+}
+
+/// Forgets which marks were seen.
+fn unsee(seen: &mut [bool])
+    ensures none { table seen.new false ≡ (λ i. false) }
+    ensures length { length seen.new ≡ length seen.old }
+{
+    seen.fill(false);
 }
 
 /// Forgets what was read.

@@ -10,6 +10,7 @@ mod core_state;
 mod event;
 mod greater;
 pub mod laws;
+mod operation;
 mod parts;
 mod pass_steps;
 mod shape;

@@ -1,7 +1,7 @@
 ghost use Rattle.std.specs.Prelude.{◌≡◌, ◌↔◌, IfOk, IsTrue, OnErr};
 ghost use Rattle.std.specs.Bool.{OnFalse, OnTrue};
 ghost use Rattle.room_core.specs.Checks.{CanLeavePass, CanReadPass, CanWinPass, pass_leaving, pass_reading, pass_winning};
-ghost use Rattle.room_core.specs.Passes.{CanDescribe, CanIdle, CanPeek, CanSeeMark, describing, idling, peeking, seeing_mark};
+ghost use Rattle.room_core.specs.Passes.{CanDescribe, CanIdle, CanOpen, CanPeek, CanSeeMark, describing, idling, opening, peeking, seeing_mark};
 
 use crate::caller_steps::exchanged;
 use crate::core_state::CoreState;
@@ -136,6 +136,27 @@ impl CoreState {
         let value = self.value[gauge as usize];
         let caller = &mut self.caller[pass as usize];
         caller.leaves(shape, gauge, value);
+        true
+    }
+
+    pub(crate) fn open(&mut self, pass: u32) -> bool
+        ensures allowed { IsTrue result ↔ CanOpen (state_of self.old) pass }
+        ensures yes { OnTrue result (state_of self.new ≡ opening (state_of self.old) pass) }
+        ensures no { OnFalse result (self.new ≡ self.old) }
+    {
+        if pass >= self.shape.passes {
+            return false;
+        }
+        if !self.caller[pass as usize].may_open(self.shape) {
+            return false;
+        }
+        let generation = self.caller[pass as usize].generation;
+        let caller = &mut self.caller[pass as usize];
+        caller.opens();
+        self.session[pass as usize] = Session {
+            generation: generation + 1,
+            phase: Phase::Open,
+        };
         true
     }
 }

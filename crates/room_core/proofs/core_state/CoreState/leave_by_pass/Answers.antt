@@ -44,7 +44,7 @@ returns-clause-yes c =
     let m : c.args.gauge < length c.args.self.now.value.items = omega (arith, c.args.self.now.sized.value_size) in
     let value : c.index-value.result.now ≡ get_or c.args.self.now.value.items c.args.gauge 0 = c.index-value.ensures ∙ get_or_default c.args.self.now.value.items c.args.gauge _ 0 m in
     let new : caller_of c.leaves.new.self ≡ caller_leaves c.args.self.now.shape (caller_of c.index_mut-caller.result.now) c.args.gauge (get_or c.args.self.now.value.items c.args.gauge 0) =
-      c.leaves.ensures.part ∙ ap (caller_leaves c.args.self.now.shape (caller_of c.index_mut-caller.result.now) c.args.gauge) value in
+    c.leaves.ensures.part ∙ ap (caller_leaves c.args.self.now.shape (caller_of c.index_mut-caller.result.now) c.args.gauge) value in
     λ d. record (state_of c.args.self.now) {
       caller = caller_set (λ (caller : Caller). caller_leaves c.args.self.now.shape caller c.args.gauge (get_or c.args.self.now.value.items c.args.gauge 0)) c.args.self.now.caller.items c.args.pass c.index_mut-caller.result.now c.leaves.new.self l c.index_mut-caller.ensures.value new d;
     }
