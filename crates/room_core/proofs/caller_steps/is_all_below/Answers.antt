@@ -1,4 +1,4 @@
-use Rattle.std.proofs.Common.{◌≡◌, ℕ, ◌<◌, Bool, true, false, length, sym, subst, arith}
+use Rattle.std.proofs.Common.{◌≡◌, true, false, length, sym, subst, arith}
 use Rattle.std.proofs.lemmas.List.{get_or_past}
 use Rattle.room_core.specs.CallerTables.{table}
 use Rattle.room_core.specs.Passes.{all_below}

@@ -1,4 +1,4 @@
-use Rattle.std.proofs.Common.{◌≡◌, ℕ, ◌<◌, Bool, ◌||◌, Option, Some, None, List, length, get_or, set, cond, arith, ◌∙◌, ap}
+use Rattle.std.proofs.Common.{◌≡◌, ℕ, ◌<◌, Bool, ◌||◌, Option, Some, None, List, length, set, cond, arith, ◌∙◌, ap}
 use Rattle.room_core.specs.declared.parts.Stage.{Stage}
 use Rattle.room_core.specs.declared.parts.Stage.TheVariants.{Checking, Waiting}
 use Rattle.room_core.specs.CallerTables.{caller_of, table}

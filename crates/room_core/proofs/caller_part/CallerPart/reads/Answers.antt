@@ -1,5 +1,4 @@
-use Rattle.std.proofs.Common.{◌≡◌, ℕ, ◌<◌, Bool, true, false, Option, Some, None, List, length, get_or, set, cond, max, arith, ◌∙◌, sym, ap}
-use Rattle.std.proofs.lemmas.List.{get_or_default}
+use Rattle.std.proofs.Common.{◌≡◌, ◌<◌, Bool, true, false, Some, None, length, cond, arith, ◌∙◌, sym, ap}
 use Rattle.room_core.specs.CallerTables.{caller_of, table}
 use Rattle.room_core.specs.Checks.{is_checking}
 use Rattle.room_core.specs.Put.{put}

@@ -1,7 +1,5 @@
-use Rattle.std.proofs.Common.{◌≡◌, ◌<◌, length, get_or, arith, ◌∙◌, ap, sym}
+use Rattle.std.proofs.Common.{◌<◌, length, get_or, arith, ◌∙◌, ap, sym}
 use Rattle.room_core.specs.declared.parts.Phase.{Phase}
-use Rattle.room_core.specs.declared.parts.Session.{Session}
-use Rattle.room_core.specs.declared.caller_part.CallerPart.{CallerPart}
 use Rattle.room_core.specs.State.{Caller}
 use Rattle.room_core.specs.Passes.{caller_idles}
 use Rattle.room_core.specs.Tables.{state_of}

@@ -5,7 +5,7 @@ use Rattle.room_core.specs.declared.shape.Shape.{Shape}
 use Rattle.room_core.specs.declared.parts.Stage.TheVariants.{Checking}
 use Rattle.room_core.specs.State.{Caller}
 use Rattle.room_core.specs.CallerTables.{caller_at, caller_of}
-use Rattle.room_core.specs.Checks.{AreRead, CanLeavePass, IsRead, caller_leaves}
+use Rattle.room_core.specs.Checks.{AreRead, IsRead, caller_leaves}
 use Rattle.room_core.specs.Gauges.{IsGauge, IsPass, clock_of}
 use Rattle.room_core.specs.Tables.{state_of}
 use Rattle.room_core.proofs.CallerViews.{caller_here, caller_set}

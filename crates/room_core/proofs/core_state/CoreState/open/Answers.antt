@@ -1,4 +1,4 @@
-use Rattle.std.proofs.Common.{◌≡◌, ◌+◌, ◌<◌, length, get_or, arith, ◌∙◌, ap, sym}
+use Rattle.std.proofs.Common.{◌+◌, ◌<◌, length, get_or, arith, ◌∙◌, ap, sym}
 use Rattle.room_core.specs.declared.parts.Phase.TheVariants.{Open}
 use Rattle.room_core.specs.State.{Caller}
 use Rattle.room_core.specs.Passes.{caller_opens}
