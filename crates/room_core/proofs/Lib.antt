@@ -76,3 +76,11 @@ pub mod Views
 pub mod Idles
 -- runs of the events that are built
 pub mod Runs
+-- a caller's part written in the list of callers
+pub mod CallerViews
+-- a test of each number below another
+pub mod AllBelow
+-- a tally as a loop counts it
+pub mod Counting
+-- readings as a loop over the needs looks for them
+pub mod ReadingAll

@@ -34,6 +34,8 @@ pub mod Start
 pub mod Run
 -- the sizes of a caller's tables
 pub mod CallerSize
+-- the sizes of the tables of a caller's operation
+pub mod CallerWhole
 -- the part that a caller's tables show
 pub mod CallerTables
 -- the sizes of a scanner's tables
@@ -42,6 +44,8 @@ pub mod ScannerSize
 pub mod ScannerTables
 -- the sizes of the code's tables
 pub mod Sizes
+-- the sizes of the tables of a pass's words
+pub mod WordSizes
 -- the state that the code's tables show
 pub mod Tables
 -- the events that the code makes so far

@@ -2,6 +2,7 @@ ghost use Rattle.std.specs.Prelude.{◌≡◌, ◌<◌, IfOk, replicate, false, 
 ghost use Rattle.room_core.specs.Passes.{caller_peeks, peeked};
 ghost use Rattle.room_core.specs.Scans.{caller_asks, caller_relieves};
 ghost use Rattle.room_core.specs.CallerSize.{CallerIsSized};
+ghost use Rattle.room_core.specs.CallerWhole.{CallerIsWhole};
 
 use crate::empty::{WORDS, nothing_read};
 use crate::greater::greater;
@@ -27,6 +28,7 @@ pub(crate) struct CallerPart {
     pub(crate) wins: Vec<Prize>,
     pub(crate) taken: Vec<Taken>,
     ghost sized: { CallerIsSized shape greatest owed },
+    ghost whole: { CallerIsWhole shape description seen readings },
 }
 
 /// No mark was seen.
@@ -94,7 +96,7 @@ fn still_owed(owed: u64, begun: u64) -> u64
 
 /// The stage of an owner that has looked at its word.
 #[tactic(auto, unfolding(crate::specs::Passes::peeked))]
-fn peeked_stage(phase: Phase, stage: Stage) -> Stage
+pub(crate) fn peeked_stage(phase: Phase, stage: Stage) -> Stage
     ensures { result ≡ peeked phase stage }
 {
     match phase {

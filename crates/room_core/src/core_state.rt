@@ -10,6 +10,7 @@ ghost use Rattle.room_core.specs.ScannerTables.{scanner_at, scanner_of as shown_
 ghost use Rattle.room_core.specs.Step.{IsAllowed, changed};
 ghost use Rattle.room_core.specs.Scans.{CanAsk, CanBegin, CanHear, CanHush, CanRelieve, CanStore, HasNoDuty, IsHeard, asking, beginning, hearing, hushing, relieving, source_hushes, storing};
 ghost use Rattle.room_core.specs.Sizes.{AreSized};
+ghost use Rattle.room_core.specs.WordSizes.{WordsAreSized};
 
 use crate::caller_part::CallerPart;
 use crate::duties::is_free;
@@ -25,17 +26,18 @@ use std::alloc::Global;
 /// The state of the room, in tables by number.
 #[derive(Debug, Drop)]
 pub struct CoreState {
-    shape: Shape,
-    value: Vec<u64>,
-    asked: Vec<u64>,
-    begun: Vec<u64>,
-    session: Vec<Session>,
-    description: Vec<Vec<u64>>,
-    marks: Vec<Vec<u32>>,
-    source: Vec<Source>,
-    caller: Vec<CallerPart>,
-    scanner: Vec<ScannerPart>,
+    pub(crate) shape: Shape,
+    pub(crate) value: Vec<u64>,
+    pub(crate) asked: Vec<u64>,
+    pub(crate) begun: Vec<u64>,
+    pub(crate) session: Vec<Session>,
+    pub(crate) description: Vec<Vec<u64>>,
+    pub(crate) marks: Vec<Vec<u32>>,
+    pub(crate) source: Vec<Source>,
+    pub(crate) caller: Vec<CallerPart>,
+    pub(crate) scanner: Vec<ScannerPart>,
     ghost sized: { AreSized shape value asked begun source caller scanner },
+    ghost words: { WordsAreSized shape session description marks },
 }
 
 /// What a source knows once it has seen what is asked.

@@ -4,7 +4,9 @@
 //! machine as code, for the events that are built.
 #![tactic(auto)]
 
+mod answering;
 mod caller_part;
+mod caller_steps;
 mod core_state;
 mod duties;
 mod empty;
@@ -12,9 +14,11 @@ mod event;
 mod gauges;
 mod greater;
 pub mod laws;
+mod operation;
 mod parts;
 mod run;
 mod scanner_part;
+mod pass_steps;
 mod shape;
 
 pub use core_state::CoreState;
