@@ -72,3 +72,5 @@ pub mod Quiets
 pub mod Once
 -- a write in a list
 pub mod Views
+-- a scanner's place
+pub mod ScanPlaces

@@ -34,6 +34,8 @@ pub mod Start
 pub mod Run
 -- the sizes of a caller's tables
 pub mod CallerSize
+-- the sizes of a scanner's tables
+pub mod ScannerSize
 -- the part that a caller's tables show
 pub mod CallerTables
 -- the sizes of the code's tables

@@ -6,7 +6,7 @@ use Rattle.room_core.specs.declared.parts.Phase.{Phase}
 use Rattle.room_core.specs.declared.parts.Source.{Source}
 use Rattle.room_core.specs.declared.core_state.CoreState.{CoreState}
 use Rattle.room_core.specs.CallerTables.{table, caller_at}
-use Rattle.room_core.specs.declared.core_state.ScannerPart.{ScannerPart}
+use Rattle.room_core.specs.declared.scanner_part.ScannerPart.{ScannerPart}
 use Rattle.room_core.specs.State.{State, Scanner}
 use Rattle.room_core.specs.Start.{idle_scanner}
 

@@ -5,37 +5,25 @@ ghost use Rattle.room_core.specs.Sizes.{AreSized};
 
 use crate::caller_part::CallerPart;
 use crate::greater::greater;
-use crate::parts::{Duty, Entry, Heard, Meeting, Prize, Session, Source};
+use crate::parts::{Session, Source};
+use crate::scanner_part::ScannerPart;
 use crate::shape::Shape;
 use std::alloc::Global;
-
-/// A scanner's part, in tables by number.
-#[derive(Debug, Drop)]
-pub(crate) struct ScannerPart {
-    pub(crate) heard: Option<Heard>,
-    pub(crate) began: Vec<u64>,
-    pub(crate) listing: Vec<Vec<Option<Entry>>>,
-    pub(crate) duties: Vec<Option<Duty>>,
-    pub(crate) meeting: Option<Meeting>,
-    pub(crate) learned: Vec<Option<u64>>,
-    pub(crate) readings: Vec<Option<u64>>,
-    pub(crate) wins: Vec<Prize>,
-}
 
 /// The state of the room, in tables by number.
 #[derive(Debug, Drop)]
 pub struct CoreState {
-    shape: Shape,
-    value: Vec<u64>,
-    asked: Vec<u64>,
-    begun: Vec<u64>,
-    session: Vec<Session>,
-    description: Vec<Vec<u64>>,
-    marks: Vec<Vec<u32>>,
-    source: Vec<Source>,
-    caller: Vec<CallerPart>,
-    scanner: Vec<ScannerPart>,
-    ghost sized: { AreSized shape value asked begun source caller },
+    pub(crate) shape: Shape,
+    pub(crate) value: Vec<u64>,
+    pub(crate) asked: Vec<u64>,
+    pub(crate) begun: Vec<u64>,
+    pub(crate) session: Vec<Session>,
+    pub(crate) description: Vec<Vec<u64>>,
+    pub(crate) marks: Vec<Vec<u32>>,
+    pub(crate) source: Vec<Source>,
+    pub(crate) caller: Vec<CallerPart>,
+    pub(crate) scanner: Vec<ScannerPart>,
+    ghost sized: { AreSized shape value asked begun session description marks source caller scanner },
 }
 
 /// What a source knows once it has seen what is asked.

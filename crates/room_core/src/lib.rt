@@ -9,6 +9,8 @@ mod event;
 mod greater;
 pub mod laws;
 mod parts;
+mod scan_steps;
+mod scanner_part;
 mod shape;
 
 pub use core_state::CoreState;

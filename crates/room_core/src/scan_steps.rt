@@ -1,0 +1,61 @@
+ghost use Rattle.std.specs.Prelude.{◌≡◌, ◌↔◌, IsTrue};
+ghost use Rattle.std.specs.Bool.{OnFalse, OnTrue};
+ghost use Rattle.room_core.specs.Checks.{CanReadScanner, scanner_reading};
+ghost use Rattle.room_core.specs.Gauges.{IsScanner};
+ghost use Rattle.room_core.specs.Meetings.{CanLearn, IsMet, learning};
+
+use crate::core_state::CoreState;
+use crate::parts::Meeting;
+use crate::shape::Shape;
+
+/// Whether a scanner has this number.
+pub(crate) fn is_scanner(shape: Shape, scanner: u32) -> bool
+    ensures { IsTrue result ↔ IsScanner shape scanner }
+{
+    scanner == 16 || scanner < shape.scanners.saturating_sub(1)
+}
+
+/// Whether the meeting is of this pass.
+fn is_met(meeting: Option<Meeting>, pass: u32) -> bool
+    ensures { IsTrue result ↔ IsMet meeting pass }
+{
+    match meeting {
+        Some(meeting) => meeting.pass == pass,
+        None => false,
+    }
+}
+
+impl CoreState {
+    ghost use Rattle.room_core.specs.Tables.{state_of};
+
+    pub(crate) fn read_by_scanner(&mut self, scanner: u32, gauge: u32) -> bool
+        ensures allowed { IsTrue result ↔ CanReadScanner (state_of self.old) scanner gauge }
+        ensures yes { OnTrue result (state_of self.new ≡ scanner_reading (state_of self.old) scanner gauge) }
+        ensures no { OnFalse result (self.new ≡ self.old) }
+    {
+        if !is_scanner(self.shape, scanner) || gauge >= self.shape.gauges {
+            return false;
+        }
+        let value = self.value[gauge as usize];
+        let part = &mut self.scanner[scanner as usize];
+        part.reads(gauge, value);
+        true
+    }
+
+    pub(crate) fn learn(&mut self, scanner: u32, pass: u32, at: u32) -> bool
+        ensures allowed { IsTrue result ↔ CanLearn (state_of self.old) scanner pass at }
+        ensures yes { OnTrue result (state_of self.new ≡ learning (state_of self.old) scanner pass at) }
+        ensures no { OnFalse result (self.new ≡ self.old) }
+    {
+        if !is_scanner(self.shape, scanner) || pass >= self.shape.passes || at >= 195 {
+            return false;
+        }
+        if !is_met(self.scanner[scanner as usize].meeting, pass) {
+            return false;
+        }
+        let word = self.description[pass as usize][at as usize];
+        let part = &mut self.scanner[scanner as usize];
+        part.learns(at, word);
+        true
+    }
+}
