@@ -72,5 +72,5 @@ pub mod Quiets
 pub mod Once
 -- a write in a list
 pub mod Views
--- a scanner's place
+-- places in the tables of the scanners and the descriptions
 pub mod ScanPlaces

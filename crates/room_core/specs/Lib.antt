@@ -34,10 +34,12 @@ pub mod Start
 pub mod Run
 -- the sizes of a caller's tables
 pub mod CallerSize
--- the sizes of a scanner's tables
-pub mod ScannerSize
 -- the part that a caller's tables show
 pub mod CallerTables
+-- the sizes of a scanner's tables
+pub mod ScannerSize
+-- the part that a scanner's tables show
+pub mod ScannerTables
 -- the sizes of the code's tables
 pub mod Sizes
 -- the state that the code's tables show

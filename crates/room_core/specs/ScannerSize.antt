@@ -9,7 +9,7 @@ use Rattle.room_core.specs.declared.parts.Duty.{Duty}
 pub record ScannerIsSized (shape : Shape) (began : Vec ℕ Global) (listing : Vec (Vec (Option Entry) Global) Global) (duties : Vec (Option Duty) Global) (learned readings : Vec (Option ℕ) Global) : Type 0 where
   pub began_size : length began.items ≡ shape.gauges
   pub listing_size : length listing.items ≡ shape.gauges
-  pub row_size : All (λ row. length row.items ≡ shape.passes) listing.items
+  pub listing_rows : All (λ row. length row.items ≡ shape.passes) listing.items
   pub duties_size : length duties.items ≡ shape.passes
   pub learned_size : length learned.items ≡ 195
   pub readings_size : length readings.items ≡ shape.gauges

@@ -10,6 +10,7 @@ mod greater;
 pub mod laws;
 mod parts;
 mod scan_steps;
+mod scanner_acts;
 mod scanner_part;
 mod shape;
 
