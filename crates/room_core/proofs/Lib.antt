@@ -74,3 +74,5 @@ pub mod Once
 pub mod Views
 -- places in the tables of the scanners and the descriptions
 pub mod ScanPlaces
+-- dead entries, dropped row by row
+pub mod DeadEntries

@@ -8,6 +8,7 @@ mod core_state;
 mod event;
 mod greater;
 pub mod laws;
+mod listing;
 mod parts;
 mod scan_steps;
 mod scanner_acts;

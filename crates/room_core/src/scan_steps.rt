@@ -2,7 +2,7 @@ ghost use Rattle.std.specs.Prelude.{◌≡◌, ◌↔◌, IsTrue};
 ghost use Rattle.std.specs.Bool.{OnFalse, OnTrue};
 ghost use Rattle.room_core.specs.Checks.{CanReadScanner, scanner_reading};
 ghost use Rattle.room_core.specs.Gauges.{IsScanner};
-ghost use Rattle.room_core.specs.Meetings.{CanLearn, IsMet, learning};
+ghost use Rattle.room_core.specs.Meetings.{CanLearn, CanMeet, IsMet, learning, scanner_meeting};
 
 use crate::core_state::CoreState;
 use crate::parts::Meeting;
@@ -56,6 +56,20 @@ impl CoreState {
         let word = self.description[pass as usize][at as usize];
         let part = &mut self.scanner[scanner as usize];
         part.learns(at, word);
+        true
+    }
+
+    pub(crate) fn meet(&mut self, scanner: u32, pass: u32) -> bool
+        ensures allowed { IsTrue result ↔ CanMeet (state_of self.old) scanner pass }
+        ensures yes { OnTrue result (state_of self.new ≡ scanner_meeting (state_of self.old) scanner pass) }
+        ensures no { OnFalse result (self.new ≡ self.old) }
+    {
+        if !is_scanner(self.shape, scanner) || pass >= self.shape.passes {
+            return false;
+        }
+        let session = self.session[pass as usize];
+        let part = &mut self.scanner[scanner as usize];
+        part.meets(pass, session);
         true
     }
 }

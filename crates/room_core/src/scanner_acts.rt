@@ -1,7 +1,9 @@
 ghost use Rattle.std.specs.Prelude.{◌≡◌, ◌<◌};
 ghost use Rattle.room_core.specs.Checks.{scanner_reads};
-ghost use Rattle.room_core.specs.Meetings.{scanner_learns};
+ghost use Rattle.room_core.specs.Meetings.{scanner_learns, scanner_meets};
 
+use crate::listing::{drop_dead, forget, meeting_with, still_due};
+use crate::parts::Session;
 use crate::scanner_part::ScannerPart;
 
 impl ScannerPart {
@@ -23,5 +25,18 @@ impl ScannerPart {
         ensures shape { self.new.shape ≡ self.old.shape }
     {
         self.learned[at as usize] = Some(word);
+    }
+
+    pub(crate) fn meets(&mut self, pass: u32, session: Session)
+        requires { pass < self.old.shape.passes }
+        ensures part { scanner_of self.new ≡ scanner_meets (scanner_of self.old) pass session }
+        ensures shape { self.new.shape ≡ self.old.shape }
+    {
+        self.meeting = meeting_with(session, pass);
+        forget(&mut self.learned);
+        forget(&mut self.readings);
+        drop_dead(&mut self.listing, self.shape, pass, session);
+        let duty = still_due(session, self.duties[pass as usize]);
+        self.duties[pass as usize] = duty;
     }
 }
