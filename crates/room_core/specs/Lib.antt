@@ -40,6 +40,8 @@ pub mod CallerTables
 pub mod ScannerSize
 -- the part that a scanner's tables show
 pub mod ScannerTables
+-- the sizes of the tables of a pass's words
+pub mod WordSizes
 -- the sizes of the code's tables
 pub mod Sizes
 -- the state that the code's tables show

@@ -1,7 +1,9 @@
 ghost use Rattle.std.specs.Prelude.{◌≡◌, ◌↔◌, IsTrue};
 ghost use Rattle.std.specs.Bool.{OnFalse, OnTrue};
+ghost use Rattle.room_core.specs.Gauges.{IsShape};
 ghost use Rattle.room_core.specs.Scans.{CanAsk, CanHush, CanRelieve, CanStore, asking, hushing, relieving, source_hushes, storing};
 ghost use Rattle.room_core.specs.Sizes.{AreSized};
+ghost use Rattle.room_core.specs.WordSizes.{WordsAreSized};
 
 use crate::caller_part::CallerPart;
 use crate::greater::greater;
@@ -23,7 +25,9 @@ pub struct CoreState {
     pub(crate) source: Vec<Source>,
     pub(crate) caller: Vec<CallerPart>,
     pub(crate) scanner: Vec<ScannerPart>,
-    ghost sized: { AreSized shape value asked begun session description marks source caller scanner },
+    ghost sized: { AreSized shape value asked begun source caller scanner },
+    ghost words: { WordsAreSized shape session description marks },
+    ghost shaped: { IsShape shape },
 }
 
 /// What a source knows once it has seen what is asked.

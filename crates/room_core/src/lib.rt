@@ -6,6 +6,7 @@
 mod caller_part;
 mod core_state;
 mod event;
+mod gauges;
 mod greater;
 pub mod laws;
 mod listing;

@@ -1,19 +1,11 @@
 ghost use Rattle.std.specs.Prelude.{◌≡◌, ◌↔◌, IsTrue};
 ghost use Rattle.std.specs.Bool.{OnFalse, OnTrue};
 ghost use Rattle.room_core.specs.Checks.{CanReadScanner, scanner_reading};
-ghost use Rattle.room_core.specs.Gauges.{IsScanner};
 ghost use Rattle.room_core.specs.Meetings.{CanLearn, CanMeet, IsMet, learning, scanner_meeting};
 
 use crate::core_state::CoreState;
+use crate::gauges::is_scanner;
 use crate::parts::Meeting;
-use crate::shape::Shape;
-
-/// Whether a scanner has this number.
-pub(crate) fn is_scanner(shape: Shape, scanner: u32) -> bool
-    ensures { IsTrue result ↔ IsScanner shape scanner }
-{
-    scanner == 16 || scanner < shape.scanners.saturating_sub(1)
-}
 
 /// Whether the meeting is of this pass.
 fn is_met(meeting: Option<Meeting>, pass: u32) -> bool

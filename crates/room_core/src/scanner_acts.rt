@@ -1,9 +1,14 @@
-ghost use Rattle.std.specs.Prelude.{◌≡◌, ◌<◌};
+ghost use Rattle.std.specs.Prelude.{◌≡◌, ◌≤◌, ◌↔◌, ◌<◌, ◌⊎◌, IsTrue, Some};
 ghost use Rattle.room_core.specs.Checks.{scanner_reads};
-ghost use Rattle.room_core.specs.Meetings.{scanner_learns, scanner_meets};
+ghost use Rattle.room_core.specs.Description.{marked_gauge};
+ghost use Rattle.room_core.specs.Gauges.{IsShape};
+ghost use Rattle.room_core.specs.Meetings.{IsLearned, MayMarkClock, MayMarkNeed, entry_for, generation_met, scanner_learns, scanner_meets, words_of};
+ghost use Rattle.room_core.specs.Put.{put};
+ghost use Rattle.room_core.specs.State.{Scanner};
 
 use crate::listing::{drop_dead, forget, meeting_with, still_due};
-use crate::parts::Session;
+use crate::gauges::{clock, is_gauge_of};
+use crate::parts::{Entry, Session};
 use crate::scanner_part::ScannerPart;
 
 impl ScannerPart {
@@ -38,5 +43,57 @@ impl ScannerPart {
         drop_dead(&mut self.listing, self.shape, pass, session);
         let duty = still_due(session, self.duties[pass as usize]);
         self.duties[pass as usize] = duty;
+    }
+
+    /// The generation met, 0 without a meeting.
+    pub(crate) fn generation(&self) -> u32
+        ensures { result ≡ generation_met (scanner_of self.now).meeting }
+    {
+        match self.meeting {
+            Some(meeting) => meeting.generation,
+            None => 0,
+        }
+    }
+
+    fn has_learned(&self, at: u32) -> bool
+        requires { at < 195 }
+        ensures { IsTrue result ↔ IsLearned (scanner_of self.now) at }
+    {
+        self.learned[at as usize].is_some()
+    }
+
+    /// A word of the description, 0 where it wasn't learned.
+    pub(crate) fn word(&self, at: u32) -> u64
+        requires { at < 195 }
+        ensures { result ≡ words_of (scanner_of self.now) at }
+    {
+        self.learned[at as usize].unwrap_or(0)
+    }
+
+    fn may_mark_need(&self, scanner: u32, at: u32) -> bool
+        requires { IsShape self.now.shape }
+        ensures { IsTrue result ↔ MayMarkNeed self.now.shape scanner (scanner_of self.now) at }
+    {
+        if at >= 64 {
+            return false;
+        }
+        let gauge = self.word(3 + 3 * at);
+        self.has_learned(2)
+            && u64::from(at) < self.word(2)
+            && self.has_learned(3 + 3 * at)
+            && is_gauge_of(self.shape, scanner, gauge)
+            && gauge != u64::from(clock(self.shape))
+    }
+
+    /// Whether the scanner of this number may list the operation that it has met for a mark.
+    pub(crate) fn may_mark(&self, scanner: u32, at: u32) -> bool
+        requires { IsShape self.now.shape }
+        ensures { IsTrue result ↔ (MayMarkNeed self.now.shape scanner (scanner_of self.now) at ⊎ MayMarkClock scanner (scanner_of self.now) at) }
+    {
+        if at == 64 {
+            scanner == 16 && self.has_learned(1)
+        } else {
+            self.may_mark_need(scanner, at)
+        }
     }
 }

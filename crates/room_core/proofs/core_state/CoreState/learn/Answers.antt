@@ -11,9 +11,9 @@ pub returns-clause-yes : goal.returns-clause-yes
 returns-clause-yes c =
     let old = c.args.self.now in
     let k = c.args.scanner in
-    let l : k < length old.scanner.items = scanner_place old.shape k _ (c.is_scanner.ensures.0 (search (rules, c.if-not-is_scanner.false))) old.sized.few_scanners old.sized.scanner_size in
-    let m : c.args.pass < length old.description.items = omega (arith, old.sized.description_size) in
-    let size = row_length old.description.items 195 c.args.pass c.index-2.result.now old.sized.words_size m c.index-2.ensures in
+    let l : k < length old.scanner.items = scanner_place old.shape k _ (c.is_scanner.ensures.0 (search (rules, c.if-not-is_scanner.false))) old.shaped.few_scanners old.sized.scanner_size in
+    let m : c.args.pass < length old.description.items = omega (arith, old.words.description_size) in
+    let size = row_length old.description.items 195 c.args.pass c.index-2.result.now old.words.description_rows m c.index-2.ensures in
     let w : c.args.at < length c.index-2.result.now.items = omega (arith, size) in
     let word : c.index-word.result.now ≡ row (slice_get old.description.items c.args.pass) 0 c.args.at =
       cell old.description.items c.args.pass c.args.at c.index-2.result.now c.index-word.result.now 0 m c.index-2.ensures w c.index-word.ensures in
