@@ -1,7 +1,7 @@
 ghost use Rattle.std.specs.Prelude.{◌≡◌, ◌↔◌, IsTrue};
 ghost use Rattle.std.specs.Bool.{OnFalse, OnTrue};
 ghost use Rattle.room_core.specs.Checks.{CanReadScanner, scanner_reading};
-ghost use Rattle.room_core.specs.Meetings.{CanLearn, CanMeet, IsMet, learning, scanner_meeting};
+ghost use Rattle.room_core.specs.Meetings.{CanLearn, CanMark, CanMeet, IsMet, learning, marking, scanner_meeting};
 
 use crate::core_state::CoreState;
 use crate::gauges::is_scanner;
@@ -62,6 +62,26 @@ impl CoreState {
         let session = self.session[pass as usize];
         let part = &mut self.scanner[scanner as usize];
         part.meets(pass, session);
+        true
+    }
+
+    pub(crate) fn mark(&mut self, scanner: u32, pass: u32, at: u32) -> bool
+        ensures allowed { IsTrue result ↔ CanMark (state_of self.old) scanner pass at }
+        ensures yes { OnTrue result (state_of self.new ≡ marking (state_of self.old) scanner pass at) }
+        ensures no { OnFalse result (self.new ≡ self.old) }
+    {
+        if !is_scanner(self.shape, scanner) || pass >= self.shape.passes {
+            return false;
+        }
+        let part = &self.scanner[scanner as usize];
+        if !is_met(part.meeting, pass) || !part.may_mark(scanner, at) {
+            return false;
+        }
+        let generation = part.generation();
+        let marks = &mut self.marks[pass as usize];
+        marks[at as usize] = generation;
+        let part = &mut self.scanner[scanner as usize];
+        part.marks(pass, at);
         true
     }
 }

@@ -2,7 +2,7 @@ ghost use Rattle.std.specs.Prelude.{◌≡◌, ◌≤◌, ◌↔◌, ◌<◌, �
 ghost use Rattle.room_core.specs.Checks.{scanner_reads};
 ghost use Rattle.room_core.specs.Description.{marked_gauge};
 ghost use Rattle.room_core.specs.Gauges.{IsShape};
-ghost use Rattle.room_core.specs.Meetings.{IsLearned, MayMarkClock, MayMarkNeed, entry_for, generation_met, scanner_learns, scanner_meets, words_of};
+ghost use Rattle.room_core.specs.Meetings.{IsLearned, MayMarkClock, MayMarkNeed, entry_for, generation_met, scanner_learns, scanner_marks, scanner_meets, words_of};
 ghost use Rattle.room_core.specs.Put.{put};
 ghost use Rattle.room_core.specs.State.{Scanner};
 
@@ -95,5 +95,52 @@ impl ScannerPart {
         } else {
             self.may_mark_need(scanner, at)
         }
+    }
+
+    /// The gauge under which the operation that was met is listed for a mark.
+    #[tactic(auto, unfolding(crate::specs::Description::marked_gauge))]
+    fn gauge_marked(&self, at: u32) -> u64
+        requires at_in { at ≤ 64 }
+        requires shape { IsShape self.now.shape }
+        ensures { result ≡ marked_gauge self.now.shape (words_of (scanner_of self.now)) at }
+    {
+        if at == 64 {
+            u64::from(clock(self.shape))
+        } else {
+            self.word(3 + 3 * at)
+        }
+    }
+
+    /// The entry of a mark.
+    fn entry(&self, at: u32) -> Entry
+        ensures { result ≡ entry_for (scanner_of self.now) at }
+    {
+        Entry {
+            generation: self.generation(),
+            deadline: if at == 64 { self.word(1) } else { 0 },
+        }
+    }
+
+    fn lists(&mut self, gauge: u64, pass: u32, entry: Option<Entry>)
+        requires gauge_in { gauge < self.old.shape.gauges }
+        requires pass_in { pass < self.old.shape.passes }
+        ensures part { scanner_of self.new ≡ record (scanner_of self.old) { listing = put (scanner_of self.old).listing gauge (put ((scanner_of self.old).listing gauge) pass entry) } }
+        ensures shape { self.new.shape ≡ self.old.shape }
+    {
+        let row = &mut self.listing[gauge as usize];
+        row[pass as usize] = entry;
+    }
+
+    pub(crate) fn marks(&mut self, pass: u32, at: u32)
+        requires pass_in { pass < self.old.shape.passes }
+        requires at_in { at ≤ 64 }
+        requires shape { IsShape self.old.shape }
+        requires gauge_in { marked_gauge self.old.shape (words_of (scanner_of self.old)) at < self.old.shape.gauges }
+        ensures part { scanner_of self.new ≡ scanner_marks self.old.shape (scanner_of self.old) pass at }
+        ensures shape { self.new.shape ≡ self.old.shape }
+    {
+        let gauge = self.gauge_marked(at);
+        let entry = self.entry(at);
+        self.lists(gauge, pass, Some(entry));
     }
 }
