@@ -13,6 +13,7 @@ mod listing;
 mod parts;
 mod scan_steps;
 mod scanner_acts;
+mod scanner_checks;
 mod scanner_part;
 mod shape;
 

@@ -1,6 +1,6 @@
-ghost use Rattle.std.specs.Prelude.{◌≡◌, ◌<◌, ℕ, All, None, length, slice_get};
+ghost use Rattle.std.specs.Prelude.{◌≡◌, ◌<◌, ◌↔◌, ℕ, All, IsTrue, None, length, slice_get};
 ghost use Rattle.room_core.specs.CallerTables.{table};
-ghost use Rattle.room_core.specs.Meetings.{is_live, live_duty, live_entry, met};
+ghost use Rattle.room_core.specs.Meetings.{IsMet, is_live, live_duty, live_entry, met};
 ghost use Rattle.room_core.specs.Put.{put};
 ghost use Rattle.room_core.specs.Readings.{unread};
 ghost use Rattle.room_core.specs.ScannerTables.{row};
@@ -15,6 +15,16 @@ pub(crate) fn shows_open(session: Session, generation: u32) -> bool
     match session.phase {
         Phase::Open => session.generation == generation,
         Phase::Idle | Phase::Won { .. } => false,
+    }
+}
+
+/// Whether the meeting is of this pass.
+pub(crate) fn is_met(meeting: Option<Meeting>, pass: u32) -> bool
+    ensures { IsTrue result ↔ IsMet meeting pass }
+{
+    match meeting {
+        Some(meeting) => meeting.pass == pass,
+        None => false,
     }
 }
 

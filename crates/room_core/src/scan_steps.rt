@@ -1,21 +1,11 @@
 ghost use Rattle.std.specs.Prelude.{◌≡◌, ◌↔◌, IsTrue};
 ghost use Rattle.std.specs.Bool.{OnFalse, OnTrue};
 ghost use Rattle.room_core.specs.Checks.{CanReadScanner, scanner_reading};
-ghost use Rattle.room_core.specs.Meetings.{CanLearn, CanMark, CanMeet, IsMet, learning, marking, scanner_meeting};
+ghost use Rattle.room_core.specs.Meetings.{CanLearn, CanMark, CanMeet, learning, marking, scanner_meeting};
 
 use crate::core_state::CoreState;
 use crate::gauges::is_scanner;
-use crate::parts::Meeting;
-
-/// Whether the meeting is of this pass.
-fn is_met(meeting: Option<Meeting>, pass: u32) -> bool
-    ensures { IsTrue result ↔ IsMet meeting pass }
-{
-    match meeting {
-        Some(meeting) => meeting.pass == pass,
-        None => false,
-    }
-}
+use crate::listing::is_met;
 
 impl CoreState {
     ghost use Rattle.room_core.specs.Tables.{state_of};

@@ -55,7 +55,7 @@ impl ScannerPart {
         }
     }
 
-    fn has_learned(&self, at: u32) -> bool
+    pub(crate) fn has_learned(&self, at: u32) -> bool
         requires { at < 195 }
         ensures { IsTrue result ↔ IsLearned (scanner_of self.now) at }
     {
