@@ -33,13 +33,13 @@ pub dropped_more : (session : Session) (pass i : ℕ) (old new : List (Vec (Opti
 dropped_more session pass i old new was x so l e row_kept =
     let there : Some was ≡ slice_get old i = sym (here_at new i was l e) ∙ so.rest i (omega arith) in
     let at_i : (j : ℕ) → row (slice_get (set new i x) i) None j ≡ kept session pass (slice_get old i) j =
-      λ j. ap (λ o. row o None j) (got_set new i x l) ∙ ap (λ (f : ℕ → Option Entry). f j) row_kept ∙ ap (λ o. kept session pass o j) there in
+    λ j. ap (λ o. row o None j) (got_set new i x l) ∙ ap (λ (f : ℕ → Option Entry). f j) row_kept ∙ ap (λ o. kept session pass o j) there in
     record {
       done = λ g j m.
-        ⊎_elim
-        (λ (same : g ≡ i). subst (λ k. row (slice_get (set new i x) k) None j ≡ kept session pass (slice_get old k) j) (sym same) (at_i j))
-        (λ (n : g ≢ i). ap (λ o. row o None j) (got_other new i g x n) ∙ so.done g j (omega (arith, m, n)))
-        (cases_eq g i);
+          ⊎_elim
+          (λ (same : g ≡ i). subst (λ k. row (slice_get (set new i x) k) None j ≡ kept session pass (slice_get old k) j) (sym same) (at_i j))
+          (λ (n : g ≢ i). ap (λ o. row o None j) (got_other new i g x n) ∙ so.done g j (omega (arith, m, n)))
+          (cases_eq g i);
       rest = λ g m. got_other new i g x (omega (arith, m)) ∙ so.rest g (omega (arith, m));
     }
 

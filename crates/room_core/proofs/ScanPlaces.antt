@@ -1,5 +1,5 @@
 -- Places in the tables of the scanners and of the descriptions.
-use Rattle.std.proofs.Common.{⊎_elim, ◌≡◌, ◌<◌, ◌≤◌, ◌⊎◌, ℕ, ◌-◌, ◌==◌, cond, true, false, arith, List, Vec, All, length, get_or, set, sym, subst, ap, ◌∙◌, Some}
+use Rattle.std.proofs.Common.{⊎_elim, ◌≡◌, ◌≢◌, ◌<◌, ◌≤◌, ◌⊎◌, ℕ, ◌-◌, ◌==◌, cond, true, false, arith, List, Vec, All, length, get_or, set, sym, subst, ap, ◌∙◌, Some}
 use Rattle.std.specs.Prelude.{slice_get}
 use Rattle.std.specs.declared.alloc.Global.{Global}
 use Rattle.std.proofs.lemmas.List.{get_or_default}
@@ -8,6 +8,7 @@ use Rattle.std.proofs.lemmas.Option.{slice_get-get_or}
 use Rattle.room_core.specs.declared.shape.Shape.{Shape}
 use Rattle.std.proofs.lemmas.Bool.{eq-eqb, ne_eqb}
 use Rattle.room_core.specs.CallerTables.{table}
+use Rattle.room_core.specs.Checks.{AreRead, IsOnCheck, IsRead}
 use Rattle.room_core.specs.Description.{gauge_of, marked_gauge}
 use Rattle.room_core.specs.Gauges.{IsScanner, IsShape, clock_of}
 use Rattle.room_core.specs.Meetings.{MayMarkNeed, MayMarkClock, words_of}
@@ -66,3 +67,7 @@ same_at xs i x y l e f = e ∙ get_or_default xs i x y l ∙ sym f
 
 abbrev pub MayMark : Shape → ℕ → Scanner → ℕ → Type 0
 MayMark shape k scanner at = MayMarkNeed shape k scanner at ⊎ MayMarkClock k scanner at
+
+abbrev pub MayLeave : Shape → ℕ → Scanner → ℕ → ℕ → Type 0
+MayLeave shape k scanner pass gauge =
+    IsOnCheck scanner pass × (k ≢ 16 → AreRead scanner.readings gauge (words_of scanner)) × (k ≡ 16 → IsRead scanner.readings gauge (clock_of shape))

@@ -94,7 +94,12 @@ fn drop_dead_entry(row: &mut Vec<Option<Entry>>, pass: u32, session: Session)
 }
 
 /// Drops each entry of a pass at a generation that its word shows not open.
-pub(crate) fn drop_dead(listing: &mut Vec<Vec<Option<Entry>>>, shape: Shape, pass: u32, session: Session)
+pub(crate) fn drop_dead(
+    listing: &mut Vec<Vec<Option<Entry>>>,
+    shape: Shape,
+    pass: u32,
+    session: Session,
+)
     requires pass_in { pass < shape.passes }
     requires rows { All (λ row. length row.items ≡ shape.passes) listing.old.items }
     ensures size { length listing.new.items ≡ length listing.old.items }

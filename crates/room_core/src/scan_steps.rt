@@ -1,6 +1,6 @@
 ghost use Rattle.std.specs.Prelude.{◌≡◌, ◌↔◌, IsTrue};
 ghost use Rattle.std.specs.Bool.{OnFalse, OnTrue};
-ghost use Rattle.room_core.specs.Checks.{CanReadScanner, scanner_reading};
+ghost use Rattle.room_core.specs.Checks.{CanLeaveScanner, CanReadScanner, scanner_leaving, scanner_reading};
 ghost use Rattle.room_core.specs.Meetings.{CanLearn, CanMark, CanMeet, learning, marking, scanner_meeting};
 
 use crate::core_state::CoreState;
@@ -72,6 +72,27 @@ impl CoreState {
         marks[at as usize] = generation;
         let part = &mut self.scanner[scanner as usize];
         part.marks(pass, at);
+        true
+    }
+
+    pub(crate) fn leave_by_scanner(&mut self, scanner: u32, pass: u32, gauge: u32) -> bool
+        ensures allowed { IsTrue result ↔ CanLeaveScanner (state_of self.old) scanner pass gauge }
+        ensures yes { OnTrue result (state_of self.new ≡ scanner_leaving (state_of self.old) scanner pass gauge) }
+        ensures no { OnFalse result (self.new ≡ self.old) }
+    {
+        if !is_scanner(self.shape, scanner)
+            || pass >= self.shape.passes
+            || gauge >= self.shape.gauges
+        {
+            return false;
+        }
+        let part = &self.scanner[scanner as usize];
+        if !part.may_leave(scanner, pass, gauge) {
+            return false;
+        }
+        let value = self.value[gauge as usize];
+        let part = &mut self.scanner[scanner as usize];
+        part.leaves(scanner, pass, gauge, value);
         true
     }
 }

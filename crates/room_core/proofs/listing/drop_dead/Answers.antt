@@ -17,12 +17,13 @@ loop-gauge-preserved c =
     let inv = c.loop-gauge.invariant in
     let l : c.loop-gauge.gauge < length c.loop-gauge.listing.items = omega (arith, inv.0, inv.1, c.loop-gauge-test.true) in
     let n = row_length c.loop-gauge.listing.items c.args.shape.passes c.loop-gauge.gauge c.index_mut-row.result.now inv.3 l c.index_mut-row.ensures.value in
-    let more = dropped_more c.args.session c.args.pass c.loop-gauge.gauge c.args.listing.now.items c.loop-gauge.listing.items c.index_mut-row.result.now c.drop_dead_entry.new.row inv.4 l c.index_mut-row.ensures.value c.drop_dead_entry.ensures.kept in
-    (length-set c.loop-gauge.listing.items c.loop-gauge.gauge c.drop_dead_entry.new.row ∙ inv.0,
-    inv.1,
-    refl,
-    All-set (λ row. length row.items ≡ c.args.shape.passes) c.loop-gauge.listing.items c.loop-gauge.gauge c.drop_dead_entry.new.row (c.drop_dead_entry.ensures.size ∙ n) inv.3,
-    more)
+    let more = dropped_more c.args.session c.args.pass c.loop-gauge.gauge c.args.listing.now.items c.loop-gauge.listing.items c.index_mut-row.result.now c.drop_dead_entry.new.row inv.4 l c.index_mut-row.ensures.value c.drop_dead_entry.ensures.kept in (
+      length-set c.loop-gauge.listing.items c.loop-gauge.gauge c.drop_dead_entry.new.row ∙ inv.0,
+      inv.1,
+      refl,
+      All-set (λ row. length row.items ≡ c.args.shape.passes) c.loop-gauge.listing.items c.loop-gauge.gauge c.drop_dead_entry.new.row (c.drop_dead_entry.ensures.size ∙ n) inv.3,
+      more,
+    )
 
 pub returns-clause-kept : goal.returns-clause-kept
 returns-clause-kept c =

@@ -16,7 +16,7 @@ returns-clause-yes c =
     let source : c.index.result.now ≡ get_or c.args.self.now.source.items c.args.gauge none = c.index.ensures ∙ get_or_default c.args.self.now.source.items c.args.gauge _ none l in
     let asked : c.index-2.result.now ≡ get_or c.args.self.now.asked.items c.args.gauge 0 = c.index-2.ensures ∙ get_or_default c.args.self.now.asked.items c.args.gauge _ 0 m in
     let new : c.hushed-source.result ≡ source_hushes (get_or c.args.self.now.source.items c.args.gauge none) (get_or c.args.self.now.asked.items c.args.gauge 0) =
-      c.hushed-source.ensures ∙ ap (λ x. source_hushes x c.index-2.result.now) source ∙ ap (source_hushes (get_or c.args.self.now.source.items c.args.gauge none)) asked in
+    c.hushed-source.ensures ∙ ap (λ x. source_hushes x c.index-2.result.now) source ∙ ap (source_hushes (get_or c.args.self.now.source.items c.args.gauge none)) asked in
     λ d. record (state_of c.args.self.now) {
       source = (table_set c.args.self.now.source.items c.args.gauge c.hushed-source.result none l ∙ put_as (λ i. get_or c.args.self.now.source.items i none) c.args.gauge _ _ new) d;
     }

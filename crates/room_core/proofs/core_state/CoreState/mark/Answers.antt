@@ -32,7 +32,7 @@ returns-clause-allowed c =
     let here = here_at old.scanner.items k part l c.index-part.ensures in
     let met : IsMet (scanner_at (slice_get old.scanner.items k)).meeting c.args.pass = subst (λ o. IsMet (scanner_at o).meeting c.args.pass) (sym here) (c.is_met.ensures.0 (search (rules, c.if-not-is_met.false))) in
     let may : MayMark old.shape k (scanner_at (slice_get old.scanner.items k)) c.args.at =
-      subst (λ o. MayMark old.shape k (scanner_at o) c.args.at) (sym here) (subst (λ s. MayMark s k (scanner_of part) c.args.at) shape (c.may_mark.ensures.0 (search (rules, c.if-not-may_mark.false)))) in
+    subst (λ o. MayMark old.shape k (scanner_at o) c.args.at) (sym here) (subst (λ s. MayMark s k (scanner_of part) c.args.at) shape (c.may_mark.ensures.0 (search (rules, c.if-not-may_mark.false)))) in
     (λ t. (is, omega (arith, c.if-pass-self.false), met, may), λ t. search rules)
 
 pub returns-clause-yes : goal.returns-clause-yes
@@ -51,13 +51,13 @@ returns-clause-yes c =
     let size = row_length old.marks.items 65 c.args.pass was old.words.marks_rows m c.index_mut-marks.ensures.value in
     let w : c.args.at < length was.items = omega (arith, size, at_most) in
     let generation : c.generation-generation.result ≡ generation_met (scanner_at (slice_get old.scanner.items k)).meeting =
-      c.generation-generation.ensures ∙ ap (λ o. generation_met (scanner_at o).meeting) (sym here) in
+    c.generation-generation.ensures ∙ ap (λ o. generation_met (scanner_at o).meeting) (sym here) in
     let new : scanner_of c.marks.new.self ≡ scanner_marks old.shape (scanner_at (slice_get old.scanner.items k)) c.args.pass c.args.at =
-      c.marks.ensures.part ∙ ap (λ p. scanner_marks p.shape (scanner_of p) c.args.pass c.args.at) (sym same)
-      ∙ ap (λ s. scanner_marks s (scanner_of part) c.args.pass c.args.at) shape
-      ∙ ap (λ o. scanner_marks old.shape (scanner_at o) c.args.pass c.args.at) (sym here) in
+    c.marks.ensures.part ∙ ap (λ p. scanner_marks p.shape (scanner_of p) c.args.pass c.args.at) (sym same)
+    ∙ ap (λ s. scanner_marks s (scanner_of part) c.args.pass c.args.at) shape
+    ∙ ap (λ o. scanner_marks old.shape (scanner_at o) c.args.pass c.args.at) (sym here) in
     λ d. record (state_of old) {
       marks = (cell_set old.marks.items c.args.pass c.args.at was (with_item was c.args.at c.generation-generation.result) c.generation-generation.result 0 m c.index_mut-marks.ensures.value w refl
-      ∙ ap (λ v. put (λ q. row (slice_get old.marks.items q) 0) c.args.pass (put (row (slice_get old.marks.items c.args.pass) 0) c.args.at v)) generation) d;
+          ∙ ap (λ v. put (λ q. row (slice_get old.marks.items q) 0) c.args.pass (put (row (slice_get old.marks.items c.args.pass) 0) c.args.at v)) generation) d;
       scanner = (part_set scanner_at old.scanner.items k c.marks.new.self l ∙ put_as (λ q. scanner_at (slice_get old.scanner.items q)) k _ _ new) d;
     }

@@ -22,8 +22,8 @@ returns-clause-yes c =
     let session : c.index-session.result.now ≡ get_or old.session.items c.args.pass none = c.index-session.ensures ∙ get_or_default old.session.items c.args.pass _ none m in
     let here = here_at old.scanner.items k c.index_mut-part.result.now l c.index_mut-part.ensures.value in
     let new : scanner_of c.meets.new.self ≡ scanner_meets (scanner_at (slice_get old.scanner.items k)) c.args.pass (get_or old.session.items c.args.pass none) =
-      c.meets.ensures.part ∙ ap (λ x. scanner_meets (scanner_of c.index_mut-part.result.now) c.args.pass x) session
-      ∙ ap (λ o. scanner_meets (scanner_at o) c.args.pass (get_or old.session.items c.args.pass none)) (sym here) in
+    c.meets.ensures.part ∙ ap (λ x. scanner_meets (scanner_of c.index_mut-part.result.now) c.args.pass x) session
+    ∙ ap (λ o. scanner_meets (scanner_at o) c.args.pass (get_or old.session.items c.args.pass none)) (sym here) in
     λ d. record (state_of old) {
       scanner = (part_set scanner_at old.scanner.items k c.meets.new.self l ∙ put_as (λ q. scanner_at (slice_get old.scanner.items q)) k _ _ new) d;
     }

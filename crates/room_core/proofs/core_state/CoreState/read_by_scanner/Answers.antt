@@ -15,10 +15,10 @@ returns-clause-yes c =
     let m : c.args.gauge < length c.args.self.now.value.items = omega (arith, c.args.self.now.sized.value_size) in
     let value : c.index-value.result.now ≡ get_or c.args.self.now.value.items c.args.gauge 0 = c.index-value.ensures ∙ get_or_default c.args.self.now.value.items c.args.gauge _ 0 m in
     let here : slice_get c.args.self.now.scanner.items c.args.scanner ≡ Some c.index_mut-part.result.now =
-      slice_get-get_or c.args.self.now.scanner.items c.args.scanner c.index_mut-part.result.now l ∙ ap Some (sym c.index_mut-part.ensures.value) in
+    slice_get-get_or c.args.self.now.scanner.items c.args.scanner c.index_mut-part.result.now l ∙ ap Some (sym c.index_mut-part.ensures.value) in
     let new : scanner_of c.reads.new.self ≡ scanner_reads (scanner_at (slice_get c.args.self.now.scanner.items c.args.scanner)) c.args.gauge (get_or c.args.self.now.value.items c.args.gauge 0) =
-      c.reads.ensures.part ∙ ap (λ x. scanner_reads (scanner_of c.index_mut-part.result.now) c.args.gauge x) value
-      ∙ ap (λ o. scanner_reads (scanner_at o) c.args.gauge (get_or c.args.self.now.value.items c.args.gauge 0)) (sym here) in
+    c.reads.ensures.part ∙ ap (λ x. scanner_reads (scanner_of c.index_mut-part.result.now) c.args.gauge x) value
+    ∙ ap (λ o. scanner_reads (scanner_at o) c.args.gauge (get_or c.args.self.now.value.items c.args.gauge 0)) (sym here) in
     λ d. record (state_of c.args.self.now) {
       scanner = (part_set scanner_at c.args.self.now.scanner.items c.args.scanner c.reads.new.self l ∙ put_as (λ q. scanner_at (slice_get c.args.self.now.scanner.items q)) c.args.scanner _ _ new) d;
     }

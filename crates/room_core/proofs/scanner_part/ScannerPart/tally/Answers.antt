@@ -21,6 +21,7 @@ loop-need-init c = (below_none (words_of (scanner_of c.args.self.now)) (read_onl
 
 pub loop-need-preserved : goal.loop-need-preserved
 loop-need-preserved c =
-    let inv = c.loop-need.invariant in
-    (below_more (words_of (scanner_of c.args.self.now)) (read_only (scanner_of c.args.self.now).readings) c.loop-need.need c.loop-need.sum c.from-sum.result inv.0 (c.from-sum.ensures ∙ c.counts.ensures),
-    omega (arith, inv.1, c.from-sum.ensures))
+    let inv = c.loop-need.invariant in (
+      below_more (words_of (scanner_of c.args.self.now)) (read_only (scanner_of c.args.self.now).readings) c.loop-need.need c.loop-need.sum c.from-sum.result inv.0 (c.from-sum.ensures ∙ c.counts.ensures),
+      omega (arith, inv.1, c.from-sum.ensures),
+    )
