@@ -7,6 +7,7 @@ use Rattle.std.proofs.lemmas.Option.{slice_get_past}
 use Rattle.room_core.specs.declared.parts.Entry.{Entry}
 use Rattle.room_core.specs.declared.parts.Session.{Session}
 use Rattle.room_core.specs.CallerTables.{table}
+use Rattle.room_core.specs.Checks.{other_entry}
 use Rattle.room_core.specs.Meetings.{live_entry}
 use Rattle.room_core.specs.Put.{put}
 use Rattle.room_core.specs.ScannerTables.{row}
@@ -66,3 +67,22 @@ dropped_all session pass n old new so l g j =
     let past : slice_get old g ≡ None = slice_get_past old g (omega (arith, l, m)) in
     ap (λ o. row o None j) (so.rest g m ∙ past) ∙ kept_none session pass j ∙ ap (λ o. kept session pass o j) (sym past))
     (cases_lt g n)
+
+-- past the rows nothing is listed, and nothing is dropped
+same_past : (r : Option (Vec (Option Entry) Global)) (p generation : ℕ) → r ≡ None → (j : ℕ) → row r None j ≡ put (row r None) p (other_entry (row r None p) generation) j
+unfolding other_entry
+same_past r p generation e j = subst (λ o. row o None j ≡ put (row o None) p (other_entry (row o None p) generation) j) (sym e) (put_none p j)
+
+past_at : (xs : List (Vec (Option Entry) Global)) (g p generation : ℕ) → length xs ≤ g → (i j : ℕ)
+    → row (slice_get xs i) None j ≡ put (λ k. row (slice_get xs k) None) g (put (row (slice_get xs g) None) p (other_entry (row (slice_get xs g) None p) generation)) i j
+past_at xs g p generation l i j =
+    let new : ℕ → Option Entry = put (row (slice_get xs g) None) p (other_entry (row (slice_get xs g) None p) generation) in
+    ⊎_elim
+    (λ (e : i ≡ g). subst (λ k. row (slice_get xs k) None j ≡ put (λ m. row (slice_get xs m) None) g new k j) (sym e)
+    (same_past (slice_get xs g) p generation (slice_get_past xs g l) j ∙ ap (λ (f : ℕ → Option Entry). f j) (sym (put-same (λ m. row (slice_get xs m) None) g new))))
+    (λ (n : i ≢ g). ap (λ (f : ℕ → Option Entry). f j) (sym (put-other (λ m. row (slice_get xs m) None) g new i n)))
+    (cases_eq i g)
+
+pub listed_past : (xs : List (Vec (Option Entry) Global)) (g p generation : ℕ) → length xs ≤ g
+    → (λ i. row (slice_get xs i) None) ≡ put (λ k. row (slice_get xs k) None) g (put (row (slice_get xs g) None) p (other_entry (row (slice_get xs g) None p) generation))
+listed_past xs g p generation l = λ d i j. past_at xs g p generation l i j d

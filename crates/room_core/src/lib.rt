@@ -15,6 +15,7 @@ mod scan_steps;
 mod scanner_acts;
 mod scanner_checks;
 mod scanner_part;
+mod scanner_wins;
 mod shape;
 
 pub use core_state::CoreState;

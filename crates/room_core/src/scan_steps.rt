@@ -1,11 +1,14 @@
-ghost use Rattle.std.specs.Prelude.{◌≡◌, ◌↔◌, IsTrue};
+ghost use Rattle.std.specs.Prelude.{◌≡◌, ◌↔◌, IfOk, IsTrue, OnErr};
 ghost use Rattle.std.specs.Bool.{OnFalse, OnTrue};
-ghost use Rattle.room_core.specs.Checks.{CanLeaveScanner, CanReadScanner, scanner_leaving, scanner_reading};
+ghost use Rattle.room_core.specs.Checks.{CanLeaveScanner, CanReadScanner, CanWinScanner, scanner_leaving, scanner_reading, scanner_winning};
 ghost use Rattle.room_core.specs.Meetings.{CanLearn, CanMark, CanMeet, learning, marking, scanner_meeting};
 
 use crate::core_state::CoreState;
+use crate::event::How;
 use crate::gauges::is_scanner;
 use crate::listing::is_met;
+use crate::scanner_wins::word_exchanged;
+use kbytes::NoMemory;
 
 impl CoreState {
     ghost use Rattle.room_core.specs.Tables.{state_of};
@@ -94,5 +97,32 @@ impl CoreState {
         let part = &mut self.scanner[scanner as usize];
         part.leaves(scanner, pass, gauge, value);
         true
+    }
+
+    pub(crate) fn win_by_scanner(
+        &mut self,
+        scanner: u32,
+        pass: u32,
+        how: How,
+    ) -> Result<bool, NoMemory>
+        ensures allowed { IfOk result (λ yes. IsTrue yes ↔ CanWinScanner (state_of self.old) scanner pass how) }
+        ensures yes { IfOk result (λ yes. OnTrue yes (state_of self.new ≡ scanner_winning (state_of self.old) scanner pass how)) }
+        ensures no { IfOk result (λ yes. OnFalse yes (self.new ≡ self.old)) }
+        ensures full { OnErr result (state_of self.new ≡ state_of self.old) }
+    {
+        if !is_scanner(self.shape, scanner) || pass >= self.shape.passes {
+            return Ok(false);
+        }
+        let part = &self.scanner[scanner as usize];
+        if !part.may_win(scanner, pass, how) {
+            return Ok(false);
+        }
+        let generation = part.generation();
+        let session = self.session[pass as usize];
+        let word = word_exchanged(session, generation, how, scanner);
+        let part = &mut self.scanner[scanner as usize];
+        part.wins_by(pass, how, session)?;
+        self.session[pass as usize] = word;
+        Ok(true)
     }
 }

@@ -121,7 +121,7 @@ impl ScannerPart {
         }
     }
 
-    fn lists(&mut self, gauge: u64, pass: u32, entry: Option<Entry>)
+    pub(crate) fn lists(&mut self, gauge: u64, pass: u32, entry: Option<Entry>)
         requires gauge_in { gauge < self.old.shape.gauges }
         requires pass_in { pass < self.old.shape.passes }
         ensures part { scanner_of self.new ≡ record (scanner_of self.old) { listing = put (scanner_of self.old).listing gauge (put ((scanner_of self.old).listing gauge) pass entry) } }

@@ -23,7 +23,7 @@ impl ScannerPart {
         }
     }
 
-    fn has_read(&self, gauge: u64) -> bool
+    pub(crate) fn has_read(&self, gauge: u64) -> bool
         ensures { IsTrue result ↔ IsSome ((scanner_of self.now).readings gauge) }
     {
         match self.readings.get(gauge as usize) {
@@ -56,14 +56,14 @@ impl ScannerPart {
         sum
     }
 
-    fn is_satisfied(&self) -> bool
+    pub(crate) fn is_satisfied(&self) -> bool
         requires { needs_of (words_of (scanner_of self.now)) ≤ 64 }
         ensures { result ≡ is_satisfied (words_of (scanner_of self.now)) (scanner_of self.now).readings }
     {
         u128::from(self.word(0)) <= self.tally()
     }
 
-    fn is_overdue(&self) -> bool
+    pub(crate) fn is_overdue(&self) -> bool
         requires { IsShape self.now.shape }
         ensures { result ≡ is_overdue self.now.shape (words_of (scanner_of self.now)) (scanner_of self.now).readings }
     {
@@ -156,7 +156,7 @@ impl ScannerPart {
         self.readings[gauge as usize] = Some(value);
     }
 
-    fn lets_go(&mut self, pass: u32)
+    pub(crate) fn lets_go(&mut self, pass: u32)
         requires { pass < self.old.shape.passes }
         ensures part { scanner_of self.new ≡ scanner_lets_go (scanner_of self.old) pass }
         ensures shape { self.new.shape ≡ self.old.shape }
