@@ -1,22 +1,21 @@
 -- Places in the tables of the scanners and of the descriptions.
-use Rattle.std.proofs.Common.{⊎_elim, ◌≡◌, ◌≢◌, ◌<◌, ◌≤◌, ◌⊎◌, ℕ, ◌-◌, ◌==◌, cond, true, false, arith, List, Vec, All, length, get_or, set, Option, sym, subst, ap, ◌∙◌, Some}
+use Rattle.std.proofs.Common.{⊎_elim, ◌≡◌, ◌≢◌, ◌<◌, ◌≤◌, ◌⊎◌, ℕ, ◌-◌, ◌==◌, cond, true, false, arith, List, Vec, All, length, get_or, set, sym, subst, ap, ◌∙◌, Some}
 use Rattle.std.specs.Prelude.{slice_get}
 use Rattle.std.specs.declared.alloc.Global.{Global}
 use Rattle.std.proofs.lemmas.List.{get_or_default}
 use Rattle.std.proofs.lemmas.List.Elements.{All-get_or}
 use Rattle.std.proofs.lemmas.Option.{slice_get-get_or}
-use Rattle.room_core.specs.declared.event.How.{How}
 use Rattle.room_core.specs.declared.shape.Shape.{Shape}
-use Rattle.std.proofs.lemmas.Bool.{cases_eq, eq-eqb, ne_eqb}
+use Rattle.std.proofs.lemmas.Bool.{eq-eqb, ne_eqb}
 use Rattle.room_core.specs.CallerTables.{table}
-use Rattle.room_core.specs.Checks.{AreRead, IsOnCheck, IsRead, IsWon, MayWin}
+use Rattle.room_core.specs.Checks.{AreRead, IsOnCheck, IsRead}
 use Rattle.room_core.specs.Description.{gauge_of, marked_gauge}
 use Rattle.room_core.specs.Gauges.{IsScanner, IsShape, clock_of}
 use Rattle.room_core.specs.Meetings.{MayMarkNeed, MayMarkClock, words_of}
 use Rattle.room_core.specs.Put.{put}
 use Rattle.room_core.specs.State.{Scanner}
 use Rattle.room_core.specs.ScannerTables.{row}
-use Rattle.room_core.proofs.Views.{table_set, part_set, put_as, got_set, got_other}
+use Rattle.room_core.proofs.Views.{table_set, part_set, put_as}
 
 pub scanner_place : (shape : Shape) (k n : ℕ) → IsScanner shape k → shape.scanners < 18 → n ≡ 17 → k < n
 scanner_place shape k n is few size =
@@ -72,15 +71,3 @@ MayMark shape k scanner at = MayMarkNeed shape k scanner at ⊎ MayMarkClock k s
 abbrev pub MayLeave : Shape → ℕ → Scanner → ℕ → ℕ → Type 0
 MayLeave shape k scanner pass gauge =
     IsOnCheck scanner pass × (k ≢ 16 → AreRead scanner.readings gauge (words_of scanner)) × (k ≡ 16 → IsRead scanner.readings gauge (clock_of shape))
-
-abbrev pub MayWinBy : Shape → ℕ → Scanner → ℕ → How → Type 0
-MayWinBy shape k scanner pass how = IsOnCheck scanner pass × MayWin k how × IsWon shape how (words_of scanner) scanner.readings
-
--- the table of the parts, where the part written shows what the one there showed
-pub part_kept : {A B : Type 0} (f : Option A → B) (xs : List A) (i : ℕ) (was now : A) → i < length xs → was ≡ get_or xs i was → f (Some now) ≡ f (Some was)
-    → (j : ℕ) → f (slice_get (set xs i now) j) ≡ f (slice_get xs j)
-part_kept f xs i was now l e same j =
-    ⊎_elim
-    (λ (here : j ≡ i). subst (λ k. f (slice_get (set xs i now) k) ≡ f (slice_get xs k)) (sym here) (ap f (got_set xs i now l) ∙ same ∙ ap f (sym (here_at xs i was l e))))
-    (λ (n : j ≢ i). ap f (got_other xs i j now n))
-    (cases_eq j i)

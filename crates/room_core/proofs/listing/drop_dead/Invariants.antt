@@ -1,5 +1,4 @@
-use Rattle.std.proofs.Common.{◌≡◌, ℕ, ◌≤◌, All, length}
-use Rattle.room_core.specs.declared.parts.Session.{Session}
+use Rattle.std.proofs.Common.{◌≡◌, All, length}
 use Rattle.room_core.proofs.DeadEntries.{Dropped}
 use Rattle.room_core.proofs.listing.drop_dead.Given as goal
 

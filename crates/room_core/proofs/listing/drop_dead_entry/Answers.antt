@@ -1,4 +1,4 @@
-use Rattle.std.proofs.Common.{◌≡◌, length, get_or, arith, ◌∙◌, ap, None}
+use Rattle.std.proofs.Common.{◌≡◌, get_or, ◌∙◌, ap, None}
 use Rattle.std.proofs.lemmas.List.{get_or_default}
 use Rattle.room_core.specs.Meetings.{live_entry}
 use Rattle.room_core.proofs.Views.{table_set, put_as}

@@ -1,4 +1,4 @@
-use Rattle.std.proofs.Common.{rules, ◌≡◌, ◌<◌, length, get_or, arith, ◌∙◌, ap, sym, subst, Option, Some}
+use Rattle.std.proofs.Common.{rules, ◌≡◌, ◌<◌, length, get_or, arith, ◌∙◌, ap, sym, subst}
 use Rattle.std.specs.Prelude.{slice_get, IsTrue, false}
 use Rattle.std.proofs.lemmas.List.{get_or_default}
 use Rattle.room_core.specs.Checks.{CanLeaveScanner, scanner_leaves}

@@ -1,14 +1,13 @@
-use Rattle.std.proofs.Common.{rules, ◌≡◌, ◌<◌, length, get_or, arith, ◌∙◌, ap, sym, subst, Option, Some}
-use Rattle.std.specs.Prelude.{slice_get, IsTrue, false}
+use Rattle.std.proofs.Common.{rules, ◌≡◌, ◌<◌, length, get_or, arith, ◌∙◌, ap, sym}
+use Rattle.std.specs.Prelude.{slice_get}
 use Rattle.std.proofs.lemmas.List.{get_or_default}
 use Rattle.room_core.specs.declared.parts.Phase.{Phase}
 use Rattle.room_core.specs.declared.parts.Session.{Session}
-use Rattle.room_core.specs.Checks.{CanWinScanner, exchanged, scanner_wins}
-use Rattle.room_core.specs.Gauges.{IsScanner}
+use Rattle.room_core.specs.Checks.{exchanged, scanner_wins}
 use Rattle.room_core.specs.Meetings.{generation_met}
 use Rattle.room_core.specs.ScannerTables.{scanner_of, scanner_at}
 use Rattle.room_core.specs.Tables.{state_of}
-use Rattle.room_core.proofs.ScanPlaces.{scanner_place, here_at, all_at, MayWinBy, part_kept}
+use Rattle.room_core.proofs.ScanPlaces.{scanner_place, here_at}
 use Rattle.room_core.proofs.Views.{table_set, part_set, put_as}
 use Rattle.room_core.proofs.core_state.CoreState.win_by_scanner.Goals as goal
 

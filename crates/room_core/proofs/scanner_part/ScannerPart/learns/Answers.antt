@@ -1,4 +1,4 @@
-use Rattle.std.proofs.Common.{◌≡◌, ◌<◌, length, arith, Some, None}
+use Rattle.std.proofs.Common.{◌<◌, length, arith, Some, None}
 use Rattle.room_core.specs.ScannerTables.{scanner_of}
 use Rattle.room_core.proofs.Views.{table_set}
 use Rattle.room_core.proofs.scanner_part.ScannerPart.learns.Goals as goal

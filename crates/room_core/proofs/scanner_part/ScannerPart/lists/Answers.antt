@@ -1,4 +1,4 @@
-use Rattle.std.proofs.Common.{◌≡◌, ◌<◌, length, arith, refl, Option, None}
+use Rattle.std.proofs.Common.{◌<◌, length, arith, refl, None}
 use Rattle.std.specs.Vec.{with_item}
 use Rattle.room_core.specs.ScannerTables.{scanner_of}
 use Rattle.room_core.proofs.ScanPlaces.{row_length, cell_set}

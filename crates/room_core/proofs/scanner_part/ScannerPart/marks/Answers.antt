@@ -1,2 +1,0 @@
-use Rattle.std.proofs.Common.{◌≡◌}
-use Rattle.room_core.proofs.scanner_part.ScannerPart.marks.Goals as goal

@@ -1,4 +1,4 @@
-use Rattle.std.proofs.Common.{◌≡◌, ◌*◌, ◌^◌, ◌≤◌}
+use Rattle.std.proofs.Common.{◌≡◌, ◌*◌, ◌≤◌}
 use Rattle.room_core.specs.Description.{tally_below}
 use Rattle.room_core.specs.Meetings.{words_of}
 use Rattle.room_core.specs.Readings.{read_only}
