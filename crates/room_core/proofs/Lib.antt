@@ -84,3 +84,7 @@ pub mod AllBelow
 pub mod Counting
 -- readings as a loop over the needs looks for them
 pub mod ReadingAll
+-- places in the tables of the scanners and the descriptions
+pub mod ScanPlaces
+-- dead entries, dropped row by row
+pub mod DeadEntries

@@ -15,12 +15,12 @@ at_place xs i x none l j =
 pub table_set : {A : Type 0} (xs : List A) (i : ℕ) (x none : A) → i < length xs → (λ j. get_or (set xs i x) j none) ≡ put (λ k. get_or xs k none) i x
 table_set xs i x none l = λ d j. at_place xs i x none l j d
 
-got_set : {A : Type 0} (xs : List A) (i : ℕ) (x : A) → i < length xs → slice_get (set xs i x) i ≡ Some x
+pub got_set : {A : Type 0} (xs : List A) (i : ℕ) (x : A) → i < length xs → slice_get (set xs i x) i ≡ Some x
 got_set [] i x l = absurd (omega arith)
 got_set (y ∷ ys) zero x l = refl
 got_set (y ∷ ys) (suc i) x l = got_set ys i x (omega arith)
 
-got_other : {A : Type 0} (xs : List A) (i j : ℕ) (x : A) → j ≢ i → slice_get (set xs i x) j ≡ slice_get xs j
+pub got_other : {A : Type 0} (xs : List A) (i j : ℕ) (x : A) → j ≢ i → slice_get (set xs i x) j ≡ slice_get xs j
 got_other [] i j x n = refl
 got_other (y ∷ ys) zero zero x n = absurd (n refl)
 got_other (y ∷ ys) zero (suc j) x n = refl

@@ -1,14 +1,21 @@
 ghost use Rattle.std.specs.Prelude.{◌≡◌, ◌↔◌, ◌<◌, IsTrue};
-ghost use Rattle.room_core.specs.Gauges.{IsScanner, IsShape, scanner_of};
+ghost use Rattle.room_core.specs.Gauges.{IsGaugeOf, IsScanner, IsShape, clock_of, scanner_of};
 
 use crate::shape::Shape;
 
-/// The scanner of this number is there.
+/// Whether a scanner has this number.
 pub(crate) fn is_scanner(shape: Shape, scanner: u32) -> bool
-    requires { IsShape shape }
     ensures { IsTrue result ↔ IsScanner shape scanner }
 {
-    scanner < shape.scanners - 1 || scanner == 16
+    scanner == 16 || scanner < shape.scanners.saturating_sub(1)
+}
+
+/// The clock, the last gauge.
+pub(crate) fn clock(shape: Shape) -> u32
+    requires { IsShape shape }
+    ensures { result ≡ clock_of shape }
+{
+    shape.gauges - 1
 }
 
 /// The scanner that scans a gauge.
@@ -21,5 +28,21 @@ pub(crate) fn scanner_of(shape: Shape, gauge: u32) -> u32
         16
     } else {
         gauge % (shape.scanners - 1)
+    }
+}
+
+/// Whether a gauge is there, and the scanner of this number scans it.
+#[tactic(auto, unfolding(crate::specs::Gauges::scanner_of))]
+pub(crate) fn is_gauge_of(shape: Shape, scanner: u32, gauge: u64) -> bool
+    requires { IsShape shape }
+    ensures { IsTrue result ↔ IsGaugeOf shape scanner gauge }
+{
+    if gauge >= u64::from(shape.gauges) {
+        return false;
+    }
+    if gauge == u64::from(clock(shape)) {
+        scanner == 16
+    } else {
+        gauge % u64::from(shape.scanners - 1) == u64::from(scanner)
     }
 }

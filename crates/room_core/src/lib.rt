@@ -14,11 +14,16 @@ mod event;
 mod gauges;
 mod greater;
 pub mod laws;
+mod listing;
 mod operation;
 mod parts;
-mod run;
-mod scanner_part;
 mod pass_steps;
+mod run;
+mod scan_steps;
+mod scanner_acts;
+mod scanner_checks;
+mod scanner_part;
+mod scanner_wins;
 mod shape;
 
 pub use core_state::CoreState;

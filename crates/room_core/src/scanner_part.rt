@@ -22,7 +22,7 @@ pub(crate) struct ScannerPart {
     pub(crate) learned: Vec<Option<u64>>,
     pub(crate) readings: Vec<Option<u64>>,
     pub(crate) wins: Vec<Prize>,
-    ghost sized: { ScannerIsSized shape began listing duties },
+    ghost sized: { ScannerIsSized shape began listing duties learned readings },
 }
 
 /// A row for each gauge, with nothing listed.
