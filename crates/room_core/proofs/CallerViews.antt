@@ -9,7 +9,7 @@ use Rattle.room_core.specs.declared.caller_part.CallerPart.{CallerPart}
 use Rattle.room_core.specs.declared.parts.Phase.{Phase}
 use Rattle.room_core.specs.declared.parts.Session.{Session}
 use Rattle.room_core.specs.State.{Caller}
-use Rattle.room_core.specs.Tables.{row}
+use Rattle.room_core.specs.ScannerTables.{row}
 use Rattle.room_core.specs.CallerTables.{caller_at, caller_of, table}
 use Rattle.room_core.specs.Put.{put}
 use Rattle.room_core.proofs.Views.{part_set, put_as, table_set}

@@ -74,7 +74,7 @@ pub mod Once
 pub mod Views
 -- the tables of the start
 pub mod Idles
--- runs of the events that are built
+-- runs
 pub mod Runs
 -- a caller's part written in the list of callers
 pub mod CallerViews

@@ -48,5 +48,3 @@ pub mod Sizes
 pub mod WordSizes
 -- the state that the code's tables show
 pub mod Tables
--- the events that the code makes so far
-pub mod Built

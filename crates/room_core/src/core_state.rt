@@ -2,7 +2,7 @@ ghost use Rattle.std.specs.Prelude.{◌≡◌, ◌↔◌, IfOk, IsTrue, All, fal
 ghost use Rattle.room_core.specs.declared.parts.Phase.TheVariants.{Idle};
 ghost use Rattle.std.specs.Result.{OnErr};
 ghost use Rattle.std.specs.Bool.{OnFalse, OnTrue};
-ghost use Rattle.room_core.specs.Built.{IsBuilt};
+ghost use Rattle.room_core.specs.declared.event.CoreEvent.TheVariants.{Read, Leave, Win};
 ghost use Rattle.room_core.specs.CallerTables.{caller_of};
 ghost use Rattle.room_core.specs.Gauges.{IsScanner, IsShape};
 ghost use Rattle.room_core.specs.Start.{idle_caller, idle_scanner, start_of};
@@ -14,7 +14,7 @@ ghost use Rattle.room_core.specs.WordSizes.{WordsAreSized};
 
 use crate::caller_part::CallerPart;
 use crate::duties::is_free;
-use crate::event::CoreEvent;
+use crate::event::{CoreEvent, How, Party};
 use crate::gauges::{is_scanner, scanner_of};
 use crate::greater::greater;
 use crate::parts::{Phase, Session, Source};
@@ -58,6 +58,30 @@ fn idle_sessions(alloc: Global, shape: Shape) -> Result<Vec<Session>, NoMemory>
         phase: Phase::Idle,
     };
     Ok(vec![in alloc; idle; shape.passes as usize]?)
+}
+
+/// The words of each pass's description, all zero.
+fn word_rows(alloc: Global, shape: Shape) -> Result<Vec<Vec<u64>>, NoMemory>
+    ensures size { IfOk result (λ v. length v.items ≡ shape.passes) }
+    ensures rows { IfOk result (λ v. All (λ row. row.items ≡ replicate 195 0) v.items) }
+{
+    let mut rows = Vec::new(alloc);
+    for _pass in 0..shape.passes {
+        rows.push(vec![in alloc; 0; 195]?)?;
+    }
+    Ok(rows)
+}
+
+/// The marks of each pass, all zero.
+fn mark_rows(alloc: Global, shape: Shape) -> Result<Vec<Vec<u32>>, NoMemory>
+    ensures size { IfOk result (λ v. length v.items ≡ shape.passes) }
+    ensures rows { IfOk result (λ v. All (λ row. row.items ≡ replicate 65 0) v.items) }
+{
+    let mut rows = Vec::new(alloc);
+    for _pass in 0..shape.passes {
+        rows.push(vec![in alloc; 0; 65]?)?;
+    }
+    Ok(rows)
 }
 
 fn quiet_sources(alloc: Global, shape: Shape) -> Result<Vec<Source>, NoMemory>
@@ -109,21 +133,21 @@ impl CoreState {
             asked: vec![in alloc; 0; gauges]?,
             begun: vec![in alloc; 0; gauges]?,
             session: idle_sessions(alloc, shape)?,
-            description: Vec::new(alloc),
-            marks: Vec::new(alloc),
+            description: word_rows(alloc, shape)?,
+            marks: mark_rows(alloc, shape)?,
             source: quiet_sources(alloc, shape)?,
             caller: idle_callers(alloc, shape)?,
             scanner: idle_scanners(alloc, shape)?,
         })
     }
 
-    /// Makes an event. True: it is built and allowed, and the room is changed by it. False: it isn't, and nothing changed.
-    /// Refused for want of memory, nothing changed.
+    /// Makes an event. True: it is allowed, and the room is changed by it. False: it isn't, and nothing changed. Refused for want
+    /// of memory, the room shows what it showed.
     pub fn step(&mut self, event: CoreEvent) -> Result<bool, NoMemory>
-        ensures allowed { IfOk result (λ made. IsTrue made ↔ (IsBuilt event × IsAllowed (state_of self.old) event)) }
+        ensures allowed { IfOk result (λ made. IsTrue made ↔ IsAllowed (state_of self.old) event) }
         ensures yes { IfOk result (λ made. OnTrue made (state_of self.new ≡ changed (state_of self.old) event)) }
         ensures no { IfOk result (λ made. OnFalse made (self.new ≡ self.old)) }
-        ensures refused { OnErr result (self.new ≡ self.old) }
+        ensures refused { OnErr result (state_of self.new ≡ state_of self.old) }
     {
         Ok(match event {
             CoreEvent::Store { gauge, value } => self.store(gauge, value),
@@ -132,9 +156,58 @@ impl CoreState {
             CoreEvent::Hear { scanner, gauge } => self.hear(scanner, gauge),
             CoreEvent::Begin { scanner, gauge } => self.begin(scanner, gauge),
             CoreEvent::Relieve { pass, gauge } => self.relieve(pass, gauge),
+            CoreEvent::Describe { pass, at, word } => self.describe(pass, at, word),
+            CoreEvent::Open { pass } => self.open(pass),
+            CoreEvent::Meet { scanner, pass } => self.meet(scanner, pass),
+            CoreEvent::Learn { scanner, pass, at } => self.learn(scanner, pass, at),
+            CoreEvent::Mark { scanner, pass, at } => self.mark(scanner, pass, at),
+            CoreEvent::Marked { pass, at } => self.see_mark(pass, at),
+            CoreEvent::Read { who, gauge } => self.read(who, gauge),
+            CoreEvent::Leave { who, pass, gauge } => self.leave(who, pass, gauge),
+            CoreEvent::Win { who, pass, how } => self.win(who, pass, how)?,
+            CoreEvent::Peek { pass } => self.peek(pass),
+            CoreEvent::Idle { pass } => self.idle(pass)?,
             CoreEvent::Part => true,
-            _ => false,
         })
+    }
+
+    fn read(&mut self, who: Party, gauge: u32) -> bool
+        ensures allowed { IsTrue result ↔ IsAllowed (state_of self.old) (Read who gauge) }
+        ensures yes { OnTrue result (state_of self.new ≡ changed (state_of self.old) (Read who gauge)) }
+        ensures no { OnFalse result (self.new ≡ self.old) }
+    {
+        match who {
+            Party::Pass(pass) => self.read_by_pass(pass, gauge),
+            Party::Scanner(scanner) => self.read_by_scanner(scanner, gauge),
+        }
+    }
+
+    fn leave(&mut self, who: Party, pass: u32, gauge: u32) -> bool
+        ensures allowed { IsTrue result ↔ IsAllowed (state_of self.old) (Leave who pass gauge) }
+        ensures yes { OnTrue result (state_of self.new ≡ changed (state_of self.old) (Leave who pass gauge)) }
+        ensures no { OnFalse result (self.new ≡ self.old) }
+    {
+        match who {
+            Party::Pass(own) => own == pass && self.leave_by_pass(pass, gauge),
+            Party::Scanner(scanner) => self.leave_by_scanner(scanner, pass, gauge),
+        }
+    }
+
+    fn win(&mut self, who: Party, pass: u32, how: How) -> Result<bool, NoMemory>
+        ensures allowed { IfOk result (λ made. IsTrue made ↔ IsAllowed (state_of self.old) (Win who pass how)) }
+        ensures yes { IfOk result (λ made. OnTrue made (state_of self.new ≡ changed (state_of self.old) (Win who pass how))) }
+        ensures no { IfOk result (λ made. OnFalse made (self.new ≡ self.old)) }
+        ensures refused { OnErr result (state_of self.new ≡ state_of self.old) }
+    {
+        match who {
+            Party::Pass(own) => {
+                if own != pass {
+                    return Ok(false);
+                }
+                self.win_by_pass(pass, how)
+            }
+            Party::Scanner(scanner) => self.win_by_scanner(scanner, pass, how),
+        }
     }
 
     fn store(&mut self, gauge: u32, value: u64) -> bool

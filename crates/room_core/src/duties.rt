@@ -63,12 +63,3 @@ pub(crate) fn make_duties(
         duties[pass] = duty_of(shape, gauge, begun, heard, row[pass]);
     }
 }
-
-/// Forgets every reading.
-pub(crate) fn forget(readings: &mut Vec<Option<u64>>)
-    ensures { (i : ℕ) → slice_index_or readings.new.items i None ≡ None }
-{
-    for i in 0..readings.len() {
-        readings[i] = None;
-    }
-}

@@ -1,7 +1,7 @@
 //! The room as a pure machine: each event is one atomic step of one thread on one word.
 //!
 //! The layer above may use `CoreEvent` and the laws: whatever events come, no open operation is forgotten. `CoreState` is the
-//! machine as code, for the events that are built.
+//! machine as code.
 #![tactic(auto)]
 
 mod answering;

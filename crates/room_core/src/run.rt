@@ -1,5 +1,4 @@
 ghost use Rattle.std.specs.Prelude.{IfOk};
-ghost use Rattle.room_core.specs.Built.{built_of};
 ghost use Rattle.room_core.specs.Carried.{IsCarried};
 ghost use Rattle.room_core.specs.Gauges.{IsShape};
 ghost use Rattle.room_core.specs.Run.{IsRun};
@@ -12,10 +11,10 @@ use crate::shape::Shape;
 use kbytes::NoMemory;
 use std::alloc::Global;
 
-/// The room after these events from the start. One that isn't built or isn't allowed changes nothing.
+/// The room after these events from the start. One that isn't allowed changes nothing.
 pub fn run_events(alloc: Global, shape: Shape, events: &[CoreEvent]) -> Result<CoreState, NoMemory>
     requires { IsShape shape }
-    ensures run { IfOk result (λ s. IsRun (start_of shape) (built_of events.now) (state_of s)) }
+    ensures run { IfOk result (λ s. IsRun (start_of shape) events.now (state_of s)) }
     ensures carried { IfOk result (λ s. IsCarried (state_of s)) }
 {
     let mut state = CoreState::start(alloc, shape)?;

@@ -2,9 +2,10 @@ ghost use Rattle.std.specs.Prelude.{◌≡◌, ◌↔◌, ◌<◌, IfOk, IsTrue,
 ghost use Rattle.room_core.specs.Scans.{IsHeard, number_heard, scanner_begins, scanner_hears};
 ghost use Rattle.room_core.specs.ScannerSize.{ScannerIsSized};
 
-use crate::duties::{forget, make_duties};
+use crate::duties::make_duties;
 use crate::empty::{WORDS, nothing_read};
 use crate::greater::greater;
+use crate::listing::forget;
 use crate::parts::{Duty, Entry, Heard, Meeting, Prize};
 use crate::shape::Shape;
 use kbytes::NoMemory;

@@ -11,7 +11,7 @@ pub returns-clause-yes : goal.returns-clause-yes
 returns-clause-yes c =
     let old = c.args.self.now in
     let k = c.args.scanner in
-    let l : k < length old.scanner.items = scanner_place old.shape k _ (c.is_scanner.ensures.0 (search (rules, c.if-not-is_scanner.false))) old.shaped.few_scanners old.sized.scanner_size in
+    let l : k < length old.scanner.items = scanner_place old.shape k _ (c.is_scanner.ensures.0 (search (rules, c.if-not-is_scanner.false))) old.sized.room.few_scanners old.sized.scanner_size in
     let m : c.args.pass < length old.description.items = omega (arith, old.words.description_size) in
     let size = row_length old.description.items 195 c.args.pass c.index-2.result.now old.words.description_rows m c.index-2.ensures in
     let w : c.args.at < length c.index-2.result.now.items = omega (arith, size) in

@@ -14,19 +14,19 @@ pub marks-requires-clause-gauge_in : goal.marks-requires-clause-gauge_in
 marks-requires-clause-gauge_in c =
     let old = c.args.self.now in
     let k = c.args.scanner in
-    let l : k < length old.scanner.items = scanner_place old.shape k _ (c.is_scanner.ensures.0 (search (rules, c.if-not-is_scanner.false))) old.shaped.few_scanners old.sized.scanner_size in
+    let l : k < length old.scanner.items = scanner_place old.shape k _ (c.is_scanner.ensures.0 (search (rules, c.if-not-is_scanner.false))) old.sized.room.few_scanners old.sized.scanner_size in
     let now = c.index_mut-part.result.now in
     let shape : now.shape ≡ old.shape = all_at (λ p. p.shape ≡ old.shape) old.scanner.items k now old.sized.scanner_shape l c.index_mut-part.ensures.value in
     let same = same_at old.scanner.items k c.index-part.result.now now l c.index-part.ensures c.index_mut-part.ensures.value in
     let may : MayMark now.shape k (scanner_of now) c.args.at = subst (λ p. MayMark p.shape k (scanner_of p) c.args.at) same (c.may_mark.ensures.0 (search (rules, c.if-not-may_mark.false))) in
-    (marked_in now.shape k (scanner_of now) c.args.at (subst IsShape (sym shape) old.shaped) may).1
+    (marked_in now.shape k (scanner_of now) c.args.at (subst IsShape (sym shape) old.sized.room) may).1
 
 pub returns-clause-allowed : goal.returns-clause-allowed
 returns-clause-allowed c =
     let old = c.args.self.now in
     let k = c.args.scanner in
     let is : IsScanner old.shape k = c.is_scanner.ensures.0 (search (rules, c.if-not-is_scanner.false)) in
-    let l : k < length old.scanner.items = scanner_place old.shape k _ is old.shaped.few_scanners old.sized.scanner_size in
+    let l : k < length old.scanner.items = scanner_place old.shape k _ is old.sized.room.few_scanners old.sized.scanner_size in
     let part = c.index-part.result.now in
     let shape : part.shape ≡ old.shape = all_at (λ p. p.shape ≡ old.shape) old.scanner.items k part old.sized.scanner_shape l c.index-part.ensures in
     let here = here_at old.scanner.items k part l c.index-part.ensures in
@@ -39,14 +39,14 @@ pub returns-clause-yes : goal.returns-clause-yes
 returns-clause-yes c =
     let old = c.args.self.now in
     let k = c.args.scanner in
-    let l : k < length old.scanner.items = scanner_place old.shape k _ (c.is_scanner.ensures.0 (search (rules, c.if-not-is_scanner.false))) old.shaped.few_scanners old.sized.scanner_size in
+    let l : k < length old.scanner.items = scanner_place old.shape k _ (c.is_scanner.ensures.0 (search (rules, c.if-not-is_scanner.false))) old.sized.room.few_scanners old.sized.scanner_size in
     let m : c.args.pass < length old.marks.items = omega (arith, old.words.marks_size, c.if-pass-self.false) in
     let part = c.index-part.result.now in
     let shape : part.shape ≡ old.shape = all_at (λ p. p.shape ≡ old.shape) old.scanner.items k part old.sized.scanner_shape l c.index-part.ensures in
     let here = here_at old.scanner.items k part l c.index-part.ensures in
     let now = c.index_mut-part.result.now in
     let same = same_at old.scanner.items k part now l c.index-part.ensures c.index_mut-part.ensures.value in
-    let at_most = (marked_in part.shape k (scanner_of part) c.args.at (subst IsShape (sym shape) old.shaped) (c.may_mark.ensures.0 (search (rules, c.if-not-may_mark.false)))).0 in
+    let at_most = (marked_in part.shape k (scanner_of part) c.args.at (subst IsShape (sym shape) old.sized.room) (c.may_mark.ensures.0 (search (rules, c.if-not-may_mark.false)))).0 in
     let was = c.index_mut-marks.result.now in
     let size = row_length old.marks.items 65 c.args.pass was old.words.marks_rows m c.index_mut-marks.ensures.value in
     let w : c.args.at < length was.items = omega (arith, size, at_most) in

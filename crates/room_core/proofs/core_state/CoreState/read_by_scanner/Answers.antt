@@ -11,7 +11,7 @@ use Rattle.room_core.proofs.core_state.CoreState.read_by_scanner.Goals as goal
 
 pub returns-clause-yes : goal.returns-clause-yes
 returns-clause-yes c =
-    let l : c.args.scanner < length c.args.self.now.scanner.items = scanner_place c.args.self.now.shape c.args.scanner _ (c.is_scanner.ensures.0 (search (rules, c.if-not-is_scanner.false))) c.args.self.now.shaped.few_scanners c.args.self.now.sized.scanner_size in
+    let l : c.args.scanner < length c.args.self.now.scanner.items = scanner_place c.args.self.now.shape c.args.scanner _ (c.is_scanner.ensures.0 (search (rules, c.if-not-is_scanner.false))) c.args.self.now.sized.room.few_scanners c.args.self.now.sized.scanner_size in
     let m : c.args.gauge < length c.args.self.now.value.items = omega (arith, c.args.self.now.sized.value_size) in
     let value : c.index-value.result.now ≡ get_or c.args.self.now.value.items c.args.gauge 0 = c.index-value.ensures ∙ get_or_default c.args.self.now.value.items c.args.gauge _ 0 m in
     let here : slice_get c.args.self.now.scanner.items c.args.scanner ≡ Some c.index_mut-part.result.now =

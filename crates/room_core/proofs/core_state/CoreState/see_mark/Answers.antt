@@ -2,7 +2,8 @@ use Rattle.std.proofs.Common.{◌≡◌, ◌<◌, length, arith, ◌∙◌, ap}
 use Rattle.std.specs.Prelude.{slice_get}
 use Rattle.room_core.specs.CallerTables.{caller_of}
 use Rattle.room_core.specs.Passes.{caller_sees_mark}
-use Rattle.room_core.specs.Tables.{row, state_of}
+use Rattle.room_core.specs.ScannerTables.{row}
+use Rattle.room_core.specs.Tables.{state_of}
 use Rattle.room_core.proofs.CallerViews.{caller_set, row_here}
 use Rattle.room_core.proofs.core_state.CoreState.see_mark.Goals as goal
 

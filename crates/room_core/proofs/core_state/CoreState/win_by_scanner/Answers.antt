@@ -18,7 +18,7 @@ pub returns-clause-yes : goal.returns-clause-yes
 returns-clause-yes c =
     let old = c.args.self.now in
     let k = c.args.scanner in
-    let l : k < length old.scanner.items = scanner_place old.shape k _ (c.is_scanner.ensures.0 (search (rules, c.if-not-is_scanner.false))) old.shaped.few_scanners old.sized.scanner_size in
+    let l : k < length old.scanner.items = scanner_place old.shape k _ (c.is_scanner.ensures.0 (search (rules, c.if-not-is_scanner.false))) old.sized.room.few_scanners old.sized.scanner_size in
     let m : c.args.pass < length old.session.items = omega (arith, old.words.session_size, c.if-pass-self.false) in
     let session : c.index-session.result.now ≡ get_or old.session.items c.args.pass none = c.index-session.ensures ∙ get_or_default old.session.items c.args.pass _ none m in
     let now = c.index_mut-part.result.now in

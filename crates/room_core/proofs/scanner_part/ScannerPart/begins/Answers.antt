@@ -31,7 +31,7 @@ returns-clause-part c =
     λ d. record (scanner_of s) {
       began = (table_set s.began.items c.args.gauge c.greater.result 0 b ∙ put_as (λ i. get_or s.began.items i 0) c.args.gauge _ _ more) d;
       meeting = None;
-      learned = λ i. c.forget.ensures i d;
-      readings = λ i. c.forget-2.ensures i d;
+      learned = c.forget.ensures.forgotten d;
+      readings = c.forget-2.ensures.forgotten d;
       duties = λ pass. duties pass d;
     }
