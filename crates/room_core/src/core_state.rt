@@ -13,8 +13,8 @@ ghost use Rattle.room_core.specs.Sizes.{AreSized};
 ghost use Rattle.room_core.specs.WordSizes.{WordsAreSized};
 
 use crate::caller_part::CallerPart;
-use crate::empty::{MARKS, WORDS};
 use crate::duties::is_free;
+use crate::empty::{MARKS, WORDS};
 use crate::event::{CoreEvent, How, Party};
 use crate::gauges::{is_scanner, scanner_of};
 use crate::greater::greater;
