@@ -70,3 +70,21 @@ pub mod Steps
 pub mod Quiets
 -- a won word stands once
 pub mod Once
+-- a write in a list
+pub mod Views
+-- the tables of the start
+pub mod Idles
+-- runs
+pub mod Runs
+-- a caller's part written in the list of callers
+pub mod CallerViews
+-- a test of each number below another
+pub mod AllBelow
+-- a tally as a loop counts it
+pub mod Counting
+-- readings as a loop over the needs looks for them
+pub mod ReadingAll
+-- places in the tables of the scanners and the descriptions
+pub mod ScanPlaces
+-- dead entries, dropped row by row
+pub mod DeadEntries

@@ -32,3 +32,19 @@ pub mod Quiet
 pub mod Start
 -- a whole run
 pub mod Run
+-- the sizes of a caller's tables
+pub mod CallerSize
+-- the sizes of the tables of a caller's operation
+pub mod CallerWhole
+-- the part that a caller's tables show
+pub mod CallerTables
+-- the sizes of a scanner's tables
+pub mod ScannerSize
+-- the part that a scanner's tables show
+pub mod ScannerTables
+-- the sizes of the code's tables
+pub mod Sizes
+-- the sizes of the tables of a pass's words
+pub mod WordSizes
+-- the state that the code's tables show
+pub mod Tables

@@ -1,0 +1,25 @@
+use Rattle.std.proofs.Common.{◌≡◌, ◌+◌, ◌<◌, length, get_or, arith, ◌∙◌, ap, sym}
+use Rattle.std.proofs.lemmas.List.{get_or_default}
+use Rattle.room_core.specs.declared.parts.Session.{Session}
+use Rattle.room_core.specs.State.{Caller}
+use Rattle.room_core.specs.CallerTables.{caller_of}
+use Rattle.room_core.specs.Checks.{caller_wins, exchanged}
+use Rattle.room_core.specs.Tables.{state_of}
+use Rattle.room_core.proofs.Views.{table_set, put_as}
+use Rattle.room_core.proofs.CallerViews.{caller_here, caller_set, no_session}
+use Rattle.room_core.proofs.core_state.CoreState.win_by_pass.Goals as goal
+
+pub returns-clause-yes : goal.returns-clause-yes
+returns-clause-yes c =
+    let l : c.args.pass < length c.args.self.now.caller.items = omega (arith, c.args.self.now.sized.caller_size) in
+    let m : c.args.pass < length c.args.self.now.session.items = omega (arith, c.args.self.now.words.session_size) in
+    let session : c.index-session.result.now ≡ get_or c.args.self.now.session.items c.args.pass no_session = c.index-session.ensures ∙ get_or_default c.args.self.now.session.items c.args.pass _ no_session m in
+    let word = c.exchanged.ensures
+    ∙ ap (λ (s : Session). exchanged s c.index-2.result.now.generation c.args.how (17 + c.args.pass)) session
+    ∙ ap (λ (caller : Caller). exchanged (get_or c.args.self.now.session.items c.args.pass no_session) caller.generation c.args.how (17 + c.args.pass)) (sym (caller_here c.args.self.now.caller.items c.args.pass c.index-2.result.now l c.index-2.ensures)) in
+    let new : caller_of c.wins_by.new.self ≡ caller_wins (caller_of c.index_mut-caller.result.now) c.args.pass c.args.how (get_or c.args.self.now.session.items c.args.pass no_session) =
+    c.in_ok-wins_by.ensures.part ∙ ap (caller_wins (caller_of c.index_mut-caller.result.now) c.args.pass c.args.how) session in
+    λ d. record (state_of c.args.self.now) {
+      session = (table_set c.args.self.now.session.items c.args.pass c.exchanged.result no_session m ∙ put_as (λ i. get_or c.args.self.now.session.items i no_session) c.args.pass _ _ word) d;
+      caller = caller_set (λ (caller : Caller). caller_wins caller c.args.pass c.args.how (get_or c.args.self.now.session.items c.args.pass no_session)) c.args.self.now.caller.items c.args.pass c.index_mut-caller.result.now c.wins_by.new.self l c.index_mut-caller.ensures.value new d;
+    }

@@ -1,0 +1,131 @@
+ghost use Rattle.std.specs.Prelude.{◌≡◌, ◌↔◌, ◌+◌, ◌*◌, ◌<◌, ◌≤◌, ◌||◌, IsSome, IsTrue, None as Nothing, length, min};
+ghost use Rattle.opcond.specs.Tally.{counted};
+ghost use Rattle.room_core.specs.CallerTables.{table};
+ghost use Rattle.room_core.specs.Checks.{AreRead, IsRead, IsWon, is_overdue, is_satisfied};
+ghost use Rattle.room_core.specs.Description.{gauge_of, need_of};
+ghost use Rattle.room_core.specs.Gauges.{clock_of};
+ghost use Rattle.room_core.specs.Readings.{read_only};
+
+use crate::event::How;
+use crate::shape::Shape;
+
+/// The clock's gauge.
+pub(crate) fn clock_of(shape: Shape) -> u32
+    ensures { result ≡ clock_of shape }
+{
+    shape.gauges.saturating_sub(1)
+}
+
+/// What was read of a gauge, and 0 where nothing was.
+fn read_of(readings: &[Option<u64>], gauge: u64) -> u64
+    ensures { result ≡ read_only (table readings.now Nothing) gauge }
+{
+    if gauge >= readings.len() as u64 {
+        return 0;
+    }
+    readings[gauge as usize].unwrap_or(0)
+}
+
+/// Whether a gauge was read.
+pub(crate) fn has_read(readings: &[Option<u64>], gauge: u64) -> bool
+    ensures { IsTrue result ↔ IsSome (table readings.now Nothing gauge) }
+{
+    if gauge >= readings.len() as u64 {
+        return false;
+    }
+    readings[gauge as usize].is_some()
+}
+
+/// The lesser of two numbers.
+fn lesser(a: u64, b: u64) -> u64
+    ensures { result ≡ min a b }
+{
+    if a < b { a } else { b }
+}
+
+/// What counts of a need.
+fn part_of(words: &[u64], i: usize, readings: &[Option<u64>]) -> u64
+    requires words { length words.now ≡ 195 }
+    requires need { i < 64 }
+    ensures { result ≡ counted (need_of (table words.now 0) i) (read_only (table readings.now Nothing) (gauge_of (table words.now 0) i)) }
+{
+    let value = read_of(readings, words[3 + 3 * i]);
+    let past = value.saturating_sub(words[4 + 3 * i]);
+    lesser(words[5 + 3 * i], past)
+}
+
+/// Whether the readings satisfy the operation. Words past the 64th need count nothing.
+pub(crate) fn is_satisfied(words: &[u64], readings: &[Option<u64>]) -> bool
+    requires { length words.now ≡ 195 }
+    ensures { result ≡ is_satisfied (table words.now 0) (table readings.now Nothing) }
+{
+    let needs = lesser(words[2], 64);
+    let mut left = words[0];
+    for i in 0..needs as usize {
+        left = left.saturating_sub(part_of(words, i, readings));
+    }
+    left == 0
+}
+
+/// Whether the clock was read at the deadline or past it.
+pub(crate) fn is_overdue(shape: Shape, words: &[u64], readings: &[Option<u64>]) -> bool
+    requires { length words.now ≡ 195 }
+    ensures { result ≡ is_overdue shape (table words.now 0) (table readings.now Nothing) }
+{
+    words[1] <= read_of(readings, u64::from(clock_of(shape)))
+}
+
+/// Whether the readings show that the operation is won in this way.
+pub(crate) fn is_won(shape: Shape, how: How, words: &[u64], readings: &[Option<u64>]) -> bool
+    requires { length words.now ≡ 195 }
+    ensures { IsTrue result ↔ IsWon shape how (table words.now 0) (table readings.now Nothing) }
+{
+    match how {
+        How::Satisfied => is_satisfied(words, readings),
+        How::Expired => {
+            has_read(readings, u64::from(clock_of(shape))) && is_overdue(shape, words, readings)
+        }
+    }
+}
+
+/// The gauge of a need, and 0 past the description's end.
+fn gauge_of(words: &[u64], i: usize) -> u64
+    requires words { length words.now ≡ 195 }
+    requires need { i ≤ 64 }
+    ensures { result ≡ gauge_of (table words.now 0) i }
+{
+    if i == 64 {
+        return 0;
+    }
+    words[3 + 3 * i]
+}
+
+/// Whether a gauge was read, or is the one that is read last.
+pub(crate) fn is_read(readings: &[Option<u64>], last: u32, gauge: u64) -> bool
+    ensures { IsTrue result ↔ IsRead (table readings.now Nothing) last gauge }
+{
+    has_read(readings, gauge) || gauge == u64::from(last)
+}
+
+/// Whether each need's gauge was read, or is the one that is read last. All needs past the 64th read the same words.
+pub(crate) fn are_read(words: &[u64], readings: &[Option<u64>], last: u32) -> bool
+    requires { length words.now ≡ 195 }
+    ensures { IsTrue result ↔ AreRead (table readings.now Nothing) last (table words.now 0) }
+{
+    let needs = lesser(words[2], 65);
+    for i in 0..needs as usize {
+        if !is_read(readings, last, gauge_of(words, i)) {
+            return false;
+        }
+    }
+    true
+}
+
+/// Whether the readings make the operation answerable.
+pub(crate) fn is_answerable(shape: Shape, words: &[u64], readings: &[Option<u64>]) -> bool
+    requires { length words.now ≡ 195 }
+    ensures { result ≡ (is_satisfied (table words.now 0) (table readings.now Nothing)
+        || is_overdue shape (table words.now 0) (table readings.now Nothing)) }
+{
+    is_satisfied(words, readings) || is_overdue(shape, words, readings)
+}

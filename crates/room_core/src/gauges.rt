@@ -1,0 +1,48 @@
+ghost use Rattle.std.specs.Prelude.{◌≡◌, ◌↔◌, ◌<◌, IsTrue};
+ghost use Rattle.room_core.specs.Gauges.{IsGaugeOf, IsScanner, IsShape, clock_of, scanner_of};
+
+use crate::shape::Shape;
+
+/// Whether a scanner has this number.
+pub(crate) fn is_scanner(shape: Shape, scanner: u32) -> bool
+    ensures { IsTrue result ↔ IsScanner shape scanner }
+{
+    scanner == 16 || scanner < shape.scanners.saturating_sub(1)
+}
+
+/// The clock, the last gauge.
+pub(crate) fn clock(shape: Shape) -> u32
+    requires { IsShape shape }
+    ensures { result ≡ clock_of shape }
+{
+    shape.gauges - 1
+}
+
+/// The scanner that scans a gauge.
+#[tactic(auto, unfolding(crate::specs::Gauges::scanner_of))]
+pub(crate) fn scanner_of(shape: Shape, gauge: u32) -> u32
+    requires { IsShape shape }
+    ensures { result ≡ scanner_of shape gauge }
+{
+    if gauge == shape.gauges - 1 {
+        16
+    } else {
+        gauge % (shape.scanners - 1)
+    }
+}
+
+/// Whether a gauge is there, and the scanner of this number scans it.
+#[tactic(auto, unfolding(crate::specs::Gauges::scanner_of))]
+pub(crate) fn is_gauge_of(shape: Shape, scanner: u32, gauge: u64) -> bool
+    requires { IsShape shape }
+    ensures { IsTrue result ↔ IsGaugeOf shape scanner gauge }
+{
+    if gauge >= u64::from(shape.gauges) {
+        return false;
+    }
+    if gauge == u64::from(clock(shape)) {
+        scanner == 16
+    } else {
+        gauge % u64::from(shape.scanners - 1) == u64::from(scanner)
+    }
+}

@@ -1,0 +1,52 @@
+ghost use Rattle.std.specs.Prelude.{◌≡◌, ◌≢◌, ◌↔◌, ℕ, ◌+◌, ◌*◌, ◌<◌, ◌^◌, IsTrue, length};
+ghost use Rattle.room_core.specs.CallerTables.{table};
+ghost use Rattle.room_core.specs.Description.{IsOperation, gauge_of};
+ghost use Rattle.room_core.specs.Gauges.{clock_of};
+
+use crate::answering::clock_of;
+use crate::shape::Shape;
+
+/// Whether a need's gauge is there and isn't the clock, and its cap is below 2^31.
+fn is_need(shape: Shape, words: &[u64], i: usize) -> bool
+    requires words { length words.now ≡ 195 }
+    requires need { i < 64 }
+    ensures { IsTrue result
+        ↔ ((gauge_of (table words.now 0) i < clock_of shape) × (table words.now 0 (5 + 3 * i) < 2 ^ 31)) }
+{
+    words[3 + 3 * i] < u64::from(clock_of(shape)) && words[5 + 3 * i] < 2147483648
+}
+
+/// Whether no earlier need has a need's gauge.
+fn is_new(words: &[u64], i: usize) -> bool
+    requires words { length words.now ≡ 195 }
+    requires need { i < 64 }
+    ensures { IsTrue result
+        ↔ ((j : ℕ) → j < i → gauge_of (table words.now 0) j ≢ gauge_of (table words.now 0) i) }
+{
+    for j in 0..i {
+        if words[3 + 3 * j] == words[3 + 3 * i] {
+            return false;
+        }
+    }
+    true
+}
+
+/// Whether the words describe an operation.
+pub(crate) fn is_operation(shape: Shape, words: &[u64]) -> bool
+    requires { length words.now ≡ 195 }
+    ensures { IsTrue result ↔ IsOperation shape (table words.now 0) }
+{
+    let needs = words[2];
+    if needs > 64 || words[0] >= 2147483648 {
+        return false;
+    }
+    for i in 0..needs as usize {
+        if !is_need(shape, words, i) {
+            return false;
+        }
+        if !is_new(words, i) {
+            return false;
+        }
+    }
+    true
+}
