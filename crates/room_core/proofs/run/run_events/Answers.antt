@@ -7,6 +7,7 @@ use Rattle.room_core.specs.Start.{start_of}
 use Rattle.room_core.specs.Tables.{state_of}
 use Rattle.room_core.proofs.Runs.{run_more}
 use Rattle.room_core.proofs.Steps.{runs_keep}
+use Rattle.room_core.proofs.Quiets.{unsatisfied, in_time}
 use Rattle.room_core.proofs.run.run_events.Goals as goal
 
 pub loop-event-preserved : goal.loop-event-preserved
@@ -25,3 +26,12 @@ returns-clause-run c =
 
 pub returns-clause-carried : goal.returns-clause-carried
 returns-clause-carried c = runs_keep c.args.shape c.args.events.now (state_of c.loop-event.state) c.requires (returns-clause-run c)
+
+pub returns-clause-sound : goal.returns-clause-sound
+returns-clause-sound c = (returns-clause-carried c).sound
+
+pub returns-clause-quiet : goal.returns-clause-quiet
+returns-clause-quiet c =
+    let s = state_of c.loop-event.state in
+    let sound = (returns-clause-carried c).sound in
+    λ quiet pass still. (unsatisfied s sound quiet pass still, in_time s sound quiet pass still)
