@@ -172,15 +172,10 @@ fn scans(room: &mut CoreState, pass: u32, scanner: u32, gauge: u32) -> Result<bo
 }
 
 fn describes(room: &mut CoreState, pass: u32, words: &[u64]) -> Result<bool, Fail> {
-    for (at, word) in words.iter().enumerate() {
-        if !makes(
-            room,
-            Describe {
-                pass,
-                at: at as u32,
-                word: *word,
-            },
-        )? {
+    for (place, word) in words.iter().enumerate() {
+        let word = *word;
+        let at = u32::try_from(place)?;
+        if !makes(room, Describe { pass, at, word })? {
             return Ok(false);
         }
     }
