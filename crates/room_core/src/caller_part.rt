@@ -4,15 +4,12 @@ ghost use Rattle.room_core.specs.Scans.{caller_asks, caller_relieves};
 ghost use Rattle.room_core.specs.CallerSize.{CallerIsSized};
 ghost use Rattle.room_core.specs.CallerWhole.{CallerIsWhole};
 
-use crate::empty::{WORDS, nothing_read};
+use crate::empty::{MARKS, WORDS, nothing_read};
 use crate::greater::greater;
 use crate::parts::{Phase, Prize, Stage, Taken};
 use crate::shape::Shape;
 use kbytes::NoMemory;
 use std::alloc::Global;
-
-/// A mark for each of 64 needs, and the clock's.
-const MARKS: usize = 65;
 
 /// A caller's part, in tables by number.
 #[derive(Debug, Drop)]

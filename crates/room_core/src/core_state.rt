@@ -14,6 +14,7 @@ ghost use Rattle.room_core.specs.WordSizes.{WordsAreSized};
 
 use crate::caller_part::CallerPart;
 use crate::duties::is_free;
+use crate::empty::{MARKS, WORDS};
 use crate::event::{CoreEvent, How, Party};
 use crate::gauges::{is_scanner, scanner_of};
 use crate::greater::greater;
@@ -60,6 +61,18 @@ fn idle_sessions(alloc: Global, shape: Shape) -> Result<Vec<Session>, NoMemory>
     Ok(vec![in alloc; idle; shape.passes as usize]?)
 }
 
+fn no_words(alloc: Global) -> Result<Vec<u64>, NoMemory>
+    ensures { IfOk result (λ v. v.items ≡ replicate 195 0) }
+{
+    Ok(vec![in alloc; 0; WORDS]?)
+}
+
+fn no_marks(alloc: Global) -> Result<Vec<u32>, NoMemory>
+    ensures { IfOk result (λ v. v.items ≡ replicate 65 0) }
+{
+    Ok(vec![in alloc; 0; MARKS]?)
+}
+
 /// The words of each pass's description, all zero.
 fn word_rows(alloc: Global, shape: Shape) -> Result<Vec<Vec<u64>>, NoMemory>
     ensures size { IfOk result (λ v. length v.items ≡ shape.passes) }
@@ -67,7 +80,7 @@ fn word_rows(alloc: Global, shape: Shape) -> Result<Vec<Vec<u64>>, NoMemory>
 {
     let mut rows = Vec::new(alloc);
     for _pass in 0..shape.passes {
-        rows.push(vec![in alloc; 0; 195]?)?;
+        rows.push(no_words(alloc)?)?;
     }
     Ok(rows)
 }
@@ -79,7 +92,7 @@ fn mark_rows(alloc: Global, shape: Shape) -> Result<Vec<Vec<u32>>, NoMemory>
 {
     let mut rows = Vec::new(alloc);
     for _pass in 0..shape.passes {
-        rows.push(vec![in alloc; 0; 65]?)?;
+        rows.push(no_marks(alloc)?)?;
     }
     Ok(rows)
 }
