@@ -1,6 +1,21 @@
 use super::*;
+use crate::event::CoreEvent::{
+    Ask, Begin, Describe, Hear, Hush, Idle, Learn, Leave, Mark, Marked, Meet, Open, Peek, Read,
+    Relieve, Store, Win,
+};
 use std::alloc::Global;
 use std::test::*;
+
+const CLOCK: u32 = 3;
+
+const CLOCK_SCANNER: u32 = 16;
+
+// Three gauges of a partition and the clock.
+const PARTITION: Shape = Shape {
+    gauges: 4,
+    passes: 3,
+    scanners: 2,
+};
 
 fn small_room(alloc: Global) -> Result<CoreState, Fail> {
     let shape = Shape {
@@ -111,5 +126,348 @@ fn a_run(rt: HostRuntime) -> Result<(), Fail> {
         .ok_or("memory for a run")?;
     assert!(rt; !makes(&mut room, CoreEvent::Store { gauge: 0, value: 6 })?);
     assert!(rt; makes(&mut room, CoreEvent::Store { gauge: 1, value: 6 })?);
+    Ok(())
+}
+
+fn start(alloc: Global) -> Result<CoreState, Fail> {
+    let room = CoreState::start(alloc, PARTITION)
+        .ok()
+        .ok_or("memory for the room")?;
+    Ok(room)
+}
+
+fn makes_all(room: &mut CoreState, events: &[CoreEvent]) -> Result<bool, Fail> {
+    for event in events {
+        if !makes(room, *event)? {
+            return Ok(false);
+        }
+    }
+    Ok(true)
+}
+
+// The pass raises the gauge to the value.
+fn rises(room: &mut CoreState, pass: u32, gauge: u32, value: u64) -> Result<bool, Fail> {
+    let who = Party::Pass(pass);
+    makes_all(
+        room,
+        &[
+            Store { gauge, value },
+            Read { who, gauge },
+            Ask { pass, gauge, value },
+            Hush { gauge },
+        ],
+    )
+}
+
+// The scanner scans the gauge, and the pass owes no scan of it any more.
+fn scans(room: &mut CoreState, pass: u32, scanner: u32, gauge: u32) -> Result<bool, Fail> {
+    makes_all(
+        room,
+        &[
+            Hear { scanner, gauge },
+            Begin { scanner, gauge },
+            Relieve { pass, gauge },
+        ],
+    )
+}
+
+fn describes(room: &mut CoreState, pass: u32, words: &[u64]) -> Result<bool, Fail> {
+    for (place, word) in words.iter().enumerate() {
+        let word = *word;
+        let at = u32::try_from(place)?;
+        if !makes(room, Describe { pass, at, word })? {
+            return Ok(false);
+        }
+    }
+    Ok(true)
+}
+
+// The pass opens what it described, and scanner 0 lists it under the one need, and the clock's under the deadline.
+fn is_listed(room: &mut CoreState, pass: u32) -> Result<bool, Fail> {
+    let scanner = CLOCK_SCANNER;
+    makes_all(
+        room,
+        &[
+            Open { pass },
+            Meet { scanner: 0, pass },
+            Learn {
+                scanner: 0,
+                pass,
+                at: 2,
+            },
+            Learn {
+                scanner: 0,
+                pass,
+                at: 3,
+            },
+            Mark {
+                scanner: 0,
+                pass,
+                at: 0,
+            },
+            Marked { pass, at: 0 },
+            Meet { scanner, pass },
+            Learn {
+                scanner,
+                pass,
+                at: 1,
+            },
+            Mark {
+                scanner,
+                pass,
+                at: 64,
+            },
+            Marked { pass, at: 64 },
+        ],
+    )
+}
+
+// The pass checks the one need, and leaves its operation to the scanners.
+fn parks(room: &mut CoreState, pass: u32, gauge: u32) -> Result<bool, Fail> {
+    let who = Party::Pass(pass);
+    makes_all(
+        room,
+        &[
+            Read { who, gauge },
+            Leave {
+                who,
+                pass,
+                gauge: CLOCK,
+            },
+        ],
+    )
+}
+
+// The scanner meets the pass again, and learns its operation of one need.
+fn learns(room: &mut CoreState, scanner: u32, pass: u32) -> Result<bool, Fail> {
+    makes_all(
+        room,
+        &[
+            Meet { scanner, pass },
+            Learn {
+                scanner,
+                pass,
+                at: 0,
+            },
+            Learn {
+                scanner,
+                pass,
+                at: 1,
+            },
+            Learn {
+                scanner,
+                pass,
+                at: 2,
+            },
+            Learn {
+                scanner,
+                pass,
+                at: 3,
+            },
+            Learn {
+                scanner,
+                pass,
+                at: 4,
+            },
+            Learn {
+                scanner,
+                pass,
+                at: 5,
+            },
+        ],
+    )
+}
+
+// With a duty on the pass's operation, the scanner begins a scan of the gauge, and wins the operation.
+fn wins(room: &mut CoreState, scanner: u32, pass: u32, gauge: u32, how: How) -> Result<bool, Fail> {
+    let who = Party::Scanner(scanner);
+    Ok(
+        makes_all(room, &[Hear { scanner, gauge }, Begin { scanner, gauge }])?
+            && learns(room, scanner, pass)?
+            && makes_all(room, &[Leave { who, pass, gauge }, Win { who, pass, how }])?,
+    )
+}
+
+fn stage_of(room: &CoreState, pass: usize) -> Option<Stage> {
+    Some(room.caller.get(pass)?.stage)
+}
+
+fn first_taken(room: &CoreState, pass: usize) -> Option<Taken> {
+    room.caller.get(pass)?.taken.get(0).copied()
+}
+
+fn count_won(room: &CoreState, pass: usize, scanner: usize) -> Option<(usize, usize)> {
+    let by_pass = room.caller.get(pass)?.wins.len();
+    let by_scanner = room.scanner.get(scanner)?.wins.len();
+    Some((by_pass, by_scanner))
+}
+
+// A produce waits for a follower.
+fn parked_produce(alloc: Global) -> Result<CoreState, Fail> {
+    let mut room = start(alloc)?;
+    let parked = rises(&mut room, 0, 0, 0)?
+        && rises(&mut room, 0, 1, 0)?
+        && rises(&mut room, 0, 2, 69)?
+        && scans(&mut room, 0, 0, 2)?
+        && describes(&mut room, 0, &[1, 1000, 1, 0, 0, 1])?
+        && is_listed(&mut room, 0)?
+        && parks(&mut room, 0, 0)?;
+    if !parked {
+        return Err("the produce is parked")?;
+    }
+    Ok(room)
+}
+
+// A follower's fetch reaches the produce's offset, and is parked itself.
+fn followed_produce(alloc: Global) -> Result<CoreState, Fail> {
+    let mut room = parked_produce(alloc)?;
+    let followed = rises(&mut room, 1, 0, 0)?
+        && rises(&mut room, 1, 1, 0)?
+        && rises(&mut room, 1, 2, 69)?
+        && scans(&mut room, 1, 0, 2)?
+        && rises(&mut room, 1, 0, 1)?
+        && rises(&mut room, 1, 1, 69)?
+        && rises(&mut room, 1, 2, 69)?
+        && wins(&mut room, 0, 0, 0, How::Satisfied)?
+        && makes(&mut room, Relieve { pass: 1, gauge: 0 })?
+        && scans(&mut room, 1, 0, 1)?
+        && scans(&mut room, 1, 0, 2)?;
+    if !followed {
+        return Err("the produce is followed")?;
+    }
+    Ok(room)
+}
+
+#[test]
+fn a_produce_is_parked_and_followed_and_the_fetch_expires(rt: HostRuntime) -> Result<(), Fail> {
+    let mut room = followed_produce(rt.alloc())?;
+    assert!(rt; describes(&mut room, 1, &[1, 500, 1, 2, 69, 1048576])?);
+    assert!(rt; is_listed(&mut room, 1)?);
+    assert!(rt; parks(&mut room, 1, 2)?);
+    let looks = [Peek { pass: 0 }, Idle { pass: 0 }, Peek { pass: 1 }];
+    assert!(rt; makes_all(&mut room, &looks)?);
+    assert!(rt; rises(&mut room, 2, CLOCK, 499)?);
+    assert!(rt; scans(&mut room, 2, CLOCK_SCANNER, CLOCK)?);
+    assert!(rt; makes(&mut room, Peek { pass: 1 })?);
+    assert_eq!(rt; stage_of(&room, 1), Some(Stage::Waiting));
+    assert!(rt; rises(&mut room, 2, CLOCK, 500)?);
+    assert!(rt; wins(&mut room, CLOCK_SCANNER, 1, CLOCK, How::Expired)?);
+    assert!(rt;
+        makes(
+            &mut room,
+            Relieve {
+                pass: 2,
+                gauge: CLOCK
+            }
+        )?
+    );
+    assert!(rt; makes_all(&mut room, &[Peek { pass: 1 }, Idle { pass: 1 }])?);
+    let followed = Taken {
+        generation: 1,
+        how: How::Satisfied,
+        by: 0,
+    };
+    let expired = Taken {
+        generation: 1,
+        how: How::Expired,
+        by: CLOCK_SCANNER,
+    };
+    assert_eq!(rt; first_taken(&room, 0), Some(followed));
+    assert_eq!(rt; first_taken(&room, 1), Some(expired));
+    Ok(())
+}
+
+#[test]
+fn a_check_with_a_gauge_unread_is_not_left(rt: HostRuntime) -> Result<(), Fail> {
+    let mut room = start(rt.alloc())?;
+    let who = Party::Pass(0);
+    assert!(rt; describes(&mut room, 0, &[2, 1000, 2, 0, 0, 1, 1, 0, 1])?);
+    assert!(rt; is_listed(&mut room, 0)?);
+    let second = [
+        Meet {
+            scanner: 0,
+            pass: 0,
+        },
+        Learn {
+            scanner: 0,
+            pass: 0,
+            at: 2,
+        },
+        Learn {
+            scanner: 0,
+            pass: 0,
+            at: 6,
+        },
+        Mark {
+            scanner: 0,
+            pass: 0,
+            at: 1,
+        },
+        Marked { pass: 0, at: 1 },
+        Read { who, gauge: 0 },
+    ];
+    assert!(rt; makes_all(&mut room, &second)?);
+    assert!(rt;
+        !makes(
+            &mut room,
+            Leave {
+                who,
+                pass: 0,
+                gauge: CLOCK
+            }
+        )?
+    );
+    assert_eq!(rt; stage_of(&room, 0), Some(Stage::Checking));
+    // the clock that was refused isn't read
+    assert!(rt;
+        !makes(
+            &mut room,
+            Leave {
+                who,
+                pass: 0,
+                gauge: 1
+            }
+        )?
+    );
+    assert!(rt; makes(&mut room, Read { who, gauge: 1 })?);
+    assert!(rt;
+        makes(
+            &mut room,
+            Leave {
+                who,
+                pass: 0,
+                gauge: CLOCK
+            }
+        )?
+    );
+    assert_eq!(rt; stage_of(&room, 0), Some(Stage::Waiting));
+    Ok(())
+}
+
+#[test]
+fn a_generation_is_won_once(rt: HostRuntime) -> Result<(), Fail> {
+    let mut room = start(rt.alloc())?;
+    let who = Party::Pass(0);
+    let how = How::Satisfied;
+    assert!(rt; describes(&mut room, 0, &[1, 1000, 1, 0, 0, 1])?);
+    assert!(rt; is_listed(&mut room, 0)?);
+    assert!(rt; rises(&mut room, 1, 0, 1)?);
+    assert!(rt; makes(&mut room, Read { who, gauge: 0 })?);
+    assert!(rt; wins(&mut room, 0, 0, 0, how)?);
+    assert!(rt;
+        !makes(
+            &mut room,
+            Win {
+                who: Party::Scanner(0),
+                pass: 0,
+                how
+            }
+        )?
+    );
+    // the owner tries too, and sees who was first
+    assert!(rt; makes(&mut room, Win { who, pass: 0, how })?);
+    assert_eq!(rt; stage_of(&room, 0), Some(Stage::Over { how, by: 0 }));
+    assert!(rt; !makes(&mut room, Win { who, pass: 0, how })?);
+    assert_eq!(rt; count_won(&room, 0, 0), Some((0, 1)));
     Ok(())
 }
