@@ -445,6 +445,32 @@ fn a_check_with_a_gauge_unread_is_not_left(rt: HostRuntime) -> Result<(), Fail> 
 }
 
 #[test]
+fn a_scanner_with_a_gauge_unread_does_not_leave(rt: HostRuntime) -> Result<(), Fail> {
+    let mut room = start(rt.alloc())?;
+    let scanner = 0;
+    let pass = 0;
+    let who = Party::Scanner(scanner);
+    assert!(rt; describes(&mut room, pass, &[2, 1000, 2, 0, 0, 1, 1, 0, 1])?);
+    assert!(rt; is_listed(&mut room, pass)?);
+    assert!(rt; rises(&mut room, 1, 0, 1)?);
+    let scan = [Hear { scanner, gauge: 0 }, Begin { scanner, gauge: 0 }];
+    assert!(rt; makes_all(&mut room, &scan)?);
+    assert!(rt; learns(&mut room, scanner, pass)?);
+    for at in 6..9u32 {
+        assert!(rt; makes(&mut room, Learn { scanner, pass, at })?);
+    }
+    let leave = Leave {
+        who,
+        pass,
+        gauge: 0,
+    };
+    assert!(rt; !makes(&mut room, leave)?);
+    assert!(rt; makes(&mut room, Read { who, gauge: 1 })?);
+    assert!(rt; makes(&mut room, leave)?);
+    Ok(())
+}
+
+#[test]
 fn a_generation_is_won_once(rt: HostRuntime) -> Result<(), Fail> {
     let mut room = start(rt.alloc())?;
     let who = Party::Pass(0);

@@ -1,4 +1,4 @@
-use Rattle.std.proofs.Common.{rules, ◌≡◌, List, replicate, false, refl, Vec, Global, ℕ, Option}
+use Rattle.std.proofs.Common.{rules, ◌≡◌, replicate, false, refl, Vec, Global, ℕ, Option}
 use Rattle.room_core.specs.declared.parts.Phase.{Phase}
 use Rattle.room_core.specs.declared.parts.Session.{Session}
 use Rattle.room_core.specs.declared.parts.Source.{Source}

@@ -1,4 +1,4 @@
-use Rattle.std.proofs.Common.{◌≡◌, subst, sym}
+use Rattle.std.proofs.Common.{subst, sym}
 use Rattle.std.specs.Prelude.{◌↔◌, IsTrue, IfOk}
 use Rattle.room_core.specs.declared.event.CoreEvent.TheVariants.{Win}
 use Rattle.room_core.specs.Step.{IsAllowed}
