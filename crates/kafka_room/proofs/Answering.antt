@@ -19,7 +19,8 @@ use Rattle.kafka_room.specs.Replying.{HasLog, ShowsLog, ShowsLogs}
 use Rattle.kafka_room.specs.declared.broker.came.Came.{Came}
 use Rattle.kafka_room.specs.declared.kwire.request.Request.{Request}
 use Rattle.kafka_room.specs.Answer.{answer}
-use Rattle.kafka_room.specs.AtOnce.{IsAnsweredAtOnce, text_at_once}
+use Rattle.kafka_room.specs.AtOnce.{IsAnsweredAtOnce}
+use Rattle.kafka_room.specs.Handling.{text_at_once}
 use Rattle.kafka_room.specs.Carried.{IsCarried}
 use Rattle.kafka_room.specs.Delayed.{is_quiet}
 use Rattle.kafka_room.specs.Handled.{step_points}

@@ -1,18 +1,16 @@
 -- A request that needn't wait was accepted and answered: the histories, its points and what is printed.
-use Rattle.std.specs.Prelude.{ℕ, ◌≡◌, false, List, [], ◌++◌, if◌then◌else◌}
+use Rattle.std.specs.Prelude.{ℕ, ◌≡◌, false, List, ◌++◌}
 use Rattle.partlog.specs.History.{History}
 use Rattle.kafka_room.specs.declared.audit.account.Point.{Point}
 use Rattle.kafka_room.specs.declared.kwire.request.Request.{Request}
 use Rattle.kafka_room.specs.Acceptance.{accept_all, steps_of, shown_of}
 use Rattle.kafka_room.specs.Accepting.{Decision, Decides}
-use Rattle.kafka_room.specs.Answer.{answer}
+use Rattle.kafka_room.specs.Board.{Board, next_call}
 use Rattle.kafka_room.specs.Configuration.{Configuration}
-use Rattle.kafka_room.specs.Delayed.{Shown, becomes_delayed, is_quiet}
+use Rattle.kafka_room.specs.Delayed.{becomes_delayed}
 use Rattle.kafka_room.specs.Handled.{step_points}
-use Rattle.kafka_room.specs.Printed.{reply_line}
-
-abbrev pub text_at_once : Configuration → ℕ → Request → List Shown → List ℕ
-text_at_once config session request shown = if is_quiet request.ask then [] else reply_line session (answer config request shown)
+use Rattle.kafka_room.specs.Handling.{text_at_once, answered_at_once}
+use Rattle.kafka_room.specs.IsRequest.{IsRequest}
 
 -- by the call of this number of a session
 pub record IsAnsweredAtOnce (config : Configuration) (by seq : ℕ) (request : Request) (before after : List History) (points : List Point) (text more : List ℕ) : Type 0 where
@@ -22,3 +20,13 @@ pub record IsAnsweredAtOnce (config : Configuration) (by seq : ℕ) (request : R
   pub histories : after ≡ (accept_all by seq decisions before).1
   pub points_are : points ≡ step_points (steps_of (accept_all by seq decisions before).0)
   pub printed : more ≡ text ++ text_at_once config by request (shown_of (accept_all by seq decisions before).0)
+
+-- the frame at the front of a session's bytes, which has this body, was handled so
+pub record IsHandled (board : Board) (session : ℕ) (body : List ℕ) (later : Board) (text more : List ℕ) : Type 0 where
+  pub request : Request
+  pub decisions : List Decision
+  pub asked : IsRequest body request
+  pub decided : Decides board.config request.ask decisions
+  pub undelayed : becomes_delayed request.ask (shown_of (accept_all session (next_call board session) decisions board.parts).0) ≡ false
+  pub board_is : later ≡ (answered_at_once board session body request (accept_all session (next_call board session) decisions board.parts)).board
+  pub printed : more ≡ text ++ (answered_at_once board session body request (accept_all session (next_call board session) decisions board.parts)).text

@@ -11,7 +11,8 @@ use Rattle.kafka_room.specs.declared.kwire.request.Ask.{Ask}
 use Rattle.kafka_room.specs.declared.kwire.request.Request.{Request}
 use Rattle.kafka_room.specs.Accepting.{Decision}
 use Rattle.kafka_room.specs.Answer.{answer}
-use Rattle.kafka_room.specs.Delayed.{becomes_delayed, is_quiet, operation_of, results_of}
+use Rattle.kafka_room.specs.Configuration.{Configuration}
+use Rattle.kafka_room.specs.Delayed.{Shown, becomes_delayed, is_quiet, operation_of, results_of}
 use Rattle.kafka_room.specs.Handled.{step_points}
 use Rattle.kafka_room.specs.Histories.{clock_part}
 use Rattle.kafka_room.specs.Printed.{reply_line, end_line}
@@ -38,6 +39,10 @@ with_call board parts session body call =
 abbrev pub how_at_once : Ask → CallHow
 how_at_once ask = if is_quiet ask then Quiet else AtOnce
 
+-- what is printed of it
+abbrev pub text_at_once : Configuration → ℕ → Request → List Shown → List ℕ
+text_at_once config session request shown = if is_quiet request.ask then [] else reply_line session (answer config request shown)
+
 abbrev pub answered_at_once : Board → ℕ → List ℕ → Request → List Noted × List History → Turned
 answered_at_once board session body request (noted, parts) = record {
   board = with_call board parts session body (record {
@@ -46,7 +51,7 @@ answered_at_once board session body request (noted, parts) = record {
     finish = [];
     how = how_at_once request.ask;
   });
-  text = if is_quiet request.ask then [] else reply_line session (answer board.config request (shown_of noted));
+  text = text_at_once board.config session request (shown_of noted);
 }
 
 -- the clock is looked at, and its moment there is that from which the deadline counts

@@ -100,3 +100,7 @@ pub mod ArePlainStreams
 pub mod IsData
 -- what is read of the named partitions as their logs are
 pub mod Gathered
+-- a broker amid a trace
+pub mod UnderWay
+-- a broker that can handle the frame at the front of a session's bytes
+pub mod Ready

@@ -6,6 +6,7 @@ pub mod came;
 pub mod closing;
 pub mod desk;
 pub mod handle;
+pub mod lone;
 pub mod opening;
 pub mod plain;
 pub mod reply;

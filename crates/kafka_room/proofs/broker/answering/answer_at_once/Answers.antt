@@ -5,7 +5,7 @@ use Rattle.std.specs.Fmt.{decimal}
 use Rattle.hex.specs.Hex.{encode_lower}
 use Rattle.kafka_room.specs.declared.kanswer.accepted.Accepted.{Accepted}
 use Rattle.kafka_room.specs.AreReadings.{IsCarriable}
-use Rattle.kafka_room.specs.AtOnce.{text_at_once}
+use Rattle.kafka_room.specs.Handling.{text_at_once}
 use Rattle.kafka_room.specs.Replying.{HasLog, ShowsLogs}
 use Rattle.kafka_room.specs.Printed.{line_of}
 use Rattle.kafka_room.proofs.Answering.{replied_now, shown_now_is, told, not_told, answered}

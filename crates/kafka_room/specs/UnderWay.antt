@@ -1,0 +1,36 @@
+-- A broker amid a trace whose requests wait for nothing: what it was given, what is to come, and what holds.
+use Rattle.std.specs.Prelude.{ℕ, ◌≡◌, ◌≢◌, ◌<◌, ◌≤◌, true, List, ◌++◌, length}
+use Rattle.kafka_room.specs.declared.trace_file.line.Line.{Line}
+use Rattle.kafka_room.specs.Board.{Board, seat_at, transcript_at}
+use Rattle.kafka_room.specs.Carried.{HasNoFollowers}
+use Rattle.kafka_room.specs.Fed.{IsFedBy, IsAtRest}
+use Rattle.kafka_room.specs.Fits.{IsUnfinished}
+use Rattle.kafka_room.specs.PlainStream.{IsPlainStream}
+use Rattle.kafka_room.specs.RunOf.{input_of, is_named}
+use Rattle.kafka_room.specs.Steady.{IsSteady}
+
+-- what a session will have received, but for what it handled
+abbrev pub to_come : Board → List Line → ℕ → List ℕ
+to_come board later session = (seat_at board session).inbox ++ input_of session later
+
+-- between two calls
+pub record IsRunning (fed later : List Line) (board : Board) : Type 0 where
+  pub given : IsFedBy fed board
+  pub steady : IsSteady board.config board.parts (λ s. (transcript_at board s).calls)
+  pub alone : HasNoFollowers board.config.topics
+  pub in_range : (s : ℕ) → is_named s later ≡ true → s < 64
+  -- what is left of each session's input are plain requests
+  pub streams : (s : ℕ) → s < 64 → IsPlainStream (to_come board later s)
+  -- and no session receives more bytes than a trace has
+  pub few : (s : ℕ) → s < 64 → length (input_of s (fed ++ later)) ≤ 67108864
+
+-- between two lines
+pub record IsUnderWay (fed later : List Line) (board : Board) : Type 0 where
+  pub running : IsRunning fed later board
+  pub rest : IsAtRest board
+
+-- between two calls of this session
+pub record IsServing (fed later : List Line) (session : ℕ) (board : Board) : Type 0 where
+  pub running : IsRunning fed later board
+  pub there : session < 64
+  pub others : (s : ℕ) → s < 64 → s ≢ session → IsUnfinished (seat_at board s).inbox
