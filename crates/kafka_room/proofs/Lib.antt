@@ -54,3 +54,5 @@ pub mod Answering
 pub mod PlainSpellable
 pub mod Openings
 pub mod Closings
+pub mod Serving
+pub mod Calling

@@ -43,7 +43,7 @@ or_neither : (x y : Bool) → (x || y) ≡ false → (x ≡ false) × (y ≡ fal
 or_neither true y e = absurd cc
 or_neither false y e = (refl, e)
 
-or_second : (x y : Bool) → y ≡ true → (x || y) ≡ true
+pub or_second : (x y : Bool) → y ≡ true → (x || y) ≡ true
 or_second true y e = refl
 or_second false y e = e
 
@@ -312,10 +312,10 @@ fed_topic fed board name partitions followers h = fed_same fed board (Topic name
 pub fed_end : (fed : List Line) (board : Board) → IsFedBy fed board → IsFedBy (fed ++ End ∷ []) board
 fed_end fed board h = fed_same fed board End (λ s. refl) (λ s. refl) h
 
-seat_set_same : (board : Board) (s : ℕ) (seat : Seat) → s < length board.seats → unwrap_or (slice_get (set board.seats s seat) s) empty_seat ≡ seat
+pub seat_set_same : (board : Board) (s : ℕ) (seat : Seat) → s < length board.seats → unwrap_or (slice_get (set board.seats s seat) s) empty_seat ≡ seat
 seat_set_same board s seat lt = ap (λ (o : Option Seat). unwrap_or o empty_seat) (get_set_same board.seats s seat lt)
 
-seat_set_other : (board : Board) (i s : ℕ) (seat : Seat) → s ≢ i → unwrap_or (slice_get (set board.seats i seat) s) empty_seat ≡ seat_at board s
+pub seat_set_other : (board : Board) (i s : ℕ) (seat : Seat) → s ≢ i → unwrap_or (slice_get (set board.seats i seat) s) empty_seat ≡ seat_at board s
 seat_set_other board i s seat other = ap (λ (o : Option Seat). unwrap_or o empty_seat) (get_set_other board.seats i s seat other)
 
 -- one seat changes as these lines tell of its session, and they tell nothing new of the others

@@ -27,8 +27,8 @@ pub fn is_quiet(ask: &Ask) -> bool
     matches!(ask, Ask::Produce { acks: 0, .. })
 }
 
-// Each log is as its events tell.
-fn look_at_all(parts: &[PartLog])
+/// Each log is as its events tell.
+pub fn look_at_all(parts: &[PartLog])
     ensures { (p : ℕ) → p < length parts.now → IsKept (history_at parts.now p).log (history_at parts.now p).events }
 {
     for part in parts {
