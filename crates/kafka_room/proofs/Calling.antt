@@ -194,10 +194,13 @@ module _ (fed later : List Line) (board : Board) (session : ℕ) (bytes : List �
 abbrev fed_seat_of : Board → ℕ → List ℕ → Seat
 fed_seat_of b s more = record { inbox = cond (is_there (transcript_at b s).end) (seat_at b s).inbox ((seat_at b s).inbox ++ more); is_shut = (seat_at b s).is_shut; transcript = Some (transcript_at b s) }
 
+abbrev pub with_bytes : ℕ → List ℕ → Seat → Seat
+with_bytes session bytes seat = record { inbox = seat.inbox ++ bytes; is_shut = seat.is_shut; transcript = Some (unwrap_or seat.transcript (new_transcript session)) }
+
 -- what a feed leaves, from the desk that took the bytes
 pub feed_made : (config : Configuration) (parts : List History) (seats : List Seat) (board next : Board) (fed later : List Line) (session : ℕ) (bytes : List ℕ) → board_of config parts seats ≡ board
     → IsUnderWay fed (Feed session bytes ∷ later) board
-    → next ≡ board_of config parts (set seats session (record { inbox = (seat_at board session).inbox ++ bytes; is_shut = (seat_at board session).is_shut; transcript = Some (transcript_at board session) }))
+    → next ≡ board_of config parts (set seats session (with_bytes session bytes (seat_at board session)))
     → next ≡ brought board (Feed session bytes)
 feed_made config parts seats board next fed later session bytes view way left =
     let kept = feed_inbox fed later board session bytes way in
