@@ -10,6 +10,7 @@ use Rattle.kafka_room.specs.declared.audit.account.CallHow.{CallHow}
 use Rattle.kafka_room.specs.declared.audit.account.Point.{Point}
 use Rattle.kafka_room.specs.declared.audit.account.SessionEnd.{SessionEnd}
 use Rattle.kafka_room.specs.declared.audit.account.Transcript.{Transcript}
+use Rattle.kafka_room.specs.declared.kwire.frame.Frame.{Frame}
 use Rattle.kafka_room.specs.declared.kwire.frame.Frame.TheVariants.{Whole}
 use Rattle.kafka_room.specs.declared.kwire.request.Request.{Request}
 use Rattle.kafka_room.specs.declared.trace_file.line.Line.{Line}
@@ -52,6 +53,13 @@ seat_shown board view shown s seat is shows lt at =
     let all : shown ≡ board.seats = shows ∙ ap (λ (b : Board). b.seats) is in
     let here : seat ≡ get_or board.seats s seat = at ∙ ap (λ (xs : List Seat). get_or xs s seat) all in
     ap (λ (o : Option Seat). unwrap_or o empty_seat) (get_there board.seats s seat lt ∙ ap Some (unwrap_or-slice_get board.seats s seat ∙ sym here))
+
+-- the frame at the front of the bytes that are shown there
+pub front_shown : (fed later : List Line) (board view : Board) (shown : List Seat) (s : ℕ) (seat : Seat) (front frame : Frame) → IsServing fed later s board → view ≡ board → shown ≡ view.seats → seat ≡ get_or shown s seat
+    → front ≡ next_frame_of seat.inbox → front ≡ frame → next_frame_of (seat_at board s).inbox ≡ frame
+front_shown fed later board view shown s seat front frame serving is shows at found named =
+    let there : s < length board.seats = omega (arith, serving.there, serving.running.given.size) in
+    ap (λ (x : Seat). next_frame_of x.inbox) (seat_shown board view shown s seat is shows there at) ∙ sym found ∙ named
 
 -- ---- a call
 
@@ -198,14 +206,18 @@ abbrev pub with_bytes : ℕ → List ℕ → Seat → Seat
 with_bytes session bytes seat = record { inbox = seat.inbox ++ bytes; is_shut = seat.is_shut; transcript = Some (unwrap_or seat.transcript (new_transcript session)) }
 
 -- what a feed leaves, from the desk that took the bytes
-pub feed_made : (config : Configuration) (parts : List History) (seats : List Seat) (board next : Board) (fed later : List Line) (session : ℕ) (bytes : List ℕ) → board_of config parts seats ≡ board
-    → IsUnderWay fed (Feed session bytes ∷ later) board
-    → next ≡ board_of config parts (set seats session (with_bytes session bytes (seat_at board session)))
-    → next ≡ brought board (Feed session bytes)
-feed_made config parts seats board next fed later session bytes view way left =
+pub feed_made : (config : Configuration) (parts : List History) (desks lent : List Seat) (board : Board) (fed later : List Line) (session : ℕ) (bytes given : List ℕ) (shown desk : Seat) → board_of config parts desks ≡ board
+    → IsUnderWay fed (Feed session bytes ∷ later) board → lent ≡ desks → shown ≡ get_or lent session shown → given ≡ bytes → desk ≡ with_bytes session given (get_or lent session shown)
+    → board_of config parts (take (length desks) (set lent session desk ++ drop (length (set lent session desk)) desks)) ≡ brought board (Feed session bytes)
+feed_made config parts desks lent board fed later session bytes given shown desk view way value at is takes =
+    let there : session < length board.seats = omega (arith, feed_there fed later board session bytes way, way.running.given.size) in
+    let seat = seat_shown board (board_of config parts desks) lent session shown view value there at in
+    let took : desk ≡ with_bytes session bytes (seat_at board session) =
+    takes ∙ ap (λ (x : List ℕ). with_bytes session x (get_or lent session shown)) is ∙ ap (with_bytes session bytes) (sym (seat ∙ at)) in
     let kept = feed_inbox fed later board session bytes way in
-    left ∙ ap (λ (x : List ℕ). board_of config parts (set seats session (record { inbox = x; is_shut = (seat_at board session).is_shut; transcript = Some (transcript_at board session) }))) (sym kept)
-    ∙ subst (λ (b : Board). board_of config parts (set seats session (fed_seat_of b session bytes)) ≡ brought b (Feed session bytes)) view refl
+    ap (board_of config parts) (desk_written desks lent session desk value ∙ ap (set desks session) took)
+    ∙ ap (λ (x : List ℕ). board_of config parts (set desks session (record { inbox = x; is_shut = (seat_at board session).is_shut; transcript = Some (transcript_at board session) }))) (sym kept)
+    ∙ subst (λ (b : Board). board_of config parts (set desks session (fed_seat_of b session bytes)) ≡ brought b (Feed session bytes)) view refl
 
 -- a line that brings nothing and names nobody
 pub still_line : (fed later : List Line) (board : Board) (line : Line) → IsPlainLine line → ((session : ℕ) (bytes : List ℕ) → line ≢ Feed session bytes) → IsUnderWay fed (line ∷ later) board

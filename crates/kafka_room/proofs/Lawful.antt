@@ -106,7 +106,7 @@ the_wins : (board : Board) → AreTame 0 board.seats → (w : ℕ) → unwrap_or
 the_wins board tame zero = refl
 the_wins board tame (suc w) = sym (none_won (suc w) (all_calls (account_of board)) (all_plain 0 board.seats tame))
 
-parts_get : (parts : List History) (p : ℕ) (h : History) → slice_get parts p ≡ Some h → slice_get (map part_account parts) p ≡ Some (part_account h)
+pub parts_get : (parts : List History) (p : ℕ) (h : History) → slice_get parts p ≡ Some h → slice_get (map part_account parts) p ≡ Some (part_account h)
 parts_get [] p h e = absurd cc
 parts_get (x ∷ parts) zero h e = ap (λ (y : History). Some (part_account y)) (some_is x h e)
 parts_get (x ∷ parts) (suc p) h e = parts_get parts p h e

@@ -1,8 +1,8 @@
-use Rattle.std.proofs.Common.{◌≡◌, ◌≢◌, ℕ, ◌<◌, length, get_or, sym, ap, ◌∙◌, arith}
+use Rattle.std.proofs.Common.{◌≡◌, ◌≢◌, ℕ, length, refl, sym, ap, ◌∙◌, arith}
 use Rattle.kafka_room.specs.declared.kwire.frame.Frame.TheVariants.{Whole}
-use Rattle.kafka_room.specs.Board.{Board, Seat, seat_at}
+use Rattle.kafka_room.specs.Board.{Board, seat_at}
 use Rattle.kafka_room.specs.Frames.{next_frame_of}
-use Rattle.kafka_room.proofs.Calling.{seat_shown}
+use Rattle.kafka_room.proofs.Calling.{front_shown}
 use Rattle.kafka_room.proofs.Serving.{ready, keeps_serving, serves_less, came_further, comes_to_rest, came_to_rest}
 use Rattle.kafka_room.proofs.broker.lone.Lone.serve.Goals as goal
 
@@ -14,25 +14,22 @@ bounds-as_slice-session c =
 pub handle-requires : goal.handle-requires
 handle-requires c =
     let serving = c.loop-end.invariant.serving c.requires.0 c.requires.1 c.requires.2 in
-    let lt : c.args.session < length c.loop-end.self.seats = omega (arith, serving.there, serving.running.given.size) in
-    let seat = seat_shown c.loop-end.self _ c.as_slice.result.now c.args.session c.index-as_slice-session.result c.self.view_is c.as_slice.ensures lt c.index-as_slice-session.is in
-    let whole : next_frame_of (seat_at c.loop-end.self c.args.session).inbox ≡ Whole c.in-Whole.end = ap (λ (s : Seat). next_frame_of s.inbox) seat ∙ sym c.front.ensures ∙ c.in-Whole.is in
+    let whole = front_shown c.requires.0 c.requires.1 c.loop-end.self _ c.as_slice.result.now c.args.session c.index-as_slice-session.result c.front.result (Whole c.in-Whole.end)
+    serving c.self.view_is c.as_slice.ensures c.index-as_slice-session.is c.front.ensures c.in-Whole.is in
     ready c.requires.0 c.requires.1 c.args.session c.in-Whole.end c.loop-end.self serving whole
 
 pub loop-end-smaller : goal.loop-end-smaller
 loop-end-smaller c =
     let serving = c.loop-end.invariant.serving c.requires.0 c.requires.1 c.requires.2 in
-    let lt : c.args.session < length c.loop-end.self.seats = omega (arith, serving.there, serving.running.given.size) in
-    let seat = seat_shown c.loop-end.self _ c.as_slice.result.now c.args.session c.index-as_slice-session.result c.self.view_is c.as_slice.ensures lt c.index-as_slice-session.is in
-    let whole : next_frame_of (seat_at c.loop-end.self c.args.session).inbox ≡ Whole c.in-Whole.end = ap (λ (s : Seat). next_frame_of s.inbox) seat ∙ sym c.front.ensures ∙ c.in-Whole.is in
+    let whole = front_shown c.requires.0 c.requires.1 c.loop-end.self _ c.as_slice.result.now c.args.session c.index-as_slice-session.result c.front.result (Whole c.in-Whole.end)
+    serving c.self.view_is c.as_slice.ensures c.index-as_slice-session.is c.front.ensures c.in-Whole.is in
     serves_less c.requires.0 c.requires.1 c.args.session c.in-Whole.end c.loop-end.self c.handle.new.self c.loop-end.out c.handle.new.out serving whole c.in_ok-handle.ensures
 
 pub loop-end-preserved : goal.loop-end-preserved
 loop-end-preserved c =
     let serving = c.loop-end.invariant.serving c.requires.0 c.requires.1 c.requires.2 in
-    let lt : c.args.session < length c.loop-end.self.seats = omega (arith, serving.there, serving.running.given.size) in
-    let seat = seat_shown c.loop-end.self _ c.as_slice.result.now c.args.session c.index-as_slice-session.result c.self.view_is c.as_slice.ensures lt c.index-as_slice-session.is in
-    let whole : next_frame_of (seat_at c.loop-end.self c.args.session).inbox ≡ Whole c.in-Whole.end = ap (λ (s : Seat). next_frame_of s.inbox) seat ∙ sym c.front.ensures ∙ c.in-Whole.is in
+    let whole = front_shown c.requires.0 c.requires.1 c.loop-end.self _ c.as_slice.result.now c.args.session c.index-as_slice-session.result c.front.result (Whole c.in-Whole.end)
+    serving c.self.view_is c.as_slice.ensures c.index-as_slice-session.is c.front.ensures c.in-Whole.is in
     record {
       serving = λ fed later s. keeps_serving fed later c.args.session c.in-Whole.end c.loop-end.self c.handle.new.self c.loop-end.out c.handle.new.out (c.loop-end.invariant.serving fed later s) whole c.in_ok-handle.ensures;
       came = came_further c.requires.0 c.requires.1 c.args.session c.in-Whole.end c.args.self.now c.loop-end.self c.handle.new.self c.args.out.now c.loop-end.out c.handle.new.out serving whole c.in_ok-handle.ensures c.loop-end.invariant.came;
@@ -41,9 +38,9 @@ loop-end-preserved c =
 pub returns : goal.returns
 returns c =
     let serving = c.loop-end.invariant.serving c.requires.0 c.requires.1 c.requires.2 in
-    let lt : c.args.session < length c.loop-end.self.seats = omega (arith, serving.there, serving.running.given.size) in
-    let seat = seat_shown c.loop-end.self _ c.as_slice.result.now c.args.session c.index-as_slice-session.result c.self.view_is c.as_slice.ensures lt c.index-as_slice-session.is in
-    let none : (end : ℕ) → next_frame_of (seat_at c.loop-end.self c.args.session).inbox ≢ Whole end = λ end e. c.in_default.not-Whole end (c.front.ensures ∙ sym (ap (λ (s : Seat). next_frame_of s.inbox) seat) ∙ e) in
+    let none : (end : ℕ) → next_frame_of (seat_at c.loop-end.self c.args.session).inbox ≢ Whole end = λ end e. c.in_default.not-Whole end
+    (sym (front_shown c.requires.0 c.requires.1 c.loop-end.self _ c.as_slice.result.now c.args.session c.index-as_slice-session.result c.front.result c.front.result
+    serving c.self.view_is c.as_slice.ensures c.index-as_slice-session.is c.front.ensures refl) ∙ e) in
     let came = c.loop-end.invariant.came in
     let done = came_to_rest c.requires.0 c.requires.1 c.args.self.now c.loop-end.self came.0 (comes_to_rest c.requires.0 c.requires.1 c.args.session c.loop-end.self serving none) came.1 in
     record {
