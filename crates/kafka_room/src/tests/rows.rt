@@ -61,16 +61,12 @@ fn a_stream_may_be_cut_at_any_byte(rt: HostRuntime) -> Result<(), Fail> {
     let alloc = rt.alloc();
     let stream = joined(alloc, STREAM)?;
     let printed = joined(alloc, STREAM_PRINTED)?;
-    let mut at = 2;
-    while let Some((front, behind)) = stream.as_slice().split_at_checked(at) {
-        if behind.is_empty() {
-            break;
-        }
+    for cut in 1..stream.len() / 2 {
+        let (front, behind) = stream.as_slice().split_at(2 * cut);
         let trace = fed(alloc, &[front, behind])?;
         let done = run_with(&rt, alloc, &["replay"], trace, &[], &[])?;
-        assert_eq!(rt; done.exit.code, 0, "cut at {at}");
-        assert_eq!(rt; done.sink.bytes(), printed.as_slice(), "cut at {at}");
-        at += 2;
+        assert_eq!(rt; done.exit.code, 0, "cut at byte {cut}");
+        assert_eq!(rt; done.sink.bytes(), printed.as_slice(), "cut at byte {cut}");
     }
     Ok(())
 }

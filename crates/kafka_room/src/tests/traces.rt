@@ -488,14 +488,7 @@ pub const OTHERS: &[Other] = &[
     },
     Other {
         what: "a byte behind a body",
-        text: &[
-            TOPIC,
-            TO_0,
-            PRODUCE,
-            A,
-            "\nbytes 0 000000380001000400000002000163ffffffff0000000000000001032000000000000001000174000000010000000000000000000000000010000000",
-            END,
-        ],
+        text: &[TOPIC, TO_0, PRODUCE, A, FETCH_AND_A_BYTE, END],
     },
     Other {
         what: "a produce for all replicas",
