@@ -1,6 +1,6 @@
 CRATE ?= kafka_room
 
-.PHONY: run build test check fmt clean
+.PHONY: run build test check fmt bench clean
 
 # Without a proof: proving the program takes longer than a first look should. `make build` proves it.
 run:
@@ -18,6 +18,10 @@ check:
 
 fmt:
 	for crate in crates/*/; do (cd $$crate && rt fmt) || exit 1; done
+
+# Times the program that `make build` leaves. bench/README.md says on what.
+bench:
+	python3 bench/run.py
 
 clean:
 	rm -rf crates/*/out

@@ -1,3 +1,7 @@
+mod pieces;
+mod rows;
+mod traces;
+
 use crate::exit::Exit;
 use crate::nothing::{NoClock, NoPort};
 use crate::run::run;

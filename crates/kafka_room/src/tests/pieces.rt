@@ -1,0 +1,342 @@
+//! Pieces of traces and of outputs: batches, requests and replies in hex digits. They were made by a writer apart from this
+//! crate, from the layouts in `docs/protocol.md`.
+
+// Batches.
+
+/// One record without a key, with the value `a`: 69 bytes.
+pub const A: &str = "\
+0000000000000000000000390000000002dbe9c87600000000000000000000000000000000000000000000ffffff\
+ffffffffffffffffffffff000000010e00000001026100";
+
+/// The same, as it is stored behind one record.
+pub const A_AT_1: &str = "\
+0000000000000001000000390000000002dbe9c87600000000000000000000000000000000000000000000ffffff\
+ffffffffffffffffffffff000000010e00000001026100";
+
+/// Three records, with the values `a`, `b` and `c`: 85 bytes.
+pub const C: &str = "\
+0000000000000000000000490000000002a7fe9ac900000000000200000000000000000000000000000000ffffff\
+ffffffffffffffffffffff000000030e000000010261000e000002010262000e00000401026300";
+
+/// `A` with another last byte and the checksum of `A`.
+pub const A_CHANGED: &str = "\
+0000000000000000000000390000000002dbe9c87600000000000000000000000000000000000000000000ffffff\
+ffffffffffffffffffffff000000010e00000001026101";
+
+/// `A` whose attributes say that it is compressed, with its right checksum.
+pub const A_PACKED: &str = "\
+000000000000000000000039000000000294e1cf2a00010000000000000000000000000000000000000000ffffff\
+ffffffffffffffffffffff000000010e00000001026100";
+
+/// `A` with one byte behind its record, which its length and its checksum count.
+pub const A_AND_A_BYTE: &str = "\
+00000000000000000000003a0000000002059f097c00000000000000000000000000000000000000000000ffffff\
+ffffffffffffffffffffff000000010e0000000102610000";
+
+// Produces, up to their batch. They ask for the leader's reply, acks 1, with the correlation id 1.
+
+/// 69 bytes for `t`, partition 0.
+pub const PRODUCE: &str =
+    "0000006b0000000300000001000163ffff0001000003e800000001000174000000010000000000000045";
+
+/// 69 bytes for `t`, partition 1.
+pub const PRODUCE_TO_1: &str =
+    "0000006b0000000300000001000163ffff0001000003e800000001000174000000010000000100000045";
+
+/// 70 bytes for `t`, partition 0.
+pub const PRODUCE_70: &str =
+    "0000006c0000000300000001000163ffff0001000003e800000001000174000000010000000000000046";
+
+/// 85 bytes for `t`, partition 0.
+pub const PRODUCE_85: &str =
+    "0000007b0000000300000001000163ffff0001000003e800000001000174000000010000000000000055";
+
+/// 138 bytes for `t`, partition 0.
+pub const PRODUCE_138: &str =
+    "000000b00000000300000001000163ffff0001000003e80000000100017400000001000000000000008a";
+
+/// No bytes at all for `t`, partition 0: this one is whole.
+pub const PRODUCE_NULL: &str =
+    "000000260000000300000001000163ffff0001000003e8000000010001740000000100000000ffffffff";
+
+/// The same as `PRODUCE`, with the transactional id `x`.
+pub const PRODUCE_TRANSACTION: &str =
+    "0000006c00000003000000010001630001780001000003e800000001000174000000010000000000000045";
+
+/// The same as `PRODUCE`, with acks 0.
+pub const PRODUCE_NO_REPLY: &str =
+    "0000006b0000000300000001000163ffff0000000003e800000001000174000000010000000000000045";
+
+/// The same as `PRODUCE`, with acks -1.
+pub const PRODUCE_ALL_REPLICAS: &str =
+    "0000006b0000000300000001000163ffffffff000003e800000001000174000000010000000000000045";
+
+/// The same as `PRODUCE`, with acks 2.
+pub const PRODUCE_TWO_REPLICAS: &str =
+    "0000006b0000000300000001000163ffff0002000003e800000001000174000000010000000000000045";
+
+/// The same as `PRODUCE`, of version 4.
+pub const PRODUCE_VERSION_4: &str =
+    "0000006b0000000400000001000163ffff0001000003e800000001000174000000010000000000000045";
+
+/// 69 bytes for `t`, partition 0, in front of the same for `u`.
+pub const PRODUCE_TO_T: &str =
+    "000000bf0000000300000001000163ffff0001000003e800000002000174000000010000000000000045";
+
+/// The topic `u`, partition 0, behind it.
+pub const AND_TO_U: &str = "000175000000010000000000000045";
+
+/// 69 bytes for `t`, partition 0, in front of the same again.
+pub const PRODUCE_TWICE: &str =
+    "000000b80000000300000001000163ffff0001000003e800000001000174000000020000000000000045";
+
+/// The same partition again, behind it.
+pub const AND_AGAIN: &str = "0000000000000045";
+
+// Fetches of `t`, partition 0, by a consumer that doesn't wait, with the correlation id 2.
+
+/// From offset 0 on.
+pub const FETCH: &str = "\
+000000370001000400000002000163ffffffff000000000000000103200000000000000100017400000001000000\
+00000000000000000000100000";
+
+/// From offset 1 on.
+pub const FETCH_AT_1: &str = "\
+000000370001000400000002000163ffffffff000000000000000103200000000000000100017400000001000000\
+00000000000000000100100000";
+
+/// From offset 2 on.
+pub const FETCH_AT_2: &str = "\
+000000370001000400000002000163ffffffff000000000000000103200000000000000100017400000001000000\
+00000000000000000200100000";
+
+/// From offset -1 on.
+pub const FETCH_BELOW: &str = "\
+000000370001000400000002000163ffffffff000000000000000103200000000000000100017400000001000000\
+00ffffffffffffffff00100000";
+
+/// At most 137 bytes from the partition.
+pub const FETCH_137: &str = "\
+000000370001000400000002000163ffffffff000000000000000103200000000000000100017400000001000000\
+00000000000000000000000089";
+
+/// At most 138 bytes from the partition.
+pub const FETCH_138: &str = "\
+000000370001000400000002000163ffffffff000000000000000103200000000000000100017400000001000000\
+0000000000000000000000008a";
+
+/// At most 0 bytes in all.
+pub const FETCH_NO_BYTES: &str = "\
+000000370001000400000002000163ffffffff000000000000000100000000000000000100017400000001000000\
+00000000000000000000100000";
+
+/// At least 100 bytes, but no waiting for them: the longest wait is -1.
+pub const FETCH_100: &str = "\
+000000370001000400000002000163ffffffffffffffff0000006403200000000000000100017400000001000000\
+00000000000000000000100000";
+
+/// What is committed, isolation 1.
+pub const FETCH_COMMITTED: &str = "\
+000000370001000400000002000163ffffffff000000000000000103200000010000000100017400000001000000\
+00000000000000000000100000";
+
+/// As the replica 5.
+pub const FETCH_AS_5: &str = "\
+00000037000100040000000200016300000005000000000000000103200000000000000100017400000001000000\
+00000000000000000000100000";
+
+/// From the topic `u` instead.
+pub const FETCH_U: &str = "\
+000000370001000400000002000163ffffffff000000000000000103200000000000000100017500000001000000\
+00000000000000000000100000";
+
+/// From no topic.
+pub const FETCH_NOTHING: &str =
+    "000000200001000400000002000163ffffffff0000000000000001032000000000000000";
+
+/// From the partitions 0 and 1.
+pub const FETCH_BOTH: &str = "\
+000000470001000400000002000163ffffffff000000000000000103200000000000000100017400000002000000\
+0000000000000000000010000000000001000000000000000000100000";
+
+/// From the partitions 0 and 1, at most 10 bytes from each.
+pub const FETCH_BOTH_10: &str = "\
+000000470001000400000002000163ffffffff000000000000000103200000000000000100017400000002000000\
+0000000000000000000000000a0000000100000000000000000000000a";
+
+/// From the partitions 0 and 1, at most 69 bytes in all.
+pub const FETCH_BOTH_69: &str = "\
+000000470001000400000002000163ffffffff000000000000000100000045000000000100017400000002000000\
+0000000000000000000010000000000001000000000000000000100000";
+
+/// With a longest wait of 1 ms.
+pub const FETCH_WAITING: &str = "\
+000000370001000400000002000163ffffffff000000010000000103200000000000000100017400000001000000\
+00000000000000000000100000";
+
+/// With one byte behind it in its frame.
+pub const FETCH_AND_A_BYTE: &str = "\
+000000380001000400000002000163ffffffff000000000000000103200000000000000100017400000001000000\
+0000000000000000000010000000";
+
+/// With an isolation that there isn't.
+pub const FETCH_ISOLATION_2: &str = "\
+000000370001000400000002000163ffffffff000000000000000103200000020000000100017400000001000000\
+00000000000000000000100000";
+
+// Other requests.
+
+/// Metadata of all topics.
+pub const METADATA: &str = "0000000f0003000100000007000163ffffffff";
+
+/// The versions that the broker knows.
+pub const VERSIONS: &str = "0000000b0012000000000005000163";
+
+/// An api that the broker doesn't know.
+pub const UNKNOWN: &str = "000000080016000000000001";
+
+// Replies to produces.
+
+/// The batch got the base offset 0.
+pub const PRODUCED: &str =
+    "000000290000000100000001000174000000010000000000000000000000000000ffffffffffffffff00000000";
+
+/// It got the base offset 1.
+pub const PRODUCED_AT_1: &str =
+    "000000290000000100000001000174000000010000000000000000000000000001ffffffffffffffff00000000";
+
+/// It got the base offset 3.
+pub const PRODUCED_AT_3: &str =
+    "000000290000000100000001000174000000010000000000000000000000000003ffffffffffffffff00000000";
+
+/// It got the base offset 0 of partition 1.
+pub const PRODUCED_TO_1: &str =
+    "000000290000000100000001000174000000010000000100000000000000000000ffffffffffffffff00000000";
+
+/// That to `t` got the base offset 0; there is no `u`.
+pub const PRODUCED_TO_T_ALONE: &str = "\
+000000460000000100000002000174000000010000000000000000000000000000ffffffffffffffff0001750000\
+0001000000000003ffffffffffffffffffffffffffffffff00000000";
+
+/// Refused: the checksum is another.
+pub const CHECKSUM: &str =
+    "00000029000000010000000100017400000001000000000002ffffffffffffffffffffffffffffffff00000000";
+
+/// Refused: it is compressed.
+pub const COMPRESSED: &str =
+    "0000002900000001000000010001740000000100000000004cffffffffffffffffffffffffffffffff00000000";
+
+/// Refused: it isn't one batch of the grammar.
+pub const INVALID: &str =
+    "00000029000000010000000100017400000001000000000057ffffffffffffffffffffffffffffffff00000000";
+
+/// Refused: there are no transactions.
+pub const TRANSACTION: &str =
+    "0000002900000001000000010001740000000100000000002affffffffffffffffffffffffffffffff00000000";
+
+// Replies to fetches, up to their batches.
+
+/// 69 bytes, high watermark 1.
+pub const FETCHED: &str = "\
+000000760000000200000000000000010001740000000100000000000000000000000000010000000000000001ff\
+ffffff00000045";
+
+/// 69 bytes, high watermark 2.
+pub const FETCHED_69_OF_138: &str = "\
+000000760000000200000000000000010001740000000100000000000000000000000000020000000000000002ff\
+ffffff00000045";
+
+/// 138 bytes, high watermark 2.
+pub const FETCHED_138: &str = "\
+000000bb0000000200000000000000010001740000000100000000000000000000000000020000000000000002ff\
+ffffff0000008a";
+
+/// 85 bytes, high watermark 3.
+pub const FETCHED_85: &str = "\
+000000860000000200000000000000010001740000000100000000000000000000000000030000000000000003ff\
+ffffff00000055";
+
+/// 69 bytes and no aborted transaction, high watermark 1.
+pub const FETCHED_COMMITTED: &str = "\
+00000076000000020000000000000001000174000000010000000000000000000000000001000000000000000100\
+00000000000045";
+
+/// 69 bytes, and behind them partition 1 with as many.
+pub const FETCHED_TWO: &str = "\
+000000d90000000200000000000000010001740000000200000000000000000000000000010000000000000001ff\
+ffffff00000045";
+
+/// That partition: 69 bytes, high watermark 1.
+pub const AND_ONE_MORE: &str = "00000001000000000000000000010000000000000001ffffffff00000045";
+
+/// 69 bytes, and behind them partition 1 with none.
+pub const FETCHED_FIRST: &str = "\
+000000940000000200000000000000010001740000000200000000000000000000000000010000000000000001ff\
+ffffff00000045";
+
+/// That partition: no bytes, high watermark 1.
+pub const AND_NONE: &str = "00000001000000000000000000010000000000000001ffffffff00000000";
+
+/// No bytes, high watermark 1: this one and those below are whole.
+pub const AT_THE_END: &str = "\
+000000310000000200000000000000010001740000000100000000000000000000000000010000000000000001ff\
+ffffff00000000";
+
+/// No bytes, high watermark 0.
+pub const FETCHED_EMPTY: &str = "\
+000000310000000200000000000000010001740000000100000000000000000000000000000000000000000000ff\
+ffffff00000000";
+
+/// The offset is out of range.
+pub const OUT_OF_RANGE: &str = "\
+0000003100000002000000000000000100017400000001000000000001ffffffffffffffffffffffffffffffffff\
+ffffff00000000";
+
+/// There is no such replica.
+pub const NO_REPLICA: &str = "\
+0000003100000002000000000000000100017400000001000000000009ffffffffffffffffffffffffffffffffff\
+ffffff00000000";
+
+/// There is no topic `u`.
+pub const NO_TOPIC: &str = "\
+0000003100000002000000000000000100017500000001000000000003ffffffffffffffffffffffffffffffffff\
+ffffff00000000";
+
+/// No bytes of the topic `u`, high watermark 0.
+pub const FETCHED_U: &str = "\
+000000310000000200000000000000010001750000000100000000000000000000000000000000000000000000ff\
+ffffff00000000";
+
+/// No topic was named.
+pub const FETCHED_NOTHING: &str = "0000000c000000020000000000000000";
+
+// Lines of traces and of outputs.
+
+pub const TOPIC: &str = "topic t 1 0\n";
+
+pub const TWO_PARTITIONS: &str = "topic t 2 0\n";
+
+pub const TO_0: &str = "bytes 0 ";
+
+pub const TO_1: &str = "bytes 1 ";
+
+pub const END: &str = "\nend\n";
+
+pub const OF_0: &str = "reply 0 ";
+
+pub const OF_1: &str = "reply 1 ";
+
+pub const ONE_BATCH: &str = "part 0 end 1 high 1 batches 1 bytes 69\n";
+
+pub const NO_BATCH: &str = "part 0 end 0 high 0 batches 0 bytes 0\n";
+
+pub const ONE_REPLY: &str = "session 0 calls 1 replies 1 parked 0\ndone\n";
+
+pub const TWO_REPLIES: &str = "session 0 calls 2 replies 2 parked 0\ndone\n";
+
+// Two pieces of a produce.
+
+/// The first 30 bytes of `PRODUCE`, and what follows them.
+pub const PRODUCE_FRONT: &str = "0000006b0000000300000001000163ffff0001000003e800000001000174";
+
+pub const PRODUCE_REST: &str = "000000010000000000000045";
