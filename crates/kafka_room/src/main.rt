@@ -4,7 +4,6 @@
 mod audit;
 mod broker;
 mod exit;
-mod first_form;
 mod kanswer;
 mod kwire;
 mod nothing;

@@ -1,6 +1,6 @@
 //! The broker on one thread.
 
-ghost use Rattle.std.specs.Prelude.{◌≡◌, ◌<◌, ◌^◌, ◌∷◌, ◌×◌, [], ◌++◌, ℕ, List as Items, length, OnOk, IfOk};
+ghost use Rattle.std.specs.Prelude.{◌≡◌, ◌<◌, ◌^◌, ◌∷◌, [], ◌++◌, ℕ, List as Items, length, OnOk, IfOk};
 ghost use Rattle.std.specs.List.{All};
 ghost use Rattle.partlog.specs.Added.{log_end_of};
 ghost use Rattle.kafka_room.specs.declared.trace_file.line.Line.{Line as TheLine};
