@@ -1,5 +1,5 @@
 -- No session of a trace receives more bytes than the trace has, and only sessions that there may be are named.
-use Rattle.std.proofs.Common.{◌≡◌, ℕ, ◌+◌, ◌*◌, ◌%◌, ◌≤◌, ◌<◌, Bool, true, false, cond, eqb, List, [], ◌∷◌, ◌++◌, length, Result, Ok, Err, refl, sym, ap, subst, ◌∙◌, arith, length-append, ◌||◌, inl, inr}
+use Rattle.std.proofs.Common.{◌≡◌, ℕ, ◌+◌, ◌*◌, ◌%◌, ◌≤◌, ◌<◌, Bool, true, false, cond, eqb, List, [], ◌∷◌, length, Ok, Err, ap, arith, length-append, ◌||◌, inl, inr}
 use Rattle.std.proofs.lemmas.Bool.{or_cases, eqb-true}
 use Rattle.std.specs.Prelude.{codes}
 use Rattle.std.specs.Fmt.{decimal}
@@ -10,7 +10,7 @@ use Rattle.hex.proofs.HexLemmas.{decode_pairs-ok}
 use Rattle.kafka_room.specs.declared.trace_file.line.Line.{Line}
 use Rattle.kafka_room.specs.declared.trace_file.line.Line.TheVariants.{Topic, Feed, Shut, Clock, End}
 use Rattle.kafka_room.specs.IsLine.{IsLine, IsFeedLine, words_of}
-use Rattle.kafka_room.specs.RunOf.{bytes_in, names, input_of, is_named}
+use Rattle.kafka_room.specs.RunOf.{bytes_in, input_of, is_named}
 use Rattle.kafka_room.specs.Trace.{pieces_of, without_empty_end, IsTrace}
 
 -- how many bytes these pieces have

@@ -1,5 +1,5 @@
 -- A play goes on line by line, and its lines keep the configuration.
-use Rattle.std.proofs.Common.{◌≡◌, ◌⊎◌, ℕ, zero, suc, ◌+◌, ◌<◌, Bool, true, false, cond, List, [], ◌∷◌, ◌++◌, length, get_or, take, drop, Option, Some, None, MatchBool, refl, sym, ap, subst, ◌∙◌, inl, inr, append-nil, append_assoc}
+use Rattle.std.proofs.Common.{◌≡◌, ℕ, zero, suc, ◌+◌, ◌<◌, Bool, true, false, cond, List, [], ◌∷◌, ◌++◌, length, get_or, take, drop, Option, Some, None, MatchBool, refl, sym, ap, subst, ◌∙◌, inl, inr, append-nil, append_assoc}
 use Rattle.std.proofs.lemmas.List.{take_more, drop_more}
 use Rattle.std.specs.Prelude.{nat_lt, ◌==◌}
 use Rattle.std.specs.List.{find, range_with_len}
@@ -12,7 +12,7 @@ use Rattle.kafka_room.specs.declared.trace_file.line.Line.{Line}
 use Rattle.kafka_room.specs.declared.trace_file.line.Line.TheVariants.{Topic, Feed, Shut, Clock, End}
 use Rattle.kafka_room.specs.Acceptance.{Noted, accept_all, shown_of}
 use Rattle.kafka_room.specs.Accepting.{Decision}
-use Rattle.kafka_room.specs.Acting.{HandlesFrame, ActsOn, Acts}
+use Rattle.kafka_room.specs.Acting.{HandlesFrame, ActsOn}
 use Rattle.kafka_room.specs.Board.{Board, Waiting, seat_at, next_call}
 use Rattle.kafka_room.specs.Completing.{is_satisfied_now, is_answerable_now, completed, unless_none, answered_in, scan_sessions, scanned}
 use Rattle.kafka_room.specs.Configuration.{Configuration}

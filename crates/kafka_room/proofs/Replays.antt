@@ -1,7 +1,6 @@
 -- What a replay comes to, from what was read and what was played.
-use Rattle.std.proofs.Common.{◌≡◌, ℕ, ◌+◌, ◌≤◌, ◌<◌, ◌⊎◌, Bool, true, false, List, [], ◌∷◌, ◌++◌, length, take, drop, Option, Some, None, refl, sym, ap, subst, ◌∙◌, arith, inl, inr, append-nil, length-append, IfSome, IsTrue, ◌↔◌}
-use Rattle.std.specs.List.{All, AllZip}
-use Rattle.std.specs.Io.KnownBytes.{Appends}
+use Rattle.std.proofs.Common.{◌≡◌, ℕ, List, [], ◌∷◌, ◌++◌, length, take, Option, Some, None, refl, sym, ap, subst, ◌∙◌, arith, append-nil, length-append, IfSome}
+use Rattle.std.specs.List.{AllZip}
 use Rattle.kafka_room.specs.declared.streams.Input.{Input}
 use Rattle.kafka_room.specs.declared.streams.Input.TheVariants.{Whole, TooLong}
 use Rattle.kafka_room.specs.declared.audit.account.Account.{Account}
@@ -14,7 +13,7 @@ use Rattle.kafka_room.specs.IsLine.{IsLine, words_of}
 use Rattle.kafka_room.specs.PlainForm.{IsPlainForm}
 use Rattle.kafka_room.specs.Play.{Plays}
 use Rattle.kafka_room.specs.Printed.{summary_of}
-use Rattle.kafka_room.specs.Replay.{IsReplayOf, IsReplay, IsPlayFront, IsTextFront, IsReplayFront, IsOtherForm}
+use Rattle.kafka_room.specs.Replay.{IsReplayOf, IsPlayFront, IsOtherForm}
 use Rattle.kafka_room.specs.RunOf.{configuration_of}
 use Rattle.kafka_room.specs.Streams.{IsInput}
 use Rattle.kafka_room.specs.Trace.{pieces_of, IsPlainTrace}

@@ -104,7 +104,12 @@ fn prepare<S: Source>(alloc: Global, source: &mut S) -> Result<PlainTrace, Stop>
 }
 
 // Plays the lines one after the other, and writes what each prints before the next.
-fn play_lines<K: Sink>(alloc: Global, lines: &[Line], lone: &mut Lone, sink: &mut K) -> Result<(), Halt>
+fn play_lines<K: Sink>(
+    alloc: Global,
+    lines: &[Line],
+    lone: &mut Lone,
+    sink: &mut K,
+) -> Result<(), Halt>
     requires plain { All IsPlainLine lines.now }
     requires under_way { IsUnderWay [] lines.now lone.old }
     ensures played { OnOk result ((text : Items ℕ) × Plays lone.old lines.now (record { board = lone.new; text = text })

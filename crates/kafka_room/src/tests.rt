@@ -133,6 +133,94 @@ fn faulty_words_and_other_texts_write_nothing(rt: HostRuntime) -> Result<(), Fai
     Ok(())
 }
 
+// The digits of the frame's size, of its header up to the acks, and of the acks.
+const SIZE: &[u8] = b"0000006b";
+
+const HEADER: &[u8] = b"0000000300000001000163ffff";
+
+const ACKS: &[u8] = b"0001";
+
+#[test]
+fn texts_of_other_forms_write_nothing(rt: HostRuntime) -> Result<(), Fail> {
+    let alloc = rt.alloc();
+    let rest = &FRAME[38..];
+    let session = b"topic t 1 0\nbytes 0 ".as_slice();
+    let end = b"\nend\n".as_slice();
+    let table = [
+        [
+            b"topic t 1 1\nbytes 0 ".as_slice(),
+            SIZE,
+            HEADER,
+            ACKS,
+            rest,
+            end,
+        ],
+        [
+            b"topic . 1 0\nbytes 0 ".as_slice(),
+            SIZE,
+            HEADER,
+            ACKS,
+            rest,
+            end,
+        ],
+        [
+            b"topic t 65 0\nbytes 0 ".as_slice(),
+            SIZE,
+            HEADER,
+            ACKS,
+            rest,
+            end,
+        ],
+        [
+            b"topic t 1 0\nbytes 64 ".as_slice(),
+            SIZE,
+            HEADER,
+            ACKS,
+            rest,
+            end,
+        ],
+        [
+            session,
+            SIZE,
+            HEADER,
+            ACKS,
+            rest,
+            b"\nclose 0\nend\n".as_slice(),
+        ],
+        [
+            session,
+            SIZE,
+            HEADER,
+            ACKS,
+            rest,
+            b"\nclock 1\nend\n".as_slice(),
+        ],
+        [session, SIZE, HEADER, ACKS, rest, b"".as_slice()],
+        [
+            session,
+            SIZE,
+            HEADER,
+            ACKS,
+            rest,
+            b"\nend\nend\n".as_slice(),
+        ],
+        [session, SIZE, HEADER, ACKS, &rest[1..], end],
+        [session, SIZE, HEADER, ACKS, &rest[2..], end],
+        [session, SIZE, HEADER, b"ffff".as_slice(), rest, end],
+        [session, b"".as_slice(), HEADER, ACKS, rest, end],
+    ];
+    for (place, pieces) in table.iter().enumerate() {
+        let mut text = Bytes::new(alloc);
+        for piece in pieces {
+            text.extend(piece)?;
+        }
+        let other = run_with(&rt, alloc, &["replay"], text, &[], &[])?;
+        assert_eq!(rt; other.exit.code, 7, "at {place}");
+        assert!(rt; other.sink.bytes().is_empty());
+    }
+    Ok(())
+}
+
 #[test]
 fn a_read_that_fails_writes_nothing(rt: HostRuntime) -> Result<(), Fail> {
     let alloc = rt.alloc();

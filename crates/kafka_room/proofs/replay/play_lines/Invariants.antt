@@ -1,4 +1,4 @@
-use Rattle.std.proofs.Common.{◌≡◌, ◌≤◌, ℕ, List, take, drop}
+use Rattle.std.proofs.Common.{◌≤◌, ℕ, List, take, drop}
 use Rattle.std.specs.Io.KnownBytes.{Appends}
 use Rattle.kafka_room.specs.Play.{Plays}
 use Rattle.kafka_room.specs.UnderWay.{IsUnderWay}

@@ -1,4 +1,4 @@
-use Rattle.kafka_room.proofs.Replays.{too_long_other, whole_other, whole_text}
+use Rattle.kafka_room.proofs.Replays.{too_long_other}
 use Rattle.kafka_room.proofs.replay.prepare.Goals as goal
 
 pub returns-in-TooLong-clause-unbuilt : goal.returns-in-TooLong-clause-unbuilt
