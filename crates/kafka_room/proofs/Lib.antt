@@ -1,13 +1,6 @@
 pub mod Cuts
-pub mod AskedLaws
-pub mod FormLaws
-pub mod OneAskedLaws
 pub mod Names
 pub mod Writes
-pub mod OneLawful
-pub mod OneRun
-pub mod OnePrint
-pub mod OnePlay
 pub mod Replays
 pub mod Growth
 pub mod Places
@@ -56,3 +49,6 @@ pub mod Openings
 pub mod Closings
 pub mod Serving
 pub mod Calling
+pub mod PlayLaws
+pub mod FewBytes
+pub mod FirstBoard

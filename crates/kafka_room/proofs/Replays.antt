@@ -1,75 +1,110 @@
--- What a replay comes to, from what was read and what was made of it.
-use Rattle.std.proofs.Common.{◌≡◌, ℕ, ◌*◌, ◌%◌, ◌⊎◌, ◌<◌, ◌≤◌, Bool, true, false, cond, eqb, List, [], ◌∷◌, ◌++◌, length, Option, Some, None, Ok, Err, refl, sym, ap, subst, ◌∙◌, arith, inl, inr, append-nil, length-append, IfSome}
-use Rattle.std.specs.String.{string_bytes}
-use Rattle.hex.specs.declared.error.FromHexError.TheVariants.{OddLength}
-use Rattle.hex.specs.Hex.{decode_of, decode_pairs}
-use Rattle.hex.proofs.HexLemmas.{decode_pairs-ok}
+-- What a replay comes to, from what was read and what was played.
+use Rattle.std.proofs.Common.{◌≡◌, ℕ, List, [], ◌∷◌, ◌++◌, length, take, Option, Some, None, refl, sym, ap, subst, ◌∙◌, arith, append-nil, length-append, IfSome}
+use Rattle.std.specs.List.{AllZip}
 use Rattle.kafka_room.specs.declared.streams.Input.{Input}
 use Rattle.kafka_room.specs.declared.streams.Input.TheVariants.{Whole, TooLong}
-use Rattle.kafka_room.specs.declared.first_form.play.Played.{Played}
 use Rattle.kafka_room.specs.declared.audit.account.Account.{Account}
-use Rattle.kafka_room.specs.FirstForm.{OneProduce, IsFirstForm, lines_of}
-use Rattle.kafka_room.specs.Frames.{framed}
-use Rattle.kafka_room.specs.IsLawful.{IsLawful}
-use Rattle.kafka_room.specs.RunOf.{IsRunOf}
-use Rattle.kafka_room.specs.Printed.{IsPrintOf}
-use Rattle.kafka_room.specs.Played.{IsPlayed}
-use Rattle.kafka_room.specs.Replay.{IsReplay, IsOtherForm}
+use Rattle.kafka_room.specs.declared.trace_file.line.Line.{Line}
+use Rattle.kafka_room.specs.ArePlainStreams.{ArePlainStreams}
+use Rattle.kafka_room.specs.Board.{Board, opening, account_of}
+use Rattle.kafka_room.specs.Configuration.{Configuration}
+use Rattle.kafka_room.specs.Handling.{Turned}
+use Rattle.kafka_room.specs.IsLine.{IsLine, words_of}
+use Rattle.kafka_room.specs.PlainForm.{IsPlainForm}
+use Rattle.kafka_room.specs.Play.{Plays}
+use Rattle.kafka_room.specs.Printed.{summary_of}
+use Rattle.kafka_room.specs.Replay.{IsReplayOf, IsPlayFront, IsOtherForm}
+use Rattle.kafka_room.specs.RunOf.{configuration_of}
 use Rattle.kafka_room.specs.Streams.{IsInput}
-use Rattle.kafka_room.specs.OneAccount.{account_of, first_text, last_text}
-use Rattle.kafka_room.proofs.OneLawful.{one_lawful}
-use Rattle.kafka_room.proofs.OneRun.{one_run}
-use Rattle.kafka_room.proofs.OnePrint.{one_print}
+use Rattle.kafka_room.specs.Trace.{pieces_of, IsPlainTrace}
+use Rattle.kafka_room.specs.UnderWay.{IsUnderWay}
+use Rattle.kafka_room.proofs.FirstBoard.{before_first}
+use Rattle.kafka_room.proofs.Lawful.{board_lawful}
+use Rattle.kafka_room.proofs.Lines.{words_say}
+use Rattle.kafka_room.proofs.PlayLaws.{plays_keep}
+use Rattle.kafka_room.proofs.RunLaws.{fed_tame, fed_run}
 
-decoded_by_test : (b : Bool) (hex bytes : List ℕ) → cond b (Err OddLength) (decode_pairs 0 hex) ≡ Ok bytes → decode_pairs 0 hex ≡ Ok bytes
-decoded_by_test true hex bytes e = absurd cc
-decoded_by_test false hex bytes e = e
-
--- the digits are twice as many as the bytes
-decoded_len : (hex bytes : List ℕ) → decode_of hex ≡ Ok bytes → length hex ≡ 2 * length bytes
-decoded_len hex bytes e = (decode_pairs-ok 0 hex bytes (decoded_by_test (eqb (length hex % 2) 1) hex bytes e)).1
-
-last_short : (last : List ℕ) → (last ≡ []) ⊎ (last ≡ 10 ∷ []) → length last ≤ 1
-last_short last h = elim h [ inl e ↦ rw e (omega arith) | inr e ↦ rw e (omega arith) ]
-
--- a text of the form is no longer than a text may be
-form_short : (text : List ℕ) (one : OneProduce) → IsFirstForm text one → length text < 67108865
-form_short text one form =
-    let digits = decoded_len form.hex (framed one.body) form.digits in
-    let last = last_short form.last form.ending in
-    let behind = 10 ∷ 101 ∷ 110 ∷ 100 ∷ form.last in
-    let bytes = 98 ∷ 121 ∷ 116 ∷ 101 ∷ 115 ∷ 32 ∷ 48 ∷ 32 ∷ (form.hex ++ behind) in
-    let line = 32 ∷ 49 ∷ 32 ∷ 48 ∷ 10 ∷ bytes in
-    omega (arith, ap length form.spelled, length-append one.topic line, length-append form.hex behind, digits, last, form.name.short, form.size)
+-- ---- texts of another form
 
 pub too_long_other : (left new : Option (List ℕ)) (input : Input) → input ≡ TooLong → IsInput left new input → IsOtherForm left
 too_long_other None new input e h = tt
 too_long_other (Some trace) None input e h = absurd ((rw e at h).1)
 too_long_other (Some trace) (Some rest) input e h =
     let read : IsInput (Some trace) (Some rest) TooLong = rw e at h in
-    λ one form. absurd (omega (arith, form_short trace one form, ap length read.1, length-append read.0 rest, read.2))
+    λ lines form. absurd (omega (arith, form.trace.0.size, ap length read.1, length-append read.0 rest, read.2))
+
+-- the source had this text, where it tells
+pub whole_text : (left new : Option (List ℕ)) (input : Input) (text : List ℕ) → input ≡ Whole text → IsInput left new input → IfSome left (λ trace. trace ≡ text)
+whole_text None new input text e h = tt
+whole_text (Some trace) None input text e h = absurd ((rw e at h).0)
+whole_text (Some trace) (Some rest) input text e h =
+    let read : IsInput (Some trace) (Some rest) (Whole text) = rw e at h in
+    read.0 ∙ ap (λ (xs : List ℕ). text ++ xs) read.1 ∙ append-nil text
+
+told_other : (left : Option (List ℕ)) (text : List ℕ) → IfSome left (λ trace. trace ≡ text) → ((lines : List Line) → IsPlainForm text lines → ⊥) → IsOtherForm left
+told_other None text told none = tt
+told_other (Some trace) text told none = λ lines form. none lines (subst (λ (t : List ℕ). IsPlainForm t lines) told form)
 
 pub whole_other : (left new : Option (List ℕ)) (input : Input) (text : List ℕ) → input ≡ Whole text → IsInput left new input
-    → ((one : OneProduce) → IsFirstForm text one → ⊥) → IsOtherForm left
-whole_other None new input text e h none = tt
-whole_other (Some trace) None input text e h none = absurd ((rw e at h).0)
-whole_other (Some trace) (Some rest) input text e h none =
-    let read : IsInput (Some trace) (Some rest) (Whole text) = rw e at h in
-    let same : trace ≡ text = read.0 ∙ ap (λ (xs : List ℕ). text ++ xs) read.1 ∙ append-nil text in
-    λ one form. none one (subst (λ (t : List ℕ). IsFirstForm t one) same form)
+    → ((lines : List Line) → IsPlainForm text lines → ⊥) → IsOtherForm left
+whole_other left new input text e h none = told_other left text (whole_text left new input text e h) none
 
-told_form : (left : Option (List ℕ)) (text : List ℕ) (one : OneProduce) → IsFirstForm text one → IfSome left (λ trace. trace ≡ text) → IfSome left (λ trace. IsFirstForm trace one)
-told_form None text one form e = tt
-told_form (Some trace) text one form e = subst (λ (t : List ℕ). IsFirstForm t one) (sym e) form
+-- pieces spell one list of lines
+one_reading : (pieces : List (List ℕ)) (a b : List Line) → AllZip IsLine pieces a → AllZip IsLine pieces b → a ≡ b
+one_reading [] [] [] h k = refl
+one_reading [] [] (y ∷ b) h k = absurd k
+one_reading [] (x ∷ a) b h k = absurd h
+one_reading (piece ∷ pieces) [] b h k = absurd h
+one_reading (piece ∷ pieces) (x ∷ a) [] h k = absurd k
+one_reading (piece ∷ pieces) (x ∷ a) (y ∷ b) h k =
+    ap (λ (l : Line). l ∷ a) (words_say (words_of piece) x y h.0 k.0) ∙ ap (λ (ls : List Line). y ∷ ls) (one_reading pieces a b h.1 k.1)
 
-pub replayed : (left : Option (List ℕ)) (text : List ℕ) (one : OneProduce) (played : Played) → IsFirstForm text one → IsPlayed played one → IfSome left (λ trace. trace ≡ text)
-    → IsReplay left played.account (string_bytes played.first ++ string_bytes played.last)
-replayed left text one played form p told =
-    let lines : string_bytes played.first ++ string_bytes played.last ≡ first_text one ++ last_text one = rw (p.first, p.last) refl in
-    record {
-      one = one;
-      form = told_form left text one form told;
-      lawful = subst IsLawful (sym p.account) (one_lawful text one form);
-      run = subst (λ (a : Account). IsRunOf (lines_of one) 9092 a) (sym p.account) (one_run text one form);
-      printed = subst (λ (a : Account). IsPrintOf a (string_bytes played.first ++ string_bytes played.last)) (sym p.account) (subst (IsPrintOf (account_of one)) (sym lines) (one_print text one form));
+-- a text whose lines bring other streams is of another form
+pub other_streams : (text : List ℕ) (lines : List Line) → IsPlainTrace text lines → (ArePlainStreams lines → ⊥) → (more : List Line) → IsPlainForm text more → ⊥
+other_streams text lines trace none more form =
+    none (subst ArePlainStreams (one_reading (pieces_of text) more lines form.trace.0.spelled trace.0.spelled) form.streams)
+
+pub told_form : (left : Option (List ℕ)) (text : List ℕ) (lines : List Line) → IsPlainForm text lines → IfSome left (λ trace. trace ≡ text) → IfSome left (λ trace. IsPlainForm trace lines)
+told_form None text lines form told = tt
+told_form (Some trace) text lines form told = subst (λ (t : List ℕ). IsPlainForm t lines) (sym told) form
+
+-- ---- what was played
+
+-- the lines were played to the last
+replayed : (text : List ℕ) (lines : List Line) (last : Turned) → IsPlainForm text lines → Plays (opening (configuration_of 9092 lines)) lines last → IsUnderWay lines [] last.board
+    → IsReplayOf lines (account_of last.board) (last.text ++ summary_of (account_of last.board))
+replayed text lines last form played way =
+    let given = way.running.given in
+    let config = plays_keep (opening (configuration_of 9092 lines)) lines last played in record {
+      lawful = board_lawful last.board given.no_clock (fed_tame lines last.board given) way.running.steady;
+      run = fed_run lines last.board given way.rest config form.trace.1;
+      played = record { last = last; played = played; accounted = refl; printed = refl };
     }
+
+-- the same, as the slice of the lines and the broker are known
+pub before_lines : (text : List ℕ) (lines slice : List Line) (config : Configuration) (lone : Board) → IsPlainForm text lines → slice ≡ lines → config ≡ configuration_of 9092 lines → lone ≡ opening config
+    → IsUnderWay [] slice lone
+before_lines text lines slice config lone form same configured made =
+    subst (λ (ls : List Line). IsUnderWay [] ls lone) (sym same) (subst (IsUnderWay [] lines) (sym (made ∙ ap opening configured)) (before_first text lines form))
+
+pub played_from : (lines slice : List Line) (config : Configuration) (lone : Board) (last : Turned) → slice ≡ lines → config ≡ configuration_of 9092 lines → lone ≡ opening config → Plays lone slice last
+    → Plays (opening (configuration_of 9092 lines)) lines last
+played_from lines slice config lone last same configured made played =
+    subst (λ (ls : List Line). Plays (opening (configuration_of 9092 lines)) ls last) same (subst (λ (b : Board). Plays b slice last) (made ∙ ap opening configured) played)
+
+pub replayed_as : (text : List ℕ) (lines : List Line) (last : Turned) (account : Account) → IsPlainForm text lines → Plays (opening (configuration_of 9092 lines)) lines last → IsUnderWay lines [] last.board
+    → account ≡ account_of last.board → IsReplayOf lines account (last.text ++ summary_of account)
+replayed_as text lines last account form played way is =
+    subst (λ (a : Account). IsReplayOf lines a (last.text ++ summary_of a)) (sym is) (replayed text lines last form played way)
+
+take_whole : {X : Type 0} (xs : List X) → xs ≡ take (length xs) xs
+take_whole [] = refl
+take_whole (x ∷ xs) = ap (λ (ys : List _). x ∷ ys) (take_whole xs)
+
+-- all that the lines up to here print stands written
+pub front_of_lines : (start : Board) (lines done more : List Line) (last : Turned) → lines ≡ done ++ more → Plays start done last → IsPlayFront start lines last.text
+front_of_lines start lines done more last parts played = record { done = done; more = more; parts = parts; last = last; played = played; count = length last.text; front = take_whole last.text }
+
+-- the front of it
+pub front_within : (start : Board) (lines done more : List Line) (last : Turned) (n : ℕ) → lines ≡ done ++ more → Plays start done last → IsPlayFront start lines (take n last.text)
+front_within start lines done more last n parts played = record { done = done; more = more; parts = parts; last = last; played = played; count = n; front = refl }

@@ -32,28 +32,10 @@ pub mod Fits
 pub mod Printed
 -- what the account of a trace's run is to the trace
 pub mod RunOf
--- the traces that are built so far
-pub mod FirstForm
--- the words of such a trace, read from the left
-pub mod Parts
 -- what was read of a source
 pub mod Streams
 -- what a replay comes to
 pub mod Replay
--- what it comes to
-pub mod Played
--- the account of such a trace
-pub mod OneAccount
--- the fields of such a produce, read from the left
-pub mod ProduceFields
--- the same, as the reader gives them
-pub mod AskedView
--- those of the produce of such a trace
-pub mod OneAsked
--- what a fault in its reading tells
-pub mod Tells
--- what was read of such a trace
-pub mod IsFound
 -- what the one-thread broker keeps, and its account
 pub mod Board
 -- what accepting a request does to the histories
@@ -104,3 +86,5 @@ pub mod Gathered
 pub mod UnderWay
 -- a broker that can handle the frame at the front of a session's bytes
 pub mod Ready
+-- traces of the form that is built so far
+pub mod PlainForm

@@ -1,26 +1,57 @@
 -- What a replay comes to: its account is lawful, is that of the run of the trace that was read, and this is what is printed.
-use Rattle.std.specs.Prelude.{ℕ, ◌≡◌, List, Option, None, Bool, false, IfSome, ◌⊎◌}
+use Rattle.std.specs.Prelude.{ℕ, ◌≡◌, ◌++◌, List, take, Option, None, Bool, false, IfSome, ◌⊎◌}
 use Rattle.kafka_room.specs.declared.audit.account.Account.{Account}
-use Rattle.kafka_room.specs.FirstForm.{OneProduce, IsFirstForm, lines_of}
+use Rattle.kafka_room.specs.declared.trace_file.line.Line.{Line}
+use Rattle.kafka_room.specs.Board.{Board, opening}
+use Rattle.kafka_room.specs.Handling.{Turned}
 use Rattle.kafka_room.specs.IsLawful.{IsLawful}
-use Rattle.kafka_room.specs.RunOf.{IsRunOf}
-use Rattle.kafka_room.specs.Printed.{IsPrintOf}
+use Rattle.kafka_room.specs.PlainForm.{IsPlainForm}
+use Rattle.kafka_room.specs.Play.{Plays, IsPlay}
+use Rattle.kafka_room.specs.RunOf.{IsRunOf, configuration_of}
+
+-- what the replay of these lines comes to
+pub record IsReplayOf (lines : List Line) (account : Account) (text : List ℕ) : Type 0 where
+  pub lawful : IsLawful account
+  pub run : IsRunOf lines 9092 account
+  pub played : IsPlay (configuration_of 9092 lines) lines account text
 
 -- `left` is what the source had, where it tells
 pub record IsReplay (left : Option (List ℕ)) (account : Account) (text : List ℕ) : Type 0 where
-  pub one : OneProduce
-  pub form : IfSome left (λ trace. IsFirstForm trace one)
-  pub lawful : IsLawful account
-  pub run : IsRunOf (lines_of one) 9092 account
-  pub printed : IsPrintOf account text
+  pub lines : List Line
+  pub form : IfSome left (λ trace. IsPlainForm trace lines)
+  pub replay : IsReplayOf lines account text
+
+-- the front of what the first so many of these lines print
+pub record IsPlayFront (start : Board) (lines : List Line) (written : List ℕ) : Type 0 where
+  pub done : List Line
+  pub more : List Line
+  pub parts : lines ≡ done ++ more
+  pub last : Turned
+  pub played : Plays start done last
+  pub count : ℕ
+  pub front : written ≡ take count last.text
+
+-- the front of the text to which the replay of these lines comes
+pub record IsTextFront (lines : List Line) (written : List ℕ) : Type 0 where
+  pub account : Account
+  pub text : List ℕ
+  pub replay : IsReplayOf lines account text
+  pub count : ℕ
+  pub front : written ≡ take count text
+
+-- what a replay that came to no end wrote
+pub record IsReplayFront (left : Option (List ℕ)) (written : List ℕ) : Type 0 where
+  pub lines : List Line
+  pub form : IfSome left (λ trace. IsPlainForm trace lines)
+  pub front : IsPlayFront (opening (configuration_of 9092 lines)) lines written ⊎ IsTextFront lines written
 
 -- no text that the source may have had is of the form that is built so far
 abbrev pub IsOtherForm : Option (List ℕ) → Type 0
-IsOtherForm left = IfSome left (λ trace. (one : OneProduce) → IsFirstForm trace one → ⊥)
+IsOtherForm left = IfSome left (λ trace. (lines : List Line) → IsPlainForm trace lines → ⊥)
 
 -- the codes of a run that writes nothing
 abbrev pub IsSilent : ℕ → Type 0
-IsSilent code = (code ≡ 1) ⊎ (code ≡ 3) ⊎ (code ≡ 6) ⊎ (code ≡ 7)
+IsSilent code = (code ≡ 1) ⊎ (code ≡ 3) ⊎ (code ≡ 7)
 
 -- a port that was never used
 pub record IsNewPort (opened_with : Option ℕ) (given : ℕ) (is_ended : Bool) (retired : ℕ) : Type 0 where

@@ -1,6 +1,5 @@
 //! The account of a run.
 
 pub mod account;
-pub mod lines;
 
 pub use account::{Account, Call, CallHow, PartAccount, Point, SessionEnd, Transcript};

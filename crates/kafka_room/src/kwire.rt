@@ -4,7 +4,6 @@ pub mod config;
 pub mod frame;
 pub mod inbox;
 pub mod next_frame;
-pub mod produced;
 pub mod put_fetched;
 pub mod put_produced;
 pub mod read_fetch;

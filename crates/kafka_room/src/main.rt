@@ -4,7 +4,6 @@
 mod audit;
 mod broker;
 mod exit;
-mod first_form;
 mod kanswer;
 mod kwire;
 mod nothing;
@@ -30,11 +29,15 @@ Usage:
   kafka_room --help     prints this text
   kafka_room --version  prints the version
 
-A trace, of the form that is built so far:
-  topic NAME 1 0        declares a topic with one partition and no followers
-  bytes 0 HEX           session 0 receives one Produce v3 frame: acks 1, this topic,
-                        partition 0, one record batch
+A trace, of the form that is built so far, has topics first, then bytes, and its end:
+  topic NAME N 0        declares a topic with N partitions and no followers
+  bytes S HEX           session S, which is 0 to 63, receives these bytes
   end                   the trace ends
+
+All bytes of a session are whole frames of requests that wait for nothing, which may be
+cut anywhere over several lines:
+  Produce v3            with acks 0 or 1
+  Fetch v4              with a max_wait of at most 0
 
 Exit codes:
   0  all was done and written
@@ -44,8 +47,9 @@ Exit codes:
   6  no memory was left
   7  the trace is of a form that isn't built yet
 
-Example:
+Examples:
   kafka_room replay < examples/produce.trace
+  kafka_room replay < examples/fetch.trace
 ";
 
 const VERSION: &str = "kafka_room 0.1.0\n";

@@ -1,12 +1,11 @@
 //! The whole program, above the outside that it is handed.
 
-ghost use Rattle.std.specs.Prelude.{◌≡◌, ◌∷◌, [], ◌↔◌, ◌⊎◌, ℕ, List, Some, None, take, map, codes, IfSome, IsSome, IsTrue};
+ghost use Rattle.std.specs.Prelude.{◌≡◌, ◌∷◌, [], ◌↔◌, ◌⊎◌, ℕ, List, Some, None, map, codes, IfSome, IsSome, IsTrue};
 ghost use Rattle.std.specs.Io.KnownBytes.{Appends, Keeps, IsAtEnd};
 ghost use Rattle.std.specs.String.{string_bytes};
 ghost use Rattle.outside.specs.Causes.{Rose};
-ghost use Rattle.kafka_room.specs.declared.audit.account.Account.{Account as TheAccount};
 ghost use Rattle.kafka_room.specs.IsLawful.{IsLawful};
-ghost use Rattle.kafka_room.specs.Replay.{IsReplay, IsOtherForm, IsSilent, IsNewPort};
+ghost use Rattle.kafka_room.specs.Replay.{IsReplay, IsReplayFront, IsOtherForm, IsSilent, IsNewPort};
 
 use crate::exit::Exit;
 use crate::replay::replay;
@@ -50,8 +49,11 @@ where
     ensures printed { IfSome result.account (λ account. (text : List ℕ) × IsReplay (S.left source.old) account text
         × Appends (K.written sink.old) (K.written sink.new) text) }
     // After a write fault the front of such lines stands written.
-    ensures prefix { result.code ≡ 4 → (account : TheAccount) × (text : List ℕ) × (n : ℕ) × IsReplay (S.left source.old) account text
-        × Appends (K.written sink.old) (K.written sink.new) (take n text) }
+    ensures prefix { result.code ≡ 4 → (written : List ℕ) × IsReplayFront (S.left source.old) written
+        × Appends (K.written sink.old) (K.written sink.new) written }
+    // Where no memory was left, nothing was written, or the front of such lines.
+    ensures stopped { result.code ≡ 6 → Keeps (K.written sink.old) (K.written sink.new)
+        ⊎ ((written : List ℕ) × IsReplayFront (S.left source.old) written × Appends (K.written sink.old) (K.written sink.new) written) }
     // The source was read to its end.
     ensures end { (result.code ≡ 0) ⊎ (result.code ≡ 4) → IsAtEnd (S.left source.new) }
     // With any other code nothing was written.

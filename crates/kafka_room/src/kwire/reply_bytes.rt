@@ -1,18 +1,29 @@
 //! The frame of a reply.
 
-ghost use Rattle.std.specs.Prelude.{◌≡◌, ◌++◌, IfOk, OnOk};
+ghost use Rattle.std.specs.Prelude.{◌≡◌, ◌<◌, ◌^◌, ◌++◌, length, IfOk, OnOk};
 ghost use Rattle.kbytes.specs.Field.{fields};
 ghost use Rattle.kafka_room.specs.declared.kwire.reply.Told.TheVariants.{Produced, Fetched};
+ghost use Rattle.kafka_room.specs.Frames.{framed};
 ghost use Rattle.kafka_room.specs.IsData.{IsData};
 ghost use Rattle.kafka_room.specs.IsSpellable.{AreInRange, IsSpellable};
 ghost use Rattle.kafka_room.specs.Spelling.{told_fields, spelling};
 
-use crate::kwire::produced::frame;
 use crate::kwire::put_fetched::put_fetched;
 use crate::kwire::put_produced::put_produced;
 use crate::kwire::reply::{FetchedTopic, ProducedTopic, Reply, Told};
 use kbytes::{Bytes, NoMemory, put_i32};
 use std::alloc::Global;
+
+// The frame of a body, which has at most 2,147,483,647 bytes.
+fn frame(alloc: Global, body: &[u8]) -> Result<Bytes, NoMemory>
+    requires { length body.now < 2 ^ 31 }
+    ensures { IfOk result (λ frame. frame ≡ framed body.now) }
+{
+    let mut frame = Bytes::new(alloc);
+    put_i32(&mut frame, body.len() as i32)?;
+    frame.extend(body)?;
+    Ok(frame)
+}
 
 // The throttle time 0 stands behind the topics.
 fn put_produced_told(out: &mut Bytes, topics: &[ProducedTopic]) -> Result<(), NoMemory>
