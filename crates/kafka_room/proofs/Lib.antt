@@ -52,3 +52,4 @@ pub mod Calling
 pub mod PlayLaws
 pub mod FewBytes
 pub mod FirstBoard
+pub mod PlayOnce

@@ -1,5 +1,5 @@
 -- What a replay comes to, from what was read and what was played.
-use Rattle.std.proofs.Common.{◌≡◌, ℕ, List, [], ◌∷◌, ◌++◌, length, take, Option, Some, None, refl, sym, ap, subst, ◌∙◌, arith, append-nil, length-append, IfSome}
+use Rattle.std.proofs.Common.{◌≡◌, ◌⊎◌, inl, inr, ℕ, List, [], ◌∷◌, ◌++◌, length, take, Option, Some, None, refl, sym, ap, subst, ◌∙◌, arith, append-nil, length-append, IfSome}
 use Rattle.std.specs.List.{AllZip}
 use Rattle.kafka_room.specs.declared.streams.Input.{Input}
 use Rattle.kafka_room.specs.declared.streams.Input.TheVariants.{Whole, TooLong}
@@ -11,9 +11,9 @@ use Rattle.kafka_room.specs.Configuration.{Configuration}
 use Rattle.kafka_room.specs.Handling.{Turned}
 use Rattle.kafka_room.specs.IsLine.{IsLine, words_of}
 use Rattle.kafka_room.specs.PlainForm.{IsPlainForm}
-use Rattle.kafka_room.specs.Play.{Plays}
+use Rattle.kafka_room.specs.Play.{Plays, IsPlay}
 use Rattle.kafka_room.specs.Printed.{summary_of}
-use Rattle.kafka_room.specs.Replay.{IsReplayOf, IsPlayFront, IsOtherForm}
+use Rattle.kafka_room.specs.Replay.{IsReplayOf, IsPlayFront, IsTextFront, IsReplayFront, IsOtherForm}
 use Rattle.kafka_room.specs.RunOf.{configuration_of}
 use Rattle.kafka_room.specs.Streams.{IsInput}
 use Rattle.kafka_room.specs.Trace.{pieces_of, IsPlainTrace}
@@ -22,6 +22,7 @@ use Rattle.kafka_room.proofs.FirstBoard.{before_first}
 use Rattle.kafka_room.proofs.Lawful.{board_lawful}
 use Rattle.kafka_room.proofs.Lines.{words_say}
 use Rattle.kafka_room.proofs.PlayLaws.{plays_keep}
+use Rattle.kafka_room.proofs.PlayOnce.{play_is_one, front_of_play}
 use Rattle.kafka_room.proofs.RunLaws.{fed_tame, fed_run}
 
 -- ---- texts of another form
@@ -79,6 +80,7 @@ replayed text lines last form played way =
       lawful = board_lawful last.board given.no_clock (fed_tame lines last.board given) way.running.steady;
       run = fed_run lines last.board given way.rest config form.trace.1;
       played = record { last = last; played = played; accounted = refl; printed = refl };
+      only = λ other more p. play_is_one (configuration_of 9092 lines) lines other (account_of last.board) more (last.text ++ summary_of (account_of last.board)) p (record { last = last; played = played; accounted = refl; printed = refl });
     }
 
 -- the same, as the slice of the lines and the broker are known
@@ -108,3 +110,19 @@ front_of_lines start lines done more last parts played = record { done = done; m
 -- the front of it
 pub front_within : (start : Board) (lines done more : List Line) (last : Turned) (n : ℕ) → lines ≡ done ++ more → Plays start done last → IsPlayFront start lines (take n last.text)
 front_within start lines done more last n parts played = record { done = done; more = more; parts = parts; last = last; played = played; count = n; front = refl }
+
+front_of_any : (lines : List Line) (written : List ℕ) → IsPlayFront (opening (configuration_of 9092 lines)) lines written ⊎ IsTextFront lines written → (account : Account) (text : List ℕ) → IsPlay (configuration_of 9092 lines) lines account text
+    → (count : ℕ) × (written ≡ take count text)
+front_of_any lines written front account text p =
+    elim front [
+      | inl f ↦
+          let k = front_of_play (configuration_of 9092 lines) lines f.done f.more f.last f.count account text f.parts f.played p in
+          (k.0, f.front ∙ k.1)
+      | inr f ↦
+          let same = play_is_one (configuration_of 9092 lines) lines f.account account f.text text f.replay.played p in
+          (f.count, f.front ∙ ap (take f.count) same.1)
+    ]
+
+-- what was written of these lines is the front of a replay
+pub replay_front : (left : Option (List ℕ)) (lines : List Line) (written : List ℕ) → IfSome left (λ trace. IsPlainForm trace lines) → IsPlayFront (opening (configuration_of 9092 lines)) lines written ⊎ IsTextFront lines written → IsReplayFront left written
+replay_front left lines written form front = record { lines = lines; form = form; front = front; of_play = front_of_any lines written front }

@@ -14,6 +14,8 @@ pub record IsReplayOf (lines : List Line) (account : Account) (text : List ℕ) 
   pub lawful : IsLawful account
   pub run : IsRunOf lines 9092 account
   pub played : IsPlay (configuration_of 9092 lines) lines account text
+  -- and it plays to nothing else
+  pub only : (other : Account) (more : List ℕ) → IsPlay (configuration_of 9092 lines) lines other more → (other ≡ account) × (more ≡ text)
 
 -- `left` is what the source had, where it tells
 pub record IsReplay (left : Option (List ℕ)) (account : Account) (text : List ℕ) : Type 0 where
@@ -44,6 +46,8 @@ pub record IsReplayFront (left : Option (List ℕ)) (written : List ℕ) : Type 
   pub lines : List Line
   pub form : IfSome left (λ trace. IsPlainForm trace lines)
   pub front : IsPlayFront (opening (configuration_of 9092 lines)) lines written ⊎ IsTextFront lines written
+  -- a front of the whole play's text
+  pub of_play : (account : Account) (text : List ℕ) → IsPlay (configuration_of 9092 lines) lines account text → (count : ℕ) × (written ≡ take count text)
 
 -- no text that the source may have had is of the form that is built so far
 abbrev pub IsOtherForm : Option (List ℕ) → Type 0
