@@ -49,8 +49,8 @@ plays_on board (l ∷ lines) line last here played next =
     )
 
 -- the line at hand is the first of those to come, and stands behind those that were played
-pub next_line : (lines : List Line) (i : ℕ) (line : Line) → i < length lines → line ≡ get_or lines i line → drop i lines ≡ line ∷ drop (i + 1) lines
-next_line lines i line lt is = drop_more lines i line lt ∙ ap (λ (l : Line). l ∷ drop (i + 1) lines) (sym is)
+pub lines_left : (lines : List Line) (i : ℕ) (line : Line) → i < length lines → line ≡ get_or lines i line → drop i lines ≡ line ∷ drop (i + 1) lines
+lines_left lines i line lt is = drop_more lines i line lt ∙ ap (λ (l : Line). l ∷ drop (i + 1) lines) (sym is)
 
 pub lines_more : (lines : List Line) (i : ℕ) (line : Line) → i < length lines → line ≡ get_or lines i line → take (i + 1) lines ≡ take i lines ++ line ∷ []
 lines_more lines i line lt is = take_more lines i line lt ∙ ap (λ (l : Line). take i lines ++ l ∷ []) (sym is)

@@ -1,8 +1,8 @@
 -- What a replay comes to, from what was read and what was played.
-use Rattle.std.proofs.Common.{◌≡◌, ◌⊎◌, inl, inr, ℕ, List, [], ◌∷◌, ◌++◌, length, take, Option, Some, None, refl, sym, ap, subst, ◌∙◌, arith, append-nil, length-append, IfSome}
+use Rattle.std.proofs.Common.{◌≡◌, ◌⊎◌, ℕ, List, [], ◌∷◌, ◌++◌, length, take, Option, Some, None, IfSome, refl, sym, ap, subst, ◌∙◌, arith, inl, inr, length-append}
 use Rattle.std.specs.List.{AllZip}
 use Rattle.kafka_room.specs.declared.streams.Input.{Input}
-use Rattle.kafka_room.specs.declared.streams.Input.TheVariants.{Whole, TooLong}
+use Rattle.kafka_room.specs.declared.streams.Input.TheVariants.{TooLong}
 use Rattle.kafka_room.specs.declared.audit.account.Account.{Account}
 use Rattle.kafka_room.specs.declared.trace_file.line.Line.{Line}
 use Rattle.kafka_room.specs.ArePlainStreams.{ArePlainStreams}
@@ -34,22 +34,6 @@ too_long_other (Some trace) (Some rest) input e h =
     let read : IsInput (Some trace) (Some rest) TooLong = rw e at h in
     λ lines form. absurd (omega (arith, form.trace.0.size, ap length read.1, length-append read.0 rest, read.2))
 
--- the source had this text, where it tells
-pub whole_text : (left new : Option (List ℕ)) (input : Input) (text : List ℕ) → input ≡ Whole text → IsInput left new input → IfSome left (λ trace. trace ≡ text)
-whole_text None new input text e h = tt
-whole_text (Some trace) None input text e h = absurd ((rw e at h).0)
-whole_text (Some trace) (Some rest) input text e h =
-    let read : IsInput (Some trace) (Some rest) (Whole text) = rw e at h in
-    read.0 ∙ ap (λ (xs : List ℕ). text ++ xs) read.1 ∙ append-nil text
-
-told_other : (left : Option (List ℕ)) (text : List ℕ) → IfSome left (λ trace. trace ≡ text) → ((lines : List Line) → IsPlainForm text lines → ⊥) → IsOtherForm left
-told_other None text told none = tt
-told_other (Some trace) text told none = λ lines form. none lines (subst (λ (t : List ℕ). IsPlainForm t lines) told form)
-
-pub whole_other : (left new : Option (List ℕ)) (input : Input) (text : List ℕ) → input ≡ Whole text → IsInput left new input
-    → ((lines : List Line) → IsPlainForm text lines → ⊥) → IsOtherForm left
-whole_other left new input text e h none = told_other left text (whole_text left new input text e h) none
-
 -- pieces spell one list of lines
 one_reading : (pieces : List (List ℕ)) (a b : List Line) → AllZip IsLine pieces a → AllZip IsLine pieces b → a ≡ b
 one_reading [] [] [] h k = refl
@@ -64,10 +48,6 @@ one_reading (piece ∷ pieces) (x ∷ a) (y ∷ b) h k =
 pub other_streams : (text : List ℕ) (lines : List Line) → IsPlainTrace text lines → (ArePlainStreams lines → ⊥) → (more : List Line) → IsPlainForm text more → ⊥
 other_streams text lines trace none more form =
     none (subst ArePlainStreams (one_reading (pieces_of text) more lines form.trace.0.spelled trace.0.spelled) form.streams)
-
-pub told_form : (left : Option (List ℕ)) (text : List ℕ) (lines : List Line) → IsPlainForm text lines → IfSome left (λ trace. trace ≡ text) → IfSome left (λ trace. IsPlainForm trace lines)
-told_form None text lines form told = tt
-told_form (Some trace) text lines form told = subst (λ (t : List ℕ). IsPlainForm t lines) (sym told) form
 
 -- ---- what was played
 
@@ -111,6 +91,10 @@ front_of_lines start lines done more last parts played = record { done = done; m
 pub front_within : (start : Board) (lines done more : List Line) (last : Turned) (n : ℕ) → lines ≡ done ++ more → Plays start done last → IsPlayFront start lines (take n last.text)
 front_within start lines done more last n parts played = record { done = done; more = more; parts = parts; last = last; played = played; count = n; front = refl }
 
+told_form : (left : Option (List ℕ)) (text : List ℕ) (lines : List Line) → IsPlainForm text lines → IfSome left (λ trace. trace ≡ text) → IfSome left (λ trace. IsPlainForm trace lines)
+told_form None text lines form told = tt
+told_form (Some trace) text lines form told = subst (λ (t : List ℕ). IsPlainForm t lines) (sym told) form
+
 front_of_any : (lines : List Line) (written : List ℕ) → IsPlayFront (opening (configuration_of 9092 lines)) lines written ⊎ IsTextFront lines written → (account : Account) (text : List ℕ) → IsPlay (configuration_of 9092 lines) lines account text
     → (count : ℕ) × (written ≡ take count text)
 front_of_any lines written front account text p =
@@ -124,5 +108,6 @@ front_of_any lines written front account text p =
     ]
 
 -- what was written of these lines is the front of a replay
-pub replay_front : (left : Option (List ℕ)) (lines : List Line) (written : List ℕ) → IfSome left (λ trace. IsPlainForm trace lines) → IsPlayFront (opening (configuration_of 9092 lines)) lines written ⊎ IsTextFront lines written → IsReplayFront left written
-replay_front left lines written form front = record { lines = lines; form = form; front = front; of_play = front_of_any lines written front }
+pub replay_front : (left : Option (List ℕ)) (text : List ℕ) (lines : List Line) (written : List ℕ) → IsPlainForm text lines → IfSome left (λ trace. trace ≡ text)
+    → IsPlayFront (opening (configuration_of 9092 lines)) lines written ⊎ IsTextFront lines written → IsReplayFront left written
+replay_front left text lines written form told front = record { lines = lines; form = told_form left text lines form told; front = front; of_play = front_of_any lines written front }

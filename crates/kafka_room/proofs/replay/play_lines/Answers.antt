@@ -6,7 +6,7 @@ use Rattle.kafka_room.specs.declared.trace_file.line.Line.{Line}
 use Rattle.kafka_room.specs.Handling.{Turned}
 use Rattle.kafka_room.specs.Play.{Plays}
 use Rattle.kafka_room.specs.UnderWay.{IsUnderWay}
-use Rattle.kafka_room.proofs.PlayLaws.{plays_on, next_line, lines_more}
+use Rattle.kafka_room.proofs.PlayLaws.{plays_on, lines_left, lines_more}
 use Rattle.kafka_room.proofs.Replays.{front_of_lines, front_within}
 use Rattle.kafka_room.proofs.Writes.{front_behind}
 use Rattle.kafka_room.proofs.replay.play_lines.Goals as goal
@@ -15,7 +15,7 @@ pub event-requires-clause-under_way : goal.event-requires-clause-under_way
 event-requires-clause-under_way g c =
     let lines = c.args.lines.now in
     let i = c.loop-line.line-index in
-    let rest = next_line lines i c.line-item.result c.loop-line-test.true c.line-item.is in
+    let rest = lines_left lines i c.line-item.result c.loop-line-test.true c.line-item.is in
     (take i lines, drop (i + 1) lines, subst (λ (ls : List Line). IsUnderWay (take i lines) ls c.loop-line.lone) rest c.loop-line.invariant.way)
 
 pub returns-in_err-event-clause-front : goal.returns-in_err-event-clause-front
@@ -60,7 +60,7 @@ loop-line-preserved g c =
     let inv = c.loop-line.invariant in
     let start = c.args.lone.now in
     let here = c.in_ok-event.ensures.played in
-    let rest = next_line lines i line c.loop-line-test.true c.line-item.is in
+    let rest = lines_left lines i line c.loop-line-test.true c.line-item.is in
     let more = lines_more lines i line c.loop-line-test.true c.line-item.is in
     let part : c.as_slice.result.now ≡ here.0 = c.as_slice.ensures ∙ here.2 ∙ ap (λ (xs : List ℕ). xs ++ here.0) c.new-text.ensures in
     let before = g.K.Sink.written c.args.sink.now in
