@@ -1,7 +1,6 @@
 -- Cutting a text at the first of some bytes.
 use Rattle.std.proofs.Common.{◌≡◌, ◌≢◌, ℕ, ◌+◌, ◌<◌, ◌≤◌, Bool, true, false, cond, eqb, List, [], ◌∷◌, ◌++◌, length, get_or, take, drop, Option, Some, None, option_map, refl, sym, ap, ◌∙◌, add-one, drop-cons, append_assoc, eq-eqb, inl, inr, ◌⊎◌, ◌||◌}
-use Rattle.std.proofs.lemmas.Bool.{eqb-true}
-use Rattle.std.proofs.lemmas.Bool.Decides.{eqb_tells}
+use Rattle.std.proofs.lemmas.Bool.{eqb-true, ne_eqb}
 use Rattle.std.proofs.lemmas.List.{take_more, drop_all, append-nil}
 use Rattle.std.specs.Prelude.{codes, option_and_then, nat_eq}
 use Rattle.std.specs.List.{AllByRecursion}
@@ -12,9 +11,6 @@ use Rattle.kafka_room.specs.Parts.{cut_at, behind_word, middle, is_end, ended, p
 -- what was cut, with these bytes before it
 abbrev pub with_front : List ℕ → Option (List ℕ × List ℕ) → Option (List ℕ × List ℕ)
 with_front front found = option_map (λ p. (front ++ p.0, p.1)) found
-
-pub not_same : (a b : ℕ) → a ≢ b → eqb a b ≡ false
-not_same a b ne = elim (eqb_tells a b) [ inl p ↦ absurd (ne p.1) | inr p ↦ p.0 ]
 
 with_front-onto : (front : List ℕ) (c : ℕ) (found : Option (List ℕ × List ℕ)) → with_front front (option_map (λ p. (c ∷ p.0, p.1)) found) ≡ with_front (front ++ c ∷ []) found
 with_front-onto front c None = refl
@@ -27,7 +23,7 @@ unfolding cut_at
 cut_goes_on byte i text lt other =
     let c = get_or text i 0 in
     let parts : drop i text ≡ c ∷ drop (i + 1) text = rw (add-one, drop-cons text i 0 lt) refl in
-    let no : eqb c byte ≡ false = not_same c byte other in
+    let no : eqb c byte ≡ false = ne_eqb c byte other in
     let step : cut_at byte (drop i text) ≡ option_map (λ p. (c ∷ p.0, p.1)) (cut_at byte (drop (i + 1) text)) = ap (cut_at byte) parts ∙ rw no refl in
     let more : take (i + 1) text ≡ take i text ++ c ∷ [] = take_more text i 0 lt in
     ap (with_front (take i text)) step ∙ with_front-onto (take i text) c (cut_at byte (drop (i + 1) text)) ∙ ap (λ (front : List ℕ). with_front front (cut_at byte (drop (i + 1) text))) (sym more)
@@ -114,7 +110,7 @@ cut_at-found byte (c ∷ cs) name rest e = cut_by_test byte c cs name rest (eqb 
 cut_at-again : (byte : ℕ) (name rest : List ℕ) → AllByRecursion (λ c. c ≢ byte) name → cut_at byte (name ++ byte ∷ rest) ≡ Some (name, rest)
 unfolding cut_at
 cut_at-again byte [] rest h = rw (eq-eqb byte byte refl) refl
-cut_at-again byte (c ∷ cs) rest h = rw (not_same c byte h.0, cut_at-again byte cs rest h.1) refl
+cut_at-again byte (c ∷ cs) rest h = rw (ne_eqb c byte h.0, cut_at-again byte cs rest h.1) refl
 
 ended_found : (name hex last : List ℕ) (x : List ℕ × List ℕ) (b : Bool) → is_end last ≡ b → cond b (Some (name, hex)) None ≡ Some x → (is_end last ≡ true) × ((name, hex) ≡ x)
 ended_found name hex last x true t e = (t, cc)
