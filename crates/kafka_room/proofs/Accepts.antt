@@ -1,5 +1,6 @@
 -- What accepting a request leaves in the histories: the entries, their owner and places, and the states at them.
 use Rattle.std.proofs.Common.{◌≡◌, ◌≢◌, ℕ, zero, suc, ◌≤◌, ◌<◌, true, false, eqb, List, [], ◌∷◌, ◌++◌, length, map, set, Option, Some, refl, sym, ap, subst, ◌∙◌, arith, inl, inr, append_assoc, append-nil, eq-eqb}
+use Rattle.std.proofs.lemmas.Bool.{ne_eqb}
 use Rattle.std.proofs.lemmas.List.{length-set}
 use Rattle.std.specs.Prelude.{slice_get}
 use Rattle.std.specs.List.{AllByRecursion, AllZip, range_with_len}
@@ -18,10 +19,9 @@ use Rattle.kafka_room.specs.Acceptance.{Noted, entered, accept_all, steps_of, sh
 use Rattle.kafka_room.specs.Delayed.{Shown}
 use Rattle.kafka_room.specs.declared.kanswer.accepted.Accepted.TheVariants.{Refused}
 use Rattle.kbatch.specs.Stamp.{stamped}
-use Rattle.kafka_room.proofs.Cuts.{some_is, not_same}
 use Rattle.kafka_room.proofs.Growth.{Longer, IsWhole, IsSized, longer_on, entered_longer, entered_whole, entered_events, entered_followers, entered_length, event_of, before_kept, at_kept, put_batches}
 pub use Rattle.kafka_room.specs.Steady.{the_owner, AllWhole, Follows}
-use Rattle.kafka_room.proofs.Places.{same_or_not, get_set_same, get_set_other, get_there, get_seam}
+use Rattle.kafka_room.proofs.Places.{same_or_not, get_set_same, get_set_other, get_there, get_seam, some_is}
 
 -- The later history has entries of one call behind those of the earlier one, and these are their places.
 pub record Left (by seq : ℕ) (places : List ℕ) (h later : History) : Type 0 where
@@ -60,7 +60,7 @@ places_here part place points =
 
 places_other : (p part place : ℕ) (points : List Point) → p ≢ part → places_in p (record { part = part; place = place } ∷ points) ≡ places_in p points
 places_other p part place points ne =
-    let no : eqb part p ≡ false = not_same part p (λ e. ne (sym e)) in rw no refl
+    let no : eqb part p ≡ false = ne_eqb part p (λ e. ne (sym e)) in rw no refl
 
 -- one entry of a call, and then the others of it
 left_more : (by seq : ℕ) (entry : Entry) (places : List ℕ) (h l : History) → Left by seq places (entered h by seq entry) l → Left by seq (length h.events ∷ places) h l
@@ -149,7 +149,7 @@ shows_entry by seq account part found entry pa whole sized there longer =
       at = ap (λ (o : Option PartAccount). at_in o n) there ∙ at_kept found (history_of pa) by seq entry whole sized longer;
       event = ap (λ (o : Option PartAccount). event_in o n) there ∙ here;
       owner = λ lt.
-          let no : eqb part 64 ≡ false = not_same part 64 (λ e. omega (arith, lt, e)) in
+          let no : eqb part 64 ≡ false = ne_eqb part 64 (λ e. omega (arith, lt, e)) in
           rw (no, there) (slice_map pa.events n event here ∙ ap Some (event_owner by seq entry));
     }
 

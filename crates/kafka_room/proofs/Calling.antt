@@ -1,5 +1,6 @@
 -- What a call and a line leave of a broker, from the parts that they changed.
 use Rattle.std.proofs.Common.{◌≡◌, ◌≢◌, ℕ, ◌+◌, ◌-◌, ◌<◌, ◌≤◌, Bool, true, false, ◌||◌, cond, eqb, List, [], ◌∷◌, ◌++◌, length, get_or, take, drop, set, Option, Some, None, unwrap_or, refl, sym, ap, subst, ◌∙◌, arith, inl, inr, append_assoc, append-nil, zero-add, eq-eqb}
+use Rattle.std.proofs.lemmas.Bool.{ne_eqb}
 use Rattle.std.proofs.lemmas.List.{take_at, length-take, length-drop, length-set}
 use Rattle.std.proofs.lemmas.Option.{unwrap_or-slice_get}
 use Rattle.std.specs.Prelude.{slice_get}
@@ -33,7 +34,6 @@ use Rattle.kafka_room.specs.RunOf.{names, bytes_in, input_of, is_named}
 use Rattle.kafka_room.specs.Steady.{IsSteady, StaysDone, all_points, AllBelow}
 use Rattle.kafka_room.specs.Trace.{IsPlainLine}
 use Rattle.kafka_room.specs.UnderWay.{to_come, IsRunning, IsUnderWay, IsServing}
-use Rattle.kafka_room.proofs.Cuts.{not_same}
 use Rattle.kafka_room.proofs.Places.{same_or_not, get_there}
 use Rattle.kafka_room.proofs.RunLaws.{or_second, seat_set_same, seat_set_other, fed_feed, fed_topic, fed_end}
 use Rattle.kafka_room.proofs.Serving.{calls_at, calls_in_seat, turned, nobodys_turn, rests_none}
@@ -179,7 +179,7 @@ module _ (fed later : List Line) (board : Board) (session : ℕ) (bytes : List �
             subst (λ (k : ℕ). IsPlainStream (to_come (brought board line) later k)) (sym same)
             (subst (λ (x : Seat). IsPlainStream (x.inbox ++ input_of session later)) (sym (seat_set_same board session fed_seat inside)) (subst IsPlainStream before (way.running.streams session feed_there)))
         | inr other ↦
-            let another : eqb session s ≡ false = not_same session s (λ e. other (sym e)) in
+            let another : eqb session s ≡ false = ne_eqb session s (λ e. other (sym e)) in
             let before : (seat_at board s).inbox ++ input_of s (line ∷ later) ≡ (seat_at board s).inbox ++ input_of s later =
             ap (λ (b : Bool). (seat_at board s).inbox ++ (cond b bytes [] ++ input_of s later)) another in
             subst (λ (x : Seat). IsPlainStream (x.inbox ++ input_of s later)) (sym (seat_set_other board session s fed_seat other)) (subst IsPlainStream before (way.running.streams s lt))

@@ -14,7 +14,7 @@ use Rattle.partlog.specs.Added.{log_end_of}
 use Rattle.partlog.specs.Appended.{appended}
 use Rattle.kbatch.specs.Kept.{count_of}
 use Rattle.std.proofs.lemmas.Option.{slice_get-get_or}
-use Rattle.kafka_room.proofs.Cuts.{some_is}
+use Rattle.kafka_room.proofs.Places.{some_is}
 use Rattle.partlog.proofs.Appending.{bytes_in-batches}
 use Rattle.kafka_room.specs.declared.audit.account.Point.{Point}
 use Rattle.kafka_room.specs.declared.broker.came.Came.{Came}

@@ -90,7 +90,7 @@ before c fs gs rest is = is ∙ ap (λ (t : List ℕ). t ++ rest) (fields-append
 abbrev pub AllFit : List Field → Type 0
 AllFit fs = AllByRecursion FitsField fs
 
-all_fit_both : (fs gs : List Field) → AllFit fs → AllFit gs → AllFit (fs ++ gs)
+pub all_fit_both : (fs gs : List Field) → AllFit fs → AllFit gs → AllFit (fs ++ gs)
 all_fit_both [] gs f g = g
 all_fit_both (x ∷ fs) gs f g = (f.0, all_fit_both fs gs f.1 g)
 

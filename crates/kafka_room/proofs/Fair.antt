@@ -1,5 +1,6 @@
 -- What is decided of a request asks only logs that are there, and puts batches whole.
-use Rattle.std.proofs.Common.{◌≡◌, ℕ, zero, suc, ◌+◌, ◌<◌, ℤ, pos, negsuc, Bool, true, false, cond, List, [], ◌∷◌, length, map, Option, Some, None, unwrap_or, refl, sym, ap, subst, ◌∙◌, arith, inl, inr, length-append}
+use Rattle.std.proofs.Common.{◌≡◌, ℕ, ◌+◌, ◌<◌, ℤ, pos, negsuc, Bool, true, false, cond, List, [], ◌∷◌, length, map, Option, Some, None, unwrap_or, refl, sym, ap, subst, ◌∙◌, arith, inl, inr, length-append}
+use Rattle.std.proofs.lemmas.List.{length-map, length-replicate}
 use Rattle.std.proofs.lemmas.List.Sums.{sum_by-cons}
 use Rattle.std.proofs.lemmas.Bool.{ltb-true}
 use Rattle.std.specs.Prelude.{MatchOption, MatchBool, replicate, slice_index, ◌&&◌, nat_lt, nat_le}
@@ -23,7 +24,7 @@ use Rattle.kafka_room.specs.declared.kwire.request.FetchPart.{FetchPart}
 use Rattle.kafka_room.specs.declared.kanswer.accepted.Accepted.TheVariants.{Refused, Appended, Seen}
 use Rattle.kafka_room.specs.Configuration.{Configuration, partitions_of, followers_of}
 use Rattle.kafka_room.specs.Accepting.{Entry, Put, Followed, Looked, Outcome, Decision, Refuse, Decides, ProduceDecides, BatchDecides, append_outcome, fetch_decision, fetch_outcome, in_range_outcome, offset_of, look, code_of, part_from, part_of, produce_parts, fetch_parts, is_acks}
-use Rattle.kafka_room.proofs.Cuts.{some_is}
+use Rattle.kafka_room.proofs.Places.{some_is}
 use Rattle.kafka_room.proofs.Growth.{IsSized}
 use Rattle.kafka_room.proofs.Accepts.{IsFair}
 
@@ -46,23 +47,15 @@ part_within before (topic ∷ topics) name (pos n) p e =
     let later = part_within (before + topic.partitions) topics name (pos n) p in
     omega (arith, total, name_within before n topic.partitions (partitions_of topics) p (pointwise nat_eq topic.name name) (part_from (before + topic.partitions) topics name (pos n)) later e)
 
-length_replicate : {X : Type 0} (n : ℕ) (x : X) → length (replicate n x) ≡ n
-length_replicate zero x = refl
-length_replicate (suc n) x = ap suc (length_replicate n x)
-
 -- one number of followers for each partition
 pub followers_size : (topics : List Topic) → length (followers_of topics) ≡ partitions_of topics
 followers_size [] = refl
 followers_size (topic ∷ topics) =
     length-append (replicate topic.partitions topic.followers) (followers_of topics)
-    ∙ omega (arith, length_replicate topic.partitions topic.followers, followers_size topics, sum_by-cons (λ t. t.partitions) topic topics)
-
-length_map : {X Y : Type 0} (f : X → Y) (xs : List X) → length (map f xs) ≡ length xs
-length_map f [] = refl
-length_map f (x ∷ xs) = ap suc (length_map f xs)
+    ∙ omega (arith, length-replicate topic.partitions topic.followers, followers_size topics, sum_by-cons (λ t. t.partitions) topic topics)
 
 pub parts_size : (topics : List Topic) (parts : List History) → map (λ (h : History). h.followers) parts ≡ followers_of topics → length parts ≡ partitions_of topics
-parts_size topics parts e = sym (length_map (λ (h : History). h.followers) parts) ∙ ap length e ∙ followers_size topics
+parts_size topics parts e = sym (length-map parts (λ (h : History). h.followers)) ∙ ap length e ∙ followers_size topics
 
 pub batch_sized : (bytes : List ℕ) (records : List Record) → IsBatch bytes records → (base : ℕ) → length (stamped base bytes) ≡ length bytes
 batch_sized bytes records b base =

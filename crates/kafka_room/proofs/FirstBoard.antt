@@ -24,7 +24,7 @@ use Rattle.kafka_room.specs.RunOf.{topic_in, configuration_of, input_of}
 use Rattle.kafka_room.specs.Steady.{IsWhole, AllBelow, the_owner, all_points, IsSteady}
 use Rattle.kafka_room.specs.Trace.{IsPlainLine}
 use Rattle.kafka_room.specs.UnderWay.{IsUnderWay}
-use Rattle.kafka_room.proofs.Cuts.{some_is}
+use Rattle.kafka_room.proofs.Places.{some_is}
 use Rattle.kafka_room.proofs.Fair.{parts_size}
 use Rattle.kafka_room.proofs.FewBytes.{few_bytes, few_sessions}
 use Rattle.kafka_room.proofs.RunLaws.{fed_opening}

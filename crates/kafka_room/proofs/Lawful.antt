@@ -1,5 +1,6 @@
 -- The account of a broker in which nothing waits is lawful.
 use Rattle.std.proofs.Common.{◌≡◌, ℕ, zero, suc, ◌+◌, ◌⊎◌, Bool, true, false, cond, eqb, List, [], ◌∷◌, ◌++◌, map, Option, Some, None, unwrap_or, refl, sym, ap, subst, ◌∙◌, arith, inl, inr, append-nil, eq-eqb}
+use Rattle.std.proofs.lemmas.Bool.{ne_eqb}
 use Rattle.std.proofs.lemmas.List.Sums.{sum_by-cons}
 use Rattle.std.specs.Prelude.{slice_get, count_by, option_to_list, IfSome}
 use Rattle.std.specs.List.{AllByRecursion, flat_map}
@@ -21,9 +22,8 @@ use Rattle.kafka_room.specs.Handled.{Step, IsLawfulCall, LooksAtClock, Completes
 use Rattle.kafka_room.specs.IsLawful.{IsLawful, IsWholeLog, places_in, is_point, is_won_by, is_won_as, EndsAs, EndWell, FollowOn}
 use Rattle.kafka_room.specs.Board.{Board, Seat, empty_seat, transcript_at, new_transcript, put_before, passes_of, part_account, account_of}
 pub use Rattle.kafka_room.specs.Fed.{IsPlainCall, IsTameTranscript}
-use Rattle.kafka_room.proofs.Cuts.{some_is, not_same}
 use Rattle.kafka_room.proofs.Growth.{longer_self}
-use Rattle.kafka_room.proofs.Places.{same_or_not}
+use Rattle.kafka_room.proofs.Places.{same_or_not, some_is}
 use Rattle.kafka_room.proofs.Accepts.{the_owner, AllWhole, Follows}
 use Rattle.kafka_room.proofs.Steady.{IsSteady, IsDone}
 
@@ -173,7 +173,7 @@ module _ (board : Board) (no_clock : board.clock ≡ []) (tame : AreTame 0 board
             let nothing : slice_get (map clock_owner_of []) place ≡ Some (the_owner by seq) = subst (λ (c : List ClockEvent). slice_get (map clock_owner_of c) place ≡ Some (the_owner by seq)) no_clock none in
             absurd cc
         | inr other ↦
-            let no : eqb part 64 ≡ false = not_same part 64 other in
+            let no : eqb part 64 ≡ false = ne_eqb part 64 other in
             let owned : slice_get (owners_in (slice_get (account_of board).parts part)) place ≡ Some (the_owner by seq) =
             subst (λ (b : Bool). slice_get (cond b (map clock_owner_of board.clock) (owners_in (slice_get (account_of board).parts part))) place ≡ Some (the_owner by seq)) no e in
             let h = owned_part board.parts part place (the_owner by seq) owned in

@@ -1,4 +1,3 @@
-pub mod Cuts
 pub mod Names
 pub mod Writes
 pub mod Replays

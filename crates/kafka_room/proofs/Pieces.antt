@@ -1,13 +1,10 @@
 -- Cutting a text at a byte.
-use Rattle.std.proofs.Common.{◌≡◌, ◌≢◌, ℕ, ◌+◌, ◌<◌, ◌≤◌, Bool, true, false, cond, eqb, List, [], ◌∷◌, ◌++◌, length, get_or, take, drop, refl, sym, ap, ◌∙◌, eq-eqb, arith, inl, inr}
-use Rattle.std.proofs.lemmas.Bool.Decides.{eqb_tells}
+use Rattle.std.proofs.Common.{◌≡◌, ◌≢◌, ℕ, ◌+◌, ◌<◌, ◌≤◌, Bool, true, false, cond, eqb, List, [], ◌∷◌, ◌++◌, length, get_or, take, drop, refl, sym, ap, ◌∙◌, eq-eqb, arith}
+use Rattle.std.proofs.lemmas.Bool.{ne_eqb}
 use Rattle.std.proofs.lemmas.List.{take-append-drop, drop_more, get_or-take, get_or_default, length-take-le}
 use Rattle.std.proofs.lemmas.List.Splits.{slice_split_at, slice_split_none}
 use Rattle.std.specs.List.{slice_split, onto_first, All}
 use Rattle.kafka_room.specs.Trace.{pieces_of, without_empty_end}
-
-other_byte : (a b : ℕ) → a ≢ b → eqb a b ≡ false
-other_byte a b ne = elim (eqb_tells a b) [ inl p ↦ absurd (ne p.1) | inr p ↦ p.0 ]
 
 -- the byte isn't among the first of a text
 none_before : (text : List ℕ) (byte i : ℕ) → i ≤ length text → ((k : ℕ) → k < i → get_or text k 0 ≢ byte) → All (λ c. eqb c byte ≡ false) (take i text)
@@ -15,7 +12,7 @@ none_before text byte i le none = λ k d lt.
     let within : k < i = omega (arith, length-take-le i text le) in
     let long : k < length text = omega arith in
     let at : get_or (take i text) k d ≡ get_or text k 0 = get_or-take i text k d within ∙ get_or_default text k d 0 long in
-    other_byte (get_or (take i text) k d) byte (λ e. none k within (sym at ∙ e))
+    ne_eqb (get_or (take i text) k d) byte (λ e. none k within (sym at ∙ e))
 
 pub cut_found : (text : List ℕ) (byte i : ℕ) → i < length text → ((k : ℕ) → k < i → get_or text k 0 ≢ byte) → get_or text i 0 ≡ byte
     → slice_split (λ c. eqb c byte) text ≡ take i text ∷ slice_split (λ c. eqb c byte) (drop (i + 1) text)
@@ -26,7 +23,7 @@ cut_found text byte i lt none here =
 
 pub cut_nowhere : (text : List ℕ) (byte : ℕ) → ((k : ℕ) → k < length text → get_or text k 0 ≢ byte) → slice_split (λ c. eqb c byte) text ≡ text ∷ []
 cut_nowhere text byte none =
-    slice_split_none (λ c. eqb c byte) text (λ k d lt. other_byte (get_or text k d) byte (λ e. none k lt (get_or_default text k 0 d lt ∙ e)))
+    slice_split_none (λ c. eqb c byte) text (λ k d lt. ne_eqb (get_or text k d) byte (λ e. none k lt (get_or_default text k 0 d lt ∙ e)))
 
 -- there is always a first part
 pub first_part : (p : ℕ → Bool) (text : List ℕ) → (part : List ℕ) × (parts : List (List ℕ)) × (slice_split p text ≡ part ∷ parts)
@@ -50,4 +47,4 @@ pieces_of-cut text piece behind e =
     ap without_empty_end e ∙ ap (λ (parts : List (List ℕ)). without_empty_end (piece ∷ parts)) next.2 ∙ ap (λ (parts : List (List ℕ)). piece ∷ without_empty_end parts) (sym next.2)
 
 pub pieces_of-last : (text : List ℕ) → length text ≢ 0 → slice_split (λ c. eqb c 10) text ≡ text ∷ [] → pieces_of text ≡ text ∷ []
-pieces_of-last text some e = ap without_empty_end e ∙ ap (λ (b : Bool). cond b [] (text ∷ [])) (other_byte (length text) 0 some)
+pieces_of-last text some e = ap without_empty_end e ∙ ap (λ (b : Bool). cond b [] (text ∷ [])) (ne_eqb (length text) 0 some)

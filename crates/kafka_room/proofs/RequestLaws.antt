@@ -20,7 +20,7 @@ use Rattle.std.specs.Prelude.{IfOk, IsErrAnd, FitsSigned}
 use mir.Val.{of_z, to_z}
 use Rattle.std.proofs.lemmas.Int.{to_z-of_z}
 use Rattle.kafka_room.specs.Reads.{IsFaultOf, Answers}
-use Rattle.kafka_room.proofs.Codecs.{Codec, Covers, AllFit, covers_both, behind, fields-append, got, went_on, of_field, join_field, keep, said}
+use Rattle.kafka_room.proofs.Codecs.{Codec, Covers, AllFit, all_fit_both, covers_both, behind, fields-append, got, went_on, of_field, join_field, keep, said}
 use Rattle.kafka_room.proofs.FieldLaws.{int16_field, int32_field, nullable_string_field}
 use Rattle.kafka_room.proofs.AskCodecs.{IsAsk, produce, fetch, metadata, versions}
 use Rattle.kafka_room.proofs.Repeats.{none_repeated, no_two}
@@ -251,10 +251,6 @@ same_head head request version is =
     ap (λ (z : ℤ). Int16 z ∷ Int16 head.version ∷ Int32 head.correlation ∷ []) key
     ∙ ap (λ (z : ℤ). Int16 (key_of request.ask) ∷ Int16 z ∷ Int32 head.correlation ∷ []) v
     ∙ ap (λ (z : ℤ). Int16 (key_of request.ask) ∷ Int16 (version_of request.ask) ∷ Int32 z ∷ []) (sym is.1)
-
-all_fit_both : (fs gs : List Field) → AllFit fs → AllFit gs → AllFit (fs ++ gs)
-all_fit_both [] gs f g = g
-all_fit_both (x ∷ fs) gs f g = (f.0, all_fit_both fs gs f.1 g)
 
 whole_found : (bytes : List ℕ) (head : Head) (d : Cursor) (request : Request) → IsBytes d.bytes → Codec (ask_at head.api) ask_fields (IsAsk head.api) → head.version ≡ known_version head.api
     → IsParted bytes head d request → body_at head.api head.correlation d ≡ Ok request → IsWhole bytes request

@@ -1,7 +1,7 @@
 -- What the board of the one-thread broker is to the lines that it was fed, where these declare topics, bring bytes and end the trace:
 -- and its account is that of their run.
 use Rattle.std.proofs.Common.{◌≡◌, ◌≢◌, ℕ, zero, suc, ◌+◌, ◌-◌, ◌≤◌, ◌<◌, ◌⊎◌, pos, Bool, true, false, ◌||◌, cond, eqb, max, List, [], ◌∷◌, ◌++◌, length, take, drop, set, Option, Some, None, unwrap_or, MatchBool, refl, sym, ap, subst, ◌∙◌, arith, inl, inr, append-nil, append_assoc, length-append, eq-eqb}
-use Rattle.std.proofs.lemmas.Bool.{or_cases, eqb-true, cases_Bool, cases_lt}
+use Rattle.std.proofs.lemmas.Bool.{or_cases, eqb-true, cases_Bool, cases_lt, ne_eqb}
 use Rattle.std.proofs.lemmas.List.{length-set, length-replicate, get_or-replicate}
 use Rattle.std.proofs.lemmas.List.Elements.{All-tail}
 use Rattle.std.proofs.lemmas.List.Folds.{list_any-append}
@@ -31,7 +31,6 @@ use Rattle.kafka_room.specs.Handling.{Turned, with_call, seat_with}
 use Rattle.kafka_room.specs.Completing.{scanned, scan_sessions, answered_in, unless_none}
 use Rattle.kafka_room.specs.Acting.{is_there, can_act, next_to_act, shows_work}
 use Rattle.kafka_room.specs.Play.{brought}
-use Rattle.kafka_room.proofs.Cuts.{not_same}
 use Rattle.kafka_room.proofs.Places.{same_or_not, get_set_same, get_set_other, get_there, all_append}
 use Rattle.kafka_room.proofs.FrameLaws.{whole_parts}
 pub use Rattle.kafka_room.specs.Fed.{frames_of, IsFedSeat, IsFedBy, IsAtRest}
@@ -359,7 +358,7 @@ fed_feed fed board session bytes h lt =
     let here : IsOneOf session more seat = record { is_open = old.is_open; there = seat_there (is_named session more) seat found (t, refl); tame = old.tame; parts = input; each = old.each } in
     fed_set fed more board (brought board line) session seat h lt refl refl refl here found
     (λ s other.
-    let another : eqb session s ≡ false = not_same session s (λ e. other (sym e)) in
+    let another : eqb session s ≡ false = ne_eqb session s (λ e. other (sym e)) in
     (named_same s fed line another, input_same s fed line (ap (λ (b : Bool). cond b bytes []) another)))
 
 no_frame : (body rest : List ℕ) → framed body ++ rest ≡ [] → ⊥

@@ -5,13 +5,12 @@ use Rattle.std.proofs.lemmas.List.{get_or-append-add, map-append}
 use Rattle.std.proofs.lemmas.List.Elements.{filter-append}
 use Rattle.std.proofs.lemmas.List.Sums.{sum_by-cons}
 use Rattle.std.proofs.lemmas.List.FromFn.{length-range_with_len, get_or-range_with_len}
-use Rattle.std.proofs.lemmas.Bool.{cases_order}
+use Rattle.std.proofs.lemmas.Bool.{cases_order, ne_eqb}
 use Rattle.std.specs.Prelude.{count_by}
 use Rattle.std.specs.List.{range_with_len}
 use Rattle.std.specs.List.Sorted.{IsStrictlyIncreasing}
 use Rattle.kafka_room.specs.declared.audit.account.Point.{Point}
 use Rattle.kafka_room.specs.IsLawful.{is_point, places_in}
-use Rattle.kafka_room.proofs.Cuts.{not_same}
 use Rattle.kafka_room.proofs.Places.{same_or_not}
 pub use Rattle.kafka_room.specs.Steady.{AllBelow}
 
@@ -59,7 +58,7 @@ rises_on n m xs rises below k lt =
 count_none : (a n k : ℕ) → k < a → count_by (λ x. eqb x k) (range_with_len a n) ≡ 0
 count_none a zero k lt = refl
 count_none a (suc n) k lt =
-    let no : eqb a k ≡ false = not_same a k (λ e. omega (arith, lt, e)) in
+    let no : eqb a k ≡ false = ne_eqb a k (λ e. omega (arith, lt, e)) in
     sum_by-cons (λ x. cond (eqb x k) 1 0) a (range_with_len (a + 1) n)
     ∙ ap (λ (b : Bool). cond b 1 0 + count_by (λ x. eqb x k) (range_with_len (a + 1) n)) no ∙ omega (arith, count_none (a + 1) n k (omega (arith, lt)))
 
@@ -73,7 +72,7 @@ count_one a (suc n) k le lt =
           let yes : eqb a k ≡ true = eq-eqb a k same in
           split ∙ ap (λ (b : Bool). cond b 1 0 + count_by (λ x. eqb x k) (range_with_len (a + 1) n)) yes ∙ omega (arith, count_none (a + 1) n k (omega (arith, same)))
       | inr other ↦
-          let no : eqb a k ≡ false = not_same a k other in
+          let no : eqb a k ≡ false = ne_eqb a k other in
           let above : a < k = elim (cases_order a k) as (λ _. a < k) [ inl e ↦ absurd (other e) | inr o ↦ elim o as (λ _. a < k) [ inl l ↦ l | inr l ↦ absurd (omega (arith, l, le)) ] ] in
           split ∙ ap (λ (b : Bool). cond b 1 0 + count_by (λ x. eqb x k) (range_with_len (a + 1) n)) no ∙ omega (arith, count_one (a + 1) n k (omega (arith, above)) (omega (arith, lt)))
     ]

@@ -1,6 +1,6 @@
 -- What became of the partitions of a request stands for logs that are there, and for offsets that they have.
 use Rattle.std.proofs.Common.{◌≡◌, ◌≢◌, ℕ, suc, ◌+◌, ◌≤◌, ◌<◌, ℤ, pos, negsuc, Bool, true, false, cond, List, [], ◌∷◌, length, get_or, map, set, Option, Some, None, unwrap_or, refl, sym, ap, subst, ◌∙◌, arith, inl, inr, length-append}
-use Rattle.std.proofs.lemmas.List.{length-set}
+use Rattle.std.proofs.lemmas.List.{length-map, length-set}
 use Rattle.std.proofs.lemmas.List.Sums.{sum_by_push, sum_by-cons}
 use Rattle.std.specs.Prelude.{MatchOption, MatchBool, nat_lt, nat_le, ◌&&◌, sum_by}
 use Rattle.std.specs.List.{AllByRecursion, AllZip, flat_map}
@@ -166,16 +166,12 @@ zip_length R [] (y ∷ ys) d = absurd d
 zip_length R (x ∷ xs) [] d = absurd d
 zip_length R (x ∷ xs) (y ∷ ys) d = ap suc (zip_length R xs ys d.1)
 
-map_length : {A B : Type 0} (f : A → B) (xs : List A) → length (map f xs) ≡ length xs
-map_length f [] = refl
-map_length f (x ∷ xs) = ap suc (map_length f xs)
-
 parts_count : {T P : Type 0} (name : T → List ℕ) (parts : T → List P) (topics : List T) → length (flat_map (λ t. map {A = P} {B = List ℕ × P} (λ p. (name t, p)) (parts t)) topics) ≡ sum_by (λ t. length (parts t)) topics
 parts_count name parts [] = refl
 parts_count {P = P} name parts (t ∷ topics) =
     let here : List (List ℕ × P) = map (λ p. (name t, p)) (parts t) in
     let later : List (List ℕ × P) = flat_map (λ t. map (λ p. (name t, p)) (parts t)) topics in
-    let count : length here ≡ length (parts t) = map_length (λ p. (name t, p)) (parts t) in
+    let count : length here ≡ length (parts t) = length-map (parts t) (λ p. (name t, p)) in
     let rest : length later ≡ sum_by (λ t. length (parts t)) topics = parts_count name parts topics in
     length-append here later ∙ omega (arith, count, rest, sum_by-cons (λ t. length (parts t)) t topics)
 
@@ -183,7 +179,7 @@ pub decided_count : (config : Configuration) (ask : Ask) (decisions : List Decis
 decided_count config (Produce transactional acks timeout topics) decisions d =
     zip_length (ProduceDecides config transactional acks) (produce_parts topics) decisions d ∙ parts_count (λ t. t.name) (λ t. t.parts) topics
 decided_count config (Fetch replica max_wait min_bytes max_bytes isolation topics) decisions d =
-    ap length d ∙ map_length (λ a. fetch_decision config replica a (part_of config a.0 a.1.index)) (fetch_parts topics) ∙ parts_count (λ t. t.name) (λ t. t.parts) topics
+    ap length d ∙ length-map (fetch_parts topics) (λ a. fetch_decision config replica a (part_of config a.0 a.1.index)) ∙ parts_count (λ t. t.name) (λ t. t.parts) topics
 decided_count config (Metadata topics) decisions d = ap length d
 decided_count config (Versions version) decisions d = ap length d
 

@@ -1,6 +1,7 @@
 -- How a broker amid a plain trace serves one session: each call keeps what holds of the broker, and the acts of a line go on until
 -- no session can act.
 use Rattle.std.proofs.Common.{◌≡◌, ◌≢◌, ℕ, zero, suc, ◌+◌, ◌-◌, ◌*◌, ◌<◌, ◌≤◌, ◌⊎◌, pos, Bool, true, false, cond, eqb, List, [], ◌∷◌, ◌++◌, length, take, drop, set, Option, Some, None, unwrap_or, refl, sym, ap, subst, ◌∙◌, arith, inl, inr, append_assoc, append-nil, length-append, zero-add}
+use Rattle.std.proofs.lemmas.Bool.{ne_eqb}
 use Rattle.std.proofs.lemmas.List.{take-append-le, take_at, length-take, length-drop, take-append-drop}
 use Rattle.std.proofs.lemmas.Grind.{flat_map-append}
 use Rattle.std.specs.Prelude.{slice_get}
@@ -37,7 +38,6 @@ use Rattle.kafka_room.specs.Ready.{IsReady, front_body}
 use Rattle.kafka_room.specs.RunOf.{bytes_in, input_of}
 use Rattle.kafka_room.specs.UnderWay.{to_come, IsRunning, IsUnderWay, IsServing}
 use Rattle.kafka_room.proofs.Accepts.{IsFair}
-use Rattle.kafka_room.proofs.Cuts.{not_same}
 use Rattle.kafka_room.proofs.Fair.{parts_size, decides_fair}
 use Rattle.kafka_room.proofs.Places.{same_or_not}
 use Rattle.kafka_room.proofs.RunLaws.{seat_set_same, seat_set_other, fed_call, fed_can_act, scanned_nothing}
@@ -183,7 +183,7 @@ module _ (fed later : List Line) (session end : ℕ) (board : Board) (serving : 
   room_left : eqb (next_call board session) 4294967295 ≡ false
   room_left =
       let first : (transcript_at board session).first ≡ 0 = (serving.running.given.seats session serving.there).tame.first in
-      not_same (next_call board session) 4294967295 (λ e. omega (arith, e, first, calls_few fed later session end board serving whole))
+      ne_eqb (next_call board session) 4294967295 (λ e. omega (arith, e, first, calls_few fed later session end board serving whole))
 
   acts : Acts board session (answered_at_once board session (front_body board session end) request (accept_all session (next_call board session) decisions board.parts))
   acts = rw (whole, room_left) (inl (request, decisions, asked, decided, rw undelayed refl))

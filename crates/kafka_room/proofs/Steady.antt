@@ -23,9 +23,8 @@ use Rattle.kafka_room.specs.Board.{empty_history}
 use Rattle.kafka_room.specs.Acceptance.{Noted, accept_all, steps_of, shown_of}
 use Rattle.kafka_room.specs.Handling.{how_at_once}
 pub use Rattle.kafka_room.specs.Steady.{IsDone, StaysDone, all_points, IsSteady}
-use Rattle.kafka_room.proofs.Cuts.{some_is}
 use Rattle.kafka_room.proofs.Growth.{longer_on}
-use Rattle.kafka_room.proofs.Places.{same_or_not, get_there, get_seam, get_front, get_within, get_behind}
+use Rattle.kafka_room.proofs.Places.{same_or_not, get_there, get_seam, get_front, get_within, get_behind, some_is}
 use Rattle.kafka_room.proofs.Runs.{AllBelow, below_more, range_below, rises_on, count_one, count_point, places_append}
 use Rattle.kafka_room.proofs.Accepts.{the_owner, Left, AllLeft, IsFair, Follows, accepted_left, accepted_size, accepted_shows, accepted_followers, accepted_nowhere}
 

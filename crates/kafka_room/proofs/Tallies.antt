@@ -1,26 +1,17 @@
 -- The numbers of a summary, step by step.
-use Rattle.std.proofs.Common.{◌≡◌, ℕ, suc, ◌+◌, ◌-◌, ◌<◌, Bool, true, false, cond, Some, List, [], ◌∷◌, ◌++◌, length, get_or, take, drop, map, min, fold, pos, refl, sym, ap, ◌∙◌, arith, append-nil}
+use Rattle.std.proofs.Common.{◌≡◌, ℕ, suc, ◌+◌, ◌-◌, ◌<◌, Bool, true, false, cond, Some, List, [], ◌∷◌, ◌++◌, length, get_or, take, drop, refl, sym, ap, ◌∙◌, arith, append-nil}
 use Rattle.std.specs.Prelude.{slice_get}
 use mir.Val.{bool_byte}
 use Rattle.std.proofs.lemmas.List.{take_more, length-take}
 use Rattle.std.proofs.lemmas.Grind.{flat_map-append}
-use Rattle.std.proofs.lemmas.List.FromFn.{map-range_with_len_more}
-use Rattle.std.proofs.lemmas.List.Sums.{fold_push}
-use Rattle.std.specs.List.{range_with_len, flat_map}
+use Rattle.std.specs.List.{flat_map}
 use Rattle.partlog.specs.declared.event.PartEvent.{PartEvent}
 use Rattle.partlog.specs.declared.event.PartEvent.TheVariants.{Append, Follow, Look}
 use Rattle.partlog.specs.Batches.{batches_after, batches_of}
-use Rattle.partlog.specs.Position.{position_of, positions_of}
 use Rattle.kafka_room.specs.declared.audit.account.PartAccount.{PartAccount}
 use Rattle.kafka_room.specs.declared.audit.account.Call.{Call}
-use Rattle.kafka_room.proofs.Cuts.{some_is}
+use Rattle.kafka_room.proofs.Places.{some_is}
 use Rattle.kafka_room.specs.Printed.{is_parked, parked_of, numbered, part_line}
-
--- the least of the log end and the positions of one replica more
-pub high_more : (events : List PartEvent) (end below : ℕ) → fold min end (positions_of (below + 1) events) ≡ min (fold min end (positions_of below events)) (position_of events (pos (below + 1)))
-high_more events end below =
-    let f = λ (replica : ℕ). position_of events (pos replica) in
-    ap (λ ps. fold min end ps) (map-range_with_len_more f 1 below (below + 1) (omega arith)) ∙ fold_push min end (map f (range_with_len 1 below)) (f (below + 1))
 
 any_before : (before after : List PartEvent) (e : PartEvent) (log other : List ℕ) → length (batches_after before (e ∷ []) log) ≡ length (batches_after after (e ∷ []) other)
 any_before before after (Append by seq count len) log other = refl

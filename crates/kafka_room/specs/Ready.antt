@@ -1,6 +1,5 @@
 -- A broker that can handle the frame at the front of a session's bytes, which ends before this place.
-use Rattle.std.specs.Prelude.{ℕ, ◌≡◌, ◌<◌, ◌≤◌, ◌-◌, List, [], length, take, drop}
-use Rattle.kbytes.specs.Octets.{IsBytes}
+use Rattle.std.specs.Prelude.{ℕ, ◌≡◌, ◌<◌, ◌-◌, List, length, take, drop}
 use Rattle.kafka_room.specs.declared.kwire.frame.Frame.TheVariants.{Whole}
 use Rattle.kafka_room.specs.Board.{Board, seat_at, transcript_at}
 use Rattle.kafka_room.specs.Carried.{HasNoFollowers}

@@ -1,7 +1,6 @@
 //! What requests ask of the logs, and the replies.
 
 pub mod accepted;
-pub mod copies;
 pub mod described;
 pub mod fetched;
 pub mod one_part;

@@ -24,6 +24,7 @@ pub use laws::{fronts_are_kept, visible_is_readable};
 pub use numbers::Numbers;
 pub use part_log::PartLog;
 pub use placed::Placed;
+pub use scan::{high_watermark, log_end};
 pub use who::Who;
 
 #[cfg(test)]

@@ -43,8 +43,8 @@ impl PartEvent {
     }
 }
 
-/// The log end.
-pub(crate) fn log_end(events: &[PartEvent]) -> u64
+/// The log end offset of a history: that of the next record. It is the number of records that were added.
+pub fn log_end(events: &[PartEvent]) -> u64
     requires { log_end_of events.now < 2 ^ 64 }
     ensures { result ≡ log_end_of events.now }
 {
@@ -61,9 +61,10 @@ fn position(events: &[PartEvent], replica: u32) -> u64
         .fold(0, |greatest, offset| greatest.max(offset))
 }
 
-/// The least of the log end and all positions.
+/// The high watermark of a history, an offset: the least of `end`, its log end, and the offsets that the replicas 1 to
+/// `followers` have fetched.
 #[tactic(auto, using(crate::proofs::Bounds::high_more))]
-pub(crate) fn high_watermark(events: &[PartEvent], followers: u32, end: u64) -> u64
+pub fn high_watermark(events: &[PartEvent], followers: u32, end: u64) -> u64
     ensures { result ≡ fold min end (positions_of followers events.now) }
 {
     let mut high = end;

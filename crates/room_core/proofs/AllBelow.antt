@@ -1,11 +1,8 @@
 -- A test of each number below another.
 use Rattle.std.proofs.Common.{⊎_elim, ◌≡◌, ◌≢◌, ℕ, zero, suc, ◌+◌, ◌<◌, Bool, true, false, ◌&&◌, refl, ap, subst, ◌∙◌, add-one, arith}
 use Rattle.std.proofs.lemmas.Bool.{cases_eq}
+use Rattle.std.proofs.Math.Bool.{and-false}
 use Rattle.room_core.specs.Passes.{all_below}
-
-and_false : (a : Bool) → (a && false) ≡ false
-and_false true = refl
-and_false false = refl
 
 pub all_below-none : (f : ℕ → Bool) → all_below f 0 ≡ true
 unfolding all_below
@@ -20,6 +17,6 @@ unfolding all_below
 all_below-false f zero i l e = absurd (omega arith)
 all_below-false f (suc n) i l e =
     ⊎_elim
-    (λ (same : i ≡ n). ap (λ b. all_below f n && b) (subst (λ k. f k ≡ false) same e) ∙ and_false (all_below f n))
+    (λ (same : i ≡ n). ap (λ b. all_below f n && b) (subst (λ k. f k ≡ false) same e) ∙ and-false (all_below f n))
     (λ (other : i ≢ n). ap (λ b. b && f n) (all_below-false f n i (omega arith) e))
     (cases_eq i n)

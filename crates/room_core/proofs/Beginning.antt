@@ -21,6 +21,7 @@ use Rattle.room_core.specs.State.{State}
 use Rattle.room_core.proofs.Puts.{at-put, put-same, put-other}
 use Rattle.room_core.proofs.Tallies.{late_or, tally_rises}
 use Rattle.room_core.proofs.Known.{of_either, unread_below}
+use Rattle.room_core.proofs.Dropping.{no_duty}
 use Rattle.room_core.proofs.Finding.{either_too}
 use Rattle.room_core.proofs.Kept.{IsKept, kept_of, carried}
 use Rattle.room_core.proofs.Marking.{marked_need, marked_clock, clock_own}
@@ -30,10 +31,6 @@ use Rattle.room_core.proofs.Winners.{scanner_wins_nothing}
 heard_is : (o : Option Heard) (gauge : ℕ) → IsHeard o gauge → o ≡ Some (record { gauge = gauge; number = number_heard o })
 heard_is None gauge h = absurd h
 heard_is (Some x) gauge h = ap (λ g. Some (record { gauge = g; number = x.number })) h
-
-no_duty : (o : Option Duty) (generation : ℕ) → o ≡ None → IsDuty o generation → ⊥
-no_duty None generation e d = d
-no_duty (Some x) generation e d = absurd (cc)
 
 listing_or : (stage : Stage) → (stage ≡ Listing) ⊎ (stage ≢ Listing)
 listing_or Stage.Idle = inr (λ e. cc)

@@ -32,6 +32,10 @@ pub duty_is : (o : Option Duty) (a b : ℕ) → IsDuty o a → IsDuty o b → a 
 duty_is None a b d e = absurd d
 duty_is (Some x) a b d e = sym d ∙ e
 
+pub no_duty : (o : Option Duty) (generation : ℕ) → o ≡ None → IsDuty o generation → ⊥
+no_duty None generation e d = d
+no_duty (Some x) generation e d = absurd (cc)
+
 -- the meeting, where a pass was met
 pub meeting_with : (o : Option Meeting) (pass : ℕ) → IsMet o pass → o ≡ Some (record { pass = pass; generation = generation_met o })
 meeting_with None pass m = absurd m

@@ -1,5 +1,6 @@
 -- Win, by the owner: the operation is open no more, and the owner is Over as the word says.
 use Rattle.std.proofs.Common.{⊎_elim, ◌≡◌, ℕ, ◌+◌, ◌≤◌, [], ◌∷◌, ◌++◌, true, false, sym, ap, refl, subst, ◌∙◌}
+use Rattle.std.proofs.lemmas.Bool.{cases_Bool}
 use Rattle.room_core.specs.declared.event.How.{How}
 use Rattle.room_core.specs.declared.parts.Phase.TheVariants.{Open}
 use Rattle.room_core.specs.declared.parts.Stage.{Stage}
@@ -14,7 +15,6 @@ use Rattle.room_core.specs.Checks.{CanWinPass, pass_winning, caller_wins, exchan
 use Rattle.room_core.specs.Carried.{IsCarried}
 use Rattle.room_core.specs.State.{State}
 use Rattle.room_core.proofs.Puts.{at-put, put-same}
-use Rattle.room_core.proofs.Tests.{true_or_false}
 use Rattle.room_core.proofs.Words.{kept_by_exchange, with_session}
 use Rattle.room_core.proofs.Kept.{IsKept, kept_of, carried}
 use Rattle.room_core.proofs.Callers.{CallerStays, kept_by_caller}
@@ -79,7 +79,7 @@ module _ (s : State) (p : ℕ) (how : How) (k : IsKept s) (can : CanWinPass s p 
       ∙ ap (λ n. taken_as (s.caller pass).taken generation way by + n)
       (at-put s.session p (exchanged (s.session p) (s.caller p).generation how (17 + p)) (λ q x. won_as (s.session q) generation way by ≡ won_as x generation way by)
       (ap (λ x. won_as x generation way by) (sym (not_exchanged (s.session p) (s.caller p).generation how (17 + p) dead))) (λ q n. refl) pass))
-      (true_or_false (is_live (s.session p) (s.caller p).generation))
+      (cases_Bool (is_live (s.session p) (s.caller p).generation))
 
   wins : WinsAreSound s → WinsAreSound (pass_winning s p how)
   wins w = record {

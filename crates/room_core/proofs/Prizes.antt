@@ -20,7 +20,8 @@ use Rattle.room_core.proofs.Puts.{at-put, put-other}
 use Rattle.room_core.proofs.Tests.{live_open, live_generation}
 use Rattle.room_core.proofs.Words.{exchanged_or}
 use Rattle.room_core.proofs.Kept.{IsKept}
-use Rattle.room_core.proofs.Winners.{and_true, and_false, prizes_as-more, won_as-none, won_at-one, won_at-other}
+use Rattle.std.proofs.Math.Bool.{and-false, and-true}
+use Rattle.room_core.proofs.Winners.{prizes_as-more, won_as-none, won_at-one, won_at-other}
 
 -- the wins of a pass, and of a scanner
 pub wins_of-pass : (scanner : ℕ → Scanner) (caller : ℕ → Caller) (p : ℕ) → wins_of scanner caller (17 + p) ≡ (caller p).wins
@@ -70,7 +71,7 @@ unfolding won_as prizes_as
 prize_here p generation how by g h =
     none_plus _ _
     (ap (λ b. cond ((generation == g) && (same_how how h && b)) 1 0) (eq-eqb by by refl)
-    ∙ ap (λ b. cond ((generation == g) && b) 1 0) (and_true (same_how how h))
+    ∙ ap (λ b. cond ((generation == g) && b) 1 0) (and-true (same_how how h))
     ∙ sym (ap (λ b. cond (b && ((generation == g) && same_how how h)) 1 0) (eq-eqb p p refl)))
 
 prize_there : (p generation : ℕ) (how : How) (q g : ℕ) (h : How) → q ≢ p → prizes_as (record { pass = p; generation = generation; how = how } ∷ []) q g h ≡ 0
@@ -84,7 +85,7 @@ pub prize_by : (generation : ℕ) (how : How) (by other g : ℕ) (h : How) → o
 unfolding won_as
 prize_by generation how by other g h n =
     ap (λ b. cond ((generation == g) && (same_how how h && b)) 1 0) (ne_eqb by other (λ x. n (sym x)))
-    ∙ ap (λ b. cond ((generation == g) && b) 1 0) (and_false (same_how how h)) ∙ ap (λ b. cond b 1 0) (and_false (generation == g))
+    ∙ ap (λ b. cond ((generation == g) && b) 1 0) (and-false (same_how how h)) ∙ ap (λ b. cond b 1 0) (and-false (generation == g))
 
 module _ (session : ℕ → Session) (p by : ℕ) (how : How) (generation : ℕ) (live : is_live (session p) generation ≡ true) where
   not_won : (g : ℕ) (h : How) (other : ℕ) → won_as (session p) g h other ≡ 0

@@ -1,18 +1,13 @@
 -- In a sound and quiet state value, asked and begun agree, and nobody has a duty: so no open operation is answerable.
-use Rattle.std.proofs.Common.{⊎_elim, ◌≡◌, ℕ, ◌<◌, ◌≤◌, true, false, None, Some, Option, arith}
+use Rattle.std.proofs.Common.{⊎_elim, ◌≡◌, ℕ, ◌<◌, ◌≤◌, true, false, arith}
 use Rattle.std.proofs.lemmas.Bool.{cases_lt}
-use Rattle.room_core.specs.declared.parts.Duty.{Duty}
 use Rattle.room_core.specs.Gauges.{clock_of}
 use Rattle.room_core.specs.Description.{gauge_of}
-use Rattle.room_core.specs.Checks.{IsDuty}
 use Rattle.room_core.specs.Duty.{IsOpen, IsSatisfiedNow, IsOverdueNow, IsFoundByTally, IsLate, OwnerFinds, ShardFinds, ScannerFinds, FindsTally, FindsTime}
 use Rattle.room_core.specs.Sound.{IsSound, IsOwed}
 use Rattle.room_core.specs.Quiet.{IsQuiet}
 use Rattle.room_core.specs.State.{State}
-
-no_duty : (o : Option Duty) (generation : ℕ) → o ≡ None → IsDuty o generation → ⊥
-no_duty None generation e d = d
-no_duty (Some x) generation e d = absurd (cc)
+use Rattle.room_core.proofs.Dropping.{no_duty}
 
 module _ (s : State) (h : IsSound s) (q : IsQuiet s) where
   heard : (gauge : ℕ) → s.value gauge ≤ s.asked gauge

@@ -1,7 +1,7 @@
 -- Win, by a scanner: the operation of its duty is open no more.
 use Rattle.std.proofs.Common.{⊎_elim, ◌≡◌, ◌≢◌, ℕ, ◌+◌, ◌-◌, ◌<◌, [], ◌∷◌, ◌++◌, true, false, cond, sym, ap, refl, subst, ◌∙◌, arith, Option, Some, None}
 use Rattle.std.specs.Prelude.{◌==◌, ◌&&◌}
-use Rattle.std.proofs.lemmas.Bool.{eq-eqb, ne_eqb}
+use Rattle.std.proofs.lemmas.Bool.{cases_Bool, eq-eqb, ne_eqb}
 use Rattle.room_core.specs.declared.event.How.{How}
 use Rattle.room_core.specs.declared.parts.Phase.TheVariants.{Open, Won}
 use Rattle.room_core.specs.declared.parts.Session.{Session}
@@ -19,7 +19,6 @@ use Rattle.room_core.specs.Checks.{CanWinScanner, scanner_winning, scanner_wins,
 use Rattle.room_core.specs.Carried.{IsCarried}
 use Rattle.room_core.specs.State.{State}
 use Rattle.room_core.proofs.Puts.{at-put, put-same, at-place}
-use Rattle.room_core.proofs.Tests.{true_or_false}
 use Rattle.room_core.proofs.Known.{of_either, unread_below, met_forgets}
 use Rattle.room_core.proofs.Finding.{tally_knows, time_knows}
 use Rattle.room_core.proofs.Dropping.{dropped, duty_is}
@@ -143,7 +142,7 @@ module _ (s : State) (k p : ℕ) (how : How) (r : IsKept s) (can : CanWinScanner
       ∙ ap (λ n. taken_as (s.caller pass).taken generation way by + n)
       (at-put s.session p (exchanged (s.session p) (generation_met (s.scanner k).meeting) how k) (λ q x. won_as (s.session q) generation way by ≡ won_as x generation way by)
       (ap (λ x. won_as x generation way by) (sym (not_exchanged (s.session p) (generation_met (s.scanner k).meeting) how k dead))) (λ q n. refl) pass))
-      (true_or_false (is_live (s.session p) (generation_met (s.scanner k).meeting)))
+      (cases_Bool (is_live (s.session p) (generation_met (s.scanner k).meeting)))
 
   wins : WinsAreSound s → WinsAreSound (scanner_winning s k p how)
   wins w = record {

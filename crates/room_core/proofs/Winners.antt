@@ -2,6 +2,7 @@
 use Rattle.std.proofs.Common.{◌∙◌, ◌-◌, ◌≡◌, ◌≢◌, ℕ, ◌+◌, ◌≤◌, List, [], ◌∷◌, ◌++◌, sym, ap, refl, subst, arith, Bool, true, false, cond}
 use Rattle.std.specs.Prelude.{◌&&◌, ◌==◌}
 use Rattle.std.proofs.lemmas.Bool.{ne_eqb}
+use Rattle.std.proofs.Math.Bool.{and-false}
 use Rattle.std.proofs.lemmas.List.Sums.{sum_by-append}
 use Rattle.room_core.specs.declared.parts.Phase.{Phase}
 use Rattle.room_core.specs.declared.parts.Phase.TheVariants.{Open, Won}
@@ -51,14 +52,6 @@ one_or_none : (b : Bool) → cond b 1 0 ≤ 1
 one_or_none true = omega arith
 one_or_none false = omega arith
 
-pub and_false : (a : Bool) → (a && false) ≡ false
-and_false true = refl
-and_false false = refl
-
-pub and_true : (a : Bool) → (a && true) ≡ a
-and_true true = refl
-and_true false = refl
-
 none_as : (phase : Phase) (how : How) (by : ℕ) → is_won phase ≡ false → is_won_as phase how by ≡ false
 none_as (Won h b) how by e = absurd (cc)
 none_as Phase.Idle how by e = refl
@@ -68,12 +61,12 @@ none_as Open how by e = refl
 pub won_as-none : (w : Session) (generation : ℕ) (how : How) (by : ℕ) → is_won w.phase ≡ false → won_as w generation how by ≡ 0
 unfolding won_as
 won_as-none w generation how by e =
-    ap (λ b. cond ((w.generation == generation) && b) 1 0) (none_as w.phase how by e) ∙ ap (λ b. cond b 1 0) (and_false (w.generation == generation))
+    ap (λ b. cond ((w.generation == generation) && b) 1 0) (none_as w.phase how by e) ∙ ap (λ b. cond b 1 0) (and-false (w.generation == generation))
 
 pub won_at-none : (w : Session) (generation : ℕ) → is_won w.phase ≡ false → won_at w generation ≡ 0
 unfolding won_at
 won_at-none w generation e =
-    ap (λ b. cond ((w.generation == generation) && b) 1 0) e ∙ ap (λ b. cond b 1 0) (and_false (w.generation == generation))
+    ap (λ b. cond ((w.generation == generation) && b) 1 0) e ∙ ap (λ b. cond b 1 0) (and-false (w.generation == generation))
 
 -- more that was taken
 pub taken_as-more : (xs ys : List Taken) (generation : ℕ) (how : How) (by : ℕ) → taken_as (xs ++ ys) generation how by ≡ taken_as xs generation how by + taken_as ys generation how by

@@ -1,5 +1,6 @@
 -- An event's change of one pass's word alone: a session word that is won, and a mark.
 use Rattle.std.proofs.Common.{⊎_elim, ◌∙◌, inl, inr, cond, false, ◌≡◌, ◌⊎◌, ℕ, ◌≤◌, sym, ap, refl, subst, arith, true}
+use Rattle.std.proofs.lemmas.Bool.{cases_Bool}
 use Rattle.room_core.specs.declared.event.How.{How}
 use Rattle.room_core.specs.declared.parts.Phase.{Phase}
 use Rattle.room_core.specs.declared.parts.Phase.TheVariants.{Open, Won}
@@ -17,7 +18,7 @@ use Rattle.room_core.specs.Wins.{taken_at}
 use Rattle.room_core.specs.State.{State}
 use Rattle.room_core.proofs.Puts.{at-put}
 use Rattle.room_core.proofs.Finding.{either_too}
-use Rattle.room_core.proofs.Tests.{true_or_false, live_open}
+use Rattle.room_core.proofs.Tests.{live_open}
 use Rattle.room_core.proofs.Kept.{IsKept}
 
 abbrev pub with_session : State → ℕ → Session → State
@@ -97,7 +98,7 @@ exchanged_or w generation how by =
     ⊎_elim
     (λ (e : is_live w generation ≡ true). inl (e, ap (λ b. cond b (record { generation = w.generation; phase = Won how by }) w) e))
     (λ (e : is_live w generation ≡ false). inr (e, ap (λ b. cond b (record { generation = w.generation; phase = Won how by }) w) e))
-    (true_or_false (is_live w generation))
+    (cases_Bool (is_live w generation))
 
 won_agrees : (old : Phase) (how : How) (by : ℕ) (stage : Stage) → old ≡ Open → Agree stage old → Agree stage (Won how by)
 won_agrees old how by Stage.Idle o a = absurd (cc)

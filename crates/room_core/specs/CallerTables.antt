@@ -1,7 +1,6 @@
 -- The part that a caller's tables show.
 use Rattle.std.specs.Prelude.{ℕ, List, Option, Some, None, false, slice_index_or}
 use Rattle.room_core.specs.declared.caller_part.CallerPart.{CallerPart}
-use Rattle.room_core.specs.declared.parts.Prize.{Prize}
 use Rattle.room_core.specs.State.{Caller}
 use Rattle.room_core.specs.Start.{idle_caller}
 
@@ -25,7 +24,3 @@ caller_of c = record {
 abbrev pub caller_at : Option CallerPart → Caller
 caller_at None = idle_caller
 caller_at (Some c) = caller_of c
-
--- the caller with other wins
-abbrev pub with_wins : Caller → List Prize → Caller
-with_wins caller wins = record caller { wins = wins }

@@ -1,23 +1,16 @@
-ghost use Rattle.std.specs.Prelude.{◌≡◌, ◌↔◌, ◌+◌, ◌*◌, ◌<◌, ◌≤◌, ◌||◌, IsSome, IsTrue, None as Nothing, length, min};
+ghost use Rattle.std.specs.Prelude.{◌≡◌, ◌↔◌, ◌+◌, ◌*◌, ◌<◌, ◌≤◌, ◌||◌, IsSome, IsTrue, None as Nothing, length};
 ghost use Rattle.opcond.specs.Tally.{counted};
 ghost use Rattle.room_core.specs.CallerTables.{table};
 ghost use Rattle.room_core.specs.Checks.{AreRead, IsRead, IsWon, is_overdue, is_satisfied};
 ghost use Rattle.room_core.specs.Description.{gauge_of, need_of};
-ghost use Rattle.room_core.specs.Gauges.{clock_of};
 ghost use Rattle.room_core.specs.Readings.{read_only};
 
 use crate::event::How;
+use crate::gauges::clock;
 use crate::shape::Shape;
 
-/// The clock's gauge.
-pub(crate) fn clock_of(shape: Shape) -> u32
-    ensures { result ≡ clock_of shape }
-{
-    shape.gauges.saturating_sub(1)
-}
-
 /// What was read of a gauge, and 0 where nothing was.
-fn read_of(readings: &[Option<u64>], gauge: u64) -> u64
+pub(crate) fn read_of(readings: &[Option<u64>], gauge: u64) -> u64
     ensures { result ≡ read_only (table readings.now Nothing) gauge }
 {
     if gauge >= readings.len() as u64 {
@@ -36,13 +29,6 @@ pub(crate) fn has_read(readings: &[Option<u64>], gauge: u64) -> bool
     readings[gauge as usize].is_some()
 }
 
-/// The lesser of two numbers.
-fn lesser(a: u64, b: u64) -> u64
-    ensures { result ≡ min a b }
-{
-    if a < b { a } else { b }
-}
-
 /// What counts of a need.
 fn part_of(words: &[u64], i: usize, readings: &[Option<u64>]) -> u64
     requires words { length words.now ≡ 195 }
@@ -51,7 +37,7 @@ fn part_of(words: &[u64], i: usize, readings: &[Option<u64>]) -> u64
 {
     let value = read_of(readings, words[3 + 3 * i]);
     let past = value.saturating_sub(words[4 + 3 * i]);
-    lesser(words[5 + 3 * i], past)
+    words[5 + 3 * i].min(past)
 }
 
 /// Whether the readings satisfy the operation. Words past the 64th need count nothing.
@@ -59,7 +45,7 @@ pub(crate) fn is_satisfied(words: &[u64], readings: &[Option<u64>]) -> bool
     requires { length words.now ≡ 195 }
     ensures { result ≡ is_satisfied (table words.now 0) (table readings.now Nothing) }
 {
-    let needs = lesser(words[2], 64);
+    let needs = words[2].min(64);
     let mut left = words[0];
     for i in 0..needs as usize {
         left = left.saturating_sub(part_of(words, i, readings));
@@ -72,7 +58,7 @@ pub(crate) fn is_overdue(shape: Shape, words: &[u64], readings: &[Option<u64>]) 
     requires { length words.now ≡ 195 }
     ensures { result ≡ is_overdue shape (table words.now 0) (table readings.now Nothing) }
 {
-    words[1] <= read_of(readings, u64::from(clock_of(shape)))
+    words[1] <= read_of(readings, u64::from(clock(shape)))
 }
 
 /// Whether the readings show that the operation is won in this way.
@@ -83,7 +69,7 @@ pub(crate) fn is_won(shape: Shape, how: How, words: &[u64], readings: &[Option<u
     match how {
         How::Satisfied => is_satisfied(words, readings),
         How::Expired => {
-            has_read(readings, u64::from(clock_of(shape))) && is_overdue(shape, words, readings)
+            has_read(readings, u64::from(clock(shape))) && is_overdue(shape, words, readings)
         }
     }
 }
@@ -112,7 +98,7 @@ pub(crate) fn are_read(words: &[u64], readings: &[Option<u64>], last: u32) -> bo
     requires { length words.now ≡ 195 }
     ensures { IsTrue result ↔ AreRead (table readings.now Nothing) last (table words.now 0) }
 {
-    let needs = lesser(words[2], 65);
+    let needs = words[2].min(65);
     for i in 0..needs as usize {
         if !is_read(readings, last, gauge_of(words, i)) {
             return false;

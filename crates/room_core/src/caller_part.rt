@@ -5,7 +5,6 @@ ghost use Rattle.room_core.specs.CallerSize.{CallerIsSized};
 ghost use Rattle.room_core.specs.CallerWhole.{CallerIsWhole};
 
 use crate::empty::{MARKS, WORDS, nothing_read};
-use crate::greater::greater;
 use crate::parts::{Phase, Prize, Stage, Taken};
 use crate::shape::Shape;
 use kbytes::NoMemory;
@@ -64,7 +63,7 @@ impl CallerPart {
         ensures shape { self.new.shape ≡ self.old.shape }
     {
         let owed = self.owed[gauge as usize];
-        self.owed[gauge as usize] = greater(owed, value);
+        self.owed[gauge as usize] = owed.max(value);
     }
 
     pub(crate) fn relieves(&mut self, gauge: u32, begun: u64)

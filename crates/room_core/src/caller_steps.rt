@@ -1,20 +1,20 @@
-ghost use Rattle.std.specs.Prelude.{◌≡◌, ◌^◌, ◌-◌, ◌<◌, ◌↔◌, IsTrue, if◌then◌else◌, true, ◌≤◌, OnErr, OnOk, None as Nothing, false, length};
-ghost use Rattle.room_core.specs.CallerTables.{table, with_wins};
+ghost use Rattle.std.specs.Prelude.{◌≡◌, ◌^◌, ◌-◌, ◌<◌, ◌↔◌, IsTrue, if◌then◌else◌, true, ◌≤◌, OnErr, OnOk, false, length};
+ghost use Rattle.room_core.specs.CallerTables.{table};
 ghost use Rattle.room_core.specs.Gauges.{clock_of};
-ghost use Rattle.room_core.specs.Meetings.{is_live};
 ghost use Rattle.room_core.specs.Passes.{all_below, all_seen, caller_describes, caller_idles, caller_opens, caller_sees_mark};
-ghost use Rattle.room_core.specs.Checks.{AreRead, IsRead, IsWon, caller_leaves, caller_reads, caller_wins, exchanged, is_checking, with_prize};
+ghost use Rattle.room_core.specs.Checks.{AreRead, IsRead, IsWon, caller_leaves, caller_reads, caller_wins, is_checking};
 ghost use Rattle.room_core.specs.Description.{IsMark, IsOperation};
-ghost use Rattle.room_core.specs.Readings.{unread};
 ghost use Rattle.room_core.specs.declared.parts.Stage.{Stage};
 ghost use Rattle.room_core.specs.declared.parts.Stage.TheVariants.{Checking, Listing, Over, Waiting};
 
-use crate::answering::{are_read, clock_of, is_answerable, is_read, is_won};
+use crate::answering::{are_read, is_answerable, is_read, is_won};
 use crate::caller_part::{CallerPart, peeked_stage};
+use crate::empty::forget;
 use crate::event::How;
-use crate::greater::greater;
+use crate::gauges::clock;
 use crate::operation::is_operation;
-use crate::parts::{Phase, Prize, Session, Stage, Taken};
+use crate::parts::{Prize, Session, Stage, Taken};
+use crate::session_word::{exchanged, keep_prize};
 use crate::shape::Shape;
 use kbytes::NoMemory;
 
@@ -42,7 +42,7 @@ impl CallerPart {
         ensures shape { self.new.shape ≡ self.old.shape }
     {
         let greatest = self.greatest[gauge as usize];
-        self.greatest[gauge as usize] = greater(greatest, value);
+        self.greatest[gauge as usize] = greatest.max(value);
         if !is_checking(self.stage) {
             return;
         }
@@ -64,7 +64,7 @@ impl CallerPart {
     {
         self.stage == Stage::Checking
             && are_read(&self.description, &self.readings, gauge)
-            && is_read(&self.readings, gauge, u64::from(clock_of(shape)))
+            && is_read(&self.readings, gauge, u64::from(clock(shape)))
     }
 
     pub(crate) fn leaves(&mut self, shape: Shape, gauge: u32, value: u64)
@@ -73,7 +73,7 @@ impl CallerPart {
         ensures shape { self.new.shape ≡ self.old.shape }
     {
         let greatest = self.greatest[gauge as usize];
-        self.greatest[gauge as usize] = greater(greatest, value);
+        self.greatest[gauge as usize] = greatest.max(value);
         self.readings[gauge as usize] = Some(value);
         self.stage = stage_of_check(is_answerable(shape, &self.description, &self.readings));
     }
@@ -100,20 +100,6 @@ impl CallerPart {
         forget(&mut self.readings);
     }
 
-    #[tactic(auto, unfolding(crate::specs::Checks::with_prize))]
-    fn keeps_prize(&mut self, session: Session, prize: Prize) -> Result<(), NoMemory>
-        requires { prize.generation ≡ self.old.generation }
-        ensures part { OnOk result (caller_of self.new ≡ with_wins (caller_of self.old) (with_prize session prize.generation (caller_of self.old).wins prize)) }
-        ensures same { OnErr result (caller_of self.new ≡ caller_of self.old) }
-        ensures shape { self.new.shape ≡ self.old.shape }
-    {
-        if !is_live(session, prize.generation) {
-            return Ok(());
-        }
-        self.wins.push(prize)?;
-        Ok(())
-    }
-
     pub(crate) fn wins_by(&mut self, pass: u32, how: How, session: Session) -> Result<(), NoMemory>
         requires { pass < 100 }
         ensures part { OnOk result (caller_of self.new ≡ caller_wins (caller_of self.old) pass how session) }
@@ -122,7 +108,8 @@ impl CallerPart {
     {
         let generation = self.generation;
         let word = exchanged(session, generation, how, 17 + pass);
-        self.keeps_prize(
+        keep_prize(
+            &mut self.wins,
             session,
             Prize {
                 pass,
@@ -174,30 +161,6 @@ fn stage_of_check(answerable: bool) -> Stage
     }
 }
 
-/// Whether a session word is open at this generation.
-pub(crate) fn is_live(session: Session, generation: u32) -> bool
-    ensures { result ≡ is_live session generation }
-{
-    match session.phase {
-        Phase::Open => session.generation == generation,
-        Phase::Idle | Phase::Won { how: _, by: _ } => false,
-    }
-}
-
-/// The session word after an exchange from open at this generation.
-#[tactic(auto, unfolding(crate::specs::Checks::exchanged))]
-pub(crate) fn exchanged(session: Session, generation: u32, how: How, by: u32) -> Session
-    ensures { result ≡ exchanged session generation how by }
-{
-    if !is_live(session, generation) {
-        return session;
-    }
-    Session {
-        generation: session.generation,
-        phase: Phase::Won { how, by },
-    }
-}
-
 /// Whether an owner is in its check.
 fn is_checking(stage: Stage) -> bool
     ensures { result ≡ is_checking stage }
@@ -228,14 +191,6 @@ fn unsee(seen: &mut [bool])
     ensures length { length seen.new ≡ length seen.old }
 {
     seen.fill(false);
-}
-
-/// Forgets what was read.
-pub(crate) fn forget(readings: &mut [Option<u64>])
-    ensures unread { table readings.new Nothing ≡ unread }
-    ensures length { length readings.new ≡ length readings.old }
-{
-    readings.fill(None);
 }
 
 /// Whether the first n were seen.

@@ -17,7 +17,6 @@ use crate::duties::is_free;
 use crate::empty::{MARKS, WORDS};
 use crate::event::{CoreEvent, How, Party};
 use crate::gauges::{is_scanner, scanner_of};
-use crate::greater::greater;
 use crate::parts::{Phase, Session, Source};
 use crate::scanner_part::ScannerPart;
 use crate::shape::Shape;
@@ -270,7 +269,7 @@ impl CoreState {
         let caller = &mut self.caller[pass as usize];
         caller.asks(gauge, value);
         let asked = self.asked[gauge as usize];
-        self.asked[gauge as usize] = greater(asked, value);
+        self.asked[gauge as usize] = asked.max(value);
         true
     }
 
@@ -334,7 +333,7 @@ impl CoreState {
         let number = self.scanner[scanner as usize].number_heard();
         let part = &mut self.scanner[scanner as usize];
         part.begins(gauge, begun);
-        self.begun[gauge as usize] = greater(begun, number);
+        self.begun[gauge as usize] = begun.max(number);
         true
     }
 

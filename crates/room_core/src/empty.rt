@@ -1,4 +1,6 @@
-ghost use Rattle.std.specs.Prelude.{◌≡◌, IfOk, replicate, None};
+ghost use Rattle.std.specs.Prelude.{◌≡◌, IfOk, None, length, replicate};
+ghost use Rattle.room_core.specs.CallerTables.{table};
+ghost use Rattle.room_core.specs.Readings.{unread};
 
 use kbytes::NoMemory;
 use std::alloc::Global;
@@ -14,4 +16,12 @@ pub(crate) fn nothing_read(alloc: Global, count: usize) -> Result<Vec<Option<u64
     ensures { IfOk result (λ v. v.items ≡ replicate count None) }
 {
     Ok(vec![in alloc; None; count]?)
+}
+
+/// Forgets what was read or learned.
+pub(crate) fn forget(values: &mut Vec<Option<u64>>)
+    ensures size { length values.new.items ≡ length values.old.items }
+    ensures forgotten { table values.new.items None ≡ unread }
+{
+    values.fill(None);
 }

@@ -12,10 +12,9 @@ pub(crate) fn is_scanner(shape: Shape, scanner: u32) -> bool
 
 /// The clock, the last gauge.
 pub(crate) fn clock(shape: Shape) -> u32
-    requires { IsShape shape }
     ensures { result ≡ clock_of shape }
 {
-    shape.gauges - 1
+    shape.gauges.saturating_sub(1)
 }
 
 /// The scanner that scans a gauge.

@@ -12,7 +12,6 @@ mod duties;
 mod empty;
 mod event;
 mod gauges;
-mod greater;
 pub mod laws;
 mod listing;
 mod operation;
@@ -24,6 +23,7 @@ mod scanner_acts;
 mod scanner_checks;
 mod scanner_part;
 mod scanner_wins;
+mod session_word;
 mod shape;
 
 pub use core_state::CoreState;

@@ -1,22 +1,12 @@
 ghost use Rattle.std.specs.Prelude.{◌≡◌, ◌<◌, ◌↔◌, ℕ, All, IsTrue, None, length, slice_get};
 ghost use Rattle.room_core.specs.CallerTables.{table};
-ghost use Rattle.room_core.specs.Meetings.{IsMet, is_live, live_duty, live_entry, met};
+ghost use Rattle.room_core.specs.Meetings.{IsMet, live_duty, live_entry, met};
 ghost use Rattle.room_core.specs.Put.{put};
-ghost use Rattle.room_core.specs.Readings.{unread};
 ghost use Rattle.room_core.specs.ScannerTables.{row};
 
 use crate::parts::{Duty, Entry, Meeting, Phase, Session};
+use crate::session_word::is_live;
 use crate::shape::Shape;
-
-/// Whether a word is open at this generation.
-pub(crate) fn shows_open(session: Session, generation: u32) -> bool
-    ensures { result ≡ is_live session generation }
-{
-    match session.phase {
-        Phase::Open => session.generation == generation,
-        Phase::Idle | Phase::Won { .. } => false,
-    }
-}
 
 /// Whether the meeting is of this pass.
 pub(crate) fn is_met(meeting: Option<Meeting>, pass: u32) -> bool
@@ -50,7 +40,7 @@ fn still_listed(session: Session, entry: Option<Entry>) -> Option<Entry>
     match entry {
         None => None,
         Some(entry) => {
-            if shows_open(session, entry.generation) {
+            if is_live(session, entry.generation) {
                 Some(entry)
             } else {
                 None
@@ -67,21 +57,13 @@ pub(crate) fn still_due(session: Session, duty: Option<Duty>) -> Option<Duty>
     match duty {
         None => None,
         Some(duty) => {
-            if shows_open(session, duty.generation) {
+            if is_live(session, duty.generation) {
                 Some(duty)
             } else {
                 None
             }
         }
     }
-}
-
-/// Forgets what was read or learned.
-pub(crate) fn forget(values: &mut Vec<Option<u64>>)
-    ensures size { length values.new.items ≡ length values.old.items }
-    ensures forgotten { table values.new.items None ≡ unread }
-{
-    values.fill(None);
 }
 
 fn drop_dead_entry(row: &mut Vec<Option<Entry>>, pass: u32, session: Session)

@@ -3,7 +3,7 @@ ghost use Rattle.room_core.specs.CallerTables.{table};
 ghost use Rattle.room_core.specs.Description.{IsOperation, gauge_of};
 ghost use Rattle.room_core.specs.Gauges.{clock_of};
 
-use crate::answering::clock_of;
+use crate::gauges::clock;
 use crate::shape::Shape;
 
 /// Whether a need's gauge is there and isn't the clock, and its cap is below 2^31.
@@ -13,7 +13,7 @@ fn is_need(shape: Shape, words: &[u64], i: usize) -> bool
     ensures { IsTrue result
         ↔ ((gauge_of (table words.now 0) i < clock_of shape) × (table words.now 0 (5 + 3 * i) < 2 ^ 31)) }
 {
-    words[3 + 3 * i] < u64::from(clock_of(shape)) && words[5 + 3 * i] < 2147483648
+    words[3 + 3 * i] < u64::from(clock(shape)) && words[5 + 3 * i] < 2147483648
 }
 
 /// Whether no earlier need has a need's gauge.

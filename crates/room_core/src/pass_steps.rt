@@ -3,10 +3,10 @@ ghost use Rattle.std.specs.Bool.{OnFalse, OnTrue};
 ghost use Rattle.room_core.specs.Checks.{CanLeavePass, CanReadPass, CanWinPass, pass_leaving, pass_reading, pass_winning};
 ghost use Rattle.room_core.specs.Passes.{CanDescribe, CanIdle, CanOpen, CanPeek, CanSeeMark, describing, idling, opening, peeking, seeing_mark};
 
-use crate::caller_steps::exchanged;
 use crate::core_state::CoreState;
 use crate::event::How;
 use crate::parts::{Phase, Session, Stage};
+use crate::session_word::exchanged;
 use kbytes::NoMemory;
 
 /// The steps of a pass as the owner of its operation.

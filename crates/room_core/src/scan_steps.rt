@@ -7,7 +7,7 @@ use crate::core_state::CoreState;
 use crate::event::How;
 use crate::gauges::is_scanner;
 use crate::listing::is_met;
-use crate::scanner_wins::word_exchanged;
+use crate::session_word::exchanged;
 use kbytes::NoMemory;
 
 impl CoreState {
@@ -119,7 +119,7 @@ impl CoreState {
         }
         let generation = part.generation();
         let session = self.session[pass as usize];
-        let word = word_exchanged(session, generation, how, scanner);
+        let word = exchanged(session, generation, how, scanner);
         let part = &mut self.scanner[scanner as usize];
         part.wins_by(pass, how, session)?;
         self.session[pass as usize] = word;

@@ -6,8 +6,9 @@ ghost use Rattle.room_core.specs.Meetings.{IsLearned, MayMarkClock, MayMarkNeed,
 ghost use Rattle.room_core.specs.Put.{put};
 ghost use Rattle.room_core.specs.State.{Scanner};
 
+use crate::empty::forget;
 use crate::gauges::{clock, is_gauge_of};
-use crate::listing::{drop_dead, forget, meeting_with, still_due};
+use crate::listing::{drop_dead, meeting_with, still_due};
 use crate::parts::{Entry, Session};
 use crate::scanner_part::ScannerPart;
 

@@ -6,8 +6,10 @@ ghost use Rattle.room_core.specs.Gauges.{IsShape, clock_of};
 ghost use Rattle.room_core.specs.Meetings.{generation_met, words_of};
 ghost use Rattle.room_core.specs.Readings.{read_only};
 
+use crate::answering::{has_read, read_of};
+use crate::empty::forget;
 use crate::gauges::clock;
-use crate::listing::{forget, is_met};
+use crate::listing::is_met;
 use crate::scanner_part::ScannerPart;
 
 impl ScannerPart {
@@ -17,19 +19,13 @@ impl ScannerPart {
     fn reading(&self, gauge: u64) -> u64
         ensures { result ≡ read_only (scanner_of self.now).readings gauge }
     {
-        match self.readings.get(gauge as usize) {
-            Some(reading) => reading.unwrap_or(0),
-            None => 0,
-        }
+        read_of(&self.readings, gauge)
     }
 
     pub(crate) fn has_read(&self, gauge: u64) -> bool
         ensures { IsTrue result ↔ IsSome ((scanner_of self.now).readings gauge) }
     {
-        match self.readings.get(gauge as usize) {
-            Some(reading) => reading.is_some(),
-            None => false,
-        }
+        has_read(&self.readings, gauge)
     }
 
     /// What counts of a need's gauge.

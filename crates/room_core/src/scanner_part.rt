@@ -3,9 +3,7 @@ ghost use Rattle.room_core.specs.Scans.{IsHeard, number_heard, scanner_begins, s
 ghost use Rattle.room_core.specs.ScannerSize.{ScannerIsSized};
 
 use crate::duties::make_duties;
-use crate::empty::{WORDS, nothing_read};
-use crate::greater::greater;
-use crate::listing::forget;
+use crate::empty::{WORDS, forget, nothing_read};
 use crate::parts::{Duty, Entry, Heard, Meeting, Prize};
 use crate::shape::Shape;
 use kbytes::NoMemory;
@@ -103,7 +101,7 @@ impl ScannerPart {
     {
         let number = self.number_heard();
         let shape = self.shape;
-        self.began[gauge as usize] = greater(begun, number);
+        self.began[gauge as usize] = begun.max(number);
         self.meeting = None;
         forget(&mut self.learned);
         forget(&mut self.readings);

@@ -1,29 +1,15 @@
 ghost use Rattle.std.specs.Prelude.{◌≡◌, ◌<◌, ◌↔◌, IsTrue, OnErr, OnOk};
-ghost use Rattle.room_core.specs.Checks.{IsOnCheck, IsWon, MayWin, exchanged, gauge_of_duty, other_entry, scanner_wins, with_prize};
+ghost use Rattle.room_core.specs.Checks.{IsOnCheck, IsWon, MayWin, gauge_of_duty, other_entry, scanner_wins};
 ghost use Rattle.room_core.specs.Gauges.{IsShape};
 ghost use Rattle.room_core.specs.Meetings.{words_of};
 ghost use Rattle.room_core.specs.Put.{put};
 
 use crate::event::How;
 use crate::gauges::clock;
-use crate::listing::shows_open;
-use crate::parts::{Entry, Phase, Prize, Session};
+use crate::parts::{Entry, Prize, Session};
 use crate::scanner_part::ScannerPart;
+use crate::session_word::keep_prize;
 use kbytes::NoMemory;
-
-/// The session word after an exchange from open at this generation.
-#[tactic(auto, unfolding(crate::specs::Checks::exchanged))]
-pub(crate) fn word_exchanged(session: Session, generation: u32, how: How, by: u32) -> Session
-    ensures { result ≡ exchanged session generation how by }
-{
-    if !shows_open(session, generation) {
-        return session;
-    }
-    Session {
-        generation: session.generation,
-        phase: Phase::Won { how, by },
-    }
-}
 
 /// An entry, where it isn't of this generation.
 #[tactic(auto, unfolding(crate::specs::Checks::other_entry))]
@@ -62,19 +48,6 @@ impl ScannerPart {
         }
     }
 
-    #[tactic(auto, unfolding(crate::specs::Checks::with_prize))]
-    fn keeps_prize(&mut self, session: Session, prize: Prize) -> Result<(), NoMemory>
-        ensures part { OnOk result (scanner_of self.new ≡ record (scanner_of self.old) { wins = with_prize session prize.generation (scanner_of self.old).wins prize }) }
-        ensures same { OnErr result (scanner_of self.new ≡ scanner_of self.old) }
-        ensures shape { self.new.shape ≡ self.old.shape }
-    {
-        if !shows_open(session, prize.generation) {
-            return Ok(());
-        }
-        self.wins.push(prize)?;
-        Ok(())
-    }
-
     /// Drops the entry of a gauge and a pass, if it is of this generation.
     fn drops_entry(&mut self, gauge: u32, pass: u32, generation: u32)
         requires { pass < self.old.shape.passes }
@@ -106,7 +79,8 @@ impl ScannerPart {
     {
         let generation = self.generation();
         let gauge = self.duty_gauge(pass);
-        self.keeps_prize(
+        keep_prize(
+            &mut self.wins,
             session,
             Prize {
                 pass,

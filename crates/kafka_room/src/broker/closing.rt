@@ -8,8 +8,8 @@ ghost use Rattle.kafka_room.specs.Histories.{calls_in};
 
 use crate::audit::{Account, PartAccount, Transcript};
 use crate::broker::desk::Desk;
-use crate::kwire::Config;
-use kbytes::{Bytes, List, NoMemory};
+use crate::kwire::{Config, copied};
+use kbytes::{List, NoMemory};
 use partlog::PartLog;
 use std::alloc::Global;
 
@@ -17,8 +17,7 @@ use std::alloc::Global;
 fn part_account(alloc: Global, part: &PartLog) -> Result<PartAccount, NoMemory>
     ensures { IfOk result (λ account. account ≡ part_account part.now) }
 {
-    let mut log = Bytes::new(alloc);
-    log.extend(part.log())?;
+    let log = copied(alloc, part.log())?;
     let mut events = List::new(alloc);
     for event in part.events() {
         events.push(*event)?;

@@ -6,7 +6,7 @@ ghost use Rattle.kafka_room.specs.Frames.{next_frame_of};
 
 use crate::audit::{Call, Transcript};
 use crate::kwire::inbox::Inbox;
-use crate::kwire::{Frame, next_frame};
+use crate::kwire::{Frame, copied, next_frame};
 use kbytes::{Bytes, List, NoMemory};
 use std::alloc::Global;
 use std::marker::Model;
@@ -41,13 +41,13 @@ impl Desk {
         }
     }
 
-    /// A line names the session, which has this number and hasn't ended, and brings it these bytes.
-    pub fn feed(&mut self, session: u32, bytes: &[u8]) -> Result<(), NoMemory>
-        ensures { OnOk result (self.new ≡ record {
-          inbox = self.old.inbox ++ bytes.now;
+    // A session that is named, and has this number, has a transcript from then on.
+    fn open(&mut self, session: u32)
+        ensures { self.new ≡ record {
+          inbox = self.old.inbox;
           is_shut = self.old.is_shut;
           transcript = Some (unwrap_or self.old.transcript (new_transcript session));
-        }) }
+        } }
     {
         if self.transcript.is_none() {
             self.transcript = Some(Transcript {
@@ -57,6 +57,17 @@ impl Desk {
                 end: None,
             });
         }
+    }
+
+    /// A line names the session, which has this number and hasn't ended, and brings it these bytes.
+    pub fn feed(&mut self, session: u32, bytes: &[u8]) -> Result<(), NoMemory>
+        ensures { OnOk result (self.new ≡ record {
+          inbox = self.old.inbox ++ bytes.now;
+          is_shut = self.old.is_shut;
+          transcript = Some (unwrap_or self.old.transcript (new_transcript session));
+        }) }
+    {
+        self.open(session);
         self.inbox.feed(bytes)
     }
 
@@ -73,9 +84,7 @@ impl Desk {
         requires within { end ≤ length self.now.inbox }
         ensures { IfOk result (λ body. body ≡ take (end - 4) (drop 4 self.now.inbox)) }
     {
-        let mut body = Bytes::new(alloc);
-        body.extend(&self.inbox.bytes()[4..end])?;
-        Ok(body)
+        copied(alloc, &self.inbox.bytes()[4..end])
     }
 
     /// The number of calls so far.
@@ -100,14 +109,7 @@ impl Desk {
         }) }
     {
         self.inbox.drop_front(end);
-        if self.transcript.is_none() {
-            self.transcript = Some(Transcript {
-                number: u64::from(session),
-                first: 0,
-                calls: List::new(self.alloc),
-                end: None,
-            });
-        }
+        self.open(session);
         if let Some(transcript) = &mut self.transcript {
             transcript.calls.push(call)?;
         }

@@ -11,26 +11,11 @@ ghost use Rattle.kafka_room.specs.Spelling.{spelling};
 ghost use Rattle.kafka_room.specs.PlainStream.{IsPlainAsk};
 ghost use Rattle.kafka_room.specs.Replying.{HasLog, ShowsLogs};
 
-use crate::kanswer::{Accepted, Budget, Reading, answer, read_part};
+use crate::kanswer::{Accepted, Budget, Reading, answer, read_nothing, read_part};
 use crate::kwire::{Ask, Config, FetchPart, FetchTopic, Request, reply_bytes};
 use kbytes::{Bytes, List, NoMemory};
-use partlog::{Numbers, PartLog};
+use partlog::PartLog;
 use std::alloc::Global;
-
-// Of a partition that isn't read.
-fn nothing_read(alloc: Global) -> Reading
-    ensures { result ≡ nothing_read }
-{
-    Reading {
-        numbers: Numbers {
-            end: 0,
-            high: 0,
-            visible: 0,
-            bytes: 0,
-        },
-        records: Bytes::new(alloc),
-    }
-}
 
 // What is read of a partition as its log is.
 fn read_one(
@@ -48,7 +33,7 @@ fn read_one(
     ensures room { IfOk result (λ reading. length reading.records + most_left budget.new ≤ most_left budget.old) }
 {
     match *became {
-        Accepted::Refused { .. } | Accepted::Appended { .. } => Ok(nothing_read(alloc)),
+        Accepted::Refused { .. } | Accepted::Appended { .. } => Ok(read_nothing(alloc)),
         Accepted::Seen { part, start } => {
             let log = &parts[part as usize];
             let _log = log.log();
@@ -117,12 +102,12 @@ fn read_fetch(
 }
 
 // For a produce that doesn't ask for all replicas no log is read.
-fn read_nothing(alloc: Global, accepted: &[Accepted]) -> Result<List<Reading>, NoMemory>
+fn read_none(alloc: Global, accepted: &[Accepted]) -> Result<List<Reading>, NoMemory>
     ensures { IfOk result (λ readings. readings ≡ map (λ became. nothing_read) accepted.now) }
 {
     let mut readings = List::new(alloc);
     for _became in accepted {
-        readings.push(nothing_read(alloc))?;
+        readings.push(read_nothing(alloc))?;
     }
     Ok(readings)
 }
@@ -149,9 +134,9 @@ fn gather(
             topics,
             ..
         } => read_fetch(alloc, parts, *replica, topics.as_slice(), accepted, budget),
-        Ask::Produce { .. } => read_nothing(alloc, accepted),
-        Ask::Metadata { .. } => read_nothing(alloc, accepted),
-        Ask::Versions { .. } => read_nothing(alloc, accepted),
+        Ask::Produce { .. } => read_none(alloc, accepted),
+        Ask::Metadata { .. } => read_none(alloc, accepted),
+        Ask::Versions { .. } => read_none(alloc, accepted),
     }
 }
 

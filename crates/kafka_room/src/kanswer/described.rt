@@ -2,8 +2,7 @@
 ghost use Rattle.std.specs.Prelude.{◌≡◌, Some, map, IfOk};
 ghost use Rattle.kafka_room.specs.Answer.{info_as, info_of, infos_of};
 
-use crate::kanswer::copies::copied;
-use crate::kwire::{Topic, TopicInfo};
+use crate::kwire::{Topic, TopicInfo, copied};
 use kbytes::{Bytes, List, NoMemory};
 use std::alloc::Global;
 

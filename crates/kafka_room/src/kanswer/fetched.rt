@@ -3,9 +3,8 @@ ghost use Rattle.std.specs.Prelude.{◌≡◌, [], negsuc, length, sum_by, All, 
 ghost use Rattle.kafka_room.specs.AreReadings.{HasCarriable};
 ghost use Rattle.kafka_room.specs.Reported.{parts_by, fetched_part, fetched_topic, fetched_of};
 
-use crate::kanswer::copies::copied;
 use crate::kanswer::{Accepted, Reading};
-use crate::kwire::{FetchPart, FetchTopic, FetchedPart, FetchedTopic};
+use crate::kwire::{FetchPart, FetchTopic, FetchedPart, FetchedTopic, copied};
 use kbytes::{Bytes, List, NoMemory};
 use std::alloc::Global;
 

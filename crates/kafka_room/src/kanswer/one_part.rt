@@ -6,9 +6,8 @@ ghost use Rattle.partlog.specs.Taken.{batches_past, joined, taken};
 ghost use Rattle.kafka_room.specs.Delayed.{at_least_zero, is_consumer};
 ghost use Rattle.kafka_room.specs.Answer.{is_readable, read_of, budget_after};
 
-use crate::kanswer::copies::copied;
 use crate::kanswer::{Budget, Reading};
-use crate::kwire::FetchPart;
+use crate::kwire::{FetchPart, copied};
 use kbytes::{Bytes, NoMemory};
 use partlog::{Numbers, PartLog};
 use std::alloc::Global;

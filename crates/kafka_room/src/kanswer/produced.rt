@@ -3,9 +3,8 @@ ghost use Rattle.std.specs.Prelude.{◌≡◌, negsuc, length, sum_by, All, IfOk
 ghost use Rattle.kafka_room.specs.AreReadings.{IsCarriable};
 ghost use Rattle.kafka_room.specs.Reported.{code_at, parts_by, produced_part, produced_topic, produced_of};
 
-use crate::kanswer::copies::copied;
 use crate::kanswer::{Accepted, Reading};
-use crate::kwire::{ProducePart, ProduceTopic, ProducedPart, ProducedTopic};
+use crate::kwire::{ProducePart, ProduceTopic, ProducedPart, ProducedTopic, copied};
 use kbytes::{List, NoMemory};
 use std::alloc::Global;
 

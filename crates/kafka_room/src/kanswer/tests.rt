@@ -2,10 +2,9 @@
 ghost use Rattle.std.specs.Prelude.{◌≡◌, IfOk};
 ghost use Rattle.kafka_room.specs.AreReadings.{named_count};
 
-use super::copies::copied;
 use super::{Accepted, Budget, answer, read_nothing, read_part};
 use crate::kwire::{
-    Ask, Config, FetchPart, FetchTopic, ProducePart, ProduceTopic, Reply, Request, Told,
+    Ask, Config, FetchPart, FetchTopic, ProducePart, ProduceTopic, Reply, Request, Told, copied,
 };
 use kbatch::read_batch;
 use kbytes::{List, NoMemory};

@@ -3,6 +3,7 @@ ghost use Rattle.std.specs.List.{list_all};
 ghost use Rattle.kafka_room.specs.Configuration.{is_name_byte, IsTopicName, names_of};
 ghost use Rattle.kafka_room.specs.declared.kwire.config.ConfigFault.TheVariants.{NoMemory as OutOfMemory};
 
+use crate::kwire::copies::copied;
 use kbytes::{Bytes, List, NoMemory};
 use std::alloc::Global;
 use std::error::Error;
@@ -164,8 +165,7 @@ impl Config {
         if partitions == 0 || partitions > 64 - self.parts || followers > 8 {
             return Err(ConfigFault::BadCount);
         }
-        let mut kept = Bytes::new(self.alloc);
-        kept.extend(name)?;
+        let kept = copied(self.alloc, name)?;
         self.topics.push(Topic {
             name: kept,
             partitions,

@@ -1,32 +1,11 @@
-//! What several requests share: copies, counts and names.
+//! What several requests share.
 
-ghost use Rattle.std.specs.Prelude.{◌≡◌, ◌+◌, ◌≤◌, IfOk};
-ghost use Rattle.std.specs.Option.{option_copied};
+ghost use Rattle.std.specs.Prelude.{◌+◌, ◌≤◌, IfOk};
 ghost use Rattle.kafka_room.specs.Refusal.{count_at};
 ghost use Rattle.kafka_room.specs.Reads.{Reads};
 
 use crate::kwire::frame::WireFault;
-use kbytes::{Bytes, NoMemory, Reader};
-use std::alloc::Global;
-
-/// A copy of these bytes.
-pub fn copied(alloc: Global, part: &[u8]) -> Result<Bytes, NoMemory>
-    ensures { IfOk result (λ bytes. bytes ≡ part.now) }
-{
-    let mut bytes = Bytes::new(alloc);
-    bytes.extend(part)?;
-    Ok(bytes)
-}
-
-/// The same, or `None` for null.
-pub fn copied_or_null(alloc: Global, part: Option<&[u8]>) -> Result<Option<Bytes>, NoMemory>
-    ensures { IfOk result (λ bytes. bytes ≡ option_copied part.entry) }
-{
-    match part {
-        None => Ok(None),
-        Some(part) => Ok(Some(copied(alloc, part)?)),
-    }
-}
+use kbytes::Reader;
 
 /// A count of things of which so many were named before, at most 64 in all.
 pub fn read_count(reader: &mut Reader<'_>, before: u32) -> Result<u32, WireFault>

@@ -5,8 +5,8 @@ ghost use Rattle.kafka_room.specs.IsRequest.{topics_named};
 ghost use Rattle.kafka_room.specs.Refusal.{items_at, name_at, metadata_at};
 ghost use Rattle.kafka_room.specs.Reads.{Reads};
 
+use crate::kwire::copies::copied;
 use crate::kwire::frame::WireFault;
-use crate::kwire::read_items::copied;
 use crate::kwire::request::Ask;
 use kbytes::{Bytes, List, Reader};
 use std::alloc::Global;

@@ -7,6 +7,7 @@ ghost use Rattle.kafka_room.specs.declared.trace_file.line.Line.{Line};
 ghost use Rattle.kafka_room.specs.IsLine.{words_of, IsTopicLine, IsFeedLine, IsShutLine, IsClockLine, AreWordsOf, IsLine};
 ghost use Rattle.kafka_room.specs.Denies.{Denies};
 
+use crate::kwire::copied;
 use crate::trace_file::fault::NotRead;
 use crate::trace_file::line::Line;
 use crate::trace_file::number::number;
@@ -58,14 +59,6 @@ fn last_small(rest: &[u8], most: u32) -> Option<u32>
     ensures none { IfNone result ((n : ℕ) → n ≤ most → words_of rest.now ≢ decimal n ∷ []) }
 {
     small(last_word(rest)?, most)
-}
-
-fn copied(alloc: Global, bytes: &[u8]) -> Result<Bytes, NoMemory>
-    ensures { IfOk result (λ copy. copy ≡ bytes.now) }
-{
-    let mut copy = Bytes::new(alloc);
-    copy.extend(bytes)?;
-    Ok(copy)
 }
 
 // `NAME PARTITIONS FOLLOWERS`

@@ -13,7 +13,7 @@ step least sum part left more after taken a b c d = omega arith
 pub loop-i-init : goal.loop-i-init
 loop-i-init c =
     let none : tally_below (table c.args.words.now 0) (read_only (table c.args.readings.now None)) 0 ≡ 0 = tally-none (table c.args.words.now 0) (read_only (table c.args.readings.now None)) in
-    (omega (arith, none), omega (arith, c.lesser-needs.ensures))
+    (omega (arith, none), omega (arith, c.min-needs.ensures))
 
 pub loop-i-preserved : goal.loop-i-preserved
 loop-i-preserved c =
@@ -30,6 +30,6 @@ returns c =
     let words = table c.args.words.now 0 in
     let value = read_only (table c.args.readings.now None) in
     let none = λ (i : ℕ) (l : 64 ≤ i). get_or_past c.args.words.now (5 + 3 * i) 0 (omega (arith, c.requires)) in
-    let over : c.loop-i.i ≡ c.lesser-needs.result = omega (arith, c.loop-i.auto.i-end, c.loop-i-test.false) in
-    let same : tally_below words value (words 2) ≡ tally_below words value c.loop-i.i = tally-lesser words value none (words 2) c.loop-i.i (over ∙ c.lesser-needs.ensures) in
+    let over : c.loop-i.i ≡ c.min-needs.result = omega (arith, c.loop-i.auto.i-end, c.loop-i-test.false) in
+    let same : tally_below words value (words 2) ≡ tally_below words value c.loop-i.i = tally-lesser words value none (words 2) c.loop-i.i (over ∙ c.min-needs.ensures) in
     left-none (words 0) (tally_below words value (words 2)) c.loop-i.left (omega (arith, same, c.loop-i.invariant.0))

@@ -18,36 +18,36 @@ returns-in-Fetch-clause-size c =
 
 pub returns-in-Produce-clause-read : goal.returns-in-Produce-clause-read
 returns-in-Produce-clause-read c =
-    if_ok_then c.read_nothing.result c.read_nothing.ensures (λ readings e. nothing_read_are c.args.parts.now c.args.request.now.ask c.args.accepted.now readings (subst IsNoFetch (sym c.in-Produce.is) tt) c.requires.plain e)
+    if_ok_then c.read_none.result c.read_none.ensures (λ readings e. nothing_read_are c.args.parts.now c.args.request.now.ask c.args.accepted.now readings (subst IsNoFetch (sym c.in-Produce.is) tt) c.requires.plain e)
 
 pub returns-in-Produce-clause-offsets : goal.returns-in-Produce-clause-offsets
 returns-in-Produce-clause-offsets c =
-    if_ok_then c.read_nothing.result c.read_nothing.ensures (λ readings e. nothing_held c.args.accepted.now readings e)
+    if_ok_then c.read_none.result c.read_none.ensures (λ readings e. nothing_held c.args.accepted.now readings e)
 
 pub returns-in-Produce-clause-room : goal.returns-in-Produce-clause-room
 returns-in-Produce-clause-room c =
-    if_ok_then c.read_nothing.result c.read_nothing.ensures (λ readings e. nothing_room c.args.accepted.now readings _ e)
+    if_ok_then c.read_none.result c.read_none.ensures (λ readings e. nothing_room c.args.accepted.now readings _ e)
 
 pub returns-in-Metadata-clause-read : goal.returns-in-Metadata-clause-read
 returns-in-Metadata-clause-read c =
-    if_ok_then c.read_nothing-in-Metadata.result c.read_nothing-in-Metadata.ensures (λ readings e. nothing_read_are c.args.parts.now c.args.request.now.ask c.args.accepted.now readings (subst IsNoFetch (sym c.in-Metadata.is) tt) c.requires.plain e)
+    if_ok_then c.read_none-in-Metadata.result c.read_none-in-Metadata.ensures (λ readings e. nothing_read_are c.args.parts.now c.args.request.now.ask c.args.accepted.now readings (subst IsNoFetch (sym c.in-Metadata.is) tt) c.requires.plain e)
 
 pub returns-in-Metadata-clause-offsets : goal.returns-in-Metadata-clause-offsets
 returns-in-Metadata-clause-offsets c =
-    if_ok_then c.read_nothing-in-Metadata.result c.read_nothing-in-Metadata.ensures (λ readings e. nothing_held c.args.accepted.now readings e)
+    if_ok_then c.read_none-in-Metadata.result c.read_none-in-Metadata.ensures (λ readings e. nothing_held c.args.accepted.now readings e)
 
 pub returns-in-Metadata-clause-room : goal.returns-in-Metadata-clause-room
 returns-in-Metadata-clause-room c =
-    if_ok_then c.read_nothing-in-Metadata.result c.read_nothing-in-Metadata.ensures (λ readings e. nothing_room c.args.accepted.now readings _ e)
+    if_ok_then c.read_none-in-Metadata.result c.read_none-in-Metadata.ensures (λ readings e. nothing_room c.args.accepted.now readings _ e)
 
 pub returns-in-Versions-clause-read : goal.returns-in-Versions-clause-read
 returns-in-Versions-clause-read c =
-    if_ok_then c.read_nothing-in-Versions.result c.read_nothing-in-Versions.ensures (λ readings e. nothing_read_are c.args.parts.now c.args.request.now.ask c.args.accepted.now readings (subst IsNoFetch (sym c.in-Versions.is) tt) c.requires.plain e)
+    if_ok_then c.read_none-in-Versions.result c.read_none-in-Versions.ensures (λ readings e. nothing_read_are c.args.parts.now c.args.request.now.ask c.args.accepted.now readings (subst IsNoFetch (sym c.in-Versions.is) tt) c.requires.plain e)
 
 pub returns-in-Versions-clause-offsets : goal.returns-in-Versions-clause-offsets
 returns-in-Versions-clause-offsets c =
-    if_ok_then c.read_nothing-in-Versions.result c.read_nothing-in-Versions.ensures (λ readings e. nothing_held c.args.accepted.now readings e)
+    if_ok_then c.read_none-in-Versions.result c.read_none-in-Versions.ensures (λ readings e. nothing_held c.args.accepted.now readings e)
 
 pub returns-in-Versions-clause-room : goal.returns-in-Versions-clause-room
 returns-in-Versions-clause-room c =
-    if_ok_then c.read_nothing-in-Versions.result c.read_nothing-in-Versions.ensures (λ readings e. nothing_room c.args.accepted.now readings _ e)
+    if_ok_then c.read_none-in-Versions.result c.read_none-in-Versions.ensures (λ readings e. nothing_room c.args.accepted.now readings _ e)

@@ -8,7 +8,7 @@ pub returns-clause-part : goal.returns-clause-part
 returns-clause-part c =
     let l : c.args.gauge < length c.args.self.now.owed.items = omega (arith, c.args.self.now.sized.owed_size) in
     let old : c.index-owed.result.now ≡ get_or c.args.self.now.owed.items c.args.gauge 0 = c.index-owed.ensures ∙ get_or_default c.args.self.now.owed.items c.args.gauge _ 0 l in
-    let new : c.greater.result ≡ max (get_or c.args.self.now.owed.items c.args.gauge 0) c.args.value = c.greater.ensures ∙ ap (λ x. max x c.args.value) old in
+    let new : c.max.result ≡ max (get_or c.args.self.now.owed.items c.args.gauge 0) c.args.value = c.max.ensures ∙ ap (λ x. max x c.args.value) old in
     λ d. record (caller_of c.args.self.now) {
-      owed = (table_set c.args.self.now.owed.items c.args.gauge c.greater.result 0 l ∙ put_as (λ i. get_or c.args.self.now.owed.items i 0) c.args.gauge _ _ new) d;
+      owed = (table_set c.args.self.now.owed.items c.args.gauge c.max.result 0 l ∙ put_as (λ i. get_or c.args.self.now.owed.items i 0) c.args.gauge _ _ new) d;
     }

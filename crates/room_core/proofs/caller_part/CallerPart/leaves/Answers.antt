@@ -22,7 +22,7 @@ returns-clause-part c =
     ∙ ap (answers (table c.args.self.now.description.items 0)) readings in
     let stage = c.stage_of_check-self.ensures ∙ ap (λ (b : Bool). cond {A = Stage} b Checking Waiting) answerable in
     λ d. record (caller_of c.args.self.now) {
-      greatest = risen c.args.self.now.greatest.items c.args.gauge c.index-greatest.result.now c.greater.result c.args.value l c.index-greatest.ensures c.greater.ensures d;
+      greatest = risen c.args.self.now.greatest.items c.args.gauge c.index-greatest.result.now c.max.result c.args.value l c.index-greatest.ensures c.max.ensures d;
       readings = readings d;
       stage = stage d;
     }

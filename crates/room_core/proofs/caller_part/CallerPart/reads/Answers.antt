@@ -12,7 +12,7 @@ returns-then-not-is_checking-clause-part c =
     let no : is_checking c.args.self.now.stage ≡ false = sym c.is_checking.ensures ∙ c.if-not-is_checking.true in
     let readings = ap (λ (b : Bool). cond b (put (table c.args.self.now.readings.items None) c.args.gauge (Some c.args.value)) (table c.args.self.now.readings.items None)) (sym no) in
     λ d. record (caller_of c.args.self.now) {
-      greatest = risen c.args.self.now.greatest.items c.args.gauge c.index-greatest.result.now c.greater.result c.args.value l c.index-greatest.ensures c.greater.ensures d;
+      greatest = risen c.args.self.now.greatest.items c.args.gauge c.index-greatest.result.now c.max.result c.args.value l c.index-greatest.ensures c.max.ensures d;
       readings = readings d;
     }
 
@@ -23,6 +23,6 @@ returns-clause-part c =
     let yes : is_checking c.args.self.now.stage ≡ true = sym c.is_checking.ensures ∙ c.if-not-is_checking.false in
     let readings = table_set c.args.self.now.readings.items c.args.gauge (Some c.args.value) None m ∙ ap (λ (b : Bool). cond b (put (table c.args.self.now.readings.items None) c.args.gauge (Some c.args.value)) (table c.args.self.now.readings.items None)) (sym yes) in
     λ d. record (caller_of c.args.self.now) {
-      greatest = risen c.args.self.now.greatest.items c.args.gauge c.index-greatest.result.now c.greater.result c.args.value l c.index-greatest.ensures c.greater.ensures d;
+      greatest = risen c.args.self.now.greatest.items c.args.gauge c.index-greatest.result.now c.max.result c.args.value l c.index-greatest.ensures c.max.ensures d;
       readings = readings d;
     }

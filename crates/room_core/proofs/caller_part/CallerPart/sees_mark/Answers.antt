@@ -1,12 +1,10 @@
-use Rattle.std.proofs.Common.{◌≡◌, Option, None, ℕ, ◌<◌, Bool, true, false, List, length, get_or, set, cond, eqb, arith, ◌∙◌, ap}
-use Rattle.std.proofs.lemmas.List.{get_or_default, with_items_is}
-use Rattle.std.specs.Vec.{with_items}
+use Rattle.std.proofs.Common.{◌≡◌, ℕ, ◌<◌, Bool, true, false, List, length, get_or, set, cond, eqb, arith, ◌∙◌, ap}
+use Rattle.std.proofs.lemmas.List.{get_or_default}
 use Rattle.room_core.specs.declared.parts.Stage.{Stage}
 use Rattle.room_core.specs.declared.parts.Stage.TheVariants.{Checking, Listing}
 use Rattle.room_core.specs.CallerTables.{caller_of, table}
 use Rattle.room_core.specs.Passes.{all_seen}
 use Rattle.room_core.specs.Put.{put}
-use Rattle.room_core.specs.Readings.{unread}
 use Rattle.room_core.proofs.Views.{table_set, put_as}
 use Rattle.room_core.proofs.caller_part.CallerPart.sees_mark.Goals as goal
 
@@ -24,7 +22,4 @@ returns-clause-part c =
     ∙ ap (λ (xs : List Bool). all_seen (table c.args.self.now.description.items 0) (table xs false)) c.deref-2.ensures.value
     ∙ ap (all_seen (table c.args.self.now.description.items 0)) seen in
     let stage = c.stage_of_marks-self.ensures ∙ ap (λ (b : Bool). cond {A = Stage} b Checking Listing) all in
-    let size : length c.forget.new.readings ≡ c.args.self.now.readings.len = c.forget.ensures.length ∙ c.deref_mut.ensures.len in
-    let readings : table (with_items c.args.self.now.readings c.forget.new.readings).items None ≡ unread =
-    ap (λ (xs : List (Option ℕ)). table xs None) (with_items_is c.args.self.now.readings c.forget.new.readings size) ∙ c.forget.ensures.unread in
-    λ d. record (caller_of c.args.self.now) { stage = stage d; seen = seen d; readings = readings d }
+    λ d. record (caller_of c.args.self.now) { stage = stage d; seen = seen d; readings = c.forget.ensures.forgotten d }

@@ -22,14 +22,14 @@ returns-clause-yes c =
     let read : slice_get s.scanner.items k ≡ Some c.index.result.now = slice_get-get_or s.scanner.items k c.index.result.now l ∙ ap Some (sym c.index.ensures) in
     let number : c.number_heard-number.result ≡ number_heard (scanner_at (slice_get s.scanner.items k)).heard =
     c.number_heard-number.ensures ∙ ap (λ o. number_heard (scanner_at o).heard) (sym read) in
-    let more : c.greater.result ≡ max (get_or s.begun.items g 0) (number_heard (scanner_at (slice_get s.scanner.items k)).heard) =
-    c.greater.ensures ∙ ap (λ x. max x c.number_heard-number.result) begun ∙ ap (max (get_or s.begun.items g 0)) number in
+    let more : c.max.result ≡ max (get_or s.begun.items g 0) (number_heard (scanner_at (slice_get s.scanner.items k)).heard) =
+    c.max.ensures ∙ ap (λ x. max x c.number_heard-number.result) begun ∙ ap (max (get_or s.begun.items g 0)) number in
     let shape : part.shape ≡ s.shape = subst (λ x. x.shape ≡ s.shape) (sym c.index_mut-part.ensures.value) (s.sized.scanner_shape k part l) in
     let new : scanner_of c.begins.new.self ≡ scanner_begins s.shape (scanner_at (slice_get s.scanner.items k)) g (get_or s.begun.items g 0) =
     c.begins.ensures.part ∙ ap (λ h. scanner_begins h (scanner_of part) g c.index-begun.result.now) shape
     ∙ ap (λ x. scanner_begins s.shape (scanner_of part) g x) begun
     ∙ ap (λ o. scanner_begins s.shape (scanner_at o) g (get_or s.begun.items g 0)) (sym here) in
     λ d. record (state_of s) {
-      begun = (table_set s.begun.items g c.greater.result 0 m ∙ put_as (λ i. get_or s.begun.items i 0) g _ _ more) d;
+      begun = (table_set s.begun.items g c.max.result 0 m ∙ put_as (λ i. get_or s.begun.items i 0) g _ _ more) d;
       scanner = (part_set scanner_at s.scanner.items k c.begins.new.self l ∙ put_as (λ q. scanner_at (slice_get s.scanner.items q)) k _ _ new) d;
     }

@@ -26,13 +26,13 @@ returns-clause-yes c =
     let hereP = here_at old.scanner.items k c.index-part.result.now l c.index-part.ensures in
     let generation : c.generation-generation.result ≡ generation_met (scanner_at (slice_get old.scanner.items k)).meeting =
     c.generation-generation.ensures ∙ ap (λ o. generation_met (scanner_at o).meeting) (sym hereP) in
-    let word : c.word_exchanged-word.result ≡ exchanged (get_or old.session.items c.args.pass none) (generation_met (scanner_at (slice_get old.scanner.items k)).meeting) c.args.how k =
-    c.word_exchanged-word.ensures ∙ ap (λ (s : Session). exchanged s c.generation-generation.result c.args.how k) session
+    let word : c.exchanged-word.result ≡ exchanged (get_or old.session.items c.args.pass none) (generation_met (scanner_at (slice_get old.scanner.items k)).meeting) c.args.how k =
+    c.exchanged-word.ensures ∙ ap (λ (s : Session). exchanged s c.generation-generation.result c.args.how k) session
     ∙ ap (λ n. exchanged (get_or old.session.items c.args.pass none) n c.args.how k) generation in
     let new : scanner_of c.wins_by.new.self ≡ scanner_wins (scanner_at (slice_get old.scanner.items k)) c.args.pass c.args.how (get_or old.session.items c.args.pass none) =
     c.in_ok-wins_by.ensures.part ∙ ap (λ (s : Session). scanner_wins (scanner_of now) c.args.pass c.args.how s) session
     ∙ ap (λ o. scanner_wins (scanner_at o) c.args.pass c.args.how (get_or old.session.items c.args.pass none)) (sym here) in
     λ d. record (state_of old) {
-      session = (table_set old.session.items c.args.pass c.word_exchanged-word.result none m ∙ put_as (λ i. get_or old.session.items i none) c.args.pass _ _ word) d;
+      session = (table_set old.session.items c.args.pass c.exchanged-word.result none m ∙ put_as (λ i. get_or old.session.items i none) c.args.pass _ _ word) d;
       scanner = (part_set scanner_at old.scanner.items k c.wins_by.new.self l ∙ put_as (λ q. scanner_at (slice_get old.scanner.items q)) k _ _ new) d;
     }

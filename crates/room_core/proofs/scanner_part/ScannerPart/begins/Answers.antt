@@ -20,7 +20,7 @@ returns-clause-part c =
     let l : c.args.gauge < length s.listing.items = omega (arith, s.sized.listing_size) in
     let b : c.args.gauge < length s.began.items = omega (arith, s.sized.began_size) in
     let number : c.number_heard-number.result ≡ number_heard s.heard = c.number_heard-number.ensures in
-    let more : c.greater.result ≡ max c.args.begun (number_heard s.heard) = c.greater.ensures ∙ ap (max c.args.begun) number in
+    let more : c.max.result ≡ max c.args.begun (number_heard s.heard) = c.max.ensures ∙ ap (max c.args.begun) number in
     let here : slice_get s.listing.items c.args.gauge ≡ Some c.index.result.now =
     slice_get-get_or s.listing.items c.args.gauge c.index.result.now l ∙ ap Some (sym c.index.ensures) in
     let duties = λ (pass : ℕ).
@@ -29,7 +29,7 @@ returns-clause-part c =
     ∙ ap (λ xs. duty_of s.shape c.args.gauge c.args.begun (number_heard s.heard) (get_or xs pass None)) c.deref.ensures.value
     ∙ ap (λ o. duty_of s.shape c.args.gauge c.args.begun (number_heard s.heard) (row o None pass)) (sym here) in
     λ d. record (scanner_of s) {
-      began = (table_set s.began.items c.args.gauge c.greater.result 0 b ∙ put_as (λ i. get_or s.began.items i 0) c.args.gauge _ _ more) d;
+      began = (table_set s.began.items c.args.gauge c.max.result 0 b ∙ put_as (λ i. get_or s.began.items i 0) c.args.gauge _ _ more) d;
       meeting = None;
       learned = c.forget.ensures.forgotten d;
       readings = c.forget-2.ensures.forgotten d;

@@ -19,6 +19,6 @@ returns-clause-part c =
     let p = c.args.pass in
     let n = c.generation-generation.result in
     c.lets_go.ensures.part
-    ∙ ap (λ s. scanner_lets_go s p) (c.drops_entry.ensures.part ∙ ap (λ s. dropping s c.duty_gauge-gauge.result p n) c.in_ok-keeps_prize.ensures.part)
+    ∙ ap (λ s. scanner_lets_go s p) (c.drops_entry.ensures.part ∙ ap (λ s. dropping s c.duty_gauge-gauge.result p n) (ap (λ w. record was { wins = w }) c.in_ok-keep_prize.ensures.kept))
     ∙ ap (λ g. scanner_lets_go (dropping (prized was c.args.session p n c.args.how) g p n) p) c.duty_gauge-gauge.ensures
     ∙ ap (λ m. scanner_lets_go (dropping (prized was c.args.session p m c.args.how) (gauge_of_duty (was.duties p)) p m) p) c.generation-generation.ensures
