@@ -1,5 +1,5 @@
 -- What a call and a line leave of a broker, from the parts that they changed.
-use Rattle.std.proofs.Common.{◌≡◌, ◌≢◌, ℕ, ◌+◌, ◌-◌, ◌<◌, ◌≤◌, Bool, true, false, ◌||◌, cond, eqb, List, [], ◌∷◌, ◌++◌, length, get_or, take, drop, set, Option, Some, None, unwrap_or, refl, sym, ap, subst, ◌∙◌, arith, inl, inr, append_assoc, append-nil, zero-add, eq-eqb}
+use Rattle.std.proofs.Common.{◌≡◌, ◌≢◌, ℕ, ◌+◌, ◌-◌, ◌<◌, ◌≤◌, Bool, true, false, ◌||◌, cond, eqb, List, [], ◌∷◌, ◌++◌, length, get_or, take, drop, set, Option, Some, None, unwrap_or, refl, sym, ap, subst, ◌∙◌, arith, inl, inr, append_assoc, zero-add, eq-eqb}
 use Rattle.std.proofs.lemmas.Bool.{ne_eqb}
 use Rattle.std.proofs.lemmas.List.{take_at, length-take, length-drop, length-set}
 use Rattle.std.proofs.lemmas.Option.{unwrap_or-slice_get}
@@ -24,16 +24,16 @@ use Rattle.kafka_room.specs.Configuration.{Configuration}
 use Rattle.kafka_room.specs.Fits.{IsUnfinished}
 use Rattle.kafka_room.specs.Frames.{next_frame_of}
 use Rattle.kafka_room.specs.Handled.{step_points}
-use Rattle.kafka_room.specs.Handling.{with_call, seat_with, how_at_once}
+use Rattle.kafka_room.specs.Handling.{seat_with, how_at_once}
 use Rattle.kafka_room.specs.IsLawful.{places_in}
 use Rattle.kafka_room.specs.IsRequest.{IsRequest}
 use Rattle.kafka_room.specs.PlainStream.{IsPlainStream}
-use Rattle.kafka_room.specs.Play.{brought, Rests, PlaysLine}
+use Rattle.kafka_room.specs.Play.{brought, PlaysLine}
 use Rattle.kafka_room.specs.Ready.{IsReady, front_body}
-use Rattle.kafka_room.specs.RunOf.{names, bytes_in, input_of, is_named}
-use Rattle.kafka_room.specs.Steady.{IsSteady, StaysDone, all_points, AllBelow}
+use Rattle.kafka_room.specs.RunOf.{input_of, is_named}
+use Rattle.kafka_room.specs.Steady.{IsSteady, all_points, AllBelow}
 use Rattle.kafka_room.specs.Trace.{IsPlainLine}
-use Rattle.kafka_room.specs.UnderWay.{to_come, IsRunning, IsUnderWay, IsServing}
+use Rattle.kafka_room.specs.UnderWay.{to_come, IsUnderWay, IsServing}
 use Rattle.kafka_room.proofs.Places.{same_or_not, get_there}
 use Rattle.kafka_room.proofs.RunLaws.{or_second, seat_set_same, seat_set_other, fed_feed, fed_topic, fed_end}
 use Rattle.kafka_room.proofs.Serving.{calls_at, calls_in_seat, turned, nobodys_turn, rests_none}
@@ -222,28 +222,34 @@ feed_made config parts desks lent board fed later session bytes given shown desk
 -- a line that brings nothing and names nobody
 pub still_line : (fed later : List Line) (board : Board) (line : Line) → IsPlainLine line → ((session : ℕ) (bytes : List ℕ) → line ≢ Feed session bytes) → IsUnderWay fed (line ∷ later) board
     → PlaysLine board line (turned board []) × IsUnderWay (fed ++ line ∷ []) later board
-still_line fed later board (Topic name partitions followers) plain other way = ((0, rests_none board way.running.given.no_waiting (nobodys_turn fed board way.running.given way.rest)), record {
-  running = record {
-    given = fed_topic fed board name partitions followers way.running.given;
-    steady = way.running.steady;
-    alone = way.running.alone;
-    in_range = way.running.in_range;
-    streams = way.running.streams;
-    few = λ s lt. subst (λ (lines : List Line). length (input_of s lines) ≤ 67108864) (sym (append_assoc fed (Topic name partitions followers ∷ []) later)) (way.running.few s lt);
-  };
-  rest = way.rest;
-})
+still_line fed later board (Topic name partitions followers) plain other way = (
+  (0, rests_none board way.running.given.no_waiting (nobodys_turn fed board way.running.given way.rest)),
+  record {
+    running = record {
+      given = fed_topic fed board name partitions followers way.running.given;
+      steady = way.running.steady;
+      alone = way.running.alone;
+      in_range = way.running.in_range;
+      streams = way.running.streams;
+      few = λ s lt. subst (λ (lines : List Line). length (input_of s lines) ≤ 67108864) (sym (append_assoc fed (Topic name partitions followers ∷ []) later)) (way.running.few s lt);
+    };
+    rest = way.rest;
+  },
+)
 still_line fed later board (Feed session bytes) plain other way = absurd (other session bytes refl)
 still_line fed later board (Shut session) plain other way = absurd plain
 still_line fed later board (Clock t) plain other way = absurd plain
-still_line fed later board End plain other way = ((0, rests_none board way.running.given.no_waiting (nobodys_turn fed board way.running.given way.rest)), record {
-  running = record {
-    given = fed_end fed board way.running.given;
-    steady = way.running.steady;
-    alone = way.running.alone;
-    in_range = way.running.in_range;
-    streams = way.running.streams;
-    few = λ s lt. subst (λ (lines : List Line). length (input_of s lines) ≤ 67108864) (sym (append_assoc fed (End ∷ []) later)) (way.running.few s lt);
-  };
-  rest = way.rest;
-})
+still_line fed later board End plain other way = (
+  (0, rests_none board way.running.given.no_waiting (nobodys_turn fed board way.running.given way.rest)),
+  record {
+    running = record {
+      given = fed_end fed board way.running.given;
+      steady = way.running.steady;
+      alone = way.running.alone;
+      in_range = way.running.in_range;
+      streams = way.running.streams;
+      few = λ s lt. subst (λ (lines : List Line). length (input_of s lines) ≤ 67108864) (sym (append_assoc fed (End ∷ []) later)) (way.running.few s lt);
+    };
+    rest = way.rest;
+  },
+)

@@ -142,9 +142,11 @@ first_lines : (board : Board) (done more : List Line) (t u : Turned) → Plays b
 first_lines board [] more t u p q = (u.text, ap (λ (x : Turned). x.text ++ u.text) (sym p))
 first_lines board (line ∷ done) more t u p q =
     let here : p.0 ≡ q.0 = line_once board line p.0 q.0 p.2 q.2 in
-    let on = first_lines p.0.board done more p.1 q.1 p.3 (subst (λ (h : Turned). Plays h.board (done ++ more) q.1) (sym here) q.3) in
-    (on.0, ap (λ (x : Turned). x.text) q.4 ∙ ap (λ (xs : List ℕ). q.0.text ++ xs) on.1 ∙ ap (λ (h : Turned). h.text ++ (p.1.text ++ on.0)) (sym here) ∙ sym (append_assoc p.0.text p.1.text on.0)
-    ∙ ap (λ (x : Turned). x.text ++ on.0) (sym p.4))
+    let on = first_lines p.0.board done more p.1 q.1 p.3 (subst (λ (h : Turned). Plays h.board (done ++ more) q.1) (sym here) q.3) in (
+      on.0,
+      ap (λ (x : Turned). x.text) q.4 ∙ ap (λ (xs : List ℕ). q.0.text ++ xs) on.1 ∙ ap (λ (h : Turned). h.text ++ (p.1.text ++ on.0)) (sym here) ∙ sym (append_assoc p.0.text p.1.text on.0)
+          ∙ ap (λ (x : Turned). x.text ++ on.0) (sym p.4),
+    )
 
 pub play_is_one : (config : Configuration) (lines : List Line) (x y : Account) (s t : List ℕ) → IsPlay config lines x s → IsPlay config lines y t → (x ≡ y) × (s ≡ t)
 play_is_one config lines x y s t p q =

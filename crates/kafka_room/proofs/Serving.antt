@@ -1,42 +1,36 @@
 -- How a broker amid a plain trace serves one session: each call keeps what holds of the broker, and the acts of a line go on until
 -- no session can act.
-use Rattle.std.proofs.Common.{◌≡◌, ◌≢◌, ℕ, zero, suc, ◌+◌, ◌-◌, ◌*◌, ◌<◌, ◌≤◌, ◌⊎◌, pos, Bool, true, false, cond, eqb, List, [], ◌∷◌, ◌++◌, length, take, drop, set, Option, Some, None, unwrap_or, refl, sym, ap, subst, ◌∙◌, arith, inl, inr, append_assoc, append-nil, length-append, zero-add}
+use Rattle.std.proofs.Common.{◌≡◌, ◌≢◌, ℕ, zero, suc, ◌+◌, ◌-◌, ◌*◌, ◌<◌, ◌≤◌, ◌⊎◌, pos, Bool, true, false, cond, eqb, List, [], ◌∷◌, ◌++◌, length, take, drop, Some, None, unwrap_or, refl, sym, ap, subst, ◌∙◌, arith, inl, inr, append_assoc, append-nil, length-append, zero-add}
 use Rattle.std.proofs.lemmas.Bool.{ne_eqb}
 use Rattle.std.proofs.lemmas.List.{take-append-le, take_at, length-take, length-drop, take-append-drop}
 use Rattle.std.proofs.lemmas.Grind.{flat_map-append}
-use Rattle.std.specs.Prelude.{slice_get}
 use Rattle.std.specs.Int.{w32}
 use Rattle.std.specs.List.{AllByRecursion, flat_map, find, range_with_len}
 use Rattle.kbytes.specs.Field.{integer}
 use Rattle.kbytes.proofs.Integers.{wide_32}
-use Rattle.partlog.specs.History.{History}
 use Rattle.kafka_room.specs.declared.audit.account.Call.{Call}
-use Rattle.kafka_room.specs.declared.audit.account.CallHow.{CallHow}
 use Rattle.kafka_room.specs.declared.audit.account.CallHow.TheVariants.{Quiet, AtOnce}
-use Rattle.kafka_room.specs.declared.audit.account.Transcript.{Transcript}
 use Rattle.kafka_room.specs.declared.kwire.frame.Frame.{Frame}
 use Rattle.kafka_room.specs.declared.kwire.frame.Frame.TheVariants.{Whole, NotYet, TooLong}
 use Rattle.kafka_room.specs.declared.kwire.request.Request.{Request}
 use Rattle.kafka_room.specs.declared.trace_file.line.Line.{Line}
 use Rattle.kafka_room.specs.Acceptance.{accept_all, steps_of, shown_of}
 use Rattle.kafka_room.specs.Accepting.{Decision, Decides}
-use Rattle.kafka_room.specs.Acting.{can_act, next_to_act, shows_work, Acts, HandlesFrame}
+use Rattle.kafka_room.specs.Acting.{can_act, next_to_act, shows_work, Acts}
 use Rattle.kafka_room.specs.AtOnce.{IsHandled}
 use Rattle.kafka_room.specs.Board.{Board, Seat, seat_at, transcript_at, next_call}
-use Rattle.kafka_room.specs.Completing.{scanned}
-use Rattle.kafka_room.specs.Configuration.{partitions_of}
 use Rattle.kafka_room.specs.Delayed.{becomes_delayed, is_quiet}
-use Rattle.kafka_room.specs.Fed.{IsPlainCall, frames_of, IsFedBy, IsAtRest}
+use Rattle.kafka_room.specs.Fed.{frames_of, IsFedBy, IsAtRest}
 use Rattle.kafka_room.specs.Fits.{IsUnfinished}
 use Rattle.kafka_room.specs.Frames.{framed, IsFrameBody, next_frame_of}
 use Rattle.kafka_room.specs.Handled.{step_points}
-use Rattle.kafka_room.specs.Handling.{Turned, handled, answered_at_once, left_waiting, seat_with, with_call, how_at_once}
+use Rattle.kafka_room.specs.Handling.{Turned, answered_at_once, seat_with, with_call, how_at_once}
 use Rattle.kafka_room.specs.IsRequest.{IsRequest}
 use Rattle.kafka_room.specs.PlainStream.{IsPlainBody, IsPlainStream}
 use Rattle.kafka_room.specs.Play.{Rests}
 use Rattle.kafka_room.specs.Ready.{IsReady, front_body}
 use Rattle.kafka_room.specs.RunOf.{bytes_in, input_of}
-use Rattle.kafka_room.specs.UnderWay.{to_come, IsRunning, IsUnderWay, IsServing}
+use Rattle.kafka_room.specs.UnderWay.{to_come, IsUnderWay, IsServing}
 use Rattle.kafka_room.proofs.Accepts.{IsFair}
 use Rattle.kafka_room.proofs.Fair.{parts_size, decides_fair}
 use Rattle.kafka_room.proofs.Places.{same_or_not}
@@ -87,8 +81,15 @@ module _ (fed later : List Line) (session end : ℕ) (board : Board) (serving : 
   calls_few =
       let calls = (transcript_at board session).calls in
       let parts = (serving.running.given.seats session serving.there).parts in
-      omega (arith, frames_long calls, ap length parts, length-append (frames_of calls) (seat_at board session).inbox,
-      ap length (flat_map-append (bytes_in session) fed later), length-append (input_of session fed) (input_of session later), serving.running.few session serving.there)
+      omega (
+        arith,
+        frames_long calls,
+        ap length parts,
+        length-append (frames_of calls) (seat_at board session).inbox,
+        ap length (flat_map-append (bytes_in session) fed later),
+        length-append (input_of session fed) (input_of session later),
+        serving.running.few session serving.there,
+      )
 
   pub ready : IsReady session end board
   ready =
@@ -270,12 +271,14 @@ pub came_nowhere : (board : Board) → Came board board []
 came_nowhere board = (0, λ k rest r. subst (λ (n : ℕ). Rests n board (turned rest.board ([] ++ rest.text))) (sym (zero-add k)) r)
 
 came_on : (start board : Board) (text : List ℕ) (session : ℕ) (act : Turned) → Came start board text → board.waiting ≡ [] → next_to_act board ≡ Some session → Acts board session act → Came start act.board (text ++ act.text)
-came_on start board text session act came none next acts =
-    (came.0 + 1, λ k rest r.
-    let more : came.0 + suc k ≡ came.0 + 1 + k = omega arith in
-    let all = came.1 (suc k) (turned rest.board (act.text ++ rest.text)) (rests_one board k session act rest none next acts r) in
-    subst (λ (n : ℕ). Rests n start (turned rest.board ((text ++ act.text) ++ rest.text))) more
-    (subst (λ (t : List ℕ). Rests (came.0 + suc k) start (turned rest.board t)) (sym (append_assoc text act.text rest.text)) all))
+came_on start board text session act came none next acts = (
+  came.0 + 1,
+  λ k rest r.
+      let more : came.0 + suc k ≡ came.0 + 1 + k = omega arith in
+      let all = came.1 (suc k) (turned rest.board (act.text ++ rest.text)) (rests_one board k session act rest none next acts r) in
+      subst (λ (n : ℕ). Rests n start (turned rest.board ((text ++ act.text) ++ rest.text))) more
+      (subst (λ (t : List ℕ). Rests (came.0 + suc k) start (turned rest.board t)) (sym (append_assoc text act.text rest.text)) all),
+)
 
 pub came_further : (fed later : List Line) (session end : ℕ) (start board next : Board) (before text more : List ℕ) → IsServing fed later session board → next_frame_of (seat_at board session).inbox ≡ Whole end
     → IsHandled board session (front_body board session end) next text more → ((so_far : List ℕ) × Came start board so_far × (text ≡ before ++ so_far))

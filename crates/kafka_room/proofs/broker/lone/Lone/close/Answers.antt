@@ -1,4 +1,4 @@
-use Rattle.std.proofs.Common.{◌≡◌, ℕ, ◌<◌, List, length, sym, ap, subst}
+use Rattle.std.proofs.Common.{ℕ, ◌<◌, List, length, sym, subst}
 use Rattle.std.specs.List.{AllByRecursion, flat_map}
 use Rattle.partlog.specs.History.{History}
 use Rattle.partlog.specs.Kept.{IsKept}

@@ -1,7 +1,7 @@
-use Rattle.std.proofs.Common.{◌≡◌, ℕ, ◌-◌, ◌≤◌, ◌++◌, List, length, take, drop, set, get_or, refl, sym, ap, subst, ◌∙◌, arith}
+use Rattle.std.proofs.Common.{◌≡◌, ℕ, ◌-◌, ◌++◌, List, length, take, drop, set, sym, ap, subst, ◌∙◌, arith}
 use Rattle.partlog.specs.History.{History}
 use Rattle.kafka_room.specs.AtOnce.{IsAnsweredAtOnce}
-use Rattle.kafka_room.specs.Board.{Board, Seat, seat_at, transcript_at}
+use Rattle.kafka_room.specs.Board.{Seat, seat_at}
 use Rattle.kafka_room.specs.IsRequest.{IsRequest}
 use Rattle.kafka_room.specs.Ready.{front_body}
 use Rattle.kafka_room.proofs.Calling.{parts_written, desk_written, seat_shown, board_of, call_of, noted, counted_at, call_made}

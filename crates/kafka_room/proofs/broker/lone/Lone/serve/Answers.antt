@@ -1,4 +1,4 @@
-use Rattle.std.proofs.Common.{◌≡◌, ◌≢◌, ℕ, length, refl, sym, ap, ◌∙◌, arith}
+use Rattle.std.proofs.Common.{◌≢◌, ℕ, length, refl, sym, ap, ◌∙◌, arith}
 use Rattle.kafka_room.specs.declared.kwire.frame.Frame.TheVariants.{Whole}
 use Rattle.kafka_room.specs.Board.{Board, seat_at}
 use Rattle.kafka_room.specs.Frames.{next_frame_of}
