@@ -10,6 +10,6 @@ pub mod reply_line;
 #[cfg(test)]
 mod tests;
 
-pub use line::{Line, LineFault, LineKind, TraceFault};
+pub use line::{Line, LineFault, LineKind, MOST_SESSIONS, TraceFault};
 pub use plain_trace::{PlainTrace, read_plain_trace};
 pub use reply_line::put_reply_line;

@@ -1,7 +1,8 @@
 //! Accepting a request: each partition that it names is decided in order, and where its log is asked it gets an entry.
 
-ghost use Rattle.std.specs.Prelude.{◌≡◌, ◌<◌, ◌∷◌, [], ◌++◌, length, OnOk, IfSome, IfNone, unwrap_or, ℕ, ℤ, pos, ◌≤◌};
+ghost use Rattle.std.specs.Prelude.{◌≡◌, ◌<◌, ◌∷◌, [], ◌++◌, List, length, OnOk, IfSome, IfNone, unwrap_or, ℕ, ℤ, pos, ◌≤◌};
 ghost use Rattle.kafka_room.specs.declared.kanswer.accepted.Accepted.TheVariants.{Refused};
+ghost use Rattle.partlog.specs.History.{History};
 ghost use Rattle.partlog.specs.State.{PartState, state_of};
 ghost use Rattle.kbatch.specs.Kept.{count_of};
 ghost use Rattle.kafka_room.specs.Configuration.{partitions_of};
@@ -35,12 +36,11 @@ fn refused(fault: &BatchFault) -> Accepted
     }
 }
 
-// A partition is refused before its log is asked.
-fn refuse(came: &mut Came, became: Accepted, who: Who, parts: &[PartLog]) -> Result<(), NoMemory>
+// A partition is refused before its log is asked, and no log changes.
+fn refuse(came: &mut Came, became: Accepted) -> Result<(), NoMemory>
     ensures { OnOk result ((code : ℤ) → became ≡ Refused code
-        → IsCarried who.by who.seq (Refuse code ∷ []) parts.now parts.now came.old came.new) }
+        → (by seq : ℕ) (parts : List History) → IsCarried by seq (Refuse code ∷ []) parts parts came.old came.new) }
 {
-    let _parts = parts;
     came.note(became)
 }
 
@@ -105,7 +105,7 @@ fn put_bytes(
         Ok(batch) => put(parts, who, part, &batch, came),
         Err(fault) => match fault {
             BatchFault::NoMemory => Err(NoMemory),
-            _ => refuse(came, refused(&fault), who, parts),
+            _ => refuse(came, refused(&fault)),
         },
     }
 }
@@ -151,13 +151,13 @@ fn accept_produce_part(
         × IsCarried who.by who.seq (decision ∷ []) parts.old parts.new came.old came.new) }
 {
     if terms.is_transactional {
-        return refuse(came, Accepted::Refused { code: 42 }, who, parts);
+        return refuse(came, Accepted::Refused { code: 42 });
     }
     let Some(number) = config.part_of(topic, part.index) else {
-        return refuse(came, Accepted::Refused { code: 3 }, who, parts);
+        return refuse(came, Accepted::Refused { code: 3 });
     };
     if !terms.has_known_acks() {
-        return refuse(came, Accepted::Refused { code: 21 }, who, parts);
+        return refuse(came, Accepted::Refused { code: 21 });
     }
     put_bytes(alloc, parts, who, number, records_of(part), came)
 }
@@ -239,7 +239,7 @@ fn accept_fetch_part(
         parts.old parts.new came.old came.new) }
 {
     let Some(part) = config.part_of(topic, asked.index) else {
-        return refuse(came, Accepted::Refused { code: 3 }, who, parts);
+        return refuse(came, Accepted::Refused { code: 3 });
     };
     if replica >= 0 {
         return look_at(parts, who, part, Accepted::Refused { code: 9 }, came);

@@ -6,12 +6,10 @@ ghost use Rattle.kafka_room.specs.Configuration.{followers_of};
 
 use crate::broker::desk::Desk;
 use crate::kwire::Config;
+use crate::trace_file::MOST_SESSIONS;
 use kbytes::{List, NoMemory};
 use partlog::PartLog;
 use std::alloc::Global;
-
-/// The sessions that there may be.
-const MOST_SESSIONS: u32 = 64;
 
 // Puts so many logs without entries at the end. After want of memory some of them may stand there.
 #[tactic(auto, using(crate::proofs::Openings::one_more_behind))]

@@ -7,12 +7,9 @@ ghost use Rattle.kafka_room.specs.RunOf.{input_of};
 
 use crate::kwire::read_request::read_request;
 use crate::kwire::{Ask, Frame, WireFault, next_frame};
-use crate::trace_file::Line;
+use crate::trace_file::{Line, MOST_SESSIONS};
 use kbytes::{Bytes, NoMemory};
 use std::alloc::Global;
-
-/// The sessions that there may be.
-const SESSIONS: u32 = 64;
 
 fn is_plain_ask(ask: &Ask) -> bool
     ensures { IsTrue result ↔ IsPlainAsk ask.now }
@@ -67,7 +64,7 @@ fn input(alloc: Global, session: u32, lines: &[Line]) -> Result<Bytes, NoMemory>
 pub fn are_plain_streams(alloc: Global, lines: &[Line]) -> Result<bool, NoMemory>
     ensures { IfOk result (λ plain. IsTrue plain ↔ ArePlainStreams lines.now) }
 {
-    for session in 0..SESSIONS {
+    for session in 0..MOST_SESSIONS {
         let stream = input(alloc, session, lines)?;
         if !is_plain_stream(alloc, stream.as_slice())? {
             return Ok(false);

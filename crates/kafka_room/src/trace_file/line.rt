@@ -1,6 +1,9 @@
 use kbytes::Bytes;
 use thiserror::Error;
 
+/// The sessions of a trace have the numbers below this one.
+pub const MOST_SESSIONS: u32 = 64;
+
 /// A line of a trace.
 #[derive(Debug, Drop)]
 pub enum Line {

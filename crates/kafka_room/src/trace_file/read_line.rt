@@ -9,15 +9,12 @@ ghost use Rattle.kafka_room.specs.Denies.{Denies};
 
 use crate::kwire::copied;
 use crate::trace_file::fault::NotRead;
-use crate::trace_file::line::Line;
+use crate::trace_file::line::{Line, MOST_SESSIONS};
 use crate::trace_file::number::number;
 use crate::trace_file::pieces::cut;
 use hex::FromHexError;
 use kbytes::{Bytes, NoMemory};
 use std::alloc::Global;
-
-/// The greatest session.
-const LAST_SESSION: u32 = 63;
 
 /// The last moment, in milliseconds.
 const LAST_MOMENT: u64 = 1_000_000_000_000_000;
@@ -100,7 +97,7 @@ fn feed_words(rest: &[u8]) -> Option<(u32, &[u8])>
     ensures none { IfNone result ((session : ℕ) (hex : List ℕ) → session < 64 → words_of rest.now ≢ decimal session ∷ hex ∷ []) }
 {
     let (session, digits) = cut(rest, b' ')?;
-    let session = small(session, LAST_SESSION)?;
+    let session = small(session, MOST_SESSIONS - 1)?;
     let digits = last_word(digits)?;
     Some((session, digits))
 }
@@ -141,7 +138,7 @@ fn shut(rest: &[u8]) -> Result<Line, NotRead>
     ensures line { IfOk result (AreWordsOf (codes "close" ∷ words_of rest.now)) }
     ensures fault { IfErr result (λ e. Denies e ((session : ℕ) × IsShutLine (codes "close" ∷ words_of rest.now) session)) }
 {
-    match last_small(rest, LAST_SESSION) {
+    match last_small(rest, MOST_SESSIONS - 1) {
         Some(session) => Ok(Line::Shut { session }),
         None => Err(NotRead::Other),
     }

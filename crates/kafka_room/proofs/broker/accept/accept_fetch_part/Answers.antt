@@ -1,4 +1,4 @@
-use Rattle.std.proofs.Common.{◌≡◌, ℕ, [], ◌∷◌, Option, Some, get_or, length, ◌<◌, arith, sym, ap, subst, ◌∙◌, pos, rules}
+use Rattle.std.proofs.Common.{◌≡◌, ℕ, [], ◌∷◌, Option, Some, None, get_or, refl, length, ◌<◌, arith, sym, ap, subst, ◌∙◌, pos, rules}
 use Rattle.std.proofs.lemmas.Int.{to_z-of_z}
 use Rattle.std.proofs.lemmas.Option.{slice_get-get_or}
 use Rattle.std.specs.Prelude.{unwrap_or}
@@ -17,6 +17,15 @@ use Rattle.kafka_room.specs.Carried.{IsCarried}
 use Rattle.kafka_room.proofs.Carrying.{on_ok}
 use Rattle.kafka_room.proofs.FetchParts.{not_negative, negative, fetch_of_no_follower, fetch_out_of_range, fetch_in_range}
 use Rattle.kafka_room.proofs.broker.accept.accept_fetch_part.Goals as goal
+
+pub returns-in_default : goal.returns-in_default
+returns-in_default c =
+    let config = c.args.config.now in
+    let asked = c.args.asked.now in
+    let fits : SFits w32 asked.index = search rules in
+    let none : part_of config c.args.topic.now asked.index ≡ None = ap (part_of config c.args.topic.now) (sym (to_z-of_z w32 asked.index fits)) ∙ sym c.in_default.ensures.number in
+    let D : Option ℕ → Type 0 = λ o. IsCarried c.args.who.by c.args.who.seq (fetch_decision config c.args.replica (c.args.topic.now, asked) o ∷ []) c.args.parts.now c.args.parts.now c.args.came.now c.refuse.new.came in
+    on_ok c.refuse.result c.refuse.ensures (λ k. subst D (sym none) (k (pos 3) refl c.args.who.by c.args.who.seq c.args.parts.now))
 
 pub returns-then-replica-ge0 : goal.returns-then-replica-ge0
 returns-then-replica-ge0 c =

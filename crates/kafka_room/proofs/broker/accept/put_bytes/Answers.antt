@@ -20,4 +20,4 @@ returns-in-Ok c =
 
 pub returns-in_default : goal.returns-in_default
 returns-in_default c =
-    on_ok c.refuse.result c.refuse.ensures (λ k. (Refuse (code_of c.in-Err.fault), inl (c.in-Err.fault, (c.in-Err.ensures.fault c.in-Err.fault c.in_default.not-NoMemory).0 refl, refl), k (code_of c.in-Err.fault) c.refused.ensures))
+    on_ok c.refuse.result c.refuse.ensures (λ k. (Refuse (code_of c.in-Err.fault), inl (c.in-Err.fault, (c.in-Err.ensures.fault c.in-Err.fault c.in_default.not-NoMemory).0 refl, refl), k (code_of c.in-Err.fault) c.refused.ensures c.args.who.by c.args.who.seq c.args.parts.now))
