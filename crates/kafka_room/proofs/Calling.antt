@@ -1,7 +1,7 @@
 -- What a call and a line leave of a broker, from the parts that they changed.
-use Rattle.std.proofs.Common.{◌≡◌, ◌≢◌, ℕ, ◌+◌, ◌-◌, ◌<◌, ◌≤◌, Bool, true, false, ◌||◌, cond, eqb, List, [], ◌∷◌, ◌++◌, length, get_or, take, drop, set, Option, Some, None, unwrap_or, refl, sym, ap, subst, ◌∙◌, arith, inl, inr, append_assoc, zero-add, eq-eqb}
-use Rattle.std.proofs.lemmas.Bool.{ne_eqb}
-use Rattle.std.proofs.lemmas.List.{take_at, length-take, length-drop, length-set}
+use Rattle.std.proofs.Common.{◌≡◌, ◌≢◌, ℕ, ◌+◌, ◌<◌, ◌≤◌, Bool, true, false, ◌||◌, cond, eqb, List, [], ◌∷◌, ◌++◌, length, get_or, take, drop, set, Option, Some, None, unwrap_or, refl, sym, ap, subst, ◌∙◌, arith, inl, inr, append_assoc, zero-add, eq-eqb}
+use Rattle.std.proofs.lemmas.Bool.{ne_eqb, or_right}
+use Rattle.std.proofs.lemmas.List.{take_at, length-set}
 use Rattle.std.proofs.lemmas.Option.{unwrap_or-slice_get}
 use Rattle.std.specs.Prelude.{slice_get}
 use Rattle.std.specs.List.Sorted.{IsStrictlyIncreasing}
@@ -12,7 +12,6 @@ use Rattle.kafka_room.specs.declared.audit.account.Point.{Point}
 use Rattle.kafka_room.specs.declared.audit.account.SessionEnd.{SessionEnd}
 use Rattle.kafka_room.specs.declared.audit.account.Transcript.{Transcript}
 use Rattle.kafka_room.specs.declared.kwire.frame.Frame.{Frame}
-use Rattle.kafka_room.specs.declared.kwire.frame.Frame.TheVariants.{Whole}
 use Rattle.kafka_room.specs.declared.kwire.request.Request.{Request}
 use Rattle.kafka_room.specs.declared.trace_file.line.Line.{Line}
 use Rattle.kafka_room.specs.declared.trace_file.line.Line.TheVariants.{Topic, Feed, Shut, Clock, End}
@@ -35,9 +34,9 @@ use Rattle.kafka_room.specs.Steady.{IsSteady, all_points, AllBelow}
 use Rattle.kafka_room.specs.Trace.{IsPlainLine}
 use Rattle.kafka_room.specs.UnderWay.{to_come, IsUnderWay, IsServing}
 use Rattle.kafka_room.proofs.Places.{same_or_not, get_there}
-use Rattle.kafka_room.proofs.RunLaws.{or_second, seat_set_same, seat_set_other, fed_feed, fed_topic, fed_end}
+use Rattle.kafka_room.proofs.RunLaws.{seat_set_same, seat_set_other, fed_feed, fed_topic, fed_end}
 use Rattle.kafka_room.proofs.Serving.{calls_at, calls_in_seat, turned, nobodys_turn, rests_none}
-use Rattle.kafka_room.proofs.StreamLaws.{whole_within, whole_before}
+use Rattle.kafka_room.proofs.StreamLaws.{whole_ends}
 
 -- ---- what is written back
 
@@ -83,9 +82,6 @@ counted_any (Some t) s = refl
 
 pub counted_at : (board : Board) (s count : ℕ) (seat : Seat) → seat_at board s ≡ seat → count ≡ length (unwrap_or seat.transcript (new_transcript 0)).calls → count ≡ length (transcript_at board s).calls
 counted_at board s count seat same is = is ∙ ap (λ (x : Seat). length (unwrap_or x.transcript (new_transcript 0)).calls) (sym same) ∙ counted_any (seat_at board s).transcript s
-
-whole_ends : (inbox : List ℕ) (end : ℕ) → next_frame_of inbox ≡ Whole end → end ≡ 4 + length (take (end - 4) (drop 4 inbox))
-whole_ends inbox end whole = omega (arith, whole_within inbox end whole, whole_before inbox end whole, length-take (end - 4) (drop 4 inbox), length-drop 4 inbox)
 
 made_there : (config : Configuration) (parts after : List History) (seats : List Seat) (session end seq : ℕ) (request : Request) (frame : List ℕ) (accept finish : List Point) (how : CallHow) (text more : List ℕ)
     → IsReady session end (board_of config parts seats) → seq ≡ length (transcript_at (board_of config parts seats) session).calls → frame ≡ front_body (board_of config parts seats) session end
@@ -191,7 +187,7 @@ module _ (fed later : List Line) (board : Board) (session : ℕ) (bytes : List �
       given = fed_feed fed board session bytes way.running.given feed_there;
       steady = steady_alike board.config board.parts (calls_at board) (calls_at (brought board (Feed session bytes))) calls_kept way.running.steady;
       alone = way.running.alone;
-      in_range = λ s e. way.running.in_range s (or_second (eqb session s) (is_named s later) e);
+      in_range = λ s e. way.running.in_range s (or_right (eqb session s) (is_named s later) e);
       streams = streams_kept;
       few = λ s lt. subst (λ (lines : List Line). length (input_of s lines) ≤ 67108864) (sym (append_assoc fed (Feed session bytes ∷ []) later)) (way.running.few s lt);
     };

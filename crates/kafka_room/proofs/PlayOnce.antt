@@ -26,6 +26,7 @@ use Rattle.kafka_room.specs.Handling.{Turned, handled, ended}
 use Rattle.kafka_room.specs.Play.{brought, Rests, PlaysLine, Plays, IsPlay}
 use Rattle.kafka_room.specs.Printed.{summary_of}
 use Rattle.kafka_room.specs.Refusal.{request_at}
+use Rattle.kafka_room.proofs.Places.{some_is}
 use Rattle.kafka_room.proofs.RequestLaws.{request_reads}
 
 -- ---- what is decided
@@ -107,9 +108,6 @@ act_once board session (Whole end) t u p q = whole_once (next_call board session
 act_once board session NotYet t u p q = p ∙ sym q
 act_once board session (TooLong size) t u p q = p ∙ sym q
 
-same_session : (o : Option ℕ) (r s : ℕ) → o ≡ Some r → o ≡ Some s → r ≡ s
-same_session o r s p q = let e : Some r ≡ Some s = sym p ∙ q in cc
-
 nobody_and_somebody : (o : Option ℕ) (s : ℕ) → o ≡ None → o ≡ Some s → ⊥
 nobody_and_somebody o s p q = absurd cc
 
@@ -119,7 +117,7 @@ rests_once zero (suc m) board t u p q = absurd (nobody_and_somebody (next_to_act
 rests_once (suc n) zero board t u p q = absurd (nobody_and_somebody (next_to_act (scanned board).board) p.0 q.0 p.3)
 rests_once (suc n) (suc m) board t u p q =
     let here = (scanned board).board in
-    let session : p.0 ≡ q.0 = same_session (next_to_act here) p.0 q.0 p.3 q.3 in
+    let session : p.0 ≡ q.0 = some_is p.0 q.0 (sym p.3 ∙ q.3) in
     let act : p.1 ≡ q.1 = act_once here p.0 (next_frame_of (seat_at here p.0).inbox) p.1 q.1 p.4 (subst (λ (s : ℕ). Acts here s q.1) (sym session) q.4) in
     let rest : p.2 ≡ q.2 = rests_once n m p.1.board p.2 q.2 p.5 (subst (λ (a : Turned). Rests m a.board q.2) (sym act) q.5) in
     p.6 ∙ ap (λ (a : Turned). record { board = p.2.board; text = (scanned board).text ++ (a.text ++ p.2.text) }) act

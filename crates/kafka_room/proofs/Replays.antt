@@ -1,5 +1,6 @@
 -- What a replay comes to, from what was read and what was played.
 use Rattle.std.proofs.Common.{◌≡◌, ◌⊎◌, ℕ, List, [], ◌∷◌, ◌++◌, length, take, Option, Some, None, IfSome, refl, sym, ap, subst, ◌∙◌, arith, inl, inr, length-append}
+use Rattle.std.proofs.lemmas.List.{take_all}
 use Rattle.std.specs.List.{AllZip}
 use Rattle.kafka_room.specs.declared.streams.Input.{Input}
 use Rattle.kafka_room.specs.declared.streams.Input.TheVariants.{TooLong}
@@ -79,13 +80,9 @@ pub replayed_as : (text : List ℕ) (lines : List Line) (last : Turned) (account
 replayed_as text lines last account form played way is =
     subst (λ (a : Account). IsReplayOf lines a (last.text ++ summary_of a)) (sym is) (replayed text lines last form played way)
 
-take_whole : {X : Type 0} (xs : List X) → xs ≡ take (length xs) xs
-take_whole [] = refl
-take_whole (x ∷ xs) = ap (λ (ys : List _). x ∷ ys) (take_whole xs)
-
 -- all that the lines up to here print stands written
 pub front_of_lines : (start : Board) (lines done more : List Line) (last : Turned) → lines ≡ done ++ more → Plays start done last → IsPlayFront start lines last.text
-front_of_lines start lines done more last parts played = record { done = done; more = more; parts = parts; last = last; played = played; count = length last.text; front = take_whole last.text }
+front_of_lines start lines done more last parts played = record { done = done; more = more; parts = parts; last = last; played = played; count = length last.text; front = sym (take_all (length last.text) last.text (omega arith)) }
 
 -- the front of it
 pub front_within : (start : Board) (lines done more : List Line) (last : Turned) (n : ℕ) → lines ≡ done ++ more → Plays start done last → IsPlayFront start lines (take n last.text)

@@ -1,7 +1,8 @@
 -- What the board of the one-thread broker is to the lines that it was fed, where these declare topics, bring bytes and end the trace:
 -- and its account is that of their run.
 use Rattle.std.proofs.Common.{◌≡◌, ◌≢◌, ℕ, zero, suc, ◌+◌, ◌-◌, ◌≤◌, ◌<◌, ◌⊎◌, pos, Bool, true, false, ◌||◌, cond, eqb, max, List, [], ◌∷◌, ◌++◌, length, take, drop, set, Option, Some, None, unwrap_or, MatchBool, refl, sym, ap, subst, ◌∙◌, arith, inl, inr, append-nil, append_assoc, length-append, eq-eqb}
-use Rattle.std.proofs.lemmas.Bool.{or_cases, eqb-true, cases_Bool, cases_lt, ne_eqb}
+use Rattle.std.proofs.lemmas.Bool.{or_cases, eqb-true, cases_Bool, cases_lt, ne_eqb, or_right}
+use Rattle.std.proofs.Math.Bool.{or-false}
 use Rattle.std.proofs.lemmas.List.{length-set, length-replicate, get_or-replicate}
 use Rattle.std.proofs.lemmas.List.Elements.{All-tail}
 use Rattle.std.proofs.lemmas.List.Folds.{list_any-append}
@@ -41,14 +42,6 @@ use Rattle.kafka_room.proofs.Lawful.{IsPlainCall, IsTameTranscript, AreTame, pas
 or_neither : (x y : Bool) → (x || y) ≡ false → (x ≡ false) × (y ≡ false)
 or_neither true y e = absurd cc
 or_neither false y e = (refl, e)
-
-pub or_second : (x y : Bool) → y ≡ true → (x || y) ≡ true
-or_second true y e = refl
-or_second false y e = e
-
-or_nothing : (x : Bool) → (x || false) ≡ x
-or_nothing true = refl
-or_nothing false = refl
 
 pub input_unnamed : (s : ℕ) (lines : List Line) → is_named s lines ≡ false → input_of s lines ≡ []
 input_unnamed s [] missing = refl
@@ -95,7 +88,7 @@ last_here : (s session n : ℕ) (rest : Bool) → (n ≡ suc s → rest ≡ true
 last_here s session n rest later e =
     elim (same_or_not session s) [
       | inl same ↦ rw (eq-eqb session s same) refl
-      | inr other ↦ or_second (eqb session s) rest (later (omega arith))
+      | inr other ↦ or_right (eqb session s) rest (later (omega arith))
     ]
 
 -- the greatest session that is named is named
@@ -108,10 +101,10 @@ last_named s (Clock t ∷ lines) e = last_named s lines e
 last_named s (End ∷ lines) e = last_named s lines e
 
 named_more : (s : ℕ) (fed : List Line) (line : Line) → is_named s (fed ++ line ∷ []) ≡ (is_named s fed || names s line)
-named_more s fed line = list_any-append (names s) fed (line ∷ []) ∙ ap (λ (b : Bool). is_named s fed || b) (or_nothing (names s line))
+named_more s fed line = list_any-append (names s) fed (line ∷ []) ∙ ap (λ (b : Bool). is_named s fed || b) (or-false (names s line))
 
 named_same : (s : ℕ) (fed : List Line) (line : Line) → names s line ≡ false → is_named s (fed ++ line ∷ []) ≡ is_named s fed
-named_same s fed line missing = named_more s fed line ∙ ap (λ (b : Bool). is_named s fed || b) missing ∙ or_nothing (is_named s fed)
+named_same s fed line missing = named_more s fed line ∙ ap (λ (b : Bool). is_named s fed || b) missing ∙ or-false (is_named s fed)
 
 input_more : (s : ℕ) (fed : List Line) (line : Line) → input_of s (fed ++ line ∷ []) ≡ input_of s fed ++ bytes_in s line
 input_more s fed line = flat_map-append (bytes_in s) fed (line ∷ []) ∙ ap (λ (t : List ℕ). input_of s fed ++ t) (append-nil (bytes_in s line))
@@ -351,7 +344,7 @@ fed_feed fed board session bytes h lt =
     let lasts : is_there t.end ≡ false = ap is_there old.tame.no_end in
     let seat : Seat = record { inbox = cond (is_there t.end) inbox (inbox ++ bytes); is_shut = (seat_at board session).is_shut; transcript = Some t } in
     let this : eqb session session ≡ true = eq-eqb session session refl in
-    let found : is_named session more ≡ true = named_more session fed line ∙ or_second (is_named session fed) (eqb session session) this in
+    let found : is_named session more ≡ true = named_more session fed line ∙ or_right (is_named session fed) (eqb session session) this in
     let input : input_of session more ≡ frames_of t.calls ++ cond (is_there t.end) inbox (inbox ++ bytes) =
     input_more session fed line ∙ ap (λ (b : Bool). input_of session fed ++ cond b bytes []) this ∙ ap (λ (x : List ℕ). x ++ bytes) old.parts ∙ append_assoc (frames_of t.calls) inbox bytes
     ∙ ap (λ (b : Bool). frames_of t.calls ++ cond b inbox (inbox ++ bytes)) (sym lasts) in

@@ -2,7 +2,7 @@
 -- no session can act.
 use Rattle.std.proofs.Common.{◌≡◌, ◌≢◌, ℕ, zero, suc, ◌+◌, ◌-◌, ◌*◌, ◌<◌, ◌≤◌, ◌⊎◌, pos, Bool, true, false, cond, eqb, List, [], ◌∷◌, ◌++◌, length, take, drop, Some, None, unwrap_or, refl, sym, ap, subst, ◌∙◌, arith, inl, inr, append_assoc, append-nil, length-append, zero-add}
 use Rattle.std.proofs.lemmas.Bool.{ne_eqb}
-use Rattle.std.proofs.lemmas.List.{take-append-le, take_at, length-take, length-drop, take-append-drop}
+use Rattle.std.proofs.lemmas.List.{take-append-le, take_at, length-drop, take-append-drop}
 use Rattle.std.proofs.lemmas.Grind.{flat_map-append}
 use Rattle.std.specs.Int.{w32}
 use Rattle.std.specs.List.{AllByRecursion, flat_map, find, range_with_len}
@@ -18,7 +18,7 @@ use Rattle.kafka_room.specs.Acceptance.{accept_all, steps_of, shown_of}
 use Rattle.kafka_room.specs.Accepting.{Decision, Decides}
 use Rattle.kafka_room.specs.Acting.{can_act, next_to_act, shows_work, Acts}
 use Rattle.kafka_room.specs.AtOnce.{IsHandled}
-use Rattle.kafka_room.specs.Board.{Board, Seat, seat_at, transcript_at, next_call}
+use Rattle.kafka_room.specs.Board.{Board, Seat, new_transcript, seat_at, transcript_at, next_call}
 use Rattle.kafka_room.specs.Delayed.{becomes_delayed, is_quiet}
 use Rattle.kafka_room.specs.Fed.{frames_of, IsFedBy, IsAtRest}
 use Rattle.kafka_room.specs.Fits.{IsUnfinished}
@@ -36,7 +36,7 @@ use Rattle.kafka_room.proofs.Fair.{parts_size, decides_fair}
 use Rattle.kafka_room.proofs.Places.{same_or_not}
 use Rattle.kafka_room.proofs.RunLaws.{seat_set_same, seat_set_other, fed_call, fed_can_act, scanned_nothing}
 use Rattle.kafka_room.proofs.Steady.{IsSteady, steady_call}
-use Rattle.kafka_room.proofs.StreamLaws.{whole_within, whole_before, next_body, not_too_long}
+use Rattle.kafka_room.proofs.StreamLaws.{whole_within, whole_before, whole_ends, next_body, not_too_long}
 
 -- ---- the frame at the front
 
@@ -53,7 +53,7 @@ front_parts inbox later bodies end e each whole =
     let n = next_body inbox later bodies end e each whole in
     let head = integer w32 (pos (length body)) in
     let within = whole_within inbox end whole in
-    let ends : end ≡ 4 + length body = omega (arith, within, whole_before inbox end whole, length-take (end - 4) (drop 4 inbox), length-drop 4 inbox) in
+    let ends : end ≡ 4 + length body = whole_ends inbox end whole in
     let all : length (framed body) ≡ end = omega (arith, ends, wide_32.len (length body), length-append head body) in
     let front : take end inbox ≡ framed body =
     sym (take-append-le end inbox later within) ∙ ap (take end) (e ∙ ap (flat_map framed) n.bodies_are) ∙ take_at (framed body) (flat_map framed n.others) end all in
@@ -114,7 +114,7 @@ abbrev pub calls_at : Board → ℕ → List Call
 calls_at board s = (transcript_at board s).calls
 
 abbrev pub calls_in_seat : ℕ → Seat → List Call
-calls_in_seat s seat = (unwrap_or seat.transcript (record { number = s; first = 0; calls = []; end = None })).calls
+calls_in_seat s seat = (unwrap_or seat.transcript (new_transcript s)).calls
 
 module _ (fed later : List Line) (session end : ℕ) (board : Board) (serving : IsServing fed later session board) (whole : next_frame_of (seat_at board session).inbox ≡ Whole end) (request : Request) (decisions : List Decision) (asked : IsRequest (front_body board session end) request) (decided : Decides board.config request.ask decisions) (undelayed : becomes_delayed request.ask (shown_of (accept_all session (next_call board session) decisions board.parts).0) ≡ false) where
   abbrev the_call : Call

@@ -3,7 +3,7 @@ use Rattle.std.proofs.Common.{◌≡◌, ◌≢◌, ℕ, ◌+◌, ◌-◌, ◌�
 use Rattle.std.specs.Int.{w32, from_be_bytes, cast_signed}
 use Rattle.std.specs.List.{flat_map, AllByRecursion}
 use Rattle.std.proofs.lemmas.Bool.{cases_lt, lt-ltb, le-ltb}
-use Rattle.std.proofs.lemmas.List.{take-append-le, drop-append-le, take_at, drop_at, length-drop}
+use Rattle.std.proofs.lemmas.List.{take-append-le, drop-append-le, take_at, drop_at, length-drop, length-take}
 use Rattle.kbytes.specs.Field.{integer}
 use Rattle.kbytes.proofs.Integers.{wide_32}
 use Rattle.kafka_room.specs.declared.kwire.frame.Frame.{Frame}
@@ -98,6 +98,10 @@ whole_before stream end e =
       | inl few ↦ let other : NotYet ≡ Whole end = rw (lt-ltb (length stream) 4 few) at e in absurd cc
       | inr enough ↦ size_before (length stream) (cast_signed w32 (from_be_bytes w32 (take 4 stream))) end (rw (le-ltb (length stream) 4 enough) at e)
     ]
+
+-- its end is behind its body
+pub whole_ends : (inbox : List ℕ) (end : ℕ) → next_frame_of inbox ≡ Whole end → end ≡ 4 + length (take (end - 4) (drop 4 inbox))
+whole_ends inbox end whole = omega (arith, whole_within inbox end whole, whole_before inbox end whole, length-take (end - 4) (drop 4 inbox), length-drop 4 inbox)
 
 -- ---- streams of frames, of which these bytes came and those come later
 

@@ -191,7 +191,8 @@ fn accept_produce_topic(
     Ok(())
 }
 
-/// Carries out a produce: each named partition in the order of the request.
+/// Carries out a produce: each named partition in the order of the request. After want of memory those before one may have
+/// their entries.
 pub fn accept_produce(
     alloc: Global,
     config: &Config,
@@ -280,7 +281,8 @@ fn accept_fetch_topic(
     Ok(())
 }
 
-/// Carries out a fetch, where no topic has followers: each named partition in the order of the request.
+/// Carries out a fetch, where no topic has followers: each named partition in the order of the request. After want of memory
+/// those before one may have their entries.
 pub fn accept_fetch(
     config: &Config,
     parts: &mut [PartLog],

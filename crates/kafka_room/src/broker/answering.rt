@@ -36,7 +36,8 @@ pub fn look_at_all(parts: &[PartLog])
     }
 }
 
-/// Accepts a request of a session and puts its reply at the end of `out`. It answers the points of its entries.
+/// Accepts a request of a session and puts its reply at the end of `out`. It answers the points of its entries. After want
+/// of memory some of the named partitions may have their entries, and the logs may only be dropped.
 pub fn answer_at_once(
     alloc: Global,
     config: &Config,

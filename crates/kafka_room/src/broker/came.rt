@@ -7,7 +7,8 @@ use crate::kanswer::Accepted;
 use kbytes::{List, NoMemory};
 use std::alloc::Global;
 
-/// A result for each partition that was named so far, and the points of the entries that were left.
+/// A result for each partition that was named so far, and the points of the entries that were left. After want of memory it
+/// may only be dropped: a result may stand without its point.
 #[derive(Debug, Drop)]
 pub struct Came {
     pub accepted: List<Accepted>,

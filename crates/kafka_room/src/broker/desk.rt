@@ -59,7 +59,8 @@ impl Desk {
         }
     }
 
-    /// A line names the session, which has this number and hasn't ended, and brings it these bytes.
+    /// A line names the session, which has this number and hasn't ended, and brings it these bytes. After want of memory it
+    /// counts as named, and no byte was brought.
     pub fn feed(&mut self, session: u32, bytes: &[u8]) -> Result<(), NoMemory>
         ensures { OnOk result (self.new ≡ record {
           inbox = self.old.inbox ++ bytes.now;
@@ -97,7 +98,8 @@ impl Desk {
         }
     }
 
-    /// The frame at the front was handled as this call of the session, which was named.
+    /// The frame at the front was handled as this call of the session, which was named. After want of memory the frame is
+    /// gone and the call isn't there, so that the session may only be dropped.
     pub fn note(&mut self, session: u32, end: usize, call: Call) -> Result<(), NoMemory>
         requires { end ≤ length self.old.inbox }
         ensures { OnOk result (self.new ≡ record {

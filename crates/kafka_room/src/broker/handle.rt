@@ -13,7 +13,8 @@ use kbytes::NoMemory;
 use partlog::{PartLog, Who};
 use std::alloc::Global;
 
-/// Carries out a request that waits for nothing, where no topic has followers.
+/// Carries out a request that waits for nothing, where no topic has followers. After want of memory some of the named
+/// partitions may have their entries, and the logs may only be dropped.
 pub fn accept(
     alloc: Global,
     config: &Config,
