@@ -1,27 +1,53 @@
+//! What a file of `rows` can't say: sources and sinks that fail, streams that are cut at each byte, and faulty words.
+
 mod pieces;
-mod rows;
-mod traces;
 
 use crate::exit::Exit;
 use crate::nothing::{NoClock, NoPort};
 use crate::run::run;
 use kbytes::{Bytes, List, NoMemory};
 use outside::{MemSink, MemSource};
+use pieces::{
+    A, A_AT_1, FETCH_138, FETCHED_138, PRODUCE, PRODUCE_NO_REPLY, PRODUCED, PRODUCED_AT_1,
+};
 use std::alloc::Global;
 use std::sync::Wait;
 use std::test::*;
 use std::thread::Threads;
 
-const FRAME: &[u8] =
-    b"0000006b0000000300000001000163ffff0001000003e8000000010001740000000100000000000000450000\
-000000000000000000390000000002dbe9c87600000000000000000000000000000000000000000000ffffff\
-ffffffffffffffffffffff000000010e00000001026100";
+const TOPIC: &str = "topic t 1 0\n";
 
-const REPLY: &[u8] = b"reply 0 00000029000000010000000100017400000001000000000000\
-0000000000000000ffffffffffffffff00000000\n";
+const TO_0: &str = "bytes 0 ";
 
-const SUMMARY: &[u8] =
-    b"part 0 end 1 high 1 batches 1 bytes 69\nsession 0 calls 1 replies 1 parked 0\ndone\n";
+const OF_0: &str = "reply 0 ";
+
+/// A session's bytes: two produces, the first without a reply, and a fetch of both batches.
+const STREAM: &[&str] = &[PRODUCE_NO_REPLY, A, PRODUCE, A, FETCH_138];
+
+/// What is printed where these come and no others.
+const STREAM_PRINTED: &[&str] = &[
+    OF_0,
+    PRODUCED_AT_1,
+    "\n",
+    OF_0,
+    FETCHED_138,
+    A,
+    A_AT_1,
+    "\npart 0 end 2 high 2 batches 2 bytes 138\nsession 0 calls 3 replies 2 parked 0\ndone\n",
+];
+
+/// Two produces and a fetch, each in a line of its own.
+const THREE_LINES: &[&str] = &[
+    TOPIC, TO_0, PRODUCE, A, "\n", TO_0, PRODUCE, A, "\n", TO_0, FETCH_138, "\nend\n",
+];
+
+/// What is printed of these, write by write: the replies of three lines, and the summary.
+const THREE_LINES_PRINTED: &[&[&str]] = &[
+    &[OF_0, PRODUCED, "\n"],
+    &[OF_0, PRODUCED_AT_1, "\n"],
+    &[OF_0, FETCHED_138, A, A_AT_1, "\n"],
+    &["part 0 end 2 high 2 batches 2 bytes 138\nsession 0 calls 3 replies 3 parked 0\ndone\n"],
+];
 
 // What a run answered, and what it wrote.
 #[derive(Drop)]
@@ -64,135 +90,151 @@ fn run_with<R: Threads + Wait + Sync>(
     Ok(Ran { exit, sink })
 }
 
-fn bytes(alloc: Global, part: &[u8]) -> Result<Bytes, NoMemory> {
+fn joined(alloc: Global, pieces: &[&str]) -> Result<Bytes, NoMemory> {
     let mut text = Bytes::new(alloc);
-    text.extend(part)?;
+    for piece in pieces {
+        text.extend(piece.as_bytes())?;
+    }
     Ok(text)
 }
 
-// A trace around the digits of a frame, with these last bytes.
-fn trace(alloc: Global, digits: &[u8], last: &[u8]) -> Result<Bytes, NoMemory> {
-    let mut text = bytes(alloc, b"topic t 1 0\nbytes 0 ")?;
-    text.extend(digits)?;
-    text.extend(last)?;
+// The trace that brings these digits in pieces of a session's bytes.
+fn fed(alloc: Global, digits: &[&[u8]]) -> Result<Bytes, NoMemory> {
+    let mut text = joined(alloc, &[TOPIC])?;
+    for piece in digits {
+        text.extend(TO_0.as_bytes())?;
+        text.extend(piece)?;
+        text.extend(b"\n")?;
+    }
+    text.extend(b"end\n")?;
     Ok(text)
 }
 
-fn output(alloc: Global) -> Result<Bytes, NoMemory> {
-    let mut text = bytes(alloc, REPLY)?;
-    text.extend(SUMMARY)?;
+// A trace that takes more than one read.
+fn long_trace(alloc: Global) -> Result<Bytes, NoMemory> {
+    let mut text = joined(alloc, &[TOPIC])?;
+    for _ in 0..300 {
+        for piece in [TO_0, PRODUCE_NO_REPLY, A, "\n"] {
+            text.extend(piece.as_bytes())?;
+        }
+    }
+    text.extend(b"end\n")?;
     Ok(text)
 }
 
 #[test]
-fn one_produce_is_answered_and_accounted_for(rt: HostRuntime) -> Result<(), Fail> {
+fn a_trace_is_replayed_and_accounted_for(rt: HostRuntime) -> Result<(), Fail> {
     let alloc = rt.alloc();
-    for last in [b"\nend\n".as_slice(), b"\nend".as_slice()] {
-        let done = run_with(
-            &rt,
-            alloc,
-            &["replay"],
-            trace(alloc, FRAME, last)?,
-            &[],
-            &[],
-        )?;
-        assert_eq!(rt; done.exit.code, 0);
-        assert_eq!(rt; done.sink.bytes(), output(alloc)?.as_slice());
-        let account = done.exit.account.ok_or("an account")?;
-        assert_eq!(rt; account.parts.len(), 1);
-        assert_eq!(rt; account.passes.len(), 1);
-    }
+    let done = run_with(
+        &rt,
+        alloc,
+        &["replay"],
+        joined(alloc, THREE_LINES)?,
+        &[],
+        &[],
+    )?;
+    assert_eq!(rt; done.exit.code, 0);
+    let account = done.exit.account.ok_or("an account")?;
+    assert_eq!(rt; account.parts.len(), 1);
+    assert_eq!(rt; account.passes.len(), 1);
+    assert_eq!(rt; account.wins.as_slice(), [0].as_slice());
     Ok(())
 }
 
 #[test]
-fn faulty_words_and_other_texts_write_nothing(rt: HostRuntime) -> Result<(), Fail> {
+fn faulty_words_write_nothing(rt: HostRuntime) -> Result<(), Fail> {
     let alloc = rt.alloc();
     let lines: [&[&str]; 4] = [&[], &["replay", "--workers"], &["serve"], &["Replay"]];
     for words in lines {
-        let refused = run_with(
-            &rt,
-            alloc,
-            words,
-            trace(alloc, FRAME, b"\nend\n")?,
-            &[],
-            &[],
-        )?;
+        let refused = run_with(&rt, alloc, words, joined(alloc, THREE_LINES)?, &[], &[])?;
         assert_eq!(rt; refused.exit.code, 1);
         assert!(rt; refused.sink.bytes().is_empty());
-    }
-    let texts: [&[u8]; 4] = [b"", b"\n", b"\nend\n\n", b"\nend\r\n"];
-    for last in texts {
-        let other = run_with(
-            &rt,
-            alloc,
-            &["replay"],
-            trace(alloc, FRAME, last)?,
-            &[],
-            &[],
-        )?;
-        assert_eq!(rt; other.exit.code, 7);
-        assert!(rt; other.sink.bytes().is_empty());
+        assert!(rt; refused.exit.account.is_none());
     }
     Ok(())
 }
 
 #[test]
-fn a_read_that_fails_writes_nothing(rt: HostRuntime) -> Result<(), Fail> {
+fn a_stream_may_be_cut_at_any_byte(rt: HostRuntime) -> Result<(), Fail> {
     let alloc = rt.alloc();
-    for read in [0, 1] {
-        let failed = run_with(
-            &rt,
-            alloc,
-            &["replay"],
-            trace(alloc, FRAME, b"\nend\n")?,
-            &[read],
-            &[],
-        )?;
-        assert_eq!(rt; failed.exit.code, 3);
-        assert!(rt; failed.sink.bytes().is_empty());
+    let stream = joined(alloc, STREAM)?;
+    let printed = joined(alloc, STREAM_PRINTED)?;
+    for cut in 1..stream.len() / 2 {
+        let (front, behind) = stream.as_slice().split_at(2 * cut);
+        let trace = fed(alloc, &[front, behind])?;
+        let done = run_with(&rt, alloc, &["replay"], trace, &[], &[])?;
+        assert_eq!(rt; done.exit.code, 0, "cut at byte {cut}");
+        assert_eq!(rt; done.sink.bytes(), printed.as_slice(), "cut at byte {cut}");
     }
+    Ok(())
+}
+
+#[test]
+fn a_stream_may_come_byte_by_byte(rt: HostRuntime) -> Result<(), Fail> {
+    let alloc = rt.alloc();
+    let stream = joined(alloc, STREAM)?;
+    let printed = joined(alloc, STREAM_PRINTED)?;
+    let mut digits = Vec::new(alloc);
+    for pair in stream.as_slice().chunks(2) {
+        digits.push(pair)?;
+    }
+    let trace = fed(alloc, digits.as_slice())?;
+    let done = run_with(&rt, alloc, &["replay"], trace, &[], &[])?;
+    assert_eq!(rt; done.exit.code, 0);
+    assert_eq!(rt; done.sink.bytes(), printed.as_slice());
+    Ok(())
+}
+
+#[test]
+fn each_read_that_fails_leaves_nothing_written(rt: HostRuntime) -> Result<(), Fail> {
+    let alloc = rt.alloc();
+    for read in 0..3 {
+        let failed = run_with(&rt, alloc, &["replay"], long_trace(alloc)?, &[read], &[])?;
+        assert_eq!(rt; failed.exit.code, 3, "at read {read}");
+        assert!(rt; failed.sink.bytes().is_empty(), "at read {read}");
+        assert!(rt; failed.exit.account.is_none(), "at read {read}");
+    }
+    let done = run_with(&rt, alloc, &["replay"], long_trace(alloc)?, &[3], &[])?;
+    assert_eq!(rt; done.exit.code, 0);
+    let printed = b"part 0 end 300 high 300 batches 300 bytes 20700\n\
+session 0 calls 300 replies 0 parked 0\ndone\n";
+    assert_eq!(rt; done.sink.bytes(), printed.as_slice());
     Ok(())
 }
 
 #[test]
 fn each_write_that_fails_leaves_the_front_of_the_output(rt: HostRuntime) -> Result<(), Fail> {
     let alloc = rt.alloc();
-    let fronts: [&[u8]; 2] = [b"", REPLY];
-    for (write, front) in fronts.iter().enumerate() {
-        let failed = run_with(
-            &rt,
-            alloc,
-            &["replay"],
-            trace(alloc, FRAME, b"\nend\n")?,
-            &[],
-            &[write as u64],
-        )?;
-        assert_eq!(rt; failed.exit.code, 4);
-        assert_eq!(rt; failed.sink.bytes(), *front);
-        assert!(rt; failed.exit.account.is_none());
+    let mut front = Bytes::new(alloc);
+    for (write, more) in THREE_LINES_PRINTED.iter().enumerate() {
+        let trace = joined(alloc, THREE_LINES)?;
+        let failed = run_with(&rt, alloc, &["replay"], trace, &[], &[write as u64])?;
+        assert_eq!(rt; failed.exit.code, 4, "at write {write}");
+        assert_eq!(rt; failed.sink.bytes(), front.as_slice(), "at write {write}");
+        assert!(rt; failed.exit.account.is_none(), "at write {write}");
+        for piece in *more {
+            front.extend(piece.as_bytes())?;
+        }
     }
-    let done = run_with(
-        &rt,
-        alloc,
-        &["replay"],
-        trace(alloc, FRAME, b"\nend\n")?,
-        &[],
-        &[2],
-    )?;
+    let trace = joined(alloc, THREE_LINES)?;
+    let done = run_with(&rt, alloc, &["replay"], trace, &[], &[4])?;
     assert_eq!(rt; done.exit.code, 0);
+    assert_eq!(rt; done.sink.bytes(), front.as_slice());
     Ok(())
 }
 
 #[test]
-fn a_frame_of_eight_mebibytes_that_is_no_produce_is_refused(rt: HostRuntime) -> Result<(), Fail> {
+fn a_frame_of_eight_mebibytes_that_is_no_request_is_another_form(
+    rt: HostRuntime,
+) -> Result<(), Fail> {
     let alloc = rt.alloc();
-    let mut text = bytes(alloc, b"topic t 1 0\nbytes 0 00800000")?;
+    let mut text = joined(alloc, &[TOPIC, TO_0, "00800000"])?;
     for _ in 0..262_144 {
         text.extend(b"0000000000000000000000000000000000000000000000000000000000000000")?;
     }
     text.extend(b"\nend\n")?;
     let other = run_with(&rt, alloc, &["replay"], text, &[], &[])?;
     assert_eq!(rt; other.exit.code, 7);
+    assert!(rt; other.sink.bytes().is_empty());
     Ok(())
 }
