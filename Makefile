@@ -1,5 +1,3 @@
-CRATE ?= kafka_room
-
 .PHONY: run build test check fmt bench clean
 
 # Without a proof: proving the program takes longer than a first look should. `make build` proves it.
@@ -10,11 +8,17 @@ run:
 build:
 	cd crates/kafka_room && rt run -- --version
 
+# The gate, as it is run before a merge.
 test:
-	rt all test
+	.ci/run
 
+# For the day's work: one crate, or with no CRATE every crate with its tests, the edits that must fail left out.
 check:
+ifdef CRATE
 	cd crates/$(CRATE) && rt check
+else
+	rt all test
+endif
 
 fmt:
 	for crate in crates/*/; do (cd $$crate && rt fmt) || exit 1; done
