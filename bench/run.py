@@ -13,18 +13,10 @@ import time
 ROOT = pathlib.Path(__file__).resolve().parent.parent
 PROGRAM = ROOT / "crates" / "kafka_room" / "out" / "kafka_room"
 
-# The baseline: a pass over the same trace that decodes the digits of each line, takes a checksum of the bytes (zlib's, which is
-# written in C), and writes the line again.
-PASS = """
-import sys, zlib
-for line in sys.stdin.buffer:
-    words = line.split()
-    if words[0] == b"bytes":
-        data = bytes.fromhex(words[2].decode())
-        zlib.crc32(data)
-        line = b"reply " + words[1] + b" " + data.hex().encode() + b"\\n"
-    sys.stdout.buffer.write(line)
-"""
+# The yardstick: reading the digits of the same trace and writing the bytes that they spell, and nothing else.
+YARDSTICK = ["basenc", "--base16", "-d"]
+# The least of so many runs counts.
+RUNS = 3
 
 
 class Wrong(Exception):
@@ -90,13 +82,14 @@ def fed(session, request):
     return b"bytes %d %s\n" % (session, request.hex().encode())
 
 
-def small(count):
-    """One partition: each record in a produce of its own, and a fetch of the newest behind it."""
+def small(requests, partitions):
+    """One session: in turns a record is produced to a partition, and the newest of that partition is fetched."""
     one = batch(b"value")
-    yield b"topic t 1 0\n"
-    for number in range(count):
-        yield fed(0, produce(2 * number, 0, one))
-        yield fed(0, fetch(2 * number + 1, 0, number))
+    yield b"topic t %d 0\n" % partitions
+    for number in range(requests // 2):
+        turn, partition = divmod(number, partitions)
+        yield fed(0, produce(2 * number, partition, one))
+        yield fed(0, fetch(2 * number + 1, partition, turn))
     yield b"end\n"
 
 
@@ -110,24 +103,13 @@ def large(count):
     yield b"end\n"
 
 
-def mixed(count):
-    """Four sessions and four partitions: in turns each session produces, and then fetches the newest of its neighbour's partition."""
-    one = batch(b"value")
-    yield b"topic t 4 0\n"
-    for number in range(count):
-        turn, session = divmod(number, 4)
-        if turn % 2 == 0:
-            yield fed(session, produce(number, session, one))
-        else:
-            yield fed(session, fetch(number, (session + 1) % 4, turn // 2))
-    yield b"end\n"
-
-
-def write(path, lines):
+def write(folder, lines):
     """Line by line, so that this process stays small: what the system tells of a child's memory begins with its parent's."""
-    with open(path, "wb") as trace:
+    with open(folder / "trace", "wb") as trace, open(folder / "digits", "wb") as digits:
         for line in lines:
             trace.write(line)
+            if line.startswith(b"bytes "):
+                digits.write(line.split()[2].upper())
 
 
 def timed(words, trace, out):
@@ -155,35 +137,40 @@ def told(out):
     return replies, records
 
 
+def least(words, source, out):
+    """The fewest seconds of several runs, and the most bytes."""
+    runs = [timed(words, source, out) for _ in range(RUNS)]
+    return min(seconds for seconds, _ in runs), max(memory for _, memory in runs)
+
+
 def measured(program, folder, lines, requests, produces):
-    """The program's seconds and bytes, the baseline's seconds, and the bytes of the trace."""
+    """The program's seconds and bytes, the yardstick's seconds, and the bytes of the trace."""
     trace, out = folder / "trace", folder / "out"
-    write(trace, lines)
-    seconds, memory = timed([str(program), "replay"], trace, out)
+    write(folder, lines)
+    seconds, memory = least([str(program), "replay"], trace, out)
     replies, records = told(out)
     if replies != requests:
         raise Wrong(f"{requests} requests had {replies} replies")
     if records != produces:
         raise Wrong(f"{produces} produces of one record left {records} records")
-    plain, _ = timed([sys.executable, "-c", PASS], trace, out)
+    plain, _ = least(YARDSTICK, folder / "digits", out)
     return seconds, memory, plain, trace.stat().st_size
 
 
 def show(name, requests, seconds, memory, plain, size):
     print(f"{name}: {requests} requests, {size / 1e6:.1f} MB of text")
     print(f"  {seconds:.3f} s, {requests / seconds:.0f} requests/s, {size / 1e6 / seconds:.1f} MB/s of text,"
-          f" peak memory {memory / 1e6:.1f} MB")
-    print(f"  {seconds / plain:.2f} times the baseline's {plain:.3f} s", flush=True)
+          f" peak memory {memory / 1e6:.1f} MB, {memory / size:.1f} times the text")
+    print(f"  {seconds / plain:.1f} times the yardstick's {plain:.3f} s", flush=True)
 
 
 def show_growth(program, folder, first):
-    print("growth: produces and fetches of four sessions", flush=True)
+    print("growth: one partition", flush=True)
     before = None
-    for rounds in (first, 2 * first, 4 * first):
-        requests = 8 * rounds
-        seconds, memory, plain, _ = measured(program, folder, mixed(requests), requests, 4 * rounds)
+    for requests in (first, 2 * first, 4 * first):
+        seconds, memory, plain, _ = measured(program, folder, small(requests, 1), requests, requests // 2)
         grown = "" if before is None else f", {seconds / before:.2f} times the time for half as many"
-        print(f"  {requests} requests: {seconds:.3f} s{grown}; {seconds / plain:.2f} times the baseline;"
+        print(f"  {requests} requests: {seconds:.3f} s{grown}; {seconds / plain:.1f} times the yardstick;"
               f" peak memory {memory / 1e6:.1f} MB", flush=True)
         before = seconds
 
@@ -191,9 +178,9 @@ def show_growth(program, folder, first):
 def main():
     options = argparse.ArgumentParser(description=__doc__)
     options.add_argument("program", nargs="?", type=pathlib.Path, default=PROGRAM)
-    options.add_argument("--small", type=int, default=20000, metavar="N", help="produces, and as many fetches")
+    options.add_argument("--small", type=int, default=20000, metavar="N", help="requests, every second one a fetch")
     options.add_argument("--large", type=int, default=31, metavar="N", help="batches of 1,048,576 bytes, at most 31")
-    options.add_argument("--growth", type=int, default=625, metavar="N", help="the rounds of 8 requests in the first of three runs")
+    options.add_argument("--growth", type=int, default=10000, metavar="N", help="the requests of the first of three runs")
     chosen = options.parse_args()
     if not os.access(chosen.program, os.X_OK):
         print(f"{chosen.program} isn't there: `make build` makes it", file=sys.stderr)
@@ -201,9 +188,11 @@ def main():
     with tempfile.TemporaryDirectory() as name:
         folder = pathlib.Path(name)
         try:
+            print(f"load of the machine: {os.getloadavg()[0]:.1f}, on {os.cpu_count()} processors")
             for title, lines, requests, produces in [
-                ("small", small(chosen.small), 2 * chosen.small, chosen.small),
-                ("large", large(chosen.large), chosen.large, chosen.large),
+                ("one partition", small(chosen.small, 1), chosen.small, chosen.small // 2),
+                ("64 partitions", small(chosen.small, 64), chosen.small, chosen.small // 2),
+                ("large batches", large(chosen.large), chosen.large, chosen.large),
             ]:
                 show(title, requests, *measured(chosen.program, folder, lines, requests, produces))
             show_growth(chosen.program, folder, chosen.growth)
