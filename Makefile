@@ -1,4 +1,4 @@
-.PHONY: run build test check fmt bench clean
+.PHONY: run build test check fmt bench compare clean
 
 # Without a proof: proving the program takes longer than a first look should. `make build` proves it.
 run:
@@ -26,6 +26,10 @@ fmt:
 # Times the program that `make build` leaves. bench/README.md says on what.
 bench:
 	python3 bench/run.py
+
+# Plays random traces by the model and by the program that `make build` leaves.
+compare:
+	python3 -B model/compare.py
 
 clean:
 	rm -rf crates/*/out

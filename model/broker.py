@@ -1,0 +1,283 @@
+"""A broker on one thread that scans an unordered list of waiting requests after every line. It is slow and plain on purpose."""
+
+from dataclasses import dataclass, field
+
+import batches
+import wire
+
+PORT = 9092
+LOG_LIMIT = 67_108_864
+REPLY_LIMIT = 52_428_800
+
+
+@dataclass
+class Partition:
+    followers: int
+    batches: list = field(default_factory=list)  # (base offset, count, bytes)
+    positions: dict = field(default_factory=dict)
+
+    @property
+    def log_end(self):
+        return sum(count for _, count, _ in self.batches)
+
+    @property
+    def high(self):
+        return min([self.log_end] + [self.positions.get(replica, 0) for replica in range(1, self.followers + 1)])
+
+    @property
+    def bytes(self):
+        return sum(len(data) for _, _, data in self.batches)
+
+    @property
+    def visible(self):
+        high = self.high
+        return sum(len(data) for base, count, data in self.batches if base + count <= high)
+
+    def start_of(self, offset):
+        """The byte place of the first batch whose last offset is at least this one."""
+        return sum(len(data) for base, count, data in self.batches if base + count <= offset)
+
+    def take(self, start, upto, limit, force):
+        """Whole batches from a byte place on, which end at or before `upto`, as many as fit; at least one where that is forced."""
+        taken, place = [], 0
+        for _, _, data in self.batches:
+            end = place + len(data)
+            if place >= start and end <= upto:
+                if sum(map(len, taken)) + len(data) > limit and not (force and not taken):
+                    break
+                taken.append(data)
+                if sum(map(len, taken)) > limit:
+                    break
+            place = end
+        return b"".join(taken)
+
+
+@dataclass
+class Part:
+    """What became of a named partition."""
+    topic: bytes
+    index: int
+    code: int = 0
+    number: int = -1
+    base: int = -1
+    count: int = 0
+    start: int = 0
+    most: int = 0
+
+
+@dataclass
+class Waiting:
+    session: int
+    request: wire.Request
+    parts: list
+    deadline: int
+
+
+@dataclass
+class Session:
+    inbox: bytes = b""
+    is_shut: bool = False
+    is_named: bool = False
+    end: str = None
+    calls: int = 0
+    replies: int = 0
+
+
+class Broker:
+    def __init__(self, topics):
+        self.topics = topics
+        self.partitions = [Partition(topic.followers) for topic in topics for _ in range(topic.partitions)]
+        self.sessions = [Session() for _ in range(64)]
+        self.waiting = []
+        self.moment = 0
+        self.out = []
+
+    def number_of(self, name, index):
+        before = 0
+        for topic in self.topics:
+            if topic.name == name:
+                return before + index if 0 <= index < topic.partitions else None
+            before += topic.partitions
+        return None
+
+    # ---- accepting
+
+    def append(self, fields, topic, index, data):
+        number, data = self.number_of(topic, index), data or b""
+        refused = lambda code: Part(topic, index, code)
+        if fields["transactional"] is not None:
+            return refused(42)
+        if number is None:
+            return refused(3)
+        if fields["acks"] not in (-1, 0, 1):
+            return refused(21)
+        code = batches.fault_code(data)
+        if code is not None:
+            return refused(code)
+        partition = self.partitions[number]
+        if partition.bytes + len(data) > LOG_LIMIT:
+            return refused(6)
+        base, count = partition.log_end, batches.count_of(data)
+        partition.batches.append((base, count, batches.stamped(data, base)))
+        return Part(topic, index, 0, number, base, count)
+
+    def look(self, fields, topic, index, offset, most):
+        number, replica = self.number_of(topic, index), fields["replica"]
+        refused = lambda code: Part(topic, index, code)
+        if number is None:
+            return refused(3)
+        partition = self.partitions[number]
+        if replica >= 0 and not 1 <= replica <= partition.followers:
+            return refused(9)
+        if not 0 <= offset <= partition.log_end:
+            return refused(1)
+        if replica >= 0:
+            partition.positions[replica] = max(offset, partition.positions.get(replica, 0))
+        return Part(topic, index, 0, number, start=partition.start_of(offset), most=max(0, most))
+
+    # ---- waiting
+
+    def is_satisfied(self, request, parts):
+        fields = request.fields
+        if request.key == 0:
+            return all(self.partitions[part.number].high >= part.base + part.count for part in parts if part.code == 0)
+        gauge = "visible" if fields["replica"] < 0 else "bytes"
+        counts = [min(part.most, max(0, getattr(self.partitions[part.number], gauge) - part.start)) for part in parts]
+        return sum(counts) >= min(max(0, fields["min"]), limit_of(fields))
+
+    def must_wait(self, request, parts):
+        fields = request.fields
+        if request.key == 0:
+            return fields["acks"] == -1 and any(part.code == 0 for part in parts) and not self.is_satisfied(request, parts)
+        if request.key == 1:
+            is_whole = parts and all(part.code == 0 for part in parts)
+            return fields["wait"] > 0 and is_whole and not self.is_satisfied(request, parts)
+        return False
+
+    # ---- answering
+
+    def answer(self, request, parts):
+        by_topic = iter(parts)
+        told = [(name, [next(by_topic) for _ in named]) for name, named in request.fields.get("topics", [])]
+        if request.key == 0:
+            return wire.produced(request.correlation, [(name, [self.told_produced(request, part) for part in named]) for name, named in told])
+        if request.key == 1:
+            budget = [limit_of(request.fields), False]
+            topics = [(name, [self.told_fetched(request, part, budget) for part in named]) for name, named in told]
+            return wire.fetched(request.correlation, request.fields["isolation"], topics)
+        if request.key == 3:
+            return wire.metadata(request.correlation, PORT, self.described(request.fields["names"]))
+        return wire.versions(request.correlation, 0 if request.version == 0 else 35)
+
+    def told_produced(self, request, part):
+        code = part.code
+        if code == 0 and request.fields["acks"] == -1 and self.partitions[part.number].high < part.base + part.count:
+            code = 7
+        return part.index, code, part.base
+
+    def told_fetched(self, request, part, budget):
+        if part.code != 0:
+            return part.index, part.code, -1, b""
+        partition = self.partitions[part.number]
+        upto = partition.visible if request.fields["replica"] < 0 else partition.bytes
+        data = partition.take(part.start, upto, min(part.most, budget[0]), not budget[1])
+        budget[0], budget[1] = max(0, budget[0] - len(data)), budget[1] or bool(data)
+        return part.index, 0, partition.high, data
+
+    def described(self, names):
+        if names is None:
+            return [(0, topic.name, topic.partitions, topic.followers) for topic in self.topics]
+        known = {topic.name: (0, topic.name, topic.partitions, topic.followers) for topic in self.topics}
+        return [known.get(name, (3, name, 0, 0)) for name in names]
+
+    def reply(self, number, request, parts):
+        self.sessions[number].replies += 1
+        self.out.append(b"reply %d %s\n" % (number, self.answer(request, parts).hex().encode()))
+
+    # ---- sessions
+
+    def finish(self, number, end):
+        self.sessions[number].end = end
+        self.out.append(b"end %d %s\n" % (number, end.encode()))
+
+    def can_act(self, number):
+        session = self.sessions[number]
+        if session.end is not None or any(waiting.session == number for waiting in self.waiting):
+            return False
+        return wire.next_frame(session.inbox)[0] != "not yet" or session.is_shut
+
+    def act(self, number):
+        session = self.sessions[number]
+        kind, what = wire.next_frame(session.inbox)
+        if kind == "too long":
+            self.finish(number, f"too-long {what}")
+        elif kind == "not yet":
+            self.finish(number, f"truncated {len(session.inbox)}" if session.inbox else "closed")
+        else:
+            try:
+                request = wire.read_request(what)
+            except wire.Refused as refused:
+                self.finish(number, f"refused {refused}")
+                return
+            session.inbox = session.inbox[4 + len(what):]
+            session.calls += 1
+            self.handle(number, request)
+
+    def handle(self, number, request):
+        fields = request.fields
+        take = self.append if request.key == 0 else self.look
+        parts = [take(fields, name, *part) for name, named in fields.get("topics", []) for part in named]
+        if self.must_wait(request, parts):
+            wait = fields["timeout"] if request.key == 0 else fields["wait"]
+            self.waiting.append(Waiting(number, request, parts, self.moment + max(0, wait)))
+        elif not (request.key == 0 and fields["acks"] == 0):
+            self.reply(number, request, parts)
+
+    # ---- lines
+
+    def scan(self):
+        for waiting in sorted(self.waiting, key=lambda waiting: waiting.session):
+            if self.is_satisfied(waiting.request, waiting.parts) or waiting.deadline <= self.moment:
+                self.waiting.remove(waiting)
+                self.reply(waiting.session, waiting.request, waiting.parts)
+
+    def line(self, kind, what):
+        if kind == "bytes":
+            number, data = what
+            session = self.sessions[number]
+            session.is_named = True
+            if session.end is None:
+                session.inbox += data
+        elif kind == "close":
+            self.sessions[what].is_named = self.sessions[what].is_shut = True
+        elif kind == "clock":
+            self.moment = max(self.moment, what)
+        while True:
+            self.scan()
+            number = next((number for number in range(64) if self.can_act(number)), None)
+            if number is None:
+                return
+            self.act(number)
+
+    def summary(self):
+        for number, partition in enumerate(self.partitions):
+            self.out.append(b"part %d end %d high %d batches %d bytes %d\n"
+                            % (number, partition.log_end, partition.high, len(partition.batches), partition.bytes))
+        for number, session in enumerate(self.sessions):
+            if session.is_named:
+                is_parked = any(waiting.session == number for waiting in self.waiting)
+                self.out.append(b"session %d calls %d replies %d parked %d\n" % (number, session.calls, session.replies, is_parked))
+        self.out.append(b"done\n")
+
+
+def limit_of(fields):
+    return min(max(0, fields["max"]), REPLY_LIMIT)
+
+
+def play(lines):
+    """All that the replay of these lines prints."""
+    broker = Broker([what for kind, what in lines if kind == "topic"])
+    for kind, what in lines:
+        broker.line(kind, what)
+    broker.summary()
+    return b"".join(broker.out)

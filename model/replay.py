@@ -1,0 +1,21 @@
+#!/usr/bin/env python3
+"""Replays the trace on standard input by the model alone, whatever the program takes so far."""
+
+import sys
+
+import broker
+import traces
+
+
+def main():
+    try:
+        lines = traces.read(sys.stdin.buffer.read())
+    except traces.Bad as bad:
+        print(f"line {bad.line}: {bad.kind}", file=sys.stderr)
+        return 2
+    sys.stdout.buffer.write(broker.play(lines))
+    return 0
+
+
+if __name__ == "__main__":
+    sys.exit(main())

@@ -1,0 +1,108 @@
+"""The text of a trace: its lines, and the first that is bad."""
+
+from dataclasses import dataclass
+
+MOST_BYTES = 67_108_864
+MOST_MOMENT = 10 ** 15
+MOST_COUNT = 4_294_967_295
+WORDS = {b"topic": 4, b"bytes": 3, b"close": 2, b"clock": 2, b"end": 1}
+DIGITS = b"0123456789abcdefABCDEF"
+
+
+class Bad(Exception):
+    """The first bad line: its number and its kind."""
+
+    def __init__(self, line, kind):
+        super().__init__(line, kind)
+        self.line, self.kind = line, kind
+
+
+class _Kind(Exception):
+    pass
+
+
+@dataclass
+class Topic:
+    name: bytes
+    partitions: int
+    followers: int
+
+
+def _number(word, most):
+    if not word.isdigit() or (len(word) > 1 and word[:1] == b"0") or int(word) > most:
+        raise _Kind("Number")
+    return int(word)
+
+
+def _hex(word):
+    if len(word) % 2 or any(digit not in DIGITS for digit in word):
+        raise _Kind("Hex")
+    return bytes.fromhex(word.decode())
+
+
+def _line(piece):
+    """One line by itself: its word, and what follows it."""
+    words = piece.split(b" ")
+    if words[0] not in WORDS:
+        raise _Kind("Word")
+    if len(words) != WORDS[words[0]] or b"" in words:
+        raise _Kind("Form")
+    if words[0] == b"topic":
+        return "topic", Topic(words[1], _number(words[2], MOST_COUNT), _number(words[3], MOST_COUNT))
+    if words[0] == b"bytes":
+        session = _number(words[1], 63)
+        return "bytes", (session, _hex(words[2]))
+    if words[0] == b"close":
+        return "close", _number(words[1], 63)
+    if words[0] == b"clock":
+        return "clock", _number(words[1], MOST_MOMENT)
+    return "end", None
+
+
+def _is_name(name):
+    letters = b"abcdefghijklmnopqrstuvwxyzABCDEFGHIJKLMNOPQRSTUVWXYZ0123456789._-"
+    return 1 <= len(name) <= 249 and name not in (b".", b"..") and all(letter in letters for letter in name)
+
+
+def may_declare(topics, topic):
+    return (
+        _is_name(topic.name)
+        and topic.name not in [other.name for other in topics]
+        and 1 <= topic.partitions
+        and sum(other.partitions for other in topics) + topic.partitions <= 64
+        and topic.followers <= 8
+    )
+
+
+def read(text):
+    """The lines of a trace. Raises Bad for the first bad line."""
+    if len(text) > MOST_BYTES:
+        raise Bad(text[:MOST_BYTES].count(b"\n") + 1, "TooLong")
+    pieces = text.split(b"\n")
+    if pieces[-1] == b"":
+        pieces.pop()
+    lines, topics, closed, moment, ended = [], [], set(), 0, False
+    for number, piece in enumerate(pieces, 1):
+        try:
+            kind, what = _line(piece)
+            if ended or (kind == "topic" and any(other != "topic" for other, _ in lines)):
+                raise _Kind("Order")
+            if kind == "clock" and what < moment:
+                raise _Kind("Order")
+            if kind == "bytes" and what[0] in closed or kind == "close" and what in closed:
+                raise _Kind("Order")
+            if kind == "topic" and not may_declare(topics, what):
+                raise _Kind("BadTopic")
+        except _Kind as bad:
+            raise Bad(number, bad.args[0]) from None
+        if kind == "topic":
+            topics.append(what)
+        elif kind == "close":
+            closed.add(what)
+        elif kind == "clock":
+            moment = what
+        ended = kind == "end"
+        lines.append((kind, what))
+    if not ended:
+        raise Bad(len(pieces) + 1, "NoEnd")
+    return lines
