@@ -3,7 +3,8 @@
 ghost use Rattle.std.specs.Prelude.{◌≡◌, IfOk};
 ghost use Rattle.std.specs.Option.{option_copied};
 
-use kbytes::{Bytes, NoMemory};
+use crate::bytes::Bytes;
+use crate::no_memory::NoMemory;
 use std::alloc::Global;
 
 /// A copy of these bytes.
