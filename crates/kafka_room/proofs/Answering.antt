@@ -24,7 +24,7 @@ use Rattle.kafka_room.specs.Handling.{text_at_once}
 use Rattle.kafka_room.specs.Carried.{IsCarried}
 use Rattle.kafka_room.specs.Delayed.{is_quiet}
 use Rattle.kafka_room.specs.Handled.{step_points}
-use Rattle.kafka_room.specs.Printed.{reply_line}
+use Rattle.kafka_room.specs.PrintedLine.{reply_line}
 use Rattle.kafka_room.proofs.Accepts.{IsFair}
 use Rattle.kafka_room.proofs.Fair.{decides_fair}
 use Rattle.kafka_room.proofs.ShownLogs.{IsThere, IsLooking, looking_shows, putting_shows, all_put, all_look}

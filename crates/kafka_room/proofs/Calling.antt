@@ -29,7 +29,7 @@ use Rattle.kafka_room.specs.IsRequest.{IsRequest}
 use Rattle.kafka_room.specs.PlainStream.{IsPlainStream}
 use Rattle.kafka_room.specs.Play.{brought, PlaysLine}
 use Rattle.kafka_room.specs.Ready.{IsReady, front_body}
-use Rattle.kafka_room.specs.RunOf.{input_of, is_named}
+use Rattle.kafka_room.specs.Contents.{input_of, is_named}
 use Rattle.kafka_room.specs.Steady.{IsSteady, all_points, AllBelow}
 use Rattle.kafka_room.specs.Trace.{IsPlainLine}
 use Rattle.kafka_room.specs.UnderWay.{to_come, IsUnderWay, IsServing}

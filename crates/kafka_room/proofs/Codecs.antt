@@ -8,7 +8,7 @@ use Rattle.kbytes.specs.Cursor.{Cursor, rest_of, moved}
 use Rattle.kbytes.specs.Reading.{◌>>=◌, Spells}
 use Rattle.kbytes.specs.Field.{Field, field, fields}
 use Rattle.kbytes.specs.FitsField.{FitsField}
-use Rattle.kbytes.proofs.Octets.{IsBytes-drop}
+use Rattle.kbytes.proofs.Laws.{IsBytes-drop}
 use Rattle.kafka_room.specs.declared.kwire.frame.WireFault.{WireFault}
 use Rattle.kafka_room.specs.Refusal.{Read, wire}
 

@@ -22,8 +22,8 @@ use Rattle.kafka_room.specs.declared.kwire.request.Ask.TheVariants.{Produce, Fet
 use Rattle.kafka_room.specs.declared.kwire.request.ProducePart.{ProducePart}
 use Rattle.kafka_room.specs.declared.kwire.request.FetchPart.{FetchPart}
 use Rattle.kafka_room.specs.declared.kanswer.accepted.Accepted.TheVariants.{Refused, Appended, Seen}
-use Rattle.kafka_room.specs.Configuration.{Configuration, partitions_of, followers_of}
-use Rattle.kafka_room.specs.Accepting.{Entry, Put, Followed, Looked, Outcome, Decision, Refuse, Decides, ProduceDecides, BatchDecides, append_outcome, fetch_decision, fetch_outcome, in_range_outcome, offset_of, look, code_of, part_from, part_of, produce_parts, fetch_parts, is_acks}
+use Rattle.kafka_room.specs.Configuration.{Configuration, partitions_of, followers_of, part_from, part_of}
+use Rattle.kafka_room.specs.Accepting.{Entry, Put, Followed, Looked, Outcome, Decision, Refuse, Decides, ProduceDecides, BatchDecides, append_outcome, fetch_decision, fetch_outcome, in_range_outcome, offset_of, look, code_of, produce_parts, fetch_parts, is_acks}
 use Rattle.kafka_room.proofs.Places.{some_is}
 use Rattle.kafka_room.proofs.Growth.{IsSized}
 use Rattle.kafka_room.proofs.Accepts.{IsFair}

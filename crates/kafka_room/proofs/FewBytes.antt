@@ -10,7 +10,7 @@ use Rattle.hex.proofs.HexLemmas.{decode_pairs-ok}
 use Rattle.kafka_room.specs.declared.trace_file.line.Line.{Line}
 use Rattle.kafka_room.specs.declared.trace_file.line.Line.TheVariants.{Topic, Feed, Shut, Clock, End}
 use Rattle.kafka_room.specs.IsLine.{IsLine, IsFeedLine, words_of}
-use Rattle.kafka_room.specs.RunOf.{bytes_in, input_of, is_named}
+use Rattle.kafka_room.specs.Contents.{bytes_in, input_of, is_named}
 use Rattle.kafka_room.specs.Trace.{pieces_of, without_empty_end, IsTrace}
 
 -- how many bytes these pieces have

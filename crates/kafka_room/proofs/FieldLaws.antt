@@ -12,9 +12,7 @@ use Rattle.kbytes.specs.Cursor.{Cursor, rest_of, moved}
 use Rattle.kbytes.specs.Reading.{◌>>=◌, Spells, integer_at, after_length, sized_at, not_null, string_at, count_from, array_at}
 use Rattle.kbytes.specs.Field.{Field, Int8, Int16, Int32, Int64, String, NullableString, Records, Array, field, integer, count_or_null}
 use Rattle.kbytes.specs.Fronts.{Leads}
-use Rattle.kbytes.proofs.Integers.{IsWide, wide_8, wide_16, wide_32, wide_64, cut, whole, front_of, Leads-spells}
-use Rattle.kbytes.proofs.Sized.{sized_spells, string_spells}
-use Rattle.kbytes.proofs.RoundTrips.{integer_reads, nullable_string_reads, records_reads, string_reads, array_reads}
+use Rattle.kbytes.proofs.Laws.{IsWide, wide_8, wide_16, wide_32, wide_64, cut, whole, front_of, Leads-spells, sized_spells, string_spells, integer_reads, nullable_string_reads, records_reads, string_reads, array_reads}
 use Rattle.kafka_room.proofs.Codecs.{IsField}
 
 -- what a reading gave, so that its type shows

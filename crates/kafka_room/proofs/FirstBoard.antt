@@ -20,7 +20,7 @@ use Rattle.kafka_room.specs.IsInOrder.{AreNewTopics, IsInOrder}
 use Rattle.kafka_room.specs.IsLawful.{places_in}
 use Rattle.kafka_room.specs.PlainForm.{IsPlainForm}
 use Rattle.kafka_room.specs.PlainStream.{IsPlainStream}
-use Rattle.kafka_room.specs.RunOf.{topic_in, configuration_of, input_of}
+use Rattle.kafka_room.specs.Contents.{topic_in, configuration_of, input_of}
 use Rattle.kafka_room.specs.Steady.{IsWhole, AllBelow, the_owner, all_points, IsSteady}
 use Rattle.kafka_room.specs.Trace.{IsPlainLine}
 use Rattle.kafka_room.specs.UnderWay.{IsUnderWay}

@@ -8,8 +8,7 @@ use Rattle.std.proofs.lemmas.List.{length-take, length-drop, length-append, take
 use Rattle.std.proofs.Math.Facts.{Fits-of_z}
 use Rattle.kbytes.specs.Field.{integer}
 use Rattle.kbytes.specs.Octets.{IsBytes}
-use Rattle.kbytes.proofs.Octets.{IsBytes-take}
-use Rattle.kbytes.proofs.Integers.{wide_32, integer_back}
+use Rattle.kbytes.proofs.Laws.{IsBytes-take, wide_32, integer_back}
 use Rattle.kafka_room.specs.declared.kwire.frame.Frame.TheVariants.{Whole, NotYet, TooLong}
 use Rattle.kafka_room.specs.Frames.{framed, IsFrameBody, frame_of_size, next_frame_of}
 

@@ -9,8 +9,7 @@ use Rattle.std.specs.Bool.{nat_eq}
 use Rattle.std.proofs.lemmas.List.{drop_all, length-replicate, get_or_append_left, get_or-append_right, get_or-replicate}
 use Rattle.std.proofs.lemmas.List.Sums.{sum_by-take-drop, sum_by-cons}
 use Rattle.kafka_room.specs.declared.kwire.config.Topic.{Topic}
-use Rattle.kafka_room.specs.Configuration.{partitions_of, followers_of}
-use Rattle.kafka_room.specs.Accepting.{part_from}
+use Rattle.kafka_room.specs.Configuration.{partitions_of, followers_of, part_from}
 
 module _ (topics : List Topic) (i : ℕ) (topic : Topic) (lt : i < length topics) (is : topic ≡ get_or topics i topic) where
   pub topic_here : drop i topics ≡ topic ∷ drop (i + 1) topics

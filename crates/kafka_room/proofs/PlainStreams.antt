@@ -3,7 +3,7 @@ use Rattle.std.proofs.Common.{◌≡◌, ◌≢◌, ◌↔◌, ℕ, ◌-◌, ◌
 use Rattle.std.specs.List.{AllByRecursion}
 use Rattle.std.proofs.lemmas.List.{take_all, length-drop}
 use Rattle.kbytes.specs.Octets.{IsBytes}
-use Rattle.kbytes.proofs.Octets.{IsBytes-drop}
+use Rattle.kbytes.proofs.Laws.{IsBytes-drop}
 use Rattle.kafka_room.specs.declared.kwire.frame.Frame.{Frame}
 use Rattle.kafka_room.specs.declared.kwire.frame.Frame.TheVariants.{Whole, NotYet, TooLong}
 use Rattle.kafka_room.specs.Frames.{framed, IsFrameBody, next_frame_of}

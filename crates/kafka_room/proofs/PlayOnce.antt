@@ -16,11 +16,11 @@ use Rattle.kafka_room.specs.declared.kwire.request.Ask.TheVariants.{Produce, Fet
 use Rattle.kafka_room.specs.declared.kwire.request.ProducePart.{ProducePart}
 use Rattle.kafka_room.specs.declared.kwire.request.Request.{Request}
 use Rattle.kafka_room.specs.declared.trace_file.line.Line.{Line}
-use Rattle.kafka_room.specs.Accepting.{Decision, Refuse, AskLog, Decides, ProduceDecides, BatchDecides, append_outcome, code_of, part_of, produce_parts, is_acks}
+use Rattle.kafka_room.specs.Accepting.{Decision, Refuse, AskLog, Decides, ProduceDecides, BatchDecides, append_outcome, code_of, produce_parts, is_acks}
+use Rattle.kafka_room.specs.Configuration.{part_of, Configuration}
 use Rattle.kafka_room.specs.Acting.{next_to_act, Acts, ActsOn, HandlesFrame}
 use Rattle.kafka_room.specs.Board.{Board, seat_at, next_call, opening, account_of}
 use Rattle.kafka_room.specs.Completing.{scanned}
-use Rattle.kafka_room.specs.Configuration.{Configuration}
 use Rattle.kafka_room.specs.Frames.{next_frame_of}
 use Rattle.kafka_room.specs.Handling.{Turned, handled, ended}
 use Rattle.kafka_room.specs.Play.{brought, Rests, PlaysLine, Plays, IsPlay}

@@ -11,8 +11,8 @@ use Rattle.kafka_room.specs.declared.kwire.request.ProducePart.{ProducePart}
 use Rattle.kafka_room.specs.declared.kwire.request.ProduceTopic.{ProduceTopic}
 use Rattle.kafka_room.specs.declared.kwire.request.FetchPart.{FetchPart}
 use Rattle.kafka_room.specs.declared.kwire.request.FetchTopic.{FetchTopic}
-use Rattle.kafka_room.specs.Configuration.{Configuration}
-use Rattle.kafka_room.specs.Accepting.{Decision, Refuse, BatchDecides, ProduceDecides, part_of, is_acks, produce_parts, fetch_parts, fetch_decision}
+use Rattle.kafka_room.specs.Configuration.{Configuration, part_of}
+use Rattle.kafka_room.specs.Accepting.{Decision, Refuse, BatchDecides, ProduceDecides, is_acks, produce_parts, fetch_parts, fetch_decision}
 use Rattle.kafka_room.specs.Carried.{IsCarried, OnTerms, HasProduced, fetch_decisions}
 use Rattle.kafka_room.proofs.Carrying.{carried_on, carried_none, all_zip_append}
 use Rattle.kafka_room.proofs.Accepts.{accepted_size}

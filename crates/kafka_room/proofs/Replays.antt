@@ -15,7 +15,7 @@ use Rattle.kafka_room.specs.PlainForm.{IsPlainForm}
 use Rattle.kafka_room.specs.Play.{Plays, IsPlay}
 use Rattle.kafka_room.specs.Printed.{summary_of}
 use Rattle.kafka_room.specs.Replay.{IsReplayOf, IsPlayFront, IsTextFront, IsReplayFront, IsOtherForm}
-use Rattle.kafka_room.specs.RunOf.{configuration_of}
+use Rattle.kafka_room.specs.Contents.{configuration_of}
 use Rattle.kafka_room.specs.Streams.{IsInput}
 use Rattle.kafka_room.specs.Trace.{pieces_of, IsPlainTrace}
 use Rattle.kafka_room.specs.UnderWay.{IsUnderWay}

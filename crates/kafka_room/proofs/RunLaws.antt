@@ -13,7 +13,7 @@ use Rattle.std.specs.Int.{w32}
 use Rattle.std.specs.List.{All, AllByRecursion, find, range_with_len}
 use Rattle.kbytes.specs.Octets.{IsBytes}
 use Rattle.kbytes.specs.Field.{integer}
-use Rattle.kbytes.proofs.Integers.{wide_32}
+use Rattle.kbytes.proofs.Laws.{wide_32}
 use Rattle.partlog.specs.History.{History}
 use Rattle.kafka_room.specs.declared.audit.account.Transcript.{Transcript}
 use Rattle.kafka_room.specs.declared.audit.account.Call.{Call}
@@ -25,7 +25,8 @@ use Rattle.kafka_room.specs.Configuration.{Configuration}
 use Rattle.kafka_room.specs.Frames.{framed, IsFrameBody, next_frame_of}
 use Rattle.kafka_room.specs.Histories.{all_calls, ticks_of}
 use Rattle.kafka_room.specs.Fits.{EndFits, IsUnfinished}
-use Rattle.kafka_room.specs.RunOf.{configuration_of, bytes_in, names, input_of, is_named, is_shut, sessions_of, rising_from, IsNotCut, IsSessionOf, IsRunOf}
+use Rattle.kafka_room.specs.RunOf.{IsNotCut, IsSessionOf, IsRunOf}
+use Rattle.kafka_room.specs.Contents.{configuration_of, bytes_in, names, input_of, is_named, is_shut, sessions_of, rising_from}
 use Rattle.kafka_room.specs.Trace.{IsPlainLine}
 use Rattle.kafka_room.specs.Board.{Board, Seat, Waiting, empty_seat, new_transcript, seat_at, transcript_at, opening, put_before, passes_of, account_of}
 use Rattle.kafka_room.specs.Handling.{Turned, with_call, seat_with}

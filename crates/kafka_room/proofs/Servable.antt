@@ -17,8 +17,8 @@ use Rattle.kafka_room.specs.declared.kwire.request.Ask.{Ask}
 use Rattle.kafka_room.specs.declared.kwire.request.Ask.TheVariants.{Produce, Fetch, Metadata, Versions}
 use Rattle.kafka_room.specs.declared.kwire.request.FetchPart.{FetchPart}
 use Rattle.kafka_room.specs.declared.kwire.request.ProducePart.{ProducePart}
-use Rattle.kafka_room.specs.Configuration.{Configuration, followers_of}
-use Rattle.kafka_room.specs.Accepting.{Entry, Put, Looked, Followed, Outcome, Decision, Refuse, AskLog, Decides, BatchDecides, ProduceDecides, fetch_decision, fetch_outcome, in_range_outcome, offset_of, look, part_of, is_acks, produce_parts, fetch_parts}
+use Rattle.kafka_room.specs.Configuration.{Configuration, followers_of, part_of}
+use Rattle.kafka_room.specs.Accepting.{Entry, Put, Looked, Followed, Outcome, Decision, Refuse, AskLog, Decides, BatchDecides, ProduceDecides, fetch_decision, fetch_outcome, in_range_outcome, offset_of, look, is_acks, produce_parts, fetch_parts}
 use Rattle.kafka_room.specs.Acceptance.{entered, accept_all, shown_of}
 use Rattle.kafka_room.specs.AreReadings.{IsCarriable, named_count}
 use Rattle.kafka_room.specs.Board.{history_at, empty_history}

@@ -7,7 +7,7 @@ use Rattle.std.proofs.lemmas.Grind.{flat_map-append}
 use Rattle.std.specs.Int.{w32}
 use Rattle.std.specs.List.{AllByRecursion, flat_map, find, range_with_len}
 use Rattle.kbytes.specs.Field.{integer}
-use Rattle.kbytes.proofs.Integers.{wide_32}
+use Rattle.kbytes.proofs.Laws.{wide_32}
 use Rattle.kafka_room.specs.declared.audit.account.Call.{Call}
 use Rattle.kafka_room.specs.declared.audit.account.CallHow.TheVariants.{Quiet, AtOnce}
 use Rattle.kafka_room.specs.declared.kwire.frame.Frame.{Frame}
@@ -29,7 +29,7 @@ use Rattle.kafka_room.specs.IsRequest.{IsRequest}
 use Rattle.kafka_room.specs.PlainStream.{IsPlainBody, IsPlainStream}
 use Rattle.kafka_room.specs.Play.{Rests}
 use Rattle.kafka_room.specs.Ready.{IsReady, front_body}
-use Rattle.kafka_room.specs.RunOf.{bytes_in, input_of}
+use Rattle.kafka_room.specs.Contents.{bytes_in, input_of}
 use Rattle.kafka_room.specs.UnderWay.{to_come, IsUnderWay, IsServing}
 use Rattle.kafka_room.proofs.Accepts.{IsFair}
 use Rattle.kafka_room.proofs.Fair.{parts_size, decides_fair}

@@ -20,8 +20,8 @@ use Rattle.kafka_room.specs.declared.kanswer.accepted.Accepted.TheVariants.{Refu
 use Rattle.kafka_room.specs.declared.kwire.config.Topic.{Topic}
 use Rattle.kafka_room.specs.declared.kwire.request.FetchPart.{FetchPart}
 use Rattle.kafka_room.specs.declared.kwire.request.ProducePart.{ProducePart}
-use Rattle.kafka_room.specs.Configuration.{Configuration, followers_of}
-use Rattle.kafka_room.specs.Accepting.{Entry, Put, Looked, Outcome, Decision, Refuse, AskLog, BatchDecides, ProduceDecides, fetch_decision, fetch_outcome, in_range_outcome, look, part_of, is_acks}
+use Rattle.kafka_room.specs.Configuration.{Configuration, followers_of, part_of}
+use Rattle.kafka_room.specs.Accepting.{Entry, Put, Looked, Outcome, Decision, Refuse, AskLog, BatchDecides, ProduceDecides, fetch_decision, fetch_outcome, in_range_outcome, look, is_acks}
 use Rattle.kafka_room.specs.Acceptance.{entered, accept_all, shown_of}
 use Rattle.kafka_room.specs.Board.{history_at, empty_history}
 use Rattle.kafka_room.specs.Carried.{HasNoFollowers}

@@ -5,7 +5,7 @@ use Rattle.std.specs.List.{flat_map, AllByRecursion}
 use Rattle.std.proofs.lemmas.Bool.{cases_lt, lt-ltb, le-ltb}
 use Rattle.std.proofs.lemmas.List.{take-append-le, drop-append-le, take_at, drop_at, length-drop, length-take}
 use Rattle.kbytes.specs.Field.{integer}
-use Rattle.kbytes.proofs.Integers.{wide_32}
+use Rattle.kbytes.proofs.Laws.{wide_32}
 use Rattle.kafka_room.specs.declared.kwire.frame.Frame.{Frame}
 use Rattle.kafka_room.specs.declared.kwire.frame.Frame.TheVariants.{Whole, NotYet, TooLong}
 use Rattle.kafka_room.specs.Frames.{framed, IsFrameBody, frame_of_size, next_frame_of}

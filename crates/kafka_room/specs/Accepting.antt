@@ -1,9 +1,7 @@
 -- Accepting a request: what becomes of each named partition, from the state that is found, and the entry that it leaves.
-use Rattle.std.specs.Prelude.{ℕ, ◌+◌, ◌≡◌, ◌⊎◌, ℤ, pos, negsuc, Bool, ◌&&◌, ◌||◌, List, [], ◌∷◌, length, map, nat_lt, nat_le, if◌then◌else◌, Option, Some, None, unwrap_or, MatchOption, MatchBool, slice_index}
+use Rattle.std.specs.Prelude.{ℕ, ◌+◌, ◌≡◌, ◌⊎◌, ℤ, pos, negsuc, Bool, ◌&&◌, ◌||◌, List, [], length, map, nat_lt, nat_le, if◌then◌else◌, Option, Some, None, unwrap_or, MatchOption, MatchBool, slice_index}
 use Rattle.std.specs.List.{flat_map, AllZip}
-use Rattle.std.specs.Cmp.Lexicographic.{pointwise}
 use Rattle.std.specs.Ordering.{int_eq}
-use Rattle.std.specs.Bool.{nat_eq}
 use Rattle.partlog.specs.State.{PartState as State}
 use Rattle.partlog.specs.Gauges.{gauges_of}
 use Rattle.partlog.specs.Start.{start_of}
@@ -12,8 +10,7 @@ use Rattle.kbatch.specs.declared.fault.BatchFault.TheVariants.{TooLarge, Short, 
 use Rattle.kbatch.specs.declared.record.Record.{Record}
 use Rattle.kbatch.specs.Batch.{IsBatch}
 use Rattle.kbatch.specs.Fault.{IsFirstFault}
-use Rattle.kafka_room.specs.Configuration.{Configuration, followers_of}
-use Rattle.kafka_room.specs.declared.kwire.config.Topic.{Topic}
+use Rattle.kafka_room.specs.Configuration.{Configuration, followers_of, part_of}
 use Rattle.kafka_room.specs.declared.kwire.request.Ask.{Ask}
 use Rattle.kafka_room.specs.declared.kwire.request.Ask.TheVariants.{Produce, Fetch, Metadata, Versions}
 use Rattle.kafka_room.specs.declared.kwire.request.ProducePart.{ProducePart}
@@ -22,17 +19,6 @@ use Rattle.kafka_room.specs.declared.kwire.request.FetchPart.{FetchPart}
 use Rattle.kafka_room.specs.declared.kwire.request.FetchTopic.{FetchTopic}
 use Rattle.kafka_room.specs.declared.kanswer.accepted.Accepted.{Accepted}
 use Rattle.kafka_room.specs.declared.kanswer.accepted.Accepted.TheVariants.{Refused, Appended, Seen}
-
--- the number of a partition, counted over all topics, where there is one
-abbrev pub part_from : ℕ → List Topic → List ℕ → ℤ → Option ℕ
-part_from before [] name index = None
-part_from before (topic ∷ topics) name (negsuc n) = None
-part_from before (topic ∷ topics) name (pos n) =
-    if pointwise nat_eq topic.name name then (if nat_lt n topic.partitions then Some (before + n) else None)
-    else part_from (before + topic.partitions) topics name (pos n)
-
-abbrev pub part_of : Configuration → List ℕ → ℤ → Option ℕ
-part_of config name index = part_from 0 config.topics name index
 
 -- the entry that is left in a partition's history: a batch of so many records as it was sent, a follower's fetch in range, or a look
 pub data Entry : Type 0 where

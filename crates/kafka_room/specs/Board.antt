@@ -9,7 +9,7 @@ use Rattle.kafka_room.specs.declared.audit.account.PartAccount.{PartAccount}
 use Rattle.kafka_room.specs.declared.audit.account.Transcript.{Transcript}
 use Rattle.kafka_room.specs.declared.kwire.request.Request.{Request}
 use Rattle.kafka_room.specs.Configuration.{Configuration, followers_of}
-use Rattle.kafka_room.specs.Operation.{Operation}
+use Rattle.opcond.specs.Operation.{Operation}
 use Rattle.kafka_room.specs.Histories.{calls_in}
 use Rattle.kafka_room.specs.Handled.{Step}
 use Rattle.kafka_room.specs.IsLawful.{is_won_by}

@@ -8,8 +8,8 @@ use Rattle.kafka_room.specs.declared.broker.accept.Terms.{Terms}
 use Rattle.kafka_room.specs.declared.kwire.config.Topic.{Topic}
 use Rattle.kafka_room.specs.declared.kwire.request.ProduceTopic.{ProduceTopic}
 use Rattle.kafka_room.specs.declared.kwire.request.FetchTopic.{FetchTopic}
-use Rattle.kafka_room.specs.Configuration.{Configuration}
-use Rattle.kafka_room.specs.Accepting.{Decision, ProduceDecides, produce_parts, fetch_parts, fetch_decision, part_of}
+use Rattle.kafka_room.specs.Configuration.{Configuration, part_of}
+use Rattle.kafka_room.specs.Accepting.{Decision, ProduceDecides, produce_parts, fetch_parts, fetch_decision}
 use Rattle.kafka_room.specs.Acceptance.{accept_all, steps_of, shown_of}
 use Rattle.kafka_room.specs.Delayed.{results_of}
 use Rattle.kafka_room.specs.Handled.{step_points}

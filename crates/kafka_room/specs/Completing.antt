@@ -15,8 +15,8 @@ use Rattle.kafka_room.specs.Answer.{answer}
 use Rattle.kafka_room.specs.Delayed.{Shown, values_of}
 use Rattle.kafka_room.specs.Handled.{Step, operation_parts, part_in}
 use Rattle.kafka_room.specs.Histories.{clock_part, no_state}
-use Rattle.kafka_room.specs.Operation.{tally}
-use Rattle.kafka_room.specs.Printed.{reply_line}
+use Rattle.opcond.specs.Tally.{tally}
+use Rattle.kafka_room.specs.PrintedLine.{reply_line}
 use Rattle.kafka_room.specs.Board.{Board, Waiting, history_at, most_sessions, seat_at, transcript_at, next_call}
 use Rattle.kafka_room.specs.Acceptance.{entered}
 use Rattle.kafka_room.specs.Handling.{Turned}

@@ -1,6 +1,8 @@
 -- The configuration: the port that metadata tells, and the topics in the order in which they were declared. Partitions are
 -- numbered from 0 over all topics.
-use Rattle.std.specs.Prelude.{ℕ, ◌+◌, ◌<◌, ◌≤◌, ◌≢◌, Bool, ◌&&◌, ◌||◌, List, length, map, sum_by, replicate, codes, nat_le, ◌==◌, Contains, IsTrue}
+use Rattle.std.specs.Prelude.{ℕ, ◌+◌, ◌<◌, ◌≤◌, ◌≢◌, ℤ, pos, negsuc, Bool, ◌&&◌, ◌||◌, List, [], ◌∷◌, length, map, sum_by, replicate, codes, nat_lt, nat_le, ◌==◌, if◌then◌else◌, Option, Some, None, Contains, IsTrue}
+use Rattle.std.specs.Bool.{nat_eq}
+use Rattle.std.specs.Cmp.Lexicographic.{pointwise}
 use Rattle.std.specs.List.{flat_map, list_all}
 use Rattle.kafka_room.specs.declared.kwire.config.Topic.{Topic}
 
@@ -26,6 +28,17 @@ names_of topics = map (λ topic. topic.name) topics
 
 abbrev pub partitions_of : List Topic → ℕ
 partitions_of topics = sum_by (λ topic. topic.partitions) topics
+
+-- the number of a partition, counted over all topics, where there is one
+abbrev pub part_from : ℕ → List Topic → List ℕ → ℤ → Option ℕ
+part_from before [] name index = None
+part_from before (topic ∷ topics) name (negsuc n) = None
+part_from before (topic ∷ topics) name (pos n) =
+    if pointwise nat_eq topic.name name then (if nat_lt n topic.partitions then Some (before + n) else None)
+    else part_from (before + topic.partitions) topics name (pos n)
+
+abbrev pub part_of : Configuration → List ℕ → ℤ → Option ℕ
+part_of config name index = part_from 0 config.topics name index
 
 -- the number of followers of each partition, in order
 abbrev pub followers_of : List Topic → List ℕ

@@ -9,7 +9,9 @@ use Rattle.kafka_room.specs.declared.kwire.request.Ask.TheVariants.{Produce, Fet
 use Rattle.kafka_room.specs.declared.kwire.request.FetchPart.{FetchPart}
 use Rattle.kafka_room.specs.declared.kanswer.accepted.Accepted.{Accepted}
 use Rattle.kafka_room.specs.declared.kanswer.accepted.Accepted.TheVariants.{Refused, Appended, Seen}
-use Rattle.kafka_room.specs.Operation.{Need, Operation, tally}
+use Rattle.opcond.specs.Tally.{tally}
+use Rattle.opcond.specs.declared.need.Need.{Need}
+use Rattle.opcond.specs.Operation.{Operation}
 use Rattle.kafka_room.specs.Accepting.{fetch_parts}
 
 -- what became of a named partition, and a state of it

@@ -7,7 +7,7 @@ use Rattle.kafka_room.specs.declared.audit.account.CallHow.TheVariants.{Quiet, A
 use Rattle.kafka_room.specs.declared.trace_file.line.Line.{Line}
 use Rattle.kafka_room.specs.Frames.{framed, IsFrameBody}
 use Rattle.kafka_room.specs.Fits.{IsUnfinished}
-use Rattle.kafka_room.specs.RunOf.{input_of, is_named}
+use Rattle.kafka_room.specs.Contents.{input_of, is_named}
 use Rattle.kafka_room.specs.Board.{Board, Seat, new_transcript, seat_at}
 
 -- a call that needn't wait

@@ -16,7 +16,8 @@ use Rattle.kafka_room.specs.declared.kwire.request.Request.{Request}
 use Rattle.kafka_room.specs.declared.kanswer.accepted.Accepted.{Accepted}
 use Rattle.kafka_room.specs.declared.kanswer.accepted.Accepted.TheVariants.{Refused, Appended, Seen}
 use Rattle.kafka_room.specs.IsRequest.{IsRequest}
-use Rattle.kafka_room.specs.Operation.{Operation, IsSatisfied, IsOverdue, IsAnswerable}
+use Rattle.opcond.specs.Tally.{IsSatisfied, IsOverdue, IsAnswerable}
+use Rattle.opcond.specs.Operation.{Operation}
 use Rattle.kafka_room.specs.Accepting.{Entry, Put, Followed, Looked, Outcome, Decision, Refuse, AskLog, Decides}
 use Rattle.kafka_room.specs.Delayed.{Shown, operation_of, values_of, results_of, becomes_delayed, is_quiet}
 use Rattle.kafka_room.specs.Histories.{clock_part, no_state, before_point, at_point, final_state, event_at, moment_at}

@@ -15,7 +15,8 @@ use Rattle.kafka_room.specs.Configuration.{Configuration}
 use Rattle.kafka_room.specs.Delayed.{Shown, becomes_delayed, is_quiet, operation_of, results_of}
 use Rattle.kafka_room.specs.Handled.{step_points}
 use Rattle.kafka_room.specs.Histories.{clock_part}
-use Rattle.kafka_room.specs.Printed.{reply_line, end_line}
+use Rattle.kafka_room.specs.Printed.{end_line}
+use Rattle.kafka_room.specs.PrintedLine.{reply_line}
 use Rattle.kafka_room.specs.Board.{Board, Seat, seat_at, transcript_at, next_call}
 use Rattle.kafka_room.specs.Acceptance.{Noted, accept_all, steps_of, shown_of}
 

@@ -4,7 +4,7 @@ use Rattle.std.specs.List.{flat_map, AllPairs}
 use Rattle.kafka_room.specs.declared.trace_file.line.Line.{Line}
 use Rattle.kafka_room.specs.declared.trace_file.line.Line.TheVariants.{Topic, Feed, Shut, Clock, End}
 use Rattle.kafka_room.specs.Configuration.{IsNewTopic}
-use Rattle.kafka_room.specs.RunOf.{topic_in, names}
+use Rattle.kafka_room.specs.Contents.{topic_in, names}
 
 abbrev pub IsTopic : Line → Type 0
 IsTopic (Topic name partitions followers) = Unit {0}

@@ -6,8 +6,6 @@ pub mod IsRequest
 pub mod Frames
 -- the bytes of replies
 pub mod Spelling
--- what a request that waits needs
-pub mod Operation
 -- what becomes of each named partition, and the entry that it leaves
 pub mod Accepting
 -- whether a request waits, and as what
@@ -28,7 +26,11 @@ pub mod IsLawful
 pub mod Refusal
 -- a transcript fits its input, and the bytes sent
 pub mod Fits
--- the printed lines
+-- what the lines of a trace say
+pub mod Contents
+-- one printed line
+pub mod PrintedLine
+-- what is printed of an account
 pub mod Printed
 -- what the account of a trace's run is to the trace
 pub mod RunOf

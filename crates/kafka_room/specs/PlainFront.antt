@@ -6,7 +6,7 @@ use Rattle.kafka_room.specs.declared.trace_file.line.Line.TheVariants.{Topic, Fe
 use Rattle.kafka_room.specs.declared.trace_file.plain_trace.Stage.{Stage}
 use Rattle.kafka_room.specs.declared.trace_file.plain_trace.Stage.TheVariants.{Topics, Feeds, Ended}
 use Rattle.kafka_room.specs.Configuration.{IsNewTopic}
-use Rattle.kafka_room.specs.RunOf.{topic_in}
+use Rattle.kafka_room.specs.Contents.{topic_in}
 use Rattle.kafka_room.specs.IsInOrder.{IsTopic, MayFollow, AreNewTopics}
 use Rattle.kafka_room.specs.Trace.{IsPlainLine}
 

@@ -1,8 +1,7 @@
--- The printed lines. Each ends with a line feed; frames are printed in lower case hex.
+-- What is printed of an account.
 use Rattle.std.specs.Prelude.{ℕ, ◌+◌, ◌≡◌, Bool, true, false, List, [], ◌∷◌, ◌++◌, length, sum_by, codes, if◌then◌else◌, Option, Some, None}
 use Rattle.std.specs.List.{flat_map, zip, AllZip}
 use Rattle.std.specs.Fmt.{decimal, signed_decimal}
-use Rattle.hex.specs.Hex.{encode_lower}
 use Rattle.partlog.specs.State.{PartState as State, high_of, state_of}
 use Rattle.kafka_room.specs.declared.audit.account.Account.{Account}
 use Rattle.kafka_room.specs.declared.audit.account.PartAccount.{PartAccount}
@@ -15,19 +14,9 @@ use Rattle.kafka_room.specs.declared.audit.account.SessionEnd.TheVariants as end
 use Rattle.kafka_room.specs.declared.kwire.frame.WireFault.{WireFault}
 use Rattle.kafka_room.specs.declared.kwire.frame.WireFault.TheVariants as refusals
 use Rattle.kafka_room.specs.declared.kwire.reply.Reply.{Reply}
-use Rattle.kafka_room.specs.Spelling.{spelling}
+use Rattle.kafka_room.specs.PrintedLine.{line_of, reply_line}
 use Rattle.kafka_room.specs.Histories.{history_of}
 use Rattle.kafka_room.specs.Fits.{HasReplies, answered_of}
-
--- a word, a space and a number
-abbrev pub counted : List ℕ → ℕ → List ℕ
-counted word n = word ++ 32 ∷ decimal n
-
--- words separated by one space, and a line feed
-abbrev pub line_of : List (List ℕ) → List ℕ
-line_of [] = 10 ∷ []
-line_of (word ∷ []) = word ++ 10 ∷ []
-line_of (word ∷ next ∷ words) = word ++ 32 ∷ line_of (next ∷ words)
 
 abbrev pub refusal_words : WireFault → List (List ℕ)
 refusal_words (refusals.BadRequest at) = codes "bad-request" ∷ decimal at ∷ []
@@ -46,10 +35,6 @@ end_words ends.CallsFull = codes "calls-full" ∷ []
 end_words ends.ReadFault = codes "read-fault" ∷ []
 end_words ends.WriteFault = codes "write-fault" ∷ []
 end_words ends.NoMemory = codes "no-memory" ∷ []
-
--- `reply S HEX`
-abbrev pub reply_line : ℕ → Reply → List ℕ
-reply_line session reply = line_of (codes "reply" ∷ decimal session ∷ encode_lower (spelling reply) ∷ [])
 
 -- `end S NAME`, where the session ended
 abbrev pub end_line : ℕ → Option SessionEnd → List ℕ

@@ -7,7 +7,8 @@ use Rattle.kafka_room.specs.Handling.{Turned}
 use Rattle.kafka_room.specs.IsLawful.{IsLawful}
 use Rattle.kafka_room.specs.PlainForm.{IsPlainForm}
 use Rattle.kafka_room.specs.Play.{Plays, IsPlay}
-use Rattle.kafka_room.specs.RunOf.{IsRunOf, configuration_of}
+use Rattle.kafka_room.specs.RunOf.{IsRunOf}
+use Rattle.kafka_room.specs.Contents.{configuration_of}
 
 -- what the replay of these lines comes to
 pub record IsReplayOf (lines : List Line) (account : Account) (text : List ℕ) : Type 0 where

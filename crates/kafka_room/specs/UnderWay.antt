@@ -6,7 +6,7 @@ use Rattle.kafka_room.specs.Carried.{HasNoFollowers}
 use Rattle.kafka_room.specs.Fed.{IsFedBy, IsAtRest}
 use Rattle.kafka_room.specs.Fits.{IsUnfinished}
 use Rattle.kafka_room.specs.PlainStream.{IsPlainStream}
-use Rattle.kafka_room.specs.RunOf.{input_of, is_named}
+use Rattle.kafka_room.specs.Contents.{input_of, is_named}
 use Rattle.kafka_room.specs.Steady.{IsSteady}
 
 -- what a session will have received, but for what it handled

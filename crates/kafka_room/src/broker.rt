@@ -10,5 +10,3 @@ pub mod lone;
 pub mod opening;
 pub mod plain;
 pub mod reply;
-pub mod summary;
-pub mod tally;

@@ -1,7 +1,6 @@
 //! Requests, replies, frames and topics.
 
 pub mod config;
-pub mod copies;
 pub mod frame;
 pub mod inbox;
 pub mod next_frame;
@@ -18,7 +17,6 @@ pub mod reply_bytes;
 pub mod request;
 
 pub use config::{Config, ConfigFault, Topic};
-pub use copies::copied;
 pub use frame::{Frame, WireFault};
 pub use inbox::Inbox;
 pub use next_frame::next_frame;

@@ -11,14 +11,13 @@ ghost use Rattle.kafka_room.specs.IsLawful.{IsLawful};
 ghost use Rattle.kafka_room.specs.PlainForm.{IsPlainForm};
 ghost use Rattle.kafka_room.specs.Play.{Plays};
 ghost use Rattle.kafka_room.specs.Replay.{IsReplayOf, IsReplay, IsPlayFront, IsTextFront, IsReplayFront, IsOtherForm, IsSilent};
-ghost use Rattle.kafka_room.specs.RunOf.{configuration_of};
+ghost use Rattle.kafka_room.specs.Contents.{configuration_of};
 ghost use Rattle.kafka_room.specs.Trace.{IsPlainLine};
 ghost use Rattle.kafka_room.specs.UnderWay.{IsUnderWay};
 
-use crate::audit::Account;
+use crate::audit::{Account, put_summary};
 use crate::broker::lone::Lone;
 use crate::broker::plain::are_plain_streams;
-use crate::broker::summary::put_summary;
 use crate::streams::{Input, Unread, read_all, write_all};
 use crate::trace_file::{Line, PlainTrace, read_plain_trace};
 use kbytes::{Bytes, NoMemory};

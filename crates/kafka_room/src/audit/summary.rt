@@ -7,7 +7,7 @@ ghost use Rattle.partlog.specs.Added.{log_end_of};
 ghost use Rattle.kafka_room.specs.Printed.{part_line, session_line, summary_of, numbered};
 
 use crate::audit::{Account, PartAccount, Transcript};
-use crate::broker::tally::{batch_count, parked_count, reply_count};
+use crate::audit::tally::{batch_count, parked_count, reply_count};
 use itoa::Buffer;
 use kbytes::{Bytes, List, NoMemory};
 use partlog::{high_watermark, log_end};

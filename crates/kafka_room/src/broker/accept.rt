@@ -5,8 +5,8 @@ ghost use Rattle.kafka_room.specs.declared.kanswer.accepted.Accepted.TheVariants
 ghost use Rattle.partlog.specs.History.{History};
 ghost use Rattle.partlog.specs.State.{PartState, state_of};
 ghost use Rattle.kbatch.specs.Kept.{count_of};
-ghost use Rattle.kafka_room.specs.Configuration.{partitions_of};
-ghost use Rattle.kafka_room.specs.Accepting.{Decision, AskLog, Refuse, Outcome, look, append_outcome, BatchDecides, ProduceDecides, fetch_decision, part_of, code_of, is_acks};
+ghost use Rattle.kafka_room.specs.Configuration.{partitions_of, part_of};
+ghost use Rattle.kafka_room.specs.Accepting.{Decision, AskLog, Refuse, Outcome, look, append_outcome, BatchDecides, ProduceDecides, fetch_decision, code_of, is_acks};
 ghost use Rattle.kafka_room.specs.Board.{history_at};
 ghost use Rattle.kafka_room.specs.Carried.{IsCarried, HasNoFollowers, OnTerms, HasProduced, fetch_decisions};
 

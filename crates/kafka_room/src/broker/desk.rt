@@ -6,8 +6,8 @@ ghost use Rattle.kafka_room.specs.Frames.{next_frame_of};
 
 use crate::audit::{Call, Transcript};
 use crate::kwire::inbox::Inbox;
-use crate::kwire::{Frame, copied, next_frame};
-use kbytes::{Bytes, List, NoMemory};
+use crate::kwire::{Frame, next_frame};
+use kbytes::{Bytes, List, NoMemory, copied};
 use std::alloc::Global;
 use std::marker::Model;
 

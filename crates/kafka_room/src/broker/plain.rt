@@ -3,7 +3,7 @@
 ghost use Rattle.std.specs.Prelude.{◌≡◌, ◌↔◌, IsTrue, IfOk};
 ghost use Rattle.kafka_room.specs.PlainStream.{IsPlainAsk, IsPlainBody, IsPlainStream};
 ghost use Rattle.kafka_room.specs.ArePlainStreams.{ArePlainStreams};
-ghost use Rattle.kafka_room.specs.RunOf.{input_of};
+ghost use Rattle.kafka_room.specs.Contents.{input_of};
 
 use crate::kwire::read_request::read_request;
 use crate::kwire::{Ask, Frame, WireFault, next_frame};

@@ -2,8 +2,8 @@
 ghost use Rattle.std.specs.Prelude.{◌≡◌, Some, map, IfOk};
 ghost use Rattle.kafka_room.specs.Answer.{info_as, info_of, infos_of};
 
-use crate::kwire::{Topic, TopicInfo, copied};
-use kbytes::{Bytes, List, NoMemory};
+use crate::kwire::{Topic, TopicInfo};
+use kbytes::{Bytes, List, NoMemory, copied};
 use std::alloc::Global;
 
 // A declared topic.

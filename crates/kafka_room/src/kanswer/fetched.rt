@@ -4,8 +4,8 @@ ghost use Rattle.kafka_room.specs.AreReadings.{HasCarriable};
 ghost use Rattle.kafka_room.specs.Reported.{parts_by, fetched_part, fetched_topic, fetched_of};
 
 use crate::kanswer::{Accepted, Reading};
-use crate::kwire::{FetchPart, FetchTopic, FetchedPart, FetchedTopic, copied};
-use kbytes::{Bytes, List, NoMemory};
+use crate::kwire::{FetchPart, FetchTopic, FetchedPart, FetchedTopic};
+use kbytes::{Bytes, List, NoMemory, copied};
 use std::alloc::Global;
 
 // A partition with an error has the high watermark -1 and no records.

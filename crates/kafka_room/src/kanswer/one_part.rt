@@ -7,8 +7,8 @@ ghost use Rattle.kafka_room.specs.Delayed.{at_least_zero, is_consumer};
 ghost use Rattle.kafka_room.specs.Answer.{is_readable, read_of, budget_after};
 
 use crate::kanswer::{Budget, Reading};
-use crate::kwire::{FetchPart, copied};
-use kbytes::{Bytes, NoMemory};
+use crate::kwire::FetchPart;
+use kbytes::{Bytes, NoMemory, copied};
 use partlog::{Numbers, PartLog};
 use std::alloc::Global;
 

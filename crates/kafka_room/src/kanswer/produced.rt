@@ -4,8 +4,8 @@ ghost use Rattle.kafka_room.specs.AreReadings.{IsCarriable};
 ghost use Rattle.kafka_room.specs.Reported.{code_at, parts_by, produced_part, produced_topic, produced_of};
 
 use crate::kanswer::{Accepted, Reading};
-use crate::kwire::{ProducePart, ProduceTopic, ProducedPart, ProducedTopic, copied};
-use kbytes::{List, NoMemory};
+use crate::kwire::{ProducePart, ProduceTopic, ProducedPart, ProducedTopic};
+use kbytes::{List, NoMemory, copied};
 use std::alloc::Global;
 
 // With acks -1 code 7 where some follower hasn't the whole batch yet.

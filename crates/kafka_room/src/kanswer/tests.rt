@@ -3,11 +3,9 @@ ghost use Rattle.std.specs.Prelude.{◌≡◌, IfOk};
 ghost use Rattle.kafka_room.specs.AreReadings.{named_count};
 
 use super::{Accepted, Budget, answer, read_nothing, read_part};
-use crate::kwire::{
-    Ask, Config, FetchPart, FetchTopic, ProducePart, ProduceTopic, Reply, Request, Told, copied,
-};
+use crate::kwire::{Ask, Config, FetchPart, FetchTopic, ProducePart, ProduceTopic, Reply, Request, Told};
 use kbatch::read_batch;
-use kbytes::{List, NoMemory};
+use kbytes::{List, NoMemory, copied};
 use partlog::{PartLog, Who};
 use std::alloc::Global;
 use std::test::*;

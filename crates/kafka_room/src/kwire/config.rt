@@ -3,8 +3,7 @@ ghost use Rattle.std.specs.List.{list_all};
 ghost use Rattle.kafka_room.specs.Configuration.{is_name_byte, IsTopicName, names_of};
 ghost use Rattle.kafka_room.specs.declared.kwire.config.ConfigFault.TheVariants.{NoMemory as OutOfMemory};
 
-use crate::kwire::copies::copied;
-use kbytes::{Bytes, List, NoMemory};
+use kbytes::{Bytes, List, NoMemory, copied};
 use std::alloc::Global;
 use std::error::Error;
 use std::fmt;
@@ -64,7 +63,7 @@ pub struct Config {
 
 impl Model for Config {
     ghost use Rattle.std.specs.Prelude.{◌≡◌, ◌≤◌};
-    ghost use Rattle.kafka_room.specs.Configuration.{Configuration, partitions_of};
+    ghost use Rattle.kafka_room.specs.Configuration.{Configuration, partitions_of, IsTopicName, IsNewTopic, names_of, followers_of, part_of, part_from};
 
     ghost Value = { Configuration };
 
@@ -124,8 +123,6 @@ fn part_in(topic: &Topic, before: u32, number: u32) -> Option<u32>
 
 impl Config {
     ghost use Rattle.std.specs.Prelude.{[], ◌∷◌, ◌++◌, ◌<◌, ◌⊎◌, IfSome, slice_index, pos};
-    ghost use Rattle.kafka_room.specs.Configuration.{IsTopicName, IsNewTopic, names_of, partitions_of, followers_of};
-    ghost use Rattle.kafka_room.specs.Accepting.{part_of, part_from};
 
     /// A configuration without topics. It takes no memory.
     pub fn new(alloc: Global, port: u16) -> Config

@@ -5,11 +5,10 @@ ghost use Rattle.kafka_room.specs.IsRequest.{topics_named};
 ghost use Rattle.kafka_room.specs.Refusal.{items_at, fetch_part_at, fetch_topic_at, fetch_topics_at, isolation_at, fetch_at};
 ghost use Rattle.kafka_room.specs.Reads.{Reads};
 
-use crate::kwire::copies::copied;
 use crate::kwire::frame::WireFault;
 use crate::kwire::read_items::read_count;
 use crate::kwire::request::{Ask, FetchPart, FetchTopic};
-use kbytes::{List, Reader};
+use kbytes::{List, Reader, copied};
 use std::alloc::Global;
 
 fn read_part(reader: &mut Reader<'_>) -> Result<FetchPart, WireFault>

@@ -5,10 +5,9 @@ ghost use Rattle.kafka_room.specs.IsRequest.{topics_named};
 ghost use Rattle.kafka_room.specs.Refusal.{items_at, name_at, metadata_at};
 ghost use Rattle.kafka_room.specs.Reads.{Reads};
 
-use crate::kwire::copies::copied;
 use crate::kwire::frame::WireFault;
 use crate::kwire::request::Ask;
-use kbytes::{Bytes, List, Reader};
+use kbytes::{Bytes, List, Reader, copied};
 use std::alloc::Global;
 
 fn read_name(alloc: Global, reader: &mut Reader<'_>) -> Result<Bytes, WireFault>

@@ -5,11 +5,10 @@ ghost use Rattle.kafka_room.specs.IsRequest.{topics_named};
 ghost use Rattle.kafka_room.specs.Refusal.{items_at, produce_part_at, produce_topic_at, produce_topics_at, produce_at};
 ghost use Rattle.kafka_room.specs.Reads.{Reads};
 
-use crate::kwire::copies::{copied, copied_or_null};
 use crate::kwire::frame::WireFault;
 use crate::kwire::read_items::read_count;
 use crate::kwire::request::{Ask, ProducePart, ProduceTopic};
-use kbytes::{List, Reader};
+use kbytes::{List, Reader, copied, copied_or_null};
 use std::alloc::Global;
 
 fn read_part(alloc: Global, reader: &mut Reader<'_>) -> Result<ProducePart, WireFault>

@@ -6,14 +6,13 @@ ghost use Rattle.kafka_room.specs.IsRequest.{IsRequest, topics_named};
 ghost use Rattle.kafka_room.specs.Refusal.{ask_at, is_known, known_version, body_at, request_at};
 ghost use Rattle.kafka_room.specs.Reads.{Reads, Answers};
 
-use crate::kwire::copies::copied_or_null;
 use crate::kwire::frame::WireFault;
 use crate::kwire::read_fetch::read_fetch;
 use crate::kwire::read_metadata::read_metadata;
 use crate::kwire::read_produce::read_produce;
 use crate::kwire::repeats::refuse_repeats;
 use crate::kwire::request::{Ask, Request};
-use kbytes::Reader;
+use kbytes::{Reader, copied_or_null};
 use std::alloc::Global;
 
 // The version of a known api that is read whole.

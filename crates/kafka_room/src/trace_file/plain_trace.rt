@@ -4,7 +4,7 @@ ghost use Rattle.std.specs.Prelude.{◌≡◌, ◌++◌, ◌∷◌, [], IfOk, If
 ghost use Rattle.std.specs.List.{flat_map};
 ghost use Rattle.kafka_room.specs.declared.trace_file.line.Line.{Line};
 ghost use Rattle.kafka_room.specs.Configuration.{IsNewTopic};
-ghost use Rattle.kafka_room.specs.RunOf.{configuration_of, topic_in};
+ghost use Rattle.kafka_room.specs.Contents.{configuration_of, topic_in};
 ghost use Rattle.kafka_room.specs.Denies.{Denies, refusal_of};
 ghost use Rattle.kafka_room.specs.Trace.{IsPlainTrace};
 ghost use Rattle.kafka_room.specs.PlainFront.{stage_after, IsNewLine, IsPlainFront, MayCome};

@@ -7,13 +7,12 @@ ghost use Rattle.kafka_room.specs.declared.trace_file.line.Line.{Line};
 ghost use Rattle.kafka_room.specs.IsLine.{words_of, IsTopicLine, IsFeedLine, IsShutLine, IsClockLine, AreWordsOf, IsLine};
 ghost use Rattle.kafka_room.specs.Denies.{Denies};
 
-use crate::kwire::copied;
 use crate::trace_file::fault::NotRead;
 use crate::trace_file::line::{Line, MOST_SESSIONS};
 use crate::trace_file::number::number;
 use crate::trace_file::pieces::cut;
 use hex::FromHexError;
-use kbytes::{Bytes, NoMemory};
+use kbytes::{Bytes, NoMemory, copied};
 use std::alloc::Global;
 
 /// The last moment, in milliseconds.

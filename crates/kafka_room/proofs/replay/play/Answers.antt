@@ -6,7 +6,7 @@ use Rattle.kafka_room.specs.declared.trace_file.line.Line.{Line}
 use Rattle.kafka_room.specs.Board.{opening}
 use Rattle.kafka_room.specs.Handling.{Turned}
 use Rattle.kafka_room.specs.Printed.{summary_of}
-use Rattle.kafka_room.specs.RunOf.{configuration_of}
+use Rattle.kafka_room.specs.Contents.{configuration_of}
 use Rattle.kafka_room.specs.UnderWay.{IsUnderWay}
 use Rattle.kafka_room.proofs.Replays.{before_lines, played_from, replayed_as, front_of_lines}
 use Rattle.kafka_room.proofs.Writes.{front_behind}

@@ -2,7 +2,7 @@ use Rattle.std.proofs.Common.{◌++◌, List, ℕ, take, sym, ap, ◌∙◌, app
 use Rattle.std.specs.List.{flat_map}
 use Rattle.kafka_room.specs.Printed.{part_line, numbered}
 use Rattle.kafka_room.proofs.Tallies.{parts_more}
-use Rattle.kafka_room.proofs.broker.summary.put_parts.Goals as goal
+use Rattle.kafka_room.proofs.audit.summary.put_parts.Goals as goal
 
 pub loop-number-preserved : goal.loop-number-preserved
 loop-number-preserved c =

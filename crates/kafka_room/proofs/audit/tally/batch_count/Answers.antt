@@ -4,7 +4,7 @@ use Rattle.partlog.specs.declared.event.PartEvent.{PartEvent}
 use Rattle.partlog.specs.declared.event.PartEvent.TheVariants.{Append}
 use Rattle.partlog.specs.Batches.{batches_of}
 use Rattle.kafka_room.proofs.Tallies.{batches_more}
-use Rattle.kafka_room.proofs.broker.tally.batch_count.Goals as goal
+use Rattle.kafka_room.proofs.audit.tally.batch_count.Goals as goal
 
 pub loop-event-preserved : goal.loop-event-preserved
 loop-event-preserved c =

@@ -1,6 +1,6 @@
 use Rattle.std.proofs.Common.{◌≡◌, ◌≤◌, List, ℕ, length, take}
 use Rattle.partlog.specs.Batches.{batches_of}
-use Rattle.kafka_room.proofs.broker.tally.batch_count.Given as goal
+use Rattle.kafka_room.proofs.audit.tally.batch_count.Given as goal
 
 abbrev pub invariant-loop-event : goal.invariant-loop-event
 invariant-loop-event l = record {

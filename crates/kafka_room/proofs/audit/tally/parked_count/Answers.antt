@@ -2,7 +2,7 @@ use Rattle.std.proofs.Common.{◌≡◌, ◌-◌, Some, length, sym, ap, ◌∙�
 use Rattle.std.specs.Prelude.{slice_get}
 use mir.Val.{bool_byte}
 use Rattle.kafka_room.proofs.Tallies.{parked_last, byte_of}
-use Rattle.kafka_room.proofs.broker.tally.parked_count.Goals as goal
+use Rattle.kafka_room.proofs.audit.tally.parked_count.Goals as goal
 
 pub returns-in-Some : goal.returns-in-Some
 returns-in-Some c =

@@ -2,7 +2,8 @@ use Rattle.std.proofs.Common.{◌≡◌, ◌<◌, ℕ, ℤ, pos, sym, List, [], 
 use Rattle.std.proofs.lemmas.Int.{to_z-of_z}
 use Rattle.std.specs.Int.{w32}
 use Rattle.kafka_room.specs.declared.kwire.request.FetchPart.{FetchPart}
-use Rattle.kafka_room.specs.Accepting.{fetch_decision, part_of}
+use Rattle.kafka_room.specs.Accepting.{fetch_decision}
+use Rattle.kafka_room.specs.Configuration.{part_of}
 use Rattle.kafka_room.specs.Carried.{IsCarried, fetch_decisions}
 use Rattle.kafka_room.proofs.Carrying.{same_item}
 use Rattle.kafka_room.proofs.ProduceParts.{fetched_on, fetch_next, carried_size}

@@ -1,5 +1,5 @@
 use Rattle.std.proofs.Common.{◌≡◌, length}
-use Rattle.kafka_room.specs.RunOf.{configuration_of}
+use Rattle.kafka_room.specs.Contents.{configuration_of}
 use Rattle.kafka_room.specs.PlainFront.{IsPlainFront}
 use Rattle.kafka_room.proofs.Readings.{IsReading}
 use Rattle.kafka_room.proofs.trace_file.plain_trace.read.Given as goal

@@ -2,8 +2,7 @@ use Rattle.std.proofs.Common.{◌≡◌, ◌+◌, ℕ, List, true, false, pos, s
 use Rattle.std.specs.Cmp.Lexicographic.{pointwise}
 use Rattle.std.specs.Bool.{nat_eq}
 use Rattle.kafka_room.specs.declared.kwire.config.Topic.{Topic}
-use Rattle.kafka_room.specs.Configuration.{Configuration, partitions_of}
-use Rattle.kafka_room.specs.Accepting.{part_from}
+use Rattle.kafka_room.specs.Configuration.{Configuration, partitions_of, part_from}
 use Rattle.kafka_room.proofs.Lookups.{sum_next, sum_within, part_next, part_here, part_past, part_within}
 use Rattle.kafka_room.proofs.kwire.config.Config.find_part.Goals as goal
 

@@ -1,6 +1,5 @@
 use Rattle.std.proofs.Common.{◌≡◌, pos, take, drop}
-use Rattle.kafka_room.specs.Configuration.{partitions_of}
-use Rattle.kafka_room.specs.Accepting.{part_from}
+use Rattle.kafka_room.specs.Configuration.{partitions_of, part_from}
 use Rattle.kafka_room.proofs.kwire.config.Config.find_part.Given as goal
 
 abbrev pub invariant-loop-topic : goal.invariant-loop-topic
