@@ -24,3 +24,5 @@ pub mod Sizes
 pub mod Puts
 -- the batch that is written of records is one of these records
 pub mod Making
+-- what proofs of other crates may cite
+pub mod Laws

@@ -4,7 +4,7 @@ use Rattle.kbatch.specs.Record.{records_from}
 use Rattle.kbatch.specs.Written.{greatest_time, plain_head, written_with}
 use Rattle.kbatch.proofs.Decoding.{batch_once}
 use Rattle.kbatch.proofs.Places.{rest_stands}
-use Rattle.kbatch.proofs.laws.written_is_read.Goals as goal
+use Rattle.kbatch.proofs.promises.written_is_read.Goals as goal
 
 pub returns-clause-once : goal.returns-clause-once
 returns-clause-once c = batch_once

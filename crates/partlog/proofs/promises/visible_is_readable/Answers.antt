@@ -1,5 +1,5 @@
 use Rattle.partlog.proofs.Earlier.{readable-now, readable-before}
-use Rattle.partlog.proofs.laws.visible_is_readable.Goals as goal
+use Rattle.partlog.proofs.promises.visible_is_readable.Goals as goal
 
 pub returns-clause-now : goal.returns-clause-now
 returns-clause-now c = readable-now
