@@ -11,13 +11,13 @@ use Rattle.kafka_room.specs.declared.audit.account.Account.{Account}
 use Rattle.kafka_room.specs.declared.audit.account.PartAccount.{PartAccount}
 use Rattle.kafka_room.specs.declared.audit.account.Point.{Point}
 use Rattle.kafka_room.specs.Histories.{owner_of, owners_of, history_of, before_in, at_in, before_point, at_point, event_at, event_in, no_state}
-use Rattle.kafka_room.specs.Accepting.{Entry, Put, Followed, Looked, Decision, Refuse, AskLog}
+use Rattle.kanswer.specs.Decisions.{Entry, Put, Followed, Looked, Decision, Refuse, AskLog}
 use Rattle.kafka_room.specs.Handled.{IsStep, IsEntry, step_points, shown_as_accepted}
 use Rattle.kafka_room.specs.IsLawful.{places_in}
 use Rattle.kafka_room.specs.Board.{history_at, empty_history}
 use Rattle.kafka_room.specs.Acceptance.{Noted, entered, accept_all, steps_of, shown_of}
-use Rattle.kafka_room.specs.Delayed.{Shown}
-use Rattle.kafka_room.specs.declared.kanswer.accepted.Accepted.TheVariants.{Refused}
+use Rattle.kanswer.specs.Waiting.{Shown}
+use Rattle.kanswer.specs.declared.accepted.Accepted.TheVariants.{Refused}
 use Rattle.kbatch.specs.Stamp.{stamped}
 use Rattle.kafka_room.proofs.Growth.{Longer, IsWhole, IsSized, longer_on, entered_longer, entered_whole, entered_events, entered_followers, entered_length, event_of, before_kept, at_kept, put_batches}
 pub use Rattle.kafka_room.specs.Steady.{the_owner, AllWhole, Follows}

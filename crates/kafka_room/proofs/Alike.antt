@@ -5,26 +5,26 @@ use Rattle.std.specs.List.{AllByRecursion}
 use Rattle.partlog.specs.History.{History}
 use Rattle.partlog.specs.Batches.{StoredBatch}
 use Rattle.partlog.specs.State.{PartState}
-use Rattle.kafka_room.specs.Configuration.{Configuration}
-use Rattle.kafka_room.specs.declared.kwire.request.Request.{Request}
-use Rattle.kafka_room.specs.declared.kwire.request.Ask.{Ask}
-use Rattle.kafka_room.specs.declared.kwire.request.Ask.TheVariants.{Produce, Fetch, Metadata, Versions}
-use Rattle.kafka_room.specs.declared.kwire.request.ProducePart.{ProducePart}
-use Rattle.kafka_room.specs.declared.kwire.request.ProduceTopic.{ProduceTopic}
-use Rattle.kafka_room.specs.declared.kwire.request.FetchPart.{FetchPart}
-use Rattle.kafka_room.specs.declared.kwire.request.FetchTopic.{FetchTopic}
-use Rattle.kafka_room.specs.declared.kwire.reply.Reply.{Reply}
-use Rattle.kafka_room.specs.declared.kwire.reply.Told.{Told}
-use Rattle.kafka_room.specs.declared.kwire.reply.Told.TheVariants.{Produced, Fetched}
-use Rattle.kafka_room.specs.declared.kwire.reply.ProducedPart.{ProducedPart}
-use Rattle.kafka_room.specs.declared.kwire.reply.ProducedTopic.{ProducedTopic}
-use Rattle.kafka_room.specs.declared.kwire.reply.FetchedPart.{FetchedPart}
-use Rattle.kafka_room.specs.declared.kwire.reply.FetchedTopic.{FetchedTopic}
-use Rattle.kafka_room.specs.declared.kanswer.accepted.Accepted.{Accepted}
-use Rattle.kafka_room.specs.declared.kanswer.accepted.Accepted.TheVariants.{Refused, Appended, Seen}
-use Rattle.kafka_room.specs.declared.kanswer.accepted.Budget.{Budget}
-use Rattle.kafka_room.specs.Delayed.{Shown, results_of}
-use Rattle.kafka_room.specs.Answer.{produced_code, produced_as, produced_parts, produced_topics, read_of, batches_as, budget_after, fetched_as, fetched_parts, budget_behind, fetched_topics, first_budget, told_to, answer}
+use Rattle.kwire.specs.Configuration.{Configuration}
+use Rattle.kwire.specs.declared.request.Request.{Request}
+use Rattle.kwire.specs.declared.request.Ask.{Ask}
+use Rattle.kwire.specs.declared.request.Ask.TheVariants.{Produce, Fetch, Metadata, Versions}
+use Rattle.kwire.specs.declared.request.ProducePart.{ProducePart}
+use Rattle.kwire.specs.declared.request.ProduceTopic.{ProduceTopic}
+use Rattle.kwire.specs.declared.request.FetchPart.{FetchPart}
+use Rattle.kwire.specs.declared.request.FetchTopic.{FetchTopic}
+use Rattle.kwire.specs.declared.reply.Reply.{Reply}
+use Rattle.kwire.specs.declared.reply.Told.{Told}
+use Rattle.kwire.specs.declared.reply.Told.TheVariants.{Produced, Fetched}
+use Rattle.kwire.specs.declared.reply.ProducedPart.{ProducedPart}
+use Rattle.kwire.specs.declared.reply.ProducedTopic.{ProducedTopic}
+use Rattle.kwire.specs.declared.reply.FetchedPart.{FetchedPart}
+use Rattle.kwire.specs.declared.reply.FetchedTopic.{FetchedTopic}
+use Rattle.kanswer.specs.declared.accepted.Accepted.{Accepted}
+use Rattle.kanswer.specs.declared.accepted.Accepted.TheVariants.{Refused, Appended, Seen}
+use Rattle.kanswer.specs.declared.accepted.Budget.{Budget}
+use Rattle.kanswer.specs.Waiting.{Shown, results_of}
+use Rattle.kanswer.specs.Answer.{produced_code, produced_as, produced_parts, produced_topics, read_of, batches_as, budget_after, fetched_as, fetched_parts, budget_behind, fetched_topics, first_budget, told_to, answer}
 use Rattle.kafka_room.specs.Gathered.{state_now, shown_now}
 use Rattle.kafka_room.specs.PlainStream.{IsPlainAsk}
 use Rattle.kafka_room.specs.Replying.{ShowsLog, ShowsLogs}

@@ -4,27 +4,27 @@ use Rattle.std.specs.List.{AllByRecursion}
 use lib.Dec.{leb→le}
 use Rattle.partlog.specs.History.{History}
 use Rattle.partlog.specs.Kept.{IsKept}
-use Rattle.kafka_room.specs.declared.kanswer.accepted.Accepted.{Accepted}
-use Rattle.kafka_room.specs.declared.kwire.request.Ask.{Ask}
-use Rattle.kafka_room.specs.declared.kwire.request.Ask.TheVariants.{Produce, Fetch, Metadata, Versions}
-use Rattle.kafka_room.specs.AreReadings.{named_count, IsCarriable}
-use Rattle.kafka_room.specs.Configuration.{Configuration, partitions_of}
-use Rattle.kafka_room.specs.Accepting.{Decision, Refuse, AskLog, Decides, produce_parts, fetch_parts}
+use Rattle.kanswer.specs.declared.accepted.Accepted.{Accepted}
+use Rattle.kwire.specs.declared.request.Ask.{Ask}
+use Rattle.kwire.specs.declared.request.Ask.TheVariants.{Produce, Fetch, Metadata, Versions}
+use Rattle.kanswer.specs.LogReadings.{named_count, IsCarriable}
+use Rattle.kwire.specs.Configuration.{Configuration, partitions_of}
+use Rattle.kanswer.specs.Decisions.{Decision, Refuse, AskLog, Decides, produce_parts, fetch_parts}
 use Rattle.kafka_room.specs.Acceptance.{accept_all, shown_of, steps_of}
 use Rattle.kafka_room.specs.Board.{history_at}
 use Rattle.kafka_room.specs.Carried.{HasNoFollowers}
-use Rattle.kafka_room.specs.Delayed.{Shown, results_of, becomes_delayed}
+use Rattle.kanswer.specs.Waiting.{Shown, results_of, becomes_delayed}
 use Rattle.kafka_room.specs.PlainStream.{IsPlainAsk}
 use Rattle.kafka_room.specs.Replying.{HasLog, ShowsLog, ShowsLogs}
 use Rattle.kafka_room.specs.declared.broker.came.Came.{Came}
-use Rattle.kafka_room.specs.declared.kwire.request.Request.{Request}
-use Rattle.kafka_room.specs.Answer.{answer}
+use Rattle.kwire.specs.declared.request.Request.{Request}
+use Rattle.kanswer.specs.Answer.{answer}
 use Rattle.kafka_room.specs.AtOnce.{IsAnsweredAtOnce}
 use Rattle.kafka_room.specs.Handling.{text_at_once}
 use Rattle.kafka_room.specs.Carried.{IsCarried}
-use Rattle.kafka_room.specs.Delayed.{is_quiet}
+use Rattle.kanswer.specs.Waiting.{is_quiet}
 use Rattle.kafka_room.specs.Handled.{step_points}
-use Rattle.kafka_room.specs.PrintedLine.{reply_line}
+use Rattle.trace_file.specs.PrintedLine.{reply_line}
 use Rattle.kafka_room.proofs.Accepts.{IsFair}
 use Rattle.kafka_room.proofs.Fair.{decides_fair}
 use Rattle.kafka_room.proofs.ShownLogs.{IsThere, IsLooking, looking_shows, putting_shows, all_put, all_look}

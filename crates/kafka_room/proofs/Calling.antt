@@ -11,32 +11,32 @@ use Rattle.kafka_room.specs.declared.audit.account.CallHow.{CallHow}
 use Rattle.kafka_room.specs.declared.audit.account.Point.{Point}
 use Rattle.kafka_room.specs.declared.audit.account.SessionEnd.{SessionEnd}
 use Rattle.kafka_room.specs.declared.audit.account.Transcript.{Transcript}
-use Rattle.kafka_room.specs.declared.kwire.frame.Frame.{Frame}
-use Rattle.kafka_room.specs.declared.kwire.request.Request.{Request}
-use Rattle.kafka_room.specs.declared.trace_file.line.Line.{Line}
-use Rattle.kafka_room.specs.declared.trace_file.line.Line.TheVariants.{Topic, Feed, Shut, Clock, End}
+use Rattle.kwire.specs.declared.frame.Frame.{Frame}
+use Rattle.kwire.specs.declared.request.Request.{Request}
+use Rattle.trace_file.specs.declared.line.Line.{Line}
+use Rattle.trace_file.specs.declared.line.Line.TheVariants.{Topic, Feed, Shut, Clock, End}
 use Rattle.kafka_room.specs.Acceptance.{accept_all, steps_of}
 use Rattle.kafka_room.specs.Acting.{is_there}
 use Rattle.kafka_room.specs.AtOnce.{IsAnsweredAtOnce, IsHandled}
 use Rattle.kafka_room.specs.Board.{Board, Seat, empty_seat, new_transcript, seat_at, transcript_at, next_call}
-use Rattle.kafka_room.specs.Configuration.{Configuration}
+use Rattle.kwire.specs.Configuration.{Configuration}
 use Rattle.kafka_room.specs.Fits.{IsUnfinished}
-use Rattle.kafka_room.specs.Frames.{next_frame_of}
+use Rattle.kwire.specs.Frames.{next_frame_of}
 use Rattle.kafka_room.specs.Handled.{step_points}
 use Rattle.kafka_room.specs.Handling.{seat_with, how_at_once}
 use Rattle.kafka_room.specs.IsLawful.{places_in}
-use Rattle.kafka_room.specs.IsRequest.{IsRequest}
+use Rattle.kwire.specs.IsRequest.{IsRequest}
 use Rattle.kafka_room.specs.PlainStream.{IsPlainStream}
 use Rattle.kafka_room.specs.Play.{brought, PlaysLine}
 use Rattle.kafka_room.specs.Ready.{IsReady, front_body}
-use Rattle.kafka_room.specs.Contents.{input_of, is_named}
+use Rattle.trace_file.specs.Contents.{input_of, is_named}
 use Rattle.kafka_room.specs.Steady.{IsSteady, all_points, AllBelow}
-use Rattle.kafka_room.specs.Trace.{IsPlainLine}
+use Rattle.trace_file.specs.Trace.{IsPlainLine}
 use Rattle.kafka_room.specs.UnderWay.{to_come, IsUnderWay, IsServing}
 use Rattle.kafka_room.proofs.Places.{same_or_not, get_there}
 use Rattle.kafka_room.proofs.RunLaws.{seat_set_same, seat_set_other, fed_feed, fed_topic, fed_end}
 use Rattle.kafka_room.proofs.Serving.{calls_at, calls_in_seat, turned, nobodys_turn, rests_none}
-use Rattle.kafka_room.proofs.StreamLaws.{whole_ends}
+use Rattle.kwire.proofs.Laws.{whole_ends}
 
 -- ---- what is written back
 

@@ -15,16 +15,16 @@ use Rattle.partlog.specs.Appended.{appended}
 use Rattle.kbatch.specs.Kept.{count_of}
 use Rattle.std.proofs.lemmas.Option.{slice_get-get_or}
 use Rattle.kafka_room.proofs.Places.{some_is}
-use Rattle.partlog.proofs.Appending.{bytes_in-batches}
+use Rattle.partlog.proofs.Laws.{bytes_in-batches}
 use Rattle.kafka_room.specs.declared.audit.account.Point.{Point}
 use Rattle.kafka_room.specs.declared.broker.came.Came.{Came}
-use Rattle.kafka_room.specs.declared.kanswer.accepted.Accepted.{Accepted}
-use Rattle.kafka_room.specs.declared.kanswer.accepted.Accepted.TheVariants.{Refused, Appended}
-use Rattle.kafka_room.specs.Accepting.{Put, Outcome, Decision, Refuse, AskLog, look, append_outcome}
+use Rattle.kanswer.specs.declared.accepted.Accepted.{Accepted}
+use Rattle.kanswer.specs.declared.accepted.Accepted.TheVariants.{Refused, Appended}
+use Rattle.kanswer.specs.Decisions.{Put, Outcome, Decision, Refuse, AskLog, look, append_outcome}
 use Rattle.kafka_room.specs.Acceptance.{Noted, entered, accept_all, steps_of, shown_of}
 use Rattle.kafka_room.specs.Board.{history_at, empty_history}
 use Rattle.kafka_room.specs.Carried.{IsCarried}
-use Rattle.kafka_room.specs.Delayed.{results_of}
+use Rattle.kanswer.specs.Waiting.{results_of}
 use Rattle.kafka_room.specs.Handled.{step_points, Step}
 use Rattle.kafka_room.specs.Histories.{no_state}
 

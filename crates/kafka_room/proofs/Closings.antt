@@ -7,13 +7,13 @@ use Rattle.std.specs.List.{flat_map, AllByRecursion}
 use Rattle.partlog.specs.Added.{log_end_of}
 use Rattle.partlog.specs.History.{History}
 use Rattle.partlog.specs.Kept.{IsKept}
-use Rattle.partlog.proofs.Bounds.{log_end-le-bytes}
+use Rattle.partlog.proofs.Laws.{log_end-le-bytes}
 use Rattle.partlog.specs.declared.clock_event.ClockEvent.{ClockEvent}
 use Rattle.kafka_room.specs.declared.audit.account.Account.{Account}
 use Rattle.kafka_room.specs.declared.audit.account.PartAccount.{PartAccount}
 use Rattle.kafka_room.specs.declared.audit.account.Transcript.{Transcript}
 use Rattle.kafka_room.specs.Board.{Seat, put_before, passes_of, part_account, account_of, history_at, empty_history}
-use Rattle.kafka_room.specs.Configuration.{Configuration}
+use Rattle.kwire.specs.Configuration.{Configuration}
 use Rattle.kafka_room.specs.Fed.{IsPlainCall}
 use Rattle.kafka_room.specs.Histories.{calls_in}
 use Rattle.kafka_room.proofs.Lawful.{none_won, parts_get}

@@ -11,19 +11,19 @@ use Rattle.kbatch.specs.declared.record.Record.{Record}
 use Rattle.kbatch.specs.Batch.{IsBatch}
 use Rattle.kbatch.specs.Record.{records_from}
 use Rattle.kbatch.specs.Stamp.{stamped}
-use Rattle.kbatch.proofs.Batches.{stamped_len}
+use Rattle.kbatch.proofs.Laws.{stamped_len}
 use Rattle.partlog.specs.State.{PartState}
 use Rattle.partlog.specs.History.{History}
 use Rattle.partlog.specs.Gauges.{gauges_of}
 use Rattle.partlog.specs.Start.{start_of}
-use Rattle.kafka_room.specs.declared.kwire.config.Topic.{Topic}
-use Rattle.kafka_room.specs.declared.kwire.request.Ask.{Ask}
-use Rattle.kafka_room.specs.declared.kwire.request.Ask.TheVariants.{Produce, Fetch, Metadata, Versions}
-use Rattle.kafka_room.specs.declared.kwire.request.ProducePart.{ProducePart}
-use Rattle.kafka_room.specs.declared.kwire.request.FetchPart.{FetchPart}
-use Rattle.kafka_room.specs.declared.kanswer.accepted.Accepted.TheVariants.{Refused, Appended, Seen}
-use Rattle.kafka_room.specs.Configuration.{Configuration, partitions_of, followers_of, part_from, part_of}
-use Rattle.kafka_room.specs.Accepting.{Entry, Put, Followed, Looked, Outcome, Decision, Refuse, Decides, ProduceDecides, BatchDecides, append_outcome, fetch_decision, fetch_outcome, in_range_outcome, offset_of, look, code_of, produce_parts, fetch_parts, is_acks}
+use Rattle.kwire.specs.declared.config.Topic.{Topic}
+use Rattle.kwire.specs.declared.request.Ask.{Ask}
+use Rattle.kwire.specs.declared.request.Ask.TheVariants.{Produce, Fetch, Metadata, Versions}
+use Rattle.kwire.specs.declared.request.ProducePart.{ProducePart}
+use Rattle.kwire.specs.declared.request.FetchPart.{FetchPart}
+use Rattle.kanswer.specs.declared.accepted.Accepted.TheVariants.{Refused, Appended, Seen}
+use Rattle.kwire.specs.Configuration.{Configuration, partitions_of, followers_of, part_from, part_of}
+use Rattle.kanswer.specs.Decisions.{Entry, Put, Followed, Looked, Outcome, Decision, Refuse, Decides, ProduceDecides, BatchDecides, append_outcome, fetch_decision, fetch_outcome, in_range_outcome, offset_of, look, code_of, produce_parts, fetch_parts, is_acks}
 use Rattle.kafka_room.proofs.Places.{some_is}
 use Rattle.kafka_room.proofs.Growth.{IsSized}
 use Rattle.kafka_room.proofs.Accepts.{IsFair}

@@ -8,11 +8,11 @@ use Rattle.std.specs.List.{AllByRecursion}
 use lib.Signed.{le_z}
 use Rattle.partlog.specs.State.{PartState}
 use Rattle.partlog.specs.Start.{start_of}
-use Rattle.kafka_room.specs.declared.kwire.config.Topic.{Topic}
-use Rattle.kafka_room.specs.declared.kwire.request.FetchPart.{FetchPart}
-use Rattle.kafka_room.specs.declared.kanswer.accepted.Accepted.TheVariants.{Refused, Seen}
-use Rattle.kafka_room.specs.Configuration.{followers_of}
-use Rattle.kafka_room.specs.Accepting.{Looked, Followed, look, offset_of, fetch_outcome, in_range_outcome}
+use Rattle.kwire.specs.declared.config.Topic.{Topic}
+use Rattle.kwire.specs.declared.request.FetchPart.{FetchPart}
+use Rattle.kanswer.specs.declared.accepted.Accepted.TheVariants.{Refused, Seen}
+use Rattle.kwire.specs.Configuration.{followers_of}
+use Rattle.kanswer.specs.Decisions.{Looked, Followed, look, offset_of, fetch_outcome, in_range_outcome}
 use Rattle.kafka_room.specs.Carried.{HasNoFollowers}
 
 pub not_negative : (z : ℤ) → le_z (pos 0) z ≡ true → (n : ℕ) × (z ≡ pos n)

@@ -12,20 +12,19 @@ use Rattle.partlog.specs.Batches.{StoredBatch}
 use Rattle.partlog.specs.State.{PartState, state_of}
 use Rattle.partlog.specs.Gauges.{bytes_in}
 use Rattle.partlog.specs.Taken.{batches_past, fitting, taken, joined}
-use Rattle.partlog.proofs.Fronts.{bytes_in-cons, fitting-more, fitting-none, past-le}
-use Rattle.partlog.proofs.Bounds.{sum_by-filter-le}
-use Rattle.kafka_room.specs.declared.kwire.request.Ask.{Ask}
-use Rattle.kafka_room.specs.declared.kwire.request.Ask.TheVariants.{Produce, Fetch, Metadata, Versions}
-use Rattle.kafka_room.specs.declared.kwire.request.FetchPart.{FetchPart}
-use Rattle.kafka_room.specs.declared.kwire.request.FetchTopic.{FetchTopic}
-use Rattle.kafka_room.specs.declared.kanswer.accepted.Accepted.{Accepted}
-use Rattle.kafka_room.specs.declared.kanswer.accepted.Accepted.TheVariants.{Refused, Appended, Seen}
-use Rattle.kafka_room.specs.declared.kanswer.accepted.Reading.{Reading}
-use Rattle.kafka_room.specs.declared.kanswer.accepted.Budget.{Budget}
+use Rattle.partlog.proofs.Laws.{bytes_in-cons, fitting-more, fitting-none, past-le, sum_by-filter-le}
+use Rattle.kwire.specs.declared.request.Ask.{Ask}
+use Rattle.kwire.specs.declared.request.Ask.TheVariants.{Produce, Fetch, Metadata, Versions}
+use Rattle.kwire.specs.declared.request.FetchPart.{FetchPart}
+use Rattle.kwire.specs.declared.request.FetchTopic.{FetchTopic}
+use Rattle.kanswer.specs.declared.accepted.Accepted.{Accepted}
+use Rattle.kanswer.specs.declared.accepted.Accepted.TheVariants.{Refused, Appended, Seen}
+use Rattle.kanswer.specs.declared.accepted.Reading.{Reading}
+use Rattle.kanswer.specs.declared.accepted.Budget.{Budget}
 use Rattle.kafka_room.specs.Board.{history_at, empty_history}
-use Rattle.kafka_room.specs.Delayed.{at_least_zero}
-use Rattle.kafka_room.specs.Answer.{is_readable, read_of, batches_as, budget_after, first_budget}
-use Rattle.kafka_room.specs.AreReadings.{AreReadings, HasNumbers, ProduceReadings, HasRecords, FetchReadings, HasCarriable, named_count, budget_of}
+use Rattle.kanswer.specs.Waiting.{at_least_zero}
+use Rattle.kanswer.specs.Answer.{is_readable, read_of, batches_as, budget_after, first_budget}
+use Rattle.kanswer.specs.LogReadings.{AreReadings, HasNumbers, ProduceReadings, HasRecords, FetchReadings, HasCarriable, named_count, budget_of}
 use Rattle.kafka_room.specs.Gathered.{nothing_read, state_now, shown_now, reading_now, left_now, readings_now, left_behind, bytes_read, most_left}
 use Rattle.kafka_room.specs.Replying.{HasLog}
 use Rattle.kafka_room.specs.PlainStream.{IsPlainAsk}

@@ -10,8 +10,8 @@ use Rattle.partlog.specs.Added.{added_bytes, bytes_of, log_end_of}
 use Rattle.partlog.specs.Batches.{StoredBatch, batches_of, batches_after}
 use Rattle.partlog.specs.History.{History}
 use Rattle.partlog.specs.State.{state_of, state_before, state_at, front_of}
-use Rattle.partlog.proofs.Appending.{batches-append}
-use Rattle.kafka_room.specs.Accepting.{Entry, Put, Followed, Looked}
+use Rattle.partlog.proofs.Laws.{batches-append}
+use Rattle.kanswer.specs.Decisions.{Entry, Put, Followed, Looked}
 use Rattle.kafka_room.specs.Acceptance.{entered}
 pub use Rattle.kafka_room.specs.Steady.{Longer, IsWhole}
 

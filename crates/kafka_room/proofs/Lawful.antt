@@ -15,9 +15,9 @@ use Rattle.kafka_room.specs.declared.audit.account.CallHow.{CallHow}
 use Rattle.kafka_room.specs.declared.audit.account.CallHow.TheVariants.{Quiet, AtOnce}
 use Rattle.kafka_room.specs.declared.audit.account.SessionEnd.{SessionEnd}
 use Rattle.kafka_room.specs.declared.audit.account.Point.{Point}
-use Rattle.kafka_room.specs.declared.kwire.request.Request.{Request}
+use Rattle.kwire.specs.declared.request.Request.{Request}
 use Rattle.kafka_room.specs.Histories.{Owner, owner_of, clock_owner_of, owners_of, owners_in, points_of, calls_in, calls_of, call_of, all_calls, ticks_of}
-use Rattle.kafka_room.specs.Delayed.{is_quiet}
+use Rattle.kanswer.specs.Waiting.{is_quiet}
 use Rattle.kafka_room.specs.Handled.{Step, IsLawfulCall, LooksAtClock, Completes, is_delayed}
 use Rattle.kafka_room.specs.IsLawful.{IsLawful, IsWholeLog, places_in, is_point, is_won_by, is_won_as, EndsAs, EndWell, FollowOn}
 use Rattle.kafka_room.specs.Board.{Board, Seat, empty_seat, transcript_at, new_transcript, put_before, passes_of, part_account, account_of}

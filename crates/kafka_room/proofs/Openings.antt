@@ -4,8 +4,8 @@ use Rattle.std.proofs.lemmas.List.{take_more, map-append, replicate_more}
 use Rattle.std.proofs.lemmas.Grind.{flat_map-append}
 use Rattle.std.specs.List.{flat_map}
 use Rattle.partlog.specs.History.{History}
-use Rattle.kafka_room.specs.declared.kwire.config.Topic.{Topic}
-use Rattle.kafka_room.specs.Configuration.{followers_of}
+use Rattle.kwire.specs.declared.config.Topic.{Topic}
+use Rattle.kwire.specs.Configuration.{followers_of}
 use Rattle.kafka_room.specs.Board.{empty_history}
 
 pub one_more_behind : {X : Type 0} (front : List X) (n : ℕ) (x : X) → (front ++ replicate n x) ++ x ∷ [] ≡ front ++ replicate (n + 1) x

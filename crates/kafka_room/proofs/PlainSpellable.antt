@@ -5,31 +5,31 @@ use Rattle.std.proofs.lemmas.List.Sums.{sum_by-cons, sum_by-take-drop}
 use Rattle.std.specs.List.{flat_map, AllByRecursion}
 use Rattle.kbytes.specs.Field.{Field}
 use Rattle.kbytes.specs.FitsField.{FitsField}
-use Rattle.kafka_room.specs.declared.kwire.request.Ask.{Ask}
-use Rattle.kafka_room.specs.declared.kwire.request.Ask.TheVariants.{Produce, Fetch, Metadata, Versions}
-use Rattle.kafka_room.specs.declared.kwire.request.Request.{Request}
-use Rattle.kafka_room.specs.declared.kwire.request.ProducePart.{ProducePart}
-use Rattle.kafka_room.specs.declared.kwire.request.ProduceTopic.{ProduceTopic}
-use Rattle.kafka_room.specs.declared.kwire.request.FetchPart.{FetchPart}
-use Rattle.kafka_room.specs.declared.kwire.request.FetchTopic.{FetchTopic}
-use Rattle.kafka_room.specs.declared.kwire.reply.Told.TheVariants.{Fetched}
-use Rattle.kafka_room.specs.declared.kwire.reply.FetchedPart.{FetchedPart}
-use Rattle.kafka_room.specs.declared.kwire.reply.FetchedTopic.{FetchedTopic}
-use Rattle.kafka_room.specs.declared.kanswer.accepted.Accepted.{Accepted}
-use Rattle.kafka_room.specs.declared.kanswer.accepted.Accepted.TheVariants.{Refused, Appended, Seen}
-use Rattle.kafka_room.specs.declared.kanswer.accepted.Reading.{Reading}
-use Rattle.kafka_room.specs.Answer.{produced_parts, produced_topics, first_budget, told_to, answer}
-use Rattle.kafka_room.specs.AreReadings.{AreReadings, budget_of}
-use Rattle.kafka_room.specs.Configuration.{Configuration}
-use Rattle.kafka_room.specs.Delayed.{Shown}
+use Rattle.kwire.specs.declared.request.Ask.{Ask}
+use Rattle.kwire.specs.declared.request.Ask.TheVariants.{Produce, Fetch, Metadata, Versions}
+use Rattle.kwire.specs.declared.request.Request.{Request}
+use Rattle.kwire.specs.declared.request.ProducePart.{ProducePart}
+use Rattle.kwire.specs.declared.request.ProduceTopic.{ProduceTopic}
+use Rattle.kwire.specs.declared.request.FetchPart.{FetchPart}
+use Rattle.kwire.specs.declared.request.FetchTopic.{FetchTopic}
+use Rattle.kwire.specs.declared.reply.Told.TheVariants.{Fetched}
+use Rattle.kwire.specs.declared.reply.FetchedPart.{FetchedPart}
+use Rattle.kwire.specs.declared.reply.FetchedTopic.{FetchedTopic}
+use Rattle.kanswer.specs.declared.accepted.Accepted.{Accepted}
+use Rattle.kanswer.specs.declared.accepted.Accepted.TheVariants.{Refused, Appended, Seen}
+use Rattle.kanswer.specs.declared.accepted.Reading.{Reading}
+use Rattle.kanswer.specs.Answer.{produced_parts, produced_topics, first_budget, told_to, answer}
+use Rattle.kanswer.specs.LogReadings.{AreReadings, budget_of}
+use Rattle.kwire.specs.Configuration.{Configuration}
+use Rattle.kanswer.specs.Waiting.{Shown}
 use Rattle.kafka_room.specs.Gathered.{bytes_read, most_left}
-use Rattle.kafka_room.specs.IsData.{IsData}
-use Rattle.kafka_room.specs.IsRequest.{IsRequest, Named, named_of, topics_named, ask_fields, produce_part_fields, produce_topic_fields, fetch_part_fields, fetch_topic_fields}
-use Rattle.kafka_room.specs.IsSpellable.{IsSpellable}
+use Rattle.kwire.specs.IsData.{IsData}
+use Rattle.kwire.specs.IsRequest.{IsRequest, Named, named_of, topics_named, ask_fields, produce_part_fields, produce_topic_fields, fetch_part_fields, fetch_topic_fields}
+use Rattle.kwire.specs.IsSpellable.{IsSpellable}
 use Rattle.kafka_room.specs.PlainStream.{IsPlainAsk}
-use Rattle.kafka_room.specs.Reported.{parts_by, fetched_part, fetched_topic, fetched_of}
-use Rattle.kafka_room.proofs.ReportLaws.{fetched_is}
-use Rattle.kafka_room.proofs.SpellableLaws.{IsProducedTopic, IsFetchedPart, IsFetchedTopic, records_in, produced_spellable, fetched_spellable}
+use Rattle.kanswer.specs.ToldParts.{parts_by, fetched_part, fetched_topic, fetched_of}
+use Rattle.kanswer.proofs.Laws.{fetched_is}
+use Rattle.kwire.proofs.Laws.{IsProducedTopic, IsFetchedPart, IsFetchedTopic, records_in, produced_spellable, fetched_spellable}
 
 -- what stands behind some fields fits too
 behind_fit : (fs gs : List Field) → AllByRecursion FitsField (fs ++ gs) → AllByRecursion FitsField gs

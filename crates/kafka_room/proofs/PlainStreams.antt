@@ -4,12 +4,11 @@ use Rattle.std.specs.List.{AllByRecursion}
 use Rattle.std.proofs.lemmas.List.{take_all, length-drop}
 use Rattle.kbytes.specs.Octets.{IsBytes}
 use Rattle.kbytes.proofs.Laws.{IsBytes-drop}
-use Rattle.kafka_room.specs.declared.kwire.frame.Frame.{Frame}
-use Rattle.kafka_room.specs.declared.kwire.frame.Frame.TheVariants.{Whole, NotYet, TooLong}
-use Rattle.kafka_room.specs.Frames.{framed, IsFrameBody, next_frame_of}
+use Rattle.kwire.specs.declared.frame.Frame.{Frame}
+use Rattle.kwire.specs.declared.frame.Frame.TheVariants.{Whole, NotYet, TooLong}
+use Rattle.kwire.specs.Frames.{framed, IsFrameBody, next_frame_of}
 use Rattle.kafka_room.specs.PlainStream.{IsPlainBody, IsPlainStream}
-use Rattle.kafka_room.proofs.FrameLaws.{whole_parts}
-use Rattle.kafka_room.proofs.StreamLaws.{IsNextBody, next_body, not_too_long, nothing_left}
+use Rattle.kwire.proofs.Laws.{whole_parts, IsNextBody, next_body, not_too_long, nothing_left}
 
 abbrev body_at : ℕ → List ℕ → List ℕ
 body_at end stream = take (end - 4) (drop 4 stream)

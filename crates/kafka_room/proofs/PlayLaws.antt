@@ -5,19 +5,19 @@ use Rattle.std.specs.Prelude.{nat_lt, ◌==◌}
 use Rattle.std.specs.List.{find, range_with_len}
 use Rattle.partlog.specs.History.{History}
 use Rattle.partlog.specs.Moment.{moment_of}
-use Rattle.kafka_room.specs.declared.kwire.frame.Frame.{Frame}
-use Rattle.kafka_room.specs.declared.kwire.frame.Frame.TheVariants.{Whole, NotYet, TooLong}
-use Rattle.kafka_room.specs.declared.kwire.request.Request.{Request}
-use Rattle.kafka_room.specs.declared.trace_file.line.Line.{Line}
-use Rattle.kafka_room.specs.declared.trace_file.line.Line.TheVariants.{Topic, Feed, Shut, Clock, End}
+use Rattle.kwire.specs.declared.frame.Frame.{Frame}
+use Rattle.kwire.specs.declared.frame.Frame.TheVariants.{Whole, NotYet, TooLong}
+use Rattle.kwire.specs.declared.request.Request.{Request}
+use Rattle.trace_file.specs.declared.line.Line.{Line}
+use Rattle.trace_file.specs.declared.line.Line.TheVariants.{Topic, Feed, Shut, Clock, End}
 use Rattle.kafka_room.specs.Acceptance.{Noted, accept_all, shown_of}
-use Rattle.kafka_room.specs.Accepting.{Decision}
+use Rattle.kanswer.specs.Decisions.{Decision}
 use Rattle.kafka_room.specs.Acting.{HandlesFrame, ActsOn}
 use Rattle.kafka_room.specs.Board.{Board, Waiting, seat_at, next_call}
 use Rattle.kafka_room.specs.Completing.{is_satisfied_now, is_answerable_now, completed, unless_none, answered_in, scan_sessions, scanned}
-use Rattle.kafka_room.specs.Configuration.{Configuration}
-use Rattle.kafka_room.specs.Delayed.{becomes_delayed}
-use Rattle.kafka_room.specs.Frames.{next_frame_of}
+use Rattle.kwire.specs.Configuration.{Configuration}
+use Rattle.kanswer.specs.Waiting.{becomes_delayed}
+use Rattle.kwire.specs.Frames.{next_frame_of}
 use Rattle.kafka_room.specs.Handling.{Turned, answered_at_once, left_waiting, handled}
 use Rattle.kafka_room.specs.Play.{brought, Rests, PlaysLine, Plays}
 

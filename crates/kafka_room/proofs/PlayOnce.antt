@@ -4,30 +4,29 @@ use Rattle.std.specs.Prelude.{MatchOption, unwrap_or, ◌==◌}
 use Rattle.std.specs.List.{AllZip}
 use Rattle.kbatch.specs.declared.fault.BatchFault.{BatchFault}
 use Rattle.kbatch.specs.declared.record.Record.{Record}
-use Rattle.kbatch.proofs.Decoding.{batch_once}
-use Rattle.kbatch.proofs.Faults.{batch_none, first_is_one}
+use Rattle.kbatch.proofs.Laws.{batch_once, batch_none, first_is_one}
 use Rattle.kafka_room.specs.declared.audit.account.Account.{Account}
-use Rattle.kafka_room.specs.declared.kwire.frame.Frame.{Frame}
-use Rattle.kafka_room.specs.declared.kwire.frame.Frame.TheVariants.{Whole, NotYet, TooLong}
-use Rattle.kafka_room.specs.declared.kwire.frame.WireFault.{WireFault}
+use Rattle.kwire.specs.declared.frame.Frame.{Frame}
+use Rattle.kwire.specs.declared.frame.Frame.TheVariants.{Whole, NotYet, TooLong}
+use Rattle.kwire.specs.declared.frame.WireFault.{WireFault}
 use Rattle.kafka_room.specs.declared.audit.account.SessionEnd.TheVariants.{Refused}
-use Rattle.kafka_room.specs.declared.kwire.request.Ask.{Ask}
-use Rattle.kafka_room.specs.declared.kwire.request.Ask.TheVariants.{Produce, Fetch, Metadata, Versions}
-use Rattle.kafka_room.specs.declared.kwire.request.ProducePart.{ProducePart}
-use Rattle.kafka_room.specs.declared.kwire.request.Request.{Request}
-use Rattle.kafka_room.specs.declared.trace_file.line.Line.{Line}
-use Rattle.kafka_room.specs.Accepting.{Decision, Refuse, AskLog, Decides, ProduceDecides, BatchDecides, append_outcome, code_of, produce_parts, is_acks}
-use Rattle.kafka_room.specs.Configuration.{part_of, Configuration}
+use Rattle.kwire.specs.declared.request.Ask.{Ask}
+use Rattle.kwire.specs.declared.request.Ask.TheVariants.{Produce, Fetch, Metadata, Versions}
+use Rattle.kwire.specs.declared.request.ProducePart.{ProducePart}
+use Rattle.kwire.specs.declared.request.Request.{Request}
+use Rattle.trace_file.specs.declared.line.Line.{Line}
+use Rattle.kanswer.specs.Decisions.{Decision, Refuse, AskLog, Decides, ProduceDecides, BatchDecides, append_outcome, code_of, produce_parts, is_acks}
+use Rattle.kwire.specs.Configuration.{part_of, Configuration}
 use Rattle.kafka_room.specs.Acting.{next_to_act, Acts, ActsOn, HandlesFrame}
 use Rattle.kafka_room.specs.Board.{Board, seat_at, next_call, opening, account_of}
 use Rattle.kafka_room.specs.Completing.{scanned}
-use Rattle.kafka_room.specs.Frames.{next_frame_of}
+use Rattle.kwire.specs.Frames.{next_frame_of}
 use Rattle.kafka_room.specs.Handling.{Turned, handled, ended}
 use Rattle.kafka_room.specs.Play.{brought, Rests, PlaysLine, Plays, IsPlay}
 use Rattle.kafka_room.specs.Printed.{summary_of}
-use Rattle.kafka_room.specs.Refusal.{request_at}
+use Rattle.kwire.specs.Refusal.{request_at}
 use Rattle.kafka_room.proofs.Places.{some_is}
-use Rattle.kafka_room.proofs.RequestLaws.{request_reads}
+use Rattle.kwire.proofs.Laws.{request_reads}
 
 -- ---- what is decided
 

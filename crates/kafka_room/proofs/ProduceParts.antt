@@ -7,12 +7,12 @@ use Rattle.std.specs.List.{AllZip, flat_map}
 use Rattle.partlog.specs.History.{History}
 use Rattle.kafka_room.specs.declared.broker.came.Came.{Came}
 use Rattle.kafka_room.specs.declared.broker.accept.Terms.{Terms}
-use Rattle.kafka_room.specs.declared.kwire.request.ProducePart.{ProducePart}
-use Rattle.kafka_room.specs.declared.kwire.request.ProduceTopic.{ProduceTopic}
-use Rattle.kafka_room.specs.declared.kwire.request.FetchPart.{FetchPart}
-use Rattle.kafka_room.specs.declared.kwire.request.FetchTopic.{FetchTopic}
-use Rattle.kafka_room.specs.Configuration.{Configuration, part_of}
-use Rattle.kafka_room.specs.Accepting.{Decision, Refuse, BatchDecides, ProduceDecides, is_acks, produce_parts, fetch_parts, fetch_decision}
+use Rattle.kwire.specs.declared.request.ProducePart.{ProducePart}
+use Rattle.kwire.specs.declared.request.ProduceTopic.{ProduceTopic}
+use Rattle.kwire.specs.declared.request.FetchPart.{FetchPart}
+use Rattle.kwire.specs.declared.request.FetchTopic.{FetchTopic}
+use Rattle.kwire.specs.Configuration.{Configuration, part_of}
+use Rattle.kanswer.specs.Decisions.{Decision, Refuse, BatchDecides, ProduceDecides, is_acks, produce_parts, fetch_parts, fetch_decision}
 use Rattle.kafka_room.specs.Carried.{IsCarried, OnTerms, HasProduced, fetch_decisions}
 use Rattle.kafka_room.proofs.Carrying.{carried_on, carried_none, all_zip_append}
 use Rattle.kafka_room.proofs.Accepts.{accepted_size}

@@ -5,23 +5,23 @@ use Rattle.std.specs.List.{AllZip}
 use Rattle.kafka_room.specs.declared.streams.Input.{Input}
 use Rattle.kafka_room.specs.declared.streams.Input.TheVariants.{TooLong}
 use Rattle.kafka_room.specs.declared.audit.account.Account.{Account}
-use Rattle.kafka_room.specs.declared.trace_file.line.Line.{Line}
+use Rattle.trace_file.specs.declared.line.Line.{Line}
 use Rattle.kafka_room.specs.ArePlainStreams.{ArePlainStreams}
 use Rattle.kafka_room.specs.Board.{Board, opening, account_of}
-use Rattle.kafka_room.specs.Configuration.{Configuration}
+use Rattle.kwire.specs.Configuration.{Configuration}
 use Rattle.kafka_room.specs.Handling.{Turned}
-use Rattle.kafka_room.specs.IsLine.{IsLine, words_of}
+use Rattle.trace_file.specs.IsLine.{IsLine, words_of}
 use Rattle.kafka_room.specs.PlainForm.{IsPlainForm}
 use Rattle.kafka_room.specs.Play.{Plays, IsPlay}
 use Rattle.kafka_room.specs.Printed.{summary_of}
 use Rattle.kafka_room.specs.Replay.{IsReplayOf, IsPlayFront, IsTextFront, IsReplayFront, IsOtherForm}
-use Rattle.kafka_room.specs.Contents.{configuration_of}
+use Rattle.trace_file.specs.Contents.{configuration_of}
 use Rattle.kafka_room.specs.Streams.{IsInput}
-use Rattle.kafka_room.specs.Trace.{pieces_of, IsPlainTrace}
+use Rattle.trace_file.specs.Trace.{pieces_of, IsPlainTrace}
 use Rattle.kafka_room.specs.UnderWay.{IsUnderWay}
 use Rattle.kafka_room.proofs.FirstBoard.{before_first}
 use Rattle.kafka_room.proofs.Lawful.{board_lawful}
-use Rattle.kafka_room.proofs.Lines.{words_say}
+use Rattle.trace_file.proofs.Laws.{words_say}
 use Rattle.kafka_room.proofs.PlayLaws.{plays_keep}
 use Rattle.kafka_room.proofs.PlayOnce.{play_is_one, front_of_play}
 use Rattle.kafka_room.proofs.RunLaws.{fed_tame, fed_run}

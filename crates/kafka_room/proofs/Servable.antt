@@ -10,19 +10,19 @@ use Rattle.partlog.specs.Kept.{IsKept}
 use Rattle.partlog.specs.State.{PartState, state_of}
 use Rattle.partlog.specs.Gauges.{gauges_of}
 use Rattle.partlog.specs.Start.{start_of}
-use Rattle.partlog.proofs.Bounds.{log_end-le-bytes}
-use Rattle.kafka_room.specs.declared.kanswer.accepted.Accepted.{Accepted}
-use Rattle.kafka_room.specs.declared.kanswer.accepted.Accepted.TheVariants.{Refused, Appended, Seen}
-use Rattle.kafka_room.specs.declared.kwire.request.Ask.{Ask}
-use Rattle.kafka_room.specs.declared.kwire.request.Ask.TheVariants.{Produce, Fetch, Metadata, Versions}
-use Rattle.kafka_room.specs.declared.kwire.request.FetchPart.{FetchPart}
-use Rattle.kafka_room.specs.declared.kwire.request.ProducePart.{ProducePart}
-use Rattle.kafka_room.specs.Configuration.{Configuration, followers_of, part_of}
-use Rattle.kafka_room.specs.Accepting.{Entry, Put, Looked, Followed, Outcome, Decision, Refuse, AskLog, Decides, BatchDecides, ProduceDecides, fetch_decision, fetch_outcome, in_range_outcome, offset_of, look, is_acks, produce_parts, fetch_parts}
+use Rattle.partlog.proofs.Laws.{log_end-le-bytes}
+use Rattle.kanswer.specs.declared.accepted.Accepted.{Accepted}
+use Rattle.kanswer.specs.declared.accepted.Accepted.TheVariants.{Refused, Appended, Seen}
+use Rattle.kwire.specs.declared.request.Ask.{Ask}
+use Rattle.kwire.specs.declared.request.Ask.TheVariants.{Produce, Fetch, Metadata, Versions}
+use Rattle.kwire.specs.declared.request.FetchPart.{FetchPart}
+use Rattle.kwire.specs.declared.request.ProducePart.{ProducePart}
+use Rattle.kwire.specs.Configuration.{Configuration, followers_of, part_of}
+use Rattle.kanswer.specs.Decisions.{Entry, Put, Looked, Followed, Outcome, Decision, Refuse, AskLog, Decides, BatchDecides, ProduceDecides, fetch_decision, fetch_outcome, in_range_outcome, offset_of, look, is_acks, produce_parts, fetch_parts}
 use Rattle.kafka_room.specs.Acceptance.{entered, accept_all, shown_of}
-use Rattle.kafka_room.specs.AreReadings.{IsCarriable, named_count}
+use Rattle.kanswer.specs.LogReadings.{IsCarriable, named_count}
 use Rattle.kafka_room.specs.Board.{history_at, empty_history}
-use Rattle.kafka_room.specs.Delayed.{results_of}
+use Rattle.kanswer.specs.Waiting.{results_of}
 use Rattle.kafka_room.specs.Replying.{HasLog}
 use Rattle.kafka_room.proofs.Accepts.{IsFair}
 use Rattle.kafka_room.proofs.Growth.{entered_events, event_of}

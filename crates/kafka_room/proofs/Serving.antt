@@ -10,33 +10,33 @@ use Rattle.kbytes.specs.Field.{integer}
 use Rattle.kbytes.proofs.Laws.{wide_32}
 use Rattle.kafka_room.specs.declared.audit.account.Call.{Call}
 use Rattle.kafka_room.specs.declared.audit.account.CallHow.TheVariants.{Quiet, AtOnce}
-use Rattle.kafka_room.specs.declared.kwire.frame.Frame.{Frame}
-use Rattle.kafka_room.specs.declared.kwire.frame.Frame.TheVariants.{Whole, NotYet, TooLong}
-use Rattle.kafka_room.specs.declared.kwire.request.Request.{Request}
-use Rattle.kafka_room.specs.declared.trace_file.line.Line.{Line}
+use Rattle.kwire.specs.declared.frame.Frame.{Frame}
+use Rattle.kwire.specs.declared.frame.Frame.TheVariants.{Whole, NotYet, TooLong}
+use Rattle.kwire.specs.declared.request.Request.{Request}
+use Rattle.trace_file.specs.declared.line.Line.{Line}
 use Rattle.kafka_room.specs.Acceptance.{accept_all, steps_of, shown_of}
-use Rattle.kafka_room.specs.Accepting.{Decision, Decides}
+use Rattle.kanswer.specs.Decisions.{Decision, Decides}
 use Rattle.kafka_room.specs.Acting.{can_act, next_to_act, shows_work, Acts}
 use Rattle.kafka_room.specs.AtOnce.{IsHandled}
 use Rattle.kafka_room.specs.Board.{Board, Seat, new_transcript, seat_at, transcript_at, next_call}
-use Rattle.kafka_room.specs.Delayed.{becomes_delayed, is_quiet}
+use Rattle.kanswer.specs.Waiting.{becomes_delayed, is_quiet}
 use Rattle.kafka_room.specs.Fed.{frames_of, IsFedBy, IsAtRest}
 use Rattle.kafka_room.specs.Fits.{IsUnfinished}
-use Rattle.kafka_room.specs.Frames.{framed, IsFrameBody, next_frame_of}
+use Rattle.kwire.specs.Frames.{framed, IsFrameBody, next_frame_of}
 use Rattle.kafka_room.specs.Handled.{step_points}
 use Rattle.kafka_room.specs.Handling.{Turned, answered_at_once, seat_with, with_call, how_at_once}
-use Rattle.kafka_room.specs.IsRequest.{IsRequest}
+use Rattle.kwire.specs.IsRequest.{IsRequest}
 use Rattle.kafka_room.specs.PlainStream.{IsPlainBody, IsPlainStream}
 use Rattle.kafka_room.specs.Play.{Rests}
 use Rattle.kafka_room.specs.Ready.{IsReady, front_body}
-use Rattle.kafka_room.specs.Contents.{bytes_in, input_of}
+use Rattle.trace_file.specs.Contents.{bytes_in, input_of}
 use Rattle.kafka_room.specs.UnderWay.{to_come, IsUnderWay, IsServing}
 use Rattle.kafka_room.proofs.Accepts.{IsFair}
 use Rattle.kafka_room.proofs.Fair.{parts_size, decides_fair}
 use Rattle.kafka_room.proofs.Places.{same_or_not}
 use Rattle.kafka_room.proofs.RunLaws.{seat_set_same, seat_set_other, fed_call, fed_can_act, scanned_nothing}
 use Rattle.kafka_room.proofs.Steady.{IsSteady, steady_call}
-use Rattle.kafka_room.proofs.StreamLaws.{whole_within, whole_before, whole_ends, next_body, not_too_long}
+use Rattle.kwire.proofs.Laws.{whole_within, whole_before, whole_ends, next_body, not_too_long}
 
 -- ---- the frame at the front
 

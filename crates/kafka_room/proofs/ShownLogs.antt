@@ -14,14 +14,14 @@ use Rattle.partlog.specs.History.{History}
 use Rattle.partlog.specs.Position.{offset_by, position_of, positions_of}
 use Rattle.partlog.specs.State.{PartState, state_of}
 use Rattle.partlog.specs.Gauges.{gauges_of}
-use Rattle.partlog.proofs.Appending.{batches-append}
-use Rattle.kafka_room.specs.declared.kanswer.accepted.Accepted.{Accepted}
-use Rattle.kafka_room.specs.declared.kanswer.accepted.Accepted.TheVariants.{Refused, Appended, Seen}
-use Rattle.kafka_room.specs.declared.kwire.config.Topic.{Topic}
-use Rattle.kafka_room.specs.declared.kwire.request.FetchPart.{FetchPart}
-use Rattle.kafka_room.specs.declared.kwire.request.ProducePart.{ProducePart}
-use Rattle.kafka_room.specs.Configuration.{Configuration, followers_of, part_of}
-use Rattle.kafka_room.specs.Accepting.{Entry, Put, Looked, Outcome, Decision, Refuse, AskLog, BatchDecides, ProduceDecides, fetch_decision, fetch_outcome, in_range_outcome, look, is_acks}
+use Rattle.partlog.proofs.Laws.{batches-append}
+use Rattle.kanswer.specs.declared.accepted.Accepted.{Accepted}
+use Rattle.kanswer.specs.declared.accepted.Accepted.TheVariants.{Refused, Appended, Seen}
+use Rattle.kwire.specs.declared.config.Topic.{Topic}
+use Rattle.kwire.specs.declared.request.FetchPart.{FetchPart}
+use Rattle.kwire.specs.declared.request.ProducePart.{ProducePart}
+use Rattle.kwire.specs.Configuration.{Configuration, followers_of, part_of}
+use Rattle.kanswer.specs.Decisions.{Entry, Put, Looked, Outcome, Decision, Refuse, AskLog, BatchDecides, ProduceDecides, fetch_decision, fetch_outcome, in_range_outcome, look, is_acks}
 use Rattle.kafka_room.specs.Acceptance.{entered, accept_all, shown_of}
 use Rattle.kafka_room.specs.Board.{history_at, empty_history}
 use Rattle.kafka_room.specs.Carried.{HasNoFollowers}

@@ -11,12 +11,12 @@ use Rattle.partlog.specs.History.{History}
 use Rattle.kafka_room.specs.declared.audit.account.Account.{Account}
 use Rattle.kafka_room.specs.declared.audit.account.Call.{Call}
 use Rattle.kafka_room.specs.declared.audit.account.Point.{Point}
-use Rattle.kafka_room.specs.declared.kwire.request.Request.{Request}
-use Rattle.kafka_room.specs.Configuration.{Configuration}
-use Rattle.kafka_room.specs.IsRequest.{IsRequest}
+use Rattle.kwire.specs.declared.request.Request.{Request}
+use Rattle.kwire.specs.Configuration.{Configuration}
+use Rattle.kwire.specs.IsRequest.{IsRequest}
 use Rattle.kafka_room.specs.Histories.{Owner, owner_of, owners_of, history_of, points_of}
-use Rattle.kafka_room.specs.Accepting.{Decision, Decides}
-use Rattle.kafka_room.specs.Delayed.{becomes_delayed}
+use Rattle.kanswer.specs.Decisions.{Decision, Decides}
+use Rattle.kanswer.specs.Waiting.{becomes_delayed}
 use Rattle.kafka_room.specs.Handled.{step_points}
 use Rattle.kafka_room.specs.IsLawful.{places_in, is_point}
 use Rattle.kafka_room.specs.Board.{empty_history}

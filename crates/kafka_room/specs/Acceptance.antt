@@ -5,9 +5,9 @@ use Rattle.partlog.specs.declared.event.PartEvent.TheVariants.{Append, Follow, L
 use Rattle.partlog.specs.Added.{log_end_of}
 use Rattle.partlog.specs.History.{History}
 use Rattle.partlog.specs.State.{PartState as State, state_of}
-use Rattle.kafka_room.specs.declared.kanswer.accepted.Accepted.TheVariants.{Refused}
-use Rattle.kafka_room.specs.Accepting.{Entry, Put, Followed, Looked, Decision, Refuse, AskLog}
-use Rattle.kafka_room.specs.Delayed.{Shown}
+use Rattle.kanswer.specs.declared.accepted.Accepted.TheVariants.{Refused}
+use Rattle.kanswer.specs.Decisions.{Entry, Put, Followed, Looked, Decision, Refuse, AskLog}
+use Rattle.kanswer.specs.Waiting.{Shown}
 use Rattle.kafka_room.specs.Histories.{no_state}
 use Rattle.kafka_room.specs.Handled.{Step}
 use Rattle.kafka_room.specs.Board.{history_at}

@@ -3,14 +3,14 @@ use Rattle.std.specs.Prelude.{ℕ, ◌-◌, ◌≡◌, ◌⊎◌, Bool, true, fa
 use Rattle.std.specs.List.{find, list_any, range_with_len}
 use Rattle.kafka_room.specs.declared.audit.account.SessionEnd.{SessionEnd}
 use Rattle.kafka_room.specs.declared.audit.account.SessionEnd.TheVariants.{Closed, Truncated, FrameTooLong, Refused, CallsFull}
-use Rattle.kafka_room.specs.declared.kwire.frame.Frame.{Frame}
-use Rattle.kafka_room.specs.declared.kwire.frame.Frame.TheVariants.{Whole, NotYet, TooLong}
-use Rattle.kafka_room.specs.declared.kwire.frame.WireFault.{WireFault}
-use Rattle.kafka_room.specs.declared.kwire.request.Request.{Request}
-use Rattle.kafka_room.specs.Accepting.{Decision, Decides}
-use Rattle.kafka_room.specs.Frames.{next_frame_of}
-use Rattle.kafka_room.specs.IsRequest.{IsRequest}
-use Rattle.kafka_room.specs.Refusal.{IsRefused}
+use Rattle.kwire.specs.declared.frame.Frame.{Frame}
+use Rattle.kwire.specs.declared.frame.Frame.TheVariants.{Whole, NotYet, TooLong}
+use Rattle.kwire.specs.declared.frame.WireFault.{WireFault}
+use Rattle.kwire.specs.declared.request.Request.{Request}
+use Rattle.kanswer.specs.Decisions.{Decision, Decides}
+use Rattle.kwire.specs.Frames.{next_frame_of}
+use Rattle.kwire.specs.IsRequest.{IsRequest}
+use Rattle.kwire.specs.Refusal.{IsRefused}
 use Rattle.kafka_room.specs.Board.{Board, seat_at, transcript_at, next_call, most_sessions}
 use Rattle.kafka_room.specs.Handling.{Turned, handled, ended}
 

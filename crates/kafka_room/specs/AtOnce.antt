@@ -2,15 +2,15 @@
 use Rattle.std.specs.Prelude.{ℕ, ◌≡◌, false, List, ◌++◌}
 use Rattle.partlog.specs.History.{History}
 use Rattle.kafka_room.specs.declared.audit.account.Point.{Point}
-use Rattle.kafka_room.specs.declared.kwire.request.Request.{Request}
+use Rattle.kwire.specs.declared.request.Request.{Request}
 use Rattle.kafka_room.specs.Acceptance.{accept_all, steps_of, shown_of}
-use Rattle.kafka_room.specs.Accepting.{Decision, Decides}
+use Rattle.kanswer.specs.Decisions.{Decision, Decides}
 use Rattle.kafka_room.specs.Board.{Board, next_call}
-use Rattle.kafka_room.specs.Configuration.{Configuration}
-use Rattle.kafka_room.specs.Delayed.{becomes_delayed}
+use Rattle.kwire.specs.Configuration.{Configuration}
+use Rattle.kanswer.specs.Waiting.{becomes_delayed}
 use Rattle.kafka_room.specs.Handled.{step_points}
 use Rattle.kafka_room.specs.Handling.{text_at_once, answered_at_once}
-use Rattle.kafka_room.specs.IsRequest.{IsRequest}
+use Rattle.kwire.specs.IsRequest.{IsRequest}
 
 -- by the call of this number of a session
 pub record IsAnsweredAtOnce (config : Configuration) (by seq : ℕ) (request : Request) (before after : List History) (points : List Point) (text more : List ℕ) : Type 0 where

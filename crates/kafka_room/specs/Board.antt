@@ -7,8 +7,8 @@ use Rattle.partlog.specs.History.{History}
 use Rattle.kafka_room.specs.declared.audit.account.Account.{Account}
 use Rattle.kafka_room.specs.declared.audit.account.PartAccount.{PartAccount}
 use Rattle.kafka_room.specs.declared.audit.account.Transcript.{Transcript}
-use Rattle.kafka_room.specs.declared.kwire.request.Request.{Request}
-use Rattle.kafka_room.specs.Configuration.{Configuration, followers_of}
+use Rattle.kwire.specs.declared.request.Request.{Request}
+use Rattle.kwire.specs.Configuration.{Configuration, followers_of}
 use Rattle.opcond.specs.Operation.{Operation}
 use Rattle.kafka_room.specs.Histories.{calls_in}
 use Rattle.kafka_room.specs.Handled.{Step}

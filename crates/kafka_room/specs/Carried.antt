@@ -5,13 +5,13 @@ use Rattle.std.specs.List.{AllByRecursion, AllZip}
 use Rattle.partlog.specs.History.{History}
 use Rattle.kafka_room.specs.declared.broker.came.Came.{Came}
 use Rattle.kafka_room.specs.declared.broker.accept.Terms.{Terms}
-use Rattle.kafka_room.specs.declared.kwire.config.Topic.{Topic}
-use Rattle.kafka_room.specs.declared.kwire.request.ProduceTopic.{ProduceTopic}
-use Rattle.kafka_room.specs.declared.kwire.request.FetchTopic.{FetchTopic}
-use Rattle.kafka_room.specs.Configuration.{Configuration, part_of}
-use Rattle.kafka_room.specs.Accepting.{Decision, ProduceDecides, produce_parts, fetch_parts, fetch_decision}
+use Rattle.kwire.specs.declared.config.Topic.{Topic}
+use Rattle.kwire.specs.declared.request.ProduceTopic.{ProduceTopic}
+use Rattle.kwire.specs.declared.request.FetchTopic.{FetchTopic}
+use Rattle.kwire.specs.Configuration.{Configuration, part_of}
+use Rattle.kanswer.specs.Decisions.{Decision, ProduceDecides, produce_parts, fetch_parts, fetch_decision}
 use Rattle.kafka_room.specs.Acceptance.{accept_all, steps_of, shown_of}
-use Rattle.kafka_room.specs.Delayed.{results_of}
+use Rattle.kanswer.specs.Waiting.{results_of}
 use Rattle.kafka_room.specs.Handled.{step_points}
 
 pub record IsCarried (by seq : ℕ) (decisions : List Decision) (before after : List History) (came later : Came) : Type 0 where

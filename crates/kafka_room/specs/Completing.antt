@@ -10,13 +10,13 @@ use Rattle.kafka_room.specs.declared.audit.account.Call.{Call}
 use Rattle.kafka_room.specs.declared.audit.account.CallHow.{CallHow}
 use Rattle.kafka_room.specs.declared.audit.account.CallHow.TheVariants.{Satisfied, Expired}
 use Rattle.kafka_room.specs.declared.audit.account.Point.{Point}
-use Rattle.kafka_room.specs.Accepting.{Looked}
-use Rattle.kafka_room.specs.Answer.{answer}
-use Rattle.kafka_room.specs.Delayed.{Shown, values_of}
+use Rattle.kanswer.specs.Decisions.{Looked}
+use Rattle.kanswer.specs.Answer.{answer}
+use Rattle.kanswer.specs.Waiting.{Shown, values_of}
 use Rattle.kafka_room.specs.Handled.{Step, operation_parts, part_in}
 use Rattle.kafka_room.specs.Histories.{clock_part, no_state}
 use Rattle.opcond.specs.Tally.{tally}
-use Rattle.kafka_room.specs.PrintedLine.{reply_line}
+use Rattle.trace_file.specs.PrintedLine.{reply_line}
 use Rattle.kafka_room.specs.Board.{Board, Waiting, history_at, most_sessions, seat_at, transcript_at, next_call}
 use Rattle.kafka_room.specs.Acceptance.{entered}
 use Rattle.kafka_room.specs.Handling.{Turned}

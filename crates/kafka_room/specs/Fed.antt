@@ -4,10 +4,10 @@ use Rattle.std.specs.List.{AllByRecursion, flat_map}
 use Rattle.kafka_room.specs.declared.audit.account.Transcript.{Transcript}
 use Rattle.kafka_room.specs.declared.audit.account.Call.{Call}
 use Rattle.kafka_room.specs.declared.audit.account.CallHow.TheVariants.{Quiet, AtOnce}
-use Rattle.kafka_room.specs.declared.trace_file.line.Line.{Line}
-use Rattle.kafka_room.specs.Frames.{framed, IsFrameBody}
+use Rattle.trace_file.specs.declared.line.Line.{Line}
+use Rattle.kwire.specs.Frames.{framed, IsFrameBody}
 use Rattle.kafka_room.specs.Fits.{IsUnfinished}
-use Rattle.kafka_room.specs.Contents.{input_of, is_named}
+use Rattle.trace_file.specs.Contents.{input_of, is_named}
 use Rattle.kafka_room.specs.Board.{Board, Seat, new_transcript, seat_at}
 
 -- a call that needn't wait

@@ -9,14 +9,14 @@ use Rattle.kafka_room.specs.declared.audit.account.CallHow.TheVariants.{Quiet, A
 use Rattle.kafka_room.specs.declared.audit.account.SessionEnd.{SessionEnd}
 use Rattle.kafka_room.specs.declared.audit.account.SessionEnd.TheVariants.{Closed, Truncated, FrameTooLong, Refused, CallsFull, ReadFault, WriteFault, NoMemory}
 use Rattle.kafka_room.specs.declared.audit.account.Point.{Point}
-use Rattle.kafka_room.specs.declared.kwire.frame.Frame.TheVariants.{TooLong}
-use Rattle.kafka_room.specs.declared.kwire.reply.Reply.{Reply}
-use Rattle.kafka_room.specs.declared.kwire.request.Request.{Request}
-use Rattle.kafka_room.specs.Frames.{framed, IsFrameBody, BeginsWhole, BeginsTooLong, next_frame_of}
-use Rattle.kafka_room.specs.Refusal.{IsRefused}
-use Rattle.kafka_room.specs.Spelling.{spelling}
-use Rattle.kafka_room.specs.Answer.{answer}
-use Rattle.kafka_room.specs.Delayed.{Shown}
+use Rattle.kwire.specs.declared.frame.Frame.TheVariants.{TooLong}
+use Rattle.kwire.specs.declared.reply.Reply.{Reply}
+use Rattle.kwire.specs.declared.request.Request.{Request}
+use Rattle.kwire.specs.Frames.{framed, IsFrameBody, BeginsWhole, BeginsTooLong, next_frame_of}
+use Rattle.kwire.specs.Refusal.{IsRefused}
+use Rattle.kwire.specs.Spelling.{spelling}
+use Rattle.kanswer.specs.Answer.{answer}
+use Rattle.kanswer.specs.Waiting.{Shown}
 use Rattle.kafka_room.specs.Handled.{Step, IsAcceptance, shown_as_accepted, shown_as_completed}
 
 -- nothing more can be read of this: no whole frame stands at its front, and none that is too long

@@ -5,14 +5,14 @@ use Rattle.partlog.specs.History.{History}
 use Rattle.partlog.specs.State.{PartState as State, state_of}
 use Rattle.partlog.specs.Gauges.{numbers_of}
 use Rattle.partlog.specs.Taken.{joined}
-use Rattle.kafka_room.specs.declared.kwire.request.FetchPart.{FetchPart}
-use Rattle.kafka_room.specs.declared.kanswer.accepted.Accepted.{Accepted}
-use Rattle.kafka_room.specs.declared.kanswer.accepted.Accepted.TheVariants.{Refused, Appended, Seen}
-use Rattle.kafka_room.specs.declared.kanswer.accepted.Reading.{Reading}
-use Rattle.kafka_room.specs.declared.kanswer.accepted.Budget.{Budget}
+use Rattle.kwire.specs.declared.request.FetchPart.{FetchPart}
+use Rattle.kanswer.specs.declared.accepted.Accepted.{Accepted}
+use Rattle.kanswer.specs.declared.accepted.Accepted.TheVariants.{Refused, Appended, Seen}
+use Rattle.kanswer.specs.declared.accepted.Reading.{Reading}
+use Rattle.kanswer.specs.declared.accepted.Budget.{Budget}
 use Rattle.kafka_room.specs.Board.{history_at, empty_history}
-use Rattle.kafka_room.specs.Delayed.{Shown}
-use Rattle.kafka_room.specs.Answer.{read_of, budget_after}
+use Rattle.kanswer.specs.Waiting.{Shown}
+use Rattle.kanswer.specs.Answer.{read_of, budget_after}
 
 abbrev pub nothing_read : Reading
 nothing_read = record { numbers = record { end = 0; high = 0; visible = 0; bytes = 0 }; records = [] }

@@ -12,14 +12,14 @@ use Rattle.kafka_room.specs.declared.audit.account.Call.{Call}
 use Rattle.kafka_room.specs.declared.audit.account.CallHow.{CallHow}
 use Rattle.kafka_room.specs.declared.audit.account.CallHow.TheVariants.{Quiet, AtOnce, Satisfied, Expired, Parked, Cut}
 use Rattle.kafka_room.specs.declared.audit.account.Point.{Point}
-use Rattle.kafka_room.specs.declared.kwire.request.Request.{Request}
-use Rattle.kafka_room.specs.declared.kanswer.accepted.Accepted.{Accepted}
-use Rattle.kafka_room.specs.declared.kanswer.accepted.Accepted.TheVariants.{Refused, Appended, Seen}
-use Rattle.kafka_room.specs.IsRequest.{IsRequest}
+use Rattle.kwire.specs.declared.request.Request.{Request}
+use Rattle.kanswer.specs.declared.accepted.Accepted.{Accepted}
+use Rattle.kanswer.specs.declared.accepted.Accepted.TheVariants.{Refused, Appended, Seen}
+use Rattle.kwire.specs.IsRequest.{IsRequest}
 use Rattle.opcond.specs.Tally.{IsSatisfied, IsOverdue, IsAnswerable}
 use Rattle.opcond.specs.Operation.{Operation}
-use Rattle.kafka_room.specs.Accepting.{Entry, Put, Followed, Looked, Outcome, Decision, Refuse, AskLog, Decides}
-use Rattle.kafka_room.specs.Delayed.{Shown, operation_of, values_of, results_of, becomes_delayed, is_quiet}
+use Rattle.kanswer.specs.Decisions.{Entry, Put, Followed, Looked, Outcome, Decision, Refuse, AskLog, Decides}
+use Rattle.kanswer.specs.Waiting.{Shown, operation_of, values_of, results_of, becomes_delayed, is_quiet}
 use Rattle.kafka_room.specs.Histories.{clock_part, no_state, before_point, at_point, final_state, event_at, moment_at}
 
 -- what became of a named partition, and the point of its entry, where it left one

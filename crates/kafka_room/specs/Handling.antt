@@ -7,16 +7,16 @@ use Rattle.kafka_room.specs.declared.audit.account.Call.{Call}
 use Rattle.kafka_room.specs.declared.audit.account.CallHow.{CallHow}
 use Rattle.kafka_room.specs.declared.audit.account.CallHow.TheVariants.{Quiet, AtOnce, Parked}
 use Rattle.kafka_room.specs.declared.audit.account.SessionEnd.{SessionEnd}
-use Rattle.kafka_room.specs.declared.kwire.request.Ask.{Ask}
-use Rattle.kafka_room.specs.declared.kwire.request.Request.{Request}
-use Rattle.kafka_room.specs.Accepting.{Decision}
-use Rattle.kafka_room.specs.Answer.{answer}
-use Rattle.kafka_room.specs.Configuration.{Configuration}
-use Rattle.kafka_room.specs.Delayed.{Shown, becomes_delayed, is_quiet, operation_of, results_of}
+use Rattle.kwire.specs.declared.request.Ask.{Ask}
+use Rattle.kwire.specs.declared.request.Request.{Request}
+use Rattle.kanswer.specs.Decisions.{Decision}
+use Rattle.kanswer.specs.Answer.{answer}
+use Rattle.kwire.specs.Configuration.{Configuration}
+use Rattle.kanswer.specs.Waiting.{Shown, becomes_delayed, is_quiet, operation_of, results_of}
 use Rattle.kafka_room.specs.Handled.{step_points}
 use Rattle.kafka_room.specs.Histories.{clock_part}
 use Rattle.kafka_room.specs.Printed.{end_line}
-use Rattle.kafka_room.specs.PrintedLine.{reply_line}
+use Rattle.trace_file.specs.PrintedLine.{reply_line}
 use Rattle.kafka_room.specs.Board.{Board, Seat, seat_at, transcript_at, next_call}
 use Rattle.kafka_room.specs.Acceptance.{Noted, accept_all, steps_of, shown_of}
 

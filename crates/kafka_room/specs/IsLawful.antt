@@ -12,7 +12,7 @@ use Rattle.kafka_room.specs.declared.audit.account.CallHow.TheVariants.{Quiet, A
 use Rattle.kafka_room.specs.declared.audit.account.SessionEnd.{SessionEnd}
 use Rattle.kafka_room.specs.declared.audit.account.SessionEnd.TheVariants.{NoMemory}
 use Rattle.kafka_room.specs.declared.audit.account.Point.{Point}
-use Rattle.kafka_room.specs.Configuration.{followers_of}
+use Rattle.kwire.specs.Configuration.{followers_of}
 use Rattle.kafka_room.specs.Histories.{owners_of, ticks_of, calls_of, call_of, all_calls, points_of}
 use Rattle.kafka_room.specs.Handled.{IsLawfulCall}
 

@@ -3,11 +3,11 @@
 use Rattle.std.specs.Prelude.{ℕ, ◌≡◌, ◌⊎◌, pos, List}
 use Rattle.std.specs.List.{AllByRecursion, flat_map}
 use lib.Signed.{◌≤ℤ◌}
-use Rattle.kafka_room.specs.declared.kwire.request.Ask.{Ask}
-use Rattle.kafka_room.specs.declared.kwire.request.Ask.TheVariants.{Produce, Fetch, Metadata, Versions}
-use Rattle.kafka_room.specs.declared.kwire.request.Request.{Request}
-use Rattle.kafka_room.specs.IsRequest.{IsRequest}
-use Rattle.kafka_room.specs.Frames.{framed, IsFrameBody}
+use Rattle.kwire.specs.declared.request.Ask.{Ask}
+use Rattle.kwire.specs.declared.request.Ask.TheVariants.{Produce, Fetch, Metadata, Versions}
+use Rattle.kwire.specs.declared.request.Request.{Request}
+use Rattle.kwire.specs.IsRequest.{IsRequest}
+use Rattle.kwire.specs.Frames.{framed, IsFrameBody}
 
 abbrev pub IsPlainAsk : Ask → Type 0
 IsPlainAsk (Produce transactional acks timeout topics) = (acks ≡ pos 0) ⊎ (acks ≡ pos 1)

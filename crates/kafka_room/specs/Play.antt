@@ -4,9 +4,9 @@ use Rattle.std.specs.Prelude.{ℕ, zero, suc, ◌≡◌, Bool, true, List, [], �
 use Rattle.partlog.specs.declared.clock_event.ClockEvent.TheVariants as clocks
 use Rattle.partlog.specs.Moment.{moment_of}
 use Rattle.kafka_room.specs.declared.audit.account.Account.{Account}
-use Rattle.kafka_room.specs.declared.trace_file.line.Line.{Line}
-use Rattle.kafka_room.specs.declared.trace_file.line.Line.TheVariants.{Topic, Feed, Shut, Clock, End}
-use Rattle.kafka_room.specs.Configuration.{Configuration}
+use Rattle.trace_file.specs.declared.line.Line.{Line}
+use Rattle.trace_file.specs.declared.line.Line.TheVariants.{Topic, Feed, Shut, Clock, End}
+use Rattle.kwire.specs.Configuration.{Configuration}
 use Rattle.kafka_room.specs.Printed.{summary_of}
 use Rattle.kafka_room.specs.Board.{Board, seat_at, transcript_at, opening, account_of}
 use Rattle.kafka_room.specs.Handling.{Turned}

@@ -11,10 +11,10 @@ use Rattle.kafka_room.specs.declared.audit.account.CallHow.{CallHow}
 use Rattle.kafka_room.specs.declared.audit.account.CallHow.TheVariants.{Quiet, AtOnce, Satisfied, Expired, Parked, Cut}
 use Rattle.kafka_room.specs.declared.audit.account.SessionEnd.{SessionEnd}
 use Rattle.kafka_room.specs.declared.audit.account.SessionEnd.TheVariants as ends
-use Rattle.kafka_room.specs.declared.kwire.frame.WireFault.{WireFault}
-use Rattle.kafka_room.specs.declared.kwire.frame.WireFault.TheVariants as refusals
-use Rattle.kafka_room.specs.declared.kwire.reply.Reply.{Reply}
-use Rattle.kafka_room.specs.PrintedLine.{line_of, reply_line}
+use Rattle.kwire.specs.declared.frame.WireFault.{WireFault}
+use Rattle.kwire.specs.declared.frame.WireFault.TheVariants as refusals
+use Rattle.kwire.specs.declared.reply.Reply.{Reply}
+use Rattle.trace_file.specs.PrintedLine.{line_of, reply_line}
 use Rattle.kafka_room.specs.Histories.{history_of}
 use Rattle.kafka_room.specs.Fits.{HasReplies, answered_of}
 

@@ -1,10 +1,10 @@
 -- A broker that can handle the frame at the front of a session's bytes, which ends before this place.
 use Rattle.std.specs.Prelude.{ℕ, ◌≡◌, ◌<◌, ◌-◌, List, length, take, drop}
-use Rattle.kafka_room.specs.declared.kwire.frame.Frame.TheVariants.{Whole}
+use Rattle.kwire.specs.declared.frame.Frame.TheVariants.{Whole}
 use Rattle.kafka_room.specs.Board.{Board, seat_at, transcript_at}
 use Rattle.kafka_room.specs.Carried.{HasNoFollowers}
-use Rattle.kafka_room.specs.Configuration.{partitions_of}
-use Rattle.kafka_room.specs.Frames.{next_frame_of}
+use Rattle.kwire.specs.Configuration.{partitions_of}
+use Rattle.kwire.specs.Frames.{next_frame_of}
 use Rattle.kafka_room.specs.PlainStream.{IsPlainBody}
 
 -- the body of the frame that stands there

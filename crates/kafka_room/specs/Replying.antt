@@ -4,11 +4,11 @@ use Rattle.std.specs.Prelude.{◌≡◌, ◌<◌, List, length, ⊤}
 use Rattle.std.specs.List.{AllByRecursion}
 use Rattle.partlog.specs.History.{History}
 use Rattle.partlog.specs.State.{state_of}
-use Rattle.kafka_room.specs.declared.kwire.request.Ask.{Ask}
-use Rattle.kafka_room.specs.declared.kanswer.accepted.Accepted.{Accepted}
-use Rattle.kafka_room.specs.declared.kanswer.accepted.Accepted.TheVariants.{Refused, Appended, Seen}
+use Rattle.kwire.specs.declared.request.Ask.{Ask}
+use Rattle.kanswer.specs.declared.accepted.Accepted.{Accepted}
+use Rattle.kanswer.specs.declared.accepted.Accepted.TheVariants.{Refused, Appended, Seen}
 use Rattle.kafka_room.specs.Board.{history_at}
-use Rattle.kafka_room.specs.Delayed.{Shown, results_of}
+use Rattle.kanswer.specs.Waiting.{Shown, results_of}
 
 -- a partition that is seen is shown as its log is
 abbrev pub ShowsLog : List History → Shown → Type 0

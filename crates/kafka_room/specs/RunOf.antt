@@ -1,14 +1,14 @@
 -- What the account of a trace's run is to the trace: its topics, what each session received, and its ticks.
 use Rattle.std.specs.Prelude.{ℕ, ◌≡◌, ◌≢◌, ◌<◌, List, [], ◌∷◌, length, Option, Some, slice_get, MatchBool}
 use Rattle.std.specs.List.{AllByRecursion}
-use Rattle.kafka_room.specs.declared.trace_file.line.Line.{Line}
+use Rattle.trace_file.specs.declared.line.Line.{Line}
 use Rattle.kafka_room.specs.declared.audit.account.Account.{Account}
 use Rattle.kafka_room.specs.declared.audit.account.Transcript.{Transcript}
 use Rattle.kafka_room.specs.declared.audit.account.Call.{Call}
 use Rattle.kafka_room.specs.declared.audit.account.CallHow.TheVariants.{Cut}
 use Rattle.kafka_room.specs.declared.audit.account.SessionEnd.{SessionEnd}
 use Rattle.kafka_room.specs.declared.audit.account.SessionEnd.TheVariants.{ReadFault, WriteFault, NoMemory}
-use Rattle.kafka_room.specs.Contents.{configuration_of, input_of, is_shut, is_named, sessions_of, rising_from}
+use Rattle.trace_file.specs.Contents.{configuration_of, input_of, is_shut, is_named, sessions_of, rising_from}
 use Rattle.kafka_room.specs.Histories.{ticks_of, all_calls}
 use Rattle.kafka_room.specs.Fits.{Fits}
 

@@ -10,8 +10,8 @@ use Rattle.kafka_room.specs.declared.audit.account.Account.{Account}
 use Rattle.kafka_room.specs.declared.audit.account.PartAccount.{PartAccount}
 use Rattle.kafka_room.specs.declared.audit.account.Call.{Call}
 use Rattle.kafka_room.specs.declared.audit.account.Point.{Point}
-use Rattle.kafka_room.specs.declared.kwire.request.Request.{Request}
-use Rattle.kafka_room.specs.Configuration.{Configuration, followers_of}
+use Rattle.kwire.specs.declared.request.Request.{Request}
+use Rattle.kwire.specs.Configuration.{Configuration, followers_of}
 use Rattle.kafka_room.specs.Histories.{Owner, owner_of, owners_of, history_of, points_of}
 use Rattle.kafka_room.specs.Handled.{Step, IsAcceptance, step_points, is_delayed}
 use Rattle.kafka_room.specs.IsLawful.{places_in, is_point}

@@ -1,12 +1,12 @@
 -- A broker amid a trace whose requests wait for nothing: what it was given, what is to come, and what holds.
 use Rattle.std.specs.Prelude.{ℕ, ◌≡◌, ◌≢◌, ◌<◌, ◌≤◌, true, List, ◌++◌, length}
-use Rattle.kafka_room.specs.declared.trace_file.line.Line.{Line}
+use Rattle.trace_file.specs.declared.line.Line.{Line}
 use Rattle.kafka_room.specs.Board.{Board, seat_at, transcript_at}
 use Rattle.kafka_room.specs.Carried.{HasNoFollowers}
 use Rattle.kafka_room.specs.Fed.{IsFedBy, IsAtRest}
 use Rattle.kafka_room.specs.Fits.{IsUnfinished}
 use Rattle.kafka_room.specs.PlainStream.{IsPlainStream}
-use Rattle.kafka_room.specs.Contents.{input_of, is_named}
+use Rattle.trace_file.specs.Contents.{input_of, is_named}
 use Rattle.kafka_room.specs.Steady.{IsSteady}
 
 -- what a session will have received, but for what it handled

@@ -1,7 +1,7 @@
 //! How a run ended.
 
 use crate::audit::Account;
-use crate::trace_file::LineFault;
+use trace_file::LineFault;
 
 /// What a run answers. The port and the clock are those that were handed in.
 #[derive(Debug, Drop)]

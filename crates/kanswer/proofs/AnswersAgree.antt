@@ -3,22 +3,22 @@ use Rattle.std.proofs.Common.{◌≡◌, ℕ, zero, suc, ◌+◌, ℤ, pos, List
 use Rattle.std.specs.List.{flat_map}
 use Rattle.partlog.specs.State.{PartState, high_of}
 use Rattle.partlog.specs.declared.numbers.Numbers.{Numbers}
-use Rattle.kafka_room.specs.declared.kwire.request.ProducePart.{ProducePart}
-use Rattle.kafka_room.specs.declared.kwire.request.ProduceTopic.{ProduceTopic}
-use Rattle.kafka_room.specs.declared.kwire.request.FetchPart.{FetchPart}
-use Rattle.kafka_room.specs.declared.kwire.request.FetchTopic.{FetchTopic}
-use Rattle.kafka_room.specs.declared.kwire.reply.ProducedPart.{ProducedPart}
-use Rattle.kafka_room.specs.declared.kwire.reply.ProducedTopic.{ProducedTopic}
-use Rattle.kafka_room.specs.declared.kwire.reply.FetchedPart.{FetchedPart}
-use Rattle.kafka_room.specs.declared.kwire.reply.FetchedTopic.{FetchedTopic}
-use Rattle.kafka_room.specs.declared.kanswer.accepted.Accepted.{Accepted}
-use Rattle.kafka_room.specs.declared.kanswer.accepted.Accepted.TheVariants.{Refused, Appended, Seen}
-use Rattle.kafka_room.specs.declared.kanswer.accepted.Reading.{Reading}
-use Rattle.kafka_room.specs.declared.kanswer.accepted.Budget.{Budget}
-use Rattle.kafka_room.specs.Delayed.{Shown}
-use Rattle.kafka_room.specs.Answer.{produced_as, produced_parts, produced_topics, batches_as, budget_after, budget_behind, fetched_as, fetched_parts, fetched_topics}
-use Rattle.kafka_room.specs.AreReadings.{HasNumbers, ProduceReadings, HasRecords, FetchReadings}
-use Rattle.kafka_room.specs.Reported.{code_at, parts_by, produced_part, produced_of, fetched_part, fetched_of}
+use Rattle.kwire.specs.declared.request.ProducePart.{ProducePart}
+use Rattle.kwire.specs.declared.request.ProduceTopic.{ProduceTopic}
+use Rattle.kwire.specs.declared.request.FetchPart.{FetchPart}
+use Rattle.kwire.specs.declared.request.FetchTopic.{FetchTopic}
+use Rattle.kwire.specs.declared.reply.ProducedPart.{ProducedPart}
+use Rattle.kwire.specs.declared.reply.ProducedTopic.{ProducedTopic}
+use Rattle.kwire.specs.declared.reply.FetchedPart.{FetchedPart}
+use Rattle.kwire.specs.declared.reply.FetchedTopic.{FetchedTopic}
+use Rattle.kanswer.specs.declared.accepted.Accepted.{Accepted}
+use Rattle.kanswer.specs.declared.accepted.Accepted.TheVariants.{Refused, Appended, Seen}
+use Rattle.kanswer.specs.declared.accepted.Reading.{Reading}
+use Rattle.kanswer.specs.declared.accepted.Budget.{Budget}
+use Rattle.kanswer.specs.Waiting.{Shown}
+use Rattle.kanswer.specs.Answer.{produced_as, produced_parts, produced_topics, batches_as, budget_after, budget_behind, fetched_as, fetched_parts, fetched_topics}
+use Rattle.kanswer.specs.LogReadings.{HasNumbers, ProduceReadings, HasRecords, FetchReadings}
+use Rattle.kanswer.specs.ToldParts.{code_at, parts_by, produced_part, produced_of, fetched_part, fetched_of}
 
 produced_part_is : (acks : ℤ) (asked : ProducePart) (result : Accepted) (reading : Reading) (state : PartState) → HasNumbers result reading state → produced_part acks asked result reading ≡ produced_as acks asked.index result state
 produced_part_is acks asked (Refused code) reading state h = refl

@@ -7,12 +7,11 @@ use Rattle.partlog.specs.State.{PartState}
 use Rattle.partlog.specs.Gauges.{gauges_of}
 use Rattle.partlog.specs.Readable.{IsReadable}
 use Rattle.partlog.specs.Taken.{batches_past, batches_upto, fitting, taken, joined}
-use Rattle.partlog.proofs.Rows.{IsFull}
-use Rattle.partlog.proofs.Fronts.{full-past, full-fitting}
-use Rattle.kafka_room.specs.declared.kwire.request.FetchPart.{FetchPart}
-use Rattle.kafka_room.specs.declared.kanswer.accepted.Budget.{Budget}
-use Rattle.kafka_room.specs.Delayed.{is_consumer}
-use Rattle.kafka_room.specs.Answer.{is_readable, read_of}
+use Rattle.partlog.proofs.Laws.{IsFull, full-past, full-fitting}
+use Rattle.kwire.specs.declared.request.FetchPart.{FetchPart}
+use Rattle.kanswer.specs.declared.accepted.Budget.{Budget}
+use Rattle.kanswer.specs.Waiting.{is_consumer}
+use Rattle.kanswer.specs.Answer.{is_readable, read_of}
 
 filter_none : {X : Type 0} (xs : List X) → filter (λ _. true) xs ≡ xs
 filter_none [] = refl

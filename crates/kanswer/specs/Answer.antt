@@ -8,27 +8,27 @@ use Rattle.std.specs.Bool.{nat_eq}
 use Rattle.partlog.specs.State.{PartState as State, high_of}
 use Rattle.partlog.specs.Batches.{StoredBatch as Stored, next_offset}
 use Rattle.partlog.specs.Taken.{batches_past, taken, joined}
-use Rattle.kafka_room.specs.declared.kwire.config.Topic.{Topic}
-use Rattle.kafka_room.specs.declared.kwire.request.Request.{Request}
-use Rattle.kafka_room.specs.declared.kwire.request.Ask.{Ask}
-use Rattle.kafka_room.specs.declared.kwire.request.Ask.TheVariants as ask
-use Rattle.kafka_room.specs.declared.kwire.request.ProducePart.{ProducePart}
-use Rattle.kafka_room.specs.declared.kwire.request.ProduceTopic.{ProduceTopic}
-use Rattle.kafka_room.specs.declared.kwire.request.FetchPart.{FetchPart}
-use Rattle.kafka_room.specs.declared.kwire.request.FetchTopic.{FetchTopic}
-use Rattle.kafka_room.specs.declared.kwire.reply.Reply.{Reply}
-use Rattle.kafka_room.specs.declared.kwire.reply.Told.{Told}
-use Rattle.kafka_room.specs.declared.kwire.reply.Told.TheVariants as told
-use Rattle.kafka_room.specs.declared.kwire.reply.ProducedPart.{ProducedPart}
-use Rattle.kafka_room.specs.declared.kwire.reply.ProducedTopic.{ProducedTopic}
-use Rattle.kafka_room.specs.declared.kwire.reply.FetchedPart.{FetchedPart}
-use Rattle.kafka_room.specs.declared.kwire.reply.FetchedTopic.{FetchedTopic}
-use Rattle.kafka_room.specs.declared.kwire.reply.TopicInfo.{TopicInfo}
-use Rattle.kafka_room.specs.declared.kanswer.accepted.Accepted.{Accepted}
-use Rattle.kafka_room.specs.declared.kanswer.accepted.Accepted.TheVariants.{Refused, Appended, Seen}
-use Rattle.kafka_room.specs.declared.kanswer.accepted.Budget.{Budget}
-use Rattle.kafka_room.specs.Configuration.{Configuration}
-use Rattle.kafka_room.specs.Delayed.{Shown, at_least_zero, reply_limit, is_consumer}
+use Rattle.kwire.specs.declared.config.Topic.{Topic}
+use Rattle.kwire.specs.declared.request.Request.{Request}
+use Rattle.kwire.specs.declared.request.Ask.{Ask}
+use Rattle.kwire.specs.declared.request.Ask.TheVariants as ask
+use Rattle.kwire.specs.declared.request.ProducePart.{ProducePart}
+use Rattle.kwire.specs.declared.request.ProduceTopic.{ProduceTopic}
+use Rattle.kwire.specs.declared.request.FetchPart.{FetchPart}
+use Rattle.kwire.specs.declared.request.FetchTopic.{FetchTopic}
+use Rattle.kwire.specs.declared.reply.Reply.{Reply}
+use Rattle.kwire.specs.declared.reply.Told.{Told}
+use Rattle.kwire.specs.declared.reply.Told.TheVariants as told
+use Rattle.kwire.specs.declared.reply.ProducedPart.{ProducedPart}
+use Rattle.kwire.specs.declared.reply.ProducedTopic.{ProducedTopic}
+use Rattle.kwire.specs.declared.reply.FetchedPart.{FetchedPart}
+use Rattle.kwire.specs.declared.reply.FetchedTopic.{FetchedTopic}
+use Rattle.kwire.specs.declared.reply.TopicInfo.{TopicInfo}
+use Rattle.kanswer.specs.declared.accepted.Accepted.{Accepted}
+use Rattle.kanswer.specs.declared.accepted.Accepted.TheVariants.{Refused, Appended, Seen}
+use Rattle.kanswer.specs.declared.accepted.Budget.{Budget}
+use Rattle.kwire.specs.Configuration.{Configuration}
+use Rattle.kanswer.specs.Waiting.{Shown, at_least_zero, reply_limit, is_consumer}
 
 -- with acks -1 every follower has to have the batch; else the time has run out, which is code 7
 abbrev pub produced_code : ℤ → ℕ → State → ℤ

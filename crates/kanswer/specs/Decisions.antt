@@ -10,15 +10,15 @@ use Rattle.kbatch.specs.declared.fault.BatchFault.TheVariants.{TooLarge, Short, 
 use Rattle.kbatch.specs.declared.record.Record.{Record}
 use Rattle.kbatch.specs.Batch.{IsBatch}
 use Rattle.kbatch.specs.Fault.{IsFirstFault}
-use Rattle.kafka_room.specs.Configuration.{Configuration, followers_of, part_of}
-use Rattle.kafka_room.specs.declared.kwire.request.Ask.{Ask}
-use Rattle.kafka_room.specs.declared.kwire.request.Ask.TheVariants.{Produce, Fetch, Metadata, Versions}
-use Rattle.kafka_room.specs.declared.kwire.request.ProducePart.{ProducePart}
-use Rattle.kafka_room.specs.declared.kwire.request.ProduceTopic.{ProduceTopic}
-use Rattle.kafka_room.specs.declared.kwire.request.FetchPart.{FetchPart}
-use Rattle.kafka_room.specs.declared.kwire.request.FetchTopic.{FetchTopic}
-use Rattle.kafka_room.specs.declared.kanswer.accepted.Accepted.{Accepted}
-use Rattle.kafka_room.specs.declared.kanswer.accepted.Accepted.TheVariants.{Refused, Appended, Seen}
+use Rattle.kwire.specs.Configuration.{Configuration, followers_of, part_of}
+use Rattle.kwire.specs.declared.request.Ask.{Ask}
+use Rattle.kwire.specs.declared.request.Ask.TheVariants.{Produce, Fetch, Metadata, Versions}
+use Rattle.kwire.specs.declared.request.ProducePart.{ProducePart}
+use Rattle.kwire.specs.declared.request.ProduceTopic.{ProduceTopic}
+use Rattle.kwire.specs.declared.request.FetchPart.{FetchPart}
+use Rattle.kwire.specs.declared.request.FetchTopic.{FetchTopic}
+use Rattle.kanswer.specs.declared.accepted.Accepted.{Accepted}
+use Rattle.kanswer.specs.declared.accepted.Accepted.TheVariants.{Refused, Appended, Seen}
 
 -- the entry that is left in a partition's history: a batch of so many records as it was sent, a follower's fetch in range, or a look
 pub data Entry : Type 0 where

@@ -4,15 +4,15 @@ use Rattle.std.specs.List.{flat_map}
 use Rattle.partlog.specs.State.{PartState as State}
 use Rattle.partlog.specs.Gauges.{numbers_of}
 use Rattle.partlog.specs.Taken.{joined}
-use Rattle.kafka_room.specs.declared.kwire.request.Ask.{Ask}
-use Rattle.kafka_room.specs.declared.kwire.request.Ask.TheVariants.{Produce, Fetch, Metadata, Versions}
-use Rattle.kafka_room.specs.declared.kwire.request.FetchPart.{FetchPart}
-use Rattle.kafka_room.specs.declared.kanswer.accepted.Accepted.{Accepted}
-use Rattle.kafka_room.specs.declared.kanswer.accepted.Accepted.TheVariants.{Refused, Appended, Seen}
-use Rattle.kafka_room.specs.declared.kanswer.accepted.Reading.{Reading}
-use Rattle.kafka_room.specs.declared.kanswer.accepted.Budget.{Budget}
-use Rattle.kafka_room.specs.Delayed.{Shown}
-use Rattle.kafka_room.specs.Answer.{first_budget, batches_as, budget_after}
+use Rattle.kwire.specs.declared.request.Ask.{Ask}
+use Rattle.kwire.specs.declared.request.Ask.TheVariants.{Produce, Fetch, Metadata, Versions}
+use Rattle.kwire.specs.declared.request.FetchPart.{FetchPart}
+use Rattle.kanswer.specs.declared.accepted.Accepted.{Accepted}
+use Rattle.kanswer.specs.declared.accepted.Accepted.TheVariants.{Refused, Appended, Seen}
+use Rattle.kanswer.specs.declared.accepted.Reading.{Reading}
+use Rattle.kanswer.specs.declared.accepted.Budget.{Budget}
+use Rattle.kanswer.specs.Waiting.{Shown}
+use Rattle.kanswer.specs.Answer.{first_budget, batches_as, budget_after}
 
 -- what a reply may take of its first partition
 abbrev pub budget_of : Ask → Budget

@@ -1,17 +1,17 @@
 -- What is told of the named partitions, from what became of each and what was read of it.
 use Rattle.std.specs.Prelude.{ℕ, ◌+◌, ℤ, pos, negsuc, List, [], ◌∷◌, length, take, drop, nat_le, if◌then◌else◌}
 use Rattle.std.specs.Ordering.{int_eq}
-use Rattle.kafka_room.specs.declared.kwire.request.ProducePart.{ProducePart}
-use Rattle.kafka_room.specs.declared.kwire.request.ProduceTopic.{ProduceTopic}
-use Rattle.kafka_room.specs.declared.kwire.request.FetchPart.{FetchPart}
-use Rattle.kafka_room.specs.declared.kwire.request.FetchTopic.{FetchTopic}
-use Rattle.kafka_room.specs.declared.kwire.reply.ProducedPart.{ProducedPart}
-use Rattle.kafka_room.specs.declared.kwire.reply.ProducedTopic.{ProducedTopic}
-use Rattle.kafka_room.specs.declared.kwire.reply.FetchedPart.{FetchedPart}
-use Rattle.kafka_room.specs.declared.kwire.reply.FetchedTopic.{FetchedTopic}
-use Rattle.kafka_room.specs.declared.kanswer.accepted.Accepted.{Accepted}
-use Rattle.kafka_room.specs.declared.kanswer.accepted.Accepted.TheVariants.{Refused, Appended, Seen}
-use Rattle.kafka_room.specs.declared.kanswer.accepted.Reading.{Reading}
+use Rattle.kwire.specs.declared.request.ProducePart.{ProducePart}
+use Rattle.kwire.specs.declared.request.ProduceTopic.{ProduceTopic}
+use Rattle.kwire.specs.declared.request.FetchPart.{FetchPart}
+use Rattle.kwire.specs.declared.request.FetchTopic.{FetchTopic}
+use Rattle.kwire.specs.declared.reply.ProducedPart.{ProducedPart}
+use Rattle.kwire.specs.declared.reply.ProducedTopic.{ProducedTopic}
+use Rattle.kwire.specs.declared.reply.FetchedPart.{FetchedPart}
+use Rattle.kwire.specs.declared.reply.FetchedTopic.{FetchedTopic}
+use Rattle.kanswer.specs.declared.accepted.Accepted.{Accepted}
+use Rattle.kanswer.specs.declared.accepted.Accepted.TheVariants.{Refused, Appended, Seen}
+use Rattle.kanswer.specs.declared.accepted.Reading.{Reading}
 
 -- with acks -1 a batch that every follower has, or else the time ran out
 abbrev pub code_at : ℤ → ℕ → ℕ → ℤ

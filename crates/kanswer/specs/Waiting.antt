@@ -4,15 +4,16 @@ use Rattle.std.specs.List.{filter_map, list_any, zip}
 use Rattle.std.specs.Ordering.{int_eq}
 use Rattle.partlog.specs.State.{PartState as State}
 use Rattle.partlog.specs.Gauges.{gauges_of}
-use Rattle.kafka_room.specs.declared.kwire.request.Ask.{Ask}
-use Rattle.kafka_room.specs.declared.kwire.request.Ask.TheVariants.{Produce, Fetch, Metadata, Versions}
-use Rattle.kafka_room.specs.declared.kwire.request.FetchPart.{FetchPart}
-use Rattle.kafka_room.specs.declared.kanswer.accepted.Accepted.{Accepted}
-use Rattle.kafka_room.specs.declared.kanswer.accepted.Accepted.TheVariants.{Refused, Appended, Seen}
+use Rattle.kwire.specs.declared.request.Ask.{Ask}
+use Rattle.kwire.specs.declared.request.Ask.TheVariants.{Produce, Fetch, Metadata, Versions}
+use Rattle.kwire.specs.declared.request.FetchPart.{FetchPart}
+use Rattle.kanswer.specs.declared.accepted.Accepted.{Accepted}
+use Rattle.kanswer.specs.declared.accepted.Accepted.TheVariants.{Refused, Appended, Seen}
+use Rattle.kanswer.specs.declared.accepted.TheConstants.{MOST_REPLY_BYTES}
 use Rattle.opcond.specs.Tally.{tally}
 use Rattle.opcond.specs.declared.need.Need.{Need}
 use Rattle.opcond.specs.Operation.{Operation}
-use Rattle.kafka_room.specs.Accepting.{fetch_parts}
+use Rattle.kanswer.specs.Decisions.{fetch_parts}
 
 -- what became of a named partition, and a state of it
 pub record Shown : Type 0 where
@@ -26,7 +27,7 @@ at_least_zero (negsuc n) = 0
 
 -- the most bytes of records of a reply
 abbrev pub reply_limit : ℤ → ℕ
-reply_limit max_bytes = min (at_least_zero max_bytes) 52428800
+reply_limit max_bytes = min (at_least_zero max_bytes) MOST_REPLY_BYTES
 
 -- an appended partition needs its high watermark behind the batch
 abbrev pub produce_need : Accepted → Option Need

@@ -1,6 +1,6 @@
 ghost use Rattle.std.specs.Prelude.{◌≡◌};
 
-use crate::kwire::{Ask, Request};
+use kwire::{Ask, Request};
 use kbytes::Bytes;
 use partlog::Numbers;
 
@@ -29,17 +29,17 @@ pub struct Budget {
 }
 
 /// The most bytes of records that a reply holds, whatever is asked.
-const REPLY_LIMIT: u64 = 52_428_800;
+pub const MOST_REPLY_BYTES: u64 = 52_428_800;
 
 impl Budget {
-    ghost use Rattle.kafka_room.specs.AreReadings.{budget_of};
+    ghost use Rattle.kanswer.specs.LogReadings.{budget_of};
 
     /// What a reply to this request may take: for a fetch as many bytes as it asks for, at most 52,428,800.
     pub fn of(request: &Request) -> Budget
         ensures { result ≡ budget_of request.now.ask }
     {
         let left = match &request.ask {
-            Ask::Fetch { max_bytes, .. } => ((*max_bytes).max(0) as u64).min(REPLY_LIMIT),
+            Ask::Fetch { max_bytes, .. } => ((*max_bytes).max(0) as u64).min(MOST_REPLY_BYTES),
             Ask::Produce { .. } | Ask::Metadata { .. } | Ask::Versions { .. } => 0,
         };
         Budget { left, any: false }

@@ -1,8 +1,8 @@
 //! What metadata tells of topics.
 ghost use Rattle.std.specs.Prelude.{◌≡◌, Some, map, IfOk};
-ghost use Rattle.kafka_room.specs.Answer.{info_as, info_of, infos_of};
+ghost use Rattle.kanswer.specs.Answer.{info_as, info_of, infos_of};
 
-use crate::kwire::{Topic, TopicInfo};
+use kwire::{Topic, TopicInfo};
 use kbytes::{Bytes, List, NoMemory, copied};
 use std::alloc::Global;
 

@@ -1,10 +1,10 @@
 //! What is told of the partitions of a fetch.
 ghost use Rattle.std.specs.Prelude.{◌≡◌, [], negsuc, length, sum_by, All, IfOk};
-ghost use Rattle.kafka_room.specs.AreReadings.{HasCarriable};
-ghost use Rattle.kafka_room.specs.Reported.{parts_by, fetched_part, fetched_topic, fetched_of};
+ghost use Rattle.kanswer.specs.LogReadings.{HasCarriable};
+ghost use Rattle.kanswer.specs.ToldParts.{parts_by, fetched_part, fetched_topic, fetched_of};
 
-use crate::kanswer::{Accepted, Reading};
-use crate::kwire::{FetchPart, FetchTopic, FetchedPart, FetchedTopic};
+use crate::accepted::{Accepted, Reading};
+use kwire::{FetchPart, FetchTopic, FetchedPart, FetchedTopic};
 use kbytes::{Bytes, List, NoMemory, copied};
 use std::alloc::Global;
 

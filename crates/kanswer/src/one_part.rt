@@ -3,11 +3,11 @@ ghost use Rattle.std.specs.Prelude.{◌≡◌, ◌≤◌, ◌-◌, ◌||◌, [],
 ghost use Rattle.partlog.specs.State.{state_of};
 ghost use Rattle.partlog.specs.Gauges.{numbers_of};
 ghost use Rattle.partlog.specs.Taken.{batches_past, joined, taken};
-ghost use Rattle.kafka_room.specs.Delayed.{at_least_zero, is_consumer};
-ghost use Rattle.kafka_room.specs.Answer.{is_readable, read_of, budget_after};
+ghost use Rattle.kanswer.specs.Waiting.{at_least_zero, is_consumer};
+ghost use Rattle.kanswer.specs.Answer.{is_readable, read_of, budget_after};
 
-use crate::kanswer::{Budget, Reading};
-use crate::kwire::FetchPart;
+use crate::accepted::{Budget, Reading};
+use kwire::FetchPart;
 use kbytes::{Bytes, NoMemory, copied};
 use partlog::{Numbers, PartLog};
 use std::alloc::Global;

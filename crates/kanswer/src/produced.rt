@@ -1,10 +1,10 @@
 //! What is told of the partitions of a produce.
 ghost use Rattle.std.specs.Prelude.{◌≡◌, negsuc, length, sum_by, All, IfOk};
-ghost use Rattle.kafka_room.specs.AreReadings.{IsCarriable};
-ghost use Rattle.kafka_room.specs.Reported.{code_at, parts_by, produced_part, produced_topic, produced_of};
+ghost use Rattle.kanswer.specs.LogReadings.{IsCarriable};
+ghost use Rattle.kanswer.specs.ToldParts.{code_at, parts_by, produced_part, produced_topic, produced_of};
 
-use crate::kanswer::{Accepted, Reading};
-use crate::kwire::{ProducePart, ProduceTopic, ProducedPart, ProducedTopic};
+use crate::accepted::{Accepted, Reading};
+use kwire::{ProducePart, ProduceTopic, ProducedPart, ProducedTopic};
 use kbytes::{List, NoMemory, copied};
 use std::alloc::Global;
 

@@ -1,14 +1,14 @@
 //! The reply to a request.
 ghost use Rattle.std.specs.Prelude.{◌≡◌, List as Items, length, All, IfOk};
-ghost use Rattle.kafka_room.specs.Delayed.{Shown};
-ghost use Rattle.kafka_room.specs.Answer.{answer, told_to};
-ghost use Rattle.kafka_room.specs.AreReadings.{AreReadings, IsCarriable, HasCarriable, named_count};
+ghost use Rattle.kanswer.specs.Waiting.{Shown};
+ghost use Rattle.kanswer.specs.Answer.{answer, told_to};
+ghost use Rattle.kanswer.specs.LogReadings.{AreReadings, IsCarriable, HasCarriable, named_count};
 
-use crate::kanswer::described::described;
-use crate::kanswer::fetched::fetched_topics;
-use crate::kanswer::produced::produced_topics;
-use crate::kanswer::{Accepted, Reading};
-use crate::kwire::{Ask, Config, Reply, Request, Told};
+use crate::described::described;
+use crate::fetched::fetched_topics;
+use crate::produced::produced_topics;
+use crate::accepted::{Accepted, Reading};
+use kwire::{Ask, Config, Reply, Request, Told};
 use kbytes::NoMemory;
 use std::alloc::Global;
 

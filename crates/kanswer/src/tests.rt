@@ -1,9 +1,9 @@
 //! One partition that is read, and replies.
 ghost use Rattle.std.specs.Prelude.{◌≡◌, IfOk};
-ghost use Rattle.kafka_room.specs.AreReadings.{named_count};
+ghost use Rattle.kanswer.specs.LogReadings.{named_count};
 
 use super::{Accepted, Budget, answer, read_nothing, read_part};
-use crate::kwire::{Ask, Config, FetchPart, FetchTopic, ProducePart, ProduceTopic, Reply, Request, Told};
+use kwire::{Ask, Config, FetchPart, FetchTopic, ProducePart, ProduceTopic, Reply, Request, Told};
 use kbatch::read_batch;
 use kbytes::{List, NoMemory, copied};
 use partlog::{PartLog, Who};

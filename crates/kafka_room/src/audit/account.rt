@@ -1,4 +1,4 @@
-use crate::kwire::{Config, WireFault};
+use kwire::{Config, WireFault};
 use kbytes::{Bytes, List};
 use partlog::{ClockEvent, PartEvent};
 

@@ -1,40 +1,22 @@
 //! Accepting a request: each partition that it names is decided in order, and where its log is asked it gets an entry.
 
 ghost use Rattle.std.specs.Prelude.{◌≡◌, ◌<◌, ◌∷◌, [], ◌++◌, List, length, OnOk, IfSome, IfNone, unwrap_or, ℕ, ℤ, pos, ◌≤◌};
-ghost use Rattle.kafka_room.specs.declared.kanswer.accepted.Accepted.TheVariants.{Refused};
+ghost use Rattle.kanswer.specs.declared.accepted.Accepted.TheVariants.{Refused};
 ghost use Rattle.partlog.specs.History.{History};
 ghost use Rattle.partlog.specs.State.{PartState, state_of};
 ghost use Rattle.kbatch.specs.Kept.{count_of};
-ghost use Rattle.kafka_room.specs.Configuration.{partitions_of, part_of};
-ghost use Rattle.kafka_room.specs.Accepting.{Decision, AskLog, Refuse, Outcome, look, append_outcome, BatchDecides, ProduceDecides, fetch_decision, code_of, is_acks};
+ghost use Rattle.kwire.specs.Configuration.{partitions_of, part_of};
+ghost use Rattle.kanswer.specs.Decisions.{Decision, AskLog, Refuse, Outcome, look, append_outcome, BatchDecides, ProduceDecides, fetch_decision, code_of, is_acks};
 ghost use Rattle.kafka_room.specs.Board.{history_at};
 ghost use Rattle.kafka_room.specs.Carried.{IsCarried, HasNoFollowers, OnTerms, HasProduced, fetch_decisions};
 
 use crate::broker::came::Came;
-use crate::kanswer::Accepted;
-use crate::kwire::{Ask, Config, FetchPart, FetchTopic, ProducePart, ProduceTopic};
+use kanswer::{Accepted, code_of};
+use kwire::{Ask, Config, FetchPart, FetchTopic, ProducePart, ProduceTopic};
 use kbatch::{Batch, BatchFault, read_batch};
 use kbytes::{List, NoMemory};
 use partlog::{LogFault, PartLog, Who};
 use std::alloc::Global;
-
-// What becomes of a partition whose bytes have this fault, which isn't want of memory.
-fn refused(fault: &BatchFault) -> Accepted
-    ensures { result ≡ Refused (code_of fault.now) }
-{
-    match fault {
-        BatchFault::TooLarge { .. } => Accepted::Refused { code: 10 },
-        BatchFault::Crc { .. } => Accepted::Refused { code: 2 },
-        BatchFault::Compressed { .. } => Accepted::Refused { code: 76 },
-        BatchFault::NoMemory => Accepted::Refused { code: 0 },
-        BatchFault::Short
-        | BatchFault::Length { .. }
-        | BatchFault::Magic { .. }
-        | BatchFault::Control
-        | BatchFault::Count { .. }
-        | BatchFault::Records { .. } => Accepted::Refused { code: 87 },
-    }
-}
 
 // A partition is refused before its log is asked, and no log changes.
 fn refuse(came: &mut Came, became: Accepted) -> Result<(), NoMemory>
@@ -105,7 +87,12 @@ fn put_bytes(
         Ok(batch) => put(parts, who, part, &batch, came),
         Err(fault) => match fault {
             BatchFault::NoMemory => Err(NoMemory),
-            _ => refuse(came, refused(&fault)),
+            _ => refuse(
+                came,
+                Accepted::Refused {
+                    code: code_of(&fault),
+                },
+            ),
         },
     }
 }

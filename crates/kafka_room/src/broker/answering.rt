@@ -2,11 +2,11 @@
 
 ghost use Rattle.std.specs.Prelude.{◌≡◌, ◌<◌, ℕ, length, List as Items, OnOk, IfOk};
 ghost use Rattle.partlog.specs.Kept.{IsKept};
-ghost use Rattle.kafka_room.specs.Configuration.{partitions_of};
+ghost use Rattle.kwire.specs.Configuration.{partitions_of};
 ghost use Rattle.kafka_room.specs.Board.{history_at};
 ghost use Rattle.kafka_room.specs.Carried.{HasNoFollowers};
-ghost use Rattle.kafka_room.specs.Delayed.{is_quiet};
-ghost use Rattle.kafka_room.specs.IsRequest.{IsRequest};
+ghost use Rattle.kanswer.specs.Waiting.{is_quiet};
+ghost use Rattle.kwire.specs.IsRequest.{IsRequest};
 ghost use Rattle.kafka_room.specs.PlainStream.{IsPlainAsk};
 ghost use Rattle.kafka_room.specs.AtOnce.{IsAnsweredAtOnce};
 
@@ -14,8 +14,8 @@ use crate::audit::Point;
 use crate::broker::came::Came;
 use crate::broker::handle::accept;
 use crate::broker::reply::reply_frame;
-use crate::kwire::{Ask, Config, Request};
-use crate::trace_file::put_reply_line;
+use kwire::{Ask, Config, Request};
+use trace_file::put_reply_line;
 use kbytes::{Bytes, List, NoMemory};
 use partlog::{PartLog, Who};
 use std::alloc::Global;

@@ -3,7 +3,7 @@
 ghost use Rattle.std.specs.Prelude.{◌≡◌, ◌∷◌, [], ◌++◌, OnOk};
 
 use crate::audit::Point;
-use crate::kanswer::Accepted;
+use kanswer::Accepted;
 use kbytes::{List, NoMemory};
 use std::alloc::Global;
 

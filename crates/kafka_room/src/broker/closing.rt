@@ -8,7 +8,7 @@ ghost use Rattle.kafka_room.specs.Histories.{calls_in};
 
 use crate::audit::{Account, PartAccount, Transcript};
 use crate::broker::desk::Desk;
-use crate::kwire::Config;
+use kwire::Config;
 use kbytes::{List, NoMemory, copied};
 use partlog::PartLog;
 use std::alloc::Global;

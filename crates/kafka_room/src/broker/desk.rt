@@ -2,11 +2,11 @@
 
 ghost use Rattle.std.specs.Prelude.{◌≡◌, ◌≤◌, ◌∷◌, [], ◌++◌, ◌-◌, length, drop, take, Some, None, unwrap_or, IfOk, OnOk};
 ghost use Rattle.kafka_room.specs.Board.{empty_seat, new_transcript};
-ghost use Rattle.kafka_room.specs.Frames.{next_frame_of};
+ghost use Rattle.kwire.specs.Frames.{next_frame_of};
 
 use crate::audit::{Call, Transcript};
-use crate::kwire::inbox::Inbox;
-use crate::kwire::{Frame, next_frame};
+use kwire::Inbox;
+use kwire::{Frame, next_frame};
 use kbytes::{Bytes, List, NoMemory, copied};
 use std::alloc::Global;
 use std::marker::Model;

@@ -1,14 +1,14 @@
 //! Handling one request: it is accepted, and answered at once.
 
 ghost use Rattle.std.specs.Prelude.{◌≡◌, ◌<◌, length, OnOk, List as Items};
-ghost use Rattle.kafka_room.specs.Configuration.{partitions_of};
-ghost use Rattle.kafka_room.specs.Accepting.{Decision, Decides};
+ghost use Rattle.kwire.specs.Configuration.{partitions_of};
+ghost use Rattle.kanswer.specs.Decisions.{Decision, Decides};
 ghost use Rattle.kafka_room.specs.Carried.{IsCarried, HasNoFollowers};
 ghost use Rattle.kafka_room.specs.PlainStream.{IsPlainAsk};
 
 use crate::broker::accept::{Terms, accept_fetch, accept_produce};
 use crate::broker::came::Came;
-use crate::kwire::{Ask, Config, Request};
+use kwire::{Ask, Config, Request};
 use kbytes::NoMemory;
 use partlog::{PartLog, Who};
 use std::alloc::Global;

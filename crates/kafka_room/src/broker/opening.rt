@@ -2,11 +2,11 @@
 
 ghost use Rattle.std.specs.Prelude.{◌≡◌, ◌++◌, map, replicate, IfOk, OnOk};
 ghost use Rattle.kafka_room.specs.Board.{empty_history, empty_seat, most_sessions};
-ghost use Rattle.kafka_room.specs.Configuration.{followers_of};
+ghost use Rattle.kwire.specs.Configuration.{followers_of};
 
 use crate::broker::desk::Desk;
-use crate::kwire::Config;
-use crate::trace_file::MOST_SESSIONS;
+use kwire::Config;
+use trace_file::MOST_SESSIONS;
 use kbytes::{List, NoMemory};
 use partlog::PartLog;
 use std::alloc::Global;

@@ -3,11 +3,11 @@
 ghost use Rattle.std.specs.Prelude.{◌≡◌, ◌↔◌, IsTrue, IfOk};
 ghost use Rattle.kafka_room.specs.PlainStream.{IsPlainAsk, IsPlainBody, IsPlainStream};
 ghost use Rattle.kafka_room.specs.ArePlainStreams.{ArePlainStreams};
-ghost use Rattle.kafka_room.specs.Contents.{input_of};
+ghost use Rattle.trace_file.specs.Contents.{input_of};
 
-use crate::kwire::read_request::read_request;
-use crate::kwire::{Ask, Frame, WireFault, next_frame};
-use crate::trace_file::{Line, MOST_SESSIONS};
+use kwire::read_request;
+use kwire::{Ask, Frame, WireFault, next_frame};
+use trace_file::{Line, MOST_SESSIONS};
 use kbytes::{Bytes, NoMemory};
 use std::alloc::Global;
 

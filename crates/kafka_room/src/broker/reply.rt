@@ -2,17 +2,17 @@
 
 ghost use Rattle.std.specs.Prelude.{ℕ, ◌≡◌, ◌≤◌, ◌+◌, ◌++◌, ◌∷◌, [], length, All, List as Items, IfOk, OnOk, sum_by, map};
 ghost use Rattle.std.specs.List.{AllByRecursion, flat_map};
-ghost use Rattle.kafka_room.specs.Delayed.{Shown};
-ghost use Rattle.kafka_room.specs.Answer.{answer};
-ghost use Rattle.kafka_room.specs.AreReadings.{AreReadings, IsCarriable, HasCarriable, named_count, budget_of};
-ghost use Rattle.kafka_room.specs.IsRequest.{IsRequest};
+ghost use Rattle.kanswer.specs.Waiting.{Shown};
+ghost use Rattle.kanswer.specs.Answer.{answer};
+ghost use Rattle.kanswer.specs.LogReadings.{AreReadings, IsCarriable, HasCarriable, named_count, budget_of};
+ghost use Rattle.kwire.specs.IsRequest.{IsRequest};
 ghost use Rattle.kafka_room.specs.Gathered.{reading_now, left_now, readings_now, left_behind, bytes_read, most_left, shown_now, nothing_read};
-ghost use Rattle.kafka_room.specs.Spelling.{spelling};
+ghost use Rattle.kwire.specs.Spelling.{spelling};
 ghost use Rattle.kafka_room.specs.PlainStream.{IsPlainAsk};
 ghost use Rattle.kafka_room.specs.Replying.{HasLog, ShowsLogs};
 
-use crate::kanswer::{Accepted, Budget, Reading, answer, read_nothing, read_part};
-use crate::kwire::{Ask, Config, FetchPart, FetchTopic, Request, reply_bytes};
+use kanswer::{Accepted, Budget, Reading, answer, read_nothing, read_part};
+use kwire::{Ask, Config, FetchPart, FetchTopic, Request, reply_bytes};
 use kbytes::{Bytes, List, NoMemory};
 use partlog::PartLog;
 use std::alloc::Global;

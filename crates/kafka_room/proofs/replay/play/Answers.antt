@@ -2,11 +2,11 @@ use Rattle.std.proofs.Common.{◌≡◌, ◌+◌, ℕ, List, [], ◌++◌, lengt
 use Rattle.std.proofs.KnownBytes.{Appends-nil, Appends-trans}
 use Rattle.std.proofs.lemmas.Result.{err_from_is_err_and}
 use Rattle.std.specs.Io.KnownBytes.{Appends}
-use Rattle.kafka_room.specs.declared.trace_file.line.Line.{Line}
+use Rattle.trace_file.specs.declared.line.Line.{Line}
 use Rattle.kafka_room.specs.Board.{opening}
 use Rattle.kafka_room.specs.Handling.{Turned}
 use Rattle.kafka_room.specs.Printed.{summary_of}
-use Rattle.kafka_room.specs.Contents.{configuration_of}
+use Rattle.trace_file.specs.Contents.{configuration_of}
 use Rattle.kafka_room.specs.UnderWay.{IsUnderWay}
 use Rattle.kafka_room.proofs.Replays.{before_lines, played_from, replayed_as, front_of_lines}
 use Rattle.kafka_room.proofs.Writes.{front_behind}

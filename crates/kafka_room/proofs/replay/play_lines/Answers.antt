@@ -2,7 +2,7 @@ use Rattle.std.proofs.Common.{◌≡◌, ◌+◌, ℕ, List, ◌∷◌, ◌++◌
 use Rattle.std.proofs.KnownBytes.{Appends-trans}
 use Rattle.std.proofs.lemmas.Result.{err_from_is_err_and}
 use Rattle.std.specs.Io.KnownBytes.{Appends}
-use Rattle.kafka_room.specs.declared.trace_file.line.Line.{Line}
+use Rattle.trace_file.specs.declared.line.Line.{Line}
 use Rattle.kafka_room.specs.Handling.{Turned}
 use Rattle.kafka_room.specs.Play.{Plays}
 use Rattle.kafka_room.specs.UnderWay.{IsUnderWay}

@@ -1,6 +1,6 @@
 use Rattle.std.proofs.Common.{◌≡◌, ◌++◌, drop}
-use Rattle.kafka_room.specs.Reported.{parts_by, fetched_part}
-use Rattle.kafka_room.proofs.kanswer.fetched.fetched_parts.Given as goal
+use Rattle.kanswer.specs.ToldParts.{parts_by, fetched_part}
+use Rattle.kanswer.proofs.fetched.fetched_parts.Given as goal
 
 abbrev pub invariant-loop-at : goal.invariant-loop-at
 invariant-loop-at l =

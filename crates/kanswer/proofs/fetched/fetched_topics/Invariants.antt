@@ -1,6 +1,6 @@
 use Rattle.std.proofs.Common.{◌≡◌, ◌+◌, ◌++◌, drop, length, sum_by}
-use Rattle.kafka_room.specs.Reported.{fetched_of}
-use Rattle.kafka_room.proofs.kanswer.fetched.fetched_topics.Given as goal
+use Rattle.kanswer.specs.ToldParts.{fetched_of}
+use Rattle.kanswer.proofs.fetched.fetched_topics.Given as goal
 
 abbrev pub invariant-loop-topic : goal.invariant-loop-topic
 invariant-loop-topic l = record {

@@ -3,11 +3,11 @@ use Rattle.std.proofs.lemmas.Int.{to_z-of_z}
 use Rattle.std.specs.Int.{w32}
 use Rattle.partlog.specs.State.{PartState, state_of}
 use Rattle.partlog.specs.Taken.{batches_past, joined, taken}
-use Rattle.partlog.proofs.Whole.{kept-full}
-use Rattle.kafka_room.specs.declared.kanswer.accepted.Budget.{Budget}
-use Rattle.kafka_room.specs.Answer.{is_readable, read_of}
-use Rattle.kafka_room.proofs.PartReadings.{full_read, some_bytes}
-use Rattle.kafka_room.proofs.kanswer.one_part.read_part.Goals as goal
+use Rattle.partlog.proofs.Laws.{kept-full}
+use Rattle.kanswer.specs.declared.accepted.Budget.{Budget}
+use Rattle.kanswer.specs.Answer.{is_readable, read_of}
+use Rattle.kanswer.proofs.PartBatches.{full_read, some_bytes}
+use Rattle.kanswer.proofs.one_part.read_part.Goals as goal
 
 pub returns-clause-lowered : goal.returns-clause-lowered
 returns-clause-lowered c =

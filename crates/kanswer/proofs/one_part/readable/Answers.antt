@@ -6,10 +6,10 @@ use Rattle.partlog.specs.Batches.{StoredBatch}
 use Rattle.partlog.specs.State.{PartState, state_of}
 use Rattle.partlog.specs.declared.numbers.Numbers.{Numbers}
 use Rattle.partlog.specs.Taken.{batches_past, batches_upto, joined, taken}
-use Rattle.partlog.proofs.Earlier.{readable-now}
-use Rattle.kafka_room.specs.Delayed.{is_consumer}
-use Rattle.kafka_room.proofs.PartReadings.{replica_reads, not_not}
-use Rattle.kafka_room.proofs.kanswer.one_part.readable.Goals as goal
+use Rattle.partlog.proofs.Laws.{readable-now}
+use Rattle.kanswer.specs.Waiting.{is_consumer}
+use Rattle.kanswer.proofs.PartBatches.{replica_reads, not_not}
+use Rattle.kanswer.proofs.one_part.readable.Goals as goal
 
 pub returns : goal.returns
 returns c =

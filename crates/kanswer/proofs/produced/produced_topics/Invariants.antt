@@ -1,6 +1,6 @@
 use Rattle.std.proofs.Common.{◌≡◌, ◌+◌, ◌++◌, drop, length, sum_by}
-use Rattle.kafka_room.specs.Reported.{produced_of}
-use Rattle.kafka_room.proofs.kanswer.produced.produced_topics.Given as goal
+use Rattle.kanswer.specs.ToldParts.{produced_of}
+use Rattle.kanswer.proofs.produced.produced_topics.Given as goal
 
 abbrev pub invariant-loop-topic : goal.invariant-loop-topic
 invariant-loop-topic l = record {

@@ -2,15 +2,15 @@ use Rattle.std.proofs.Common.{◌≡◌, ℤ, List, sym, ap, subst, ◌∙◌, r
 use Rattle.std.proofs.lemmas.Int.{to_z-of_z}
 use Rattle.std.specs.Int.{w8, w16}
 use mir.Val.{SFits}
-use Rattle.kafka_room.specs.declared.kwire.request.Ask.{Ask}
-use Rattle.kafka_room.specs.declared.kwire.request.ProduceTopic.{ProduceTopic}
-use Rattle.kafka_room.specs.declared.kwire.request.FetchTopic.{FetchTopic}
-use Rattle.kafka_room.specs.declared.kwire.reply.Told.TheVariants.{Produced, Fetched}
-use Rattle.kafka_room.specs.Answer.{first_budget, told_to}
-use Rattle.kafka_room.specs.AreReadings.{AreReadings}
-use Rattle.kafka_room.specs.Reported.{produced_of, fetched_of}
-use Rattle.kafka_room.proofs.ReportLaws.{produced_is, fetched_is}
-use Rattle.kafka_room.proofs.kanswer.replies.told_to.Goals as goal
+use Rattle.kwire.specs.declared.request.Ask.{Ask}
+use Rattle.kwire.specs.declared.request.ProduceTopic.{ProduceTopic}
+use Rattle.kwire.specs.declared.request.FetchTopic.{FetchTopic}
+use Rattle.kwire.specs.declared.reply.Told.TheVariants.{Produced, Fetched}
+use Rattle.kanswer.specs.Answer.{first_budget, told_to}
+use Rattle.kanswer.specs.LogReadings.{AreReadings}
+use Rattle.kanswer.specs.ToldParts.{produced_of, fetched_of}
+use Rattle.kanswer.proofs.AnswersAgree.{produced_is, fetched_is}
+use Rattle.kanswer.proofs.replies.told_to.Goals as goal
 
 pub returns-in_ok-produced_topics-in-Produce : goal.returns-in_ok-produced_topics-in-Produce
 returns-in_ok-produced_topics-in-Produce c =

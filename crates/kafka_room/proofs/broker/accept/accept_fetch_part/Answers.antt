@@ -9,9 +9,9 @@ use Rattle.partlog.specs.History.{History}
 use Rattle.partlog.specs.Added.{log_end_of}
 use Rattle.partlog.specs.Start.{start_of}
 use Rattle.partlog.specs.declared.numbers.Numbers.{Numbers}
-use Rattle.kafka_room.specs.Configuration.{followers_of, part_of}
+use Rattle.kwire.specs.Configuration.{followers_of, part_of}
 use Rattle.partlog.specs.State.{state_of}
-use Rattle.kafka_room.specs.Accepting.{fetch_decision}
+use Rattle.kanswer.specs.Decisions.{fetch_decision}
 use Rattle.kafka_room.specs.Board.{history_at, empty_history}
 use Rattle.kafka_room.specs.Carried.{IsCarried}
 use Rattle.kafka_room.proofs.Carrying.{on_ok}

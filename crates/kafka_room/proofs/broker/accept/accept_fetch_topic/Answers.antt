@@ -1,9 +1,9 @@
 use Rattle.std.proofs.Common.{◌≡◌, ◌<◌, ℕ, ℤ, pos, sym, List, [], ◌∷◌, length, get_or, take, ◌+◌, ap, subst, ◌∙◌, arith}
 use Rattle.std.proofs.lemmas.Int.{to_z-of_z}
 use Rattle.std.specs.Int.{w32}
-use Rattle.kafka_room.specs.declared.kwire.request.FetchPart.{FetchPart}
-use Rattle.kafka_room.specs.Accepting.{fetch_decision}
-use Rattle.kafka_room.specs.Configuration.{part_of}
+use Rattle.kwire.specs.declared.request.FetchPart.{FetchPart}
+use Rattle.kanswer.specs.Decisions.{fetch_decision}
+use Rattle.kwire.specs.Configuration.{part_of}
 use Rattle.kafka_room.specs.Carried.{IsCarried, fetch_decisions}
 use Rattle.kafka_room.proofs.Carrying.{same_item}
 use Rattle.kafka_room.proofs.ProduceParts.{fetched_on, fetch_next, carried_size}

@@ -2,8 +2,8 @@ use Rattle.std.proofs.Common.{◌≡◌, ℕ, List, None, Some, refl, sym, ap, s
 use Rattle.std.proofs.lemmas.Int.{to_z-of_z}
 use mir.Val.{SFits}
 use Rattle.std.specs.Int.{w32}
-use Rattle.kafka_room.specs.Accepting.{Refuse, BatchDecides}
-use Rattle.kafka_room.specs.Configuration.{part_of}
+use Rattle.kanswer.specs.Decisions.{Refuse, BatchDecides}
+use Rattle.kwire.specs.Configuration.{part_of}
 use Rattle.kafka_room.proofs.Carrying.{on_ok}
 use Rattle.kafka_room.proofs.ProduceParts.{produce_with_id, produce_unknown, produce_bad_acks, produce_batch}
 use Rattle.kafka_room.proofs.broker.accept.accept_produce_part.Goals as goal

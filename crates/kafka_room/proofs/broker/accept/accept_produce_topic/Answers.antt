@@ -1,6 +1,6 @@
 use Rattle.std.proofs.Common.{◌≡◌, ℕ, List, [], ◌∷◌, length, get_or, refl, ap, subst, ◌∙◌, arith}
-use Rattle.kafka_room.specs.declared.kwire.request.ProducePart.{ProducePart}
-use Rattle.kafka_room.specs.Accepting.{ProduceDecides}
+use Rattle.kwire.specs.declared.request.ProducePart.{ProducePart}
+use Rattle.kanswer.specs.Decisions.{ProduceDecides}
 use Rattle.kafka_room.proofs.ProduceParts.{produced_none, produced_on, produced_one, produce_next, carried_size}
 use Rattle.kafka_room.proofs.broker.accept.accept_produce_topic.Goals as goal
 

@@ -5,8 +5,8 @@ use Rattle.std.specs.Prelude.{pos}
 use Rattle.partlog.specs.History.{History}
 use Rattle.partlog.specs.Kept.{IsKept}
 use Rattle.partlog.specs.State.{PartState, state_of}
-use Rattle.kafka_room.specs.Accepting.{Outcome, AskLog, look}
-use Rattle.kafka_room.specs.declared.kanswer.accepted.Accepted.TheVariants.{Refused}
+use Rattle.kanswer.specs.Decisions.{Outcome, AskLog, look}
+use Rattle.kanswer.specs.declared.accepted.Accepted.TheVariants.{Refused}
 use Rattle.kafka_room.specs.Board.{history_at}
 use Rattle.kafka_room.specs.Carried.{IsCarried}
 use Rattle.kafka_room.proofs.Carrying.{on_ok, same_item, not_above, put_carried, full_carried}

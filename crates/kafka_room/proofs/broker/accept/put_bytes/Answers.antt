@@ -1,7 +1,7 @@
 use Rattle.std.proofs.Common.{◌≡◌, ℕ, List, [], ◌∷◌, length, refl, ap, subst, ◌∙◌, inl, inr}
 use Rattle.kbatch.specs.Kept.{count_of}
-use Rattle.kbatch.proofs.Batches.{batch_count}
-use Rattle.kafka_room.specs.Accepting.{append_outcome, AskLog, Refuse, code_of, Decision}
+use Rattle.kbatch.proofs.Laws.{batch_count}
+use Rattle.kanswer.specs.Decisions.{append_outcome, AskLog, Refuse, code_of, Decision}
 use Rattle.kafka_room.specs.Carried.{IsCarried}
 use Rattle.kafka_room.proofs.Carrying.{on_ok}
 use Rattle.kafka_room.proofs.broker.accept.put_bytes.Goals as goal

@@ -3,11 +3,11 @@ use Rattle.kafka_room.specs.Acceptance.{accept_all, shown_of}
 use Rattle.std.specs.List.{AllByRecursion}
 use Rattle.std.specs.Fmt.{decimal}
 use Rattle.hex.specs.Hex.{encode_lower}
-use Rattle.kafka_room.specs.declared.kanswer.accepted.Accepted.{Accepted}
-use Rattle.kafka_room.specs.AreReadings.{IsCarriable}
+use Rattle.kanswer.specs.declared.accepted.Accepted.{Accepted}
+use Rattle.kanswer.specs.LogReadings.{IsCarriable}
 use Rattle.kafka_room.specs.Handling.{text_at_once}
 use Rattle.kafka_room.specs.Replying.{HasLog, ShowsLogs}
-use Rattle.kafka_room.specs.PrintedLine.{line_of}
+use Rattle.trace_file.specs.PrintedLine.{line_of}
 use Rattle.kafka_room.proofs.Answering.{replied_now, shown_now_is, told, not_told, answered}
 use Rattle.kafka_room.proofs.broker.answering.answer_at_once.Goals as goal
 use Rattle.kafka_room.proofs.broker.answering.answer_at_once.Goals.{then-not-is_quiet+in_ok-frame+in_ok-put_reply_line, else-not-is_quiet}

@@ -3,9 +3,9 @@ use Rattle.std.proofs.lemmas.Int.{to_z-of_z}
 use Rattle.std.specs.Int.{w16, w32}
 use Rattle.std.specs.List.{AllZip}
 use mir.Val.{SFits, to_z, of_z}
-use Rattle.kafka_room.specs.declared.kwire.request.Ask.{Ask}
-use Rattle.kafka_room.specs.declared.kwire.request.ProduceTopic.{ProduceTopic}
-use Rattle.kafka_room.specs.Accepting.{Decision, Decides, ProduceDecides, produce_parts}
+use Rattle.kwire.specs.declared.request.Ask.{Ask}
+use Rattle.kwire.specs.declared.request.ProduceTopic.{ProduceTopic}
+use Rattle.kanswer.specs.Decisions.{Decision, Decides, ProduceDecides, produce_parts}
 use Rattle.kafka_room.specs.Carried.{fetch_decisions}
 use Rattle.kafka_room.proofs.Carrying.{on_ok}
 use Rattle.kafka_room.proofs.broker.handle.accept.Goals as goal

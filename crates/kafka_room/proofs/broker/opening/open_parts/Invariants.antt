@@ -1,6 +1,6 @@
 use Rattle.std.proofs.Common.{◌≡◌, map, take}
 use Rattle.kafka_room.specs.Board.{empty_history}
-use Rattle.kafka_room.specs.Configuration.{followers_of}
+use Rattle.kwire.specs.Configuration.{followers_of}
 use Rattle.kafka_room.proofs.broker.opening.open_parts.Given as goal
 
 abbrev pub invariant-loop-topic : goal.invariant-loop-topic

@@ -1,5 +1,5 @@
 use Rattle.std.proofs.Common.{ℕ, ◌<◌}
-use Rattle.kafka_room.specs.Contents.{input_of}
+use Rattle.trace_file.specs.Contents.{input_of}
 use Rattle.kafka_room.specs.PlainStream.{IsPlainStream}
 use Rattle.kafka_room.proofs.broker.plain.are_plain_streams.Given as goal
 

@@ -1,5 +1,5 @@
 use Rattle.std.proofs.Common.{◌≡◌, take}
-use Rattle.kafka_room.specs.Contents.{input_of}
+use Rattle.trace_file.specs.Contents.{input_of}
 use Rattle.kafka_room.proofs.broker.plain.input.Given as goal
 
 abbrev pub invariant-loop-line : goal.invariant-loop-line

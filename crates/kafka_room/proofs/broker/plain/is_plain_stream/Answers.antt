@@ -1,7 +1,7 @@
 use Rattle.std.proofs.Common.{rules, ◌≡◌, ◌-◌, length, take, drop, refl, sym, ◌∙◌}
-use Rattle.kafka_room.specs.declared.kwire.frame.Frame.TheVariants.{Whole}
-use Rattle.kafka_room.specs.Frames.{next_frame_of}
-use Rattle.kafka_room.proofs.StreamLaws.{whole_within}
+use Rattle.kwire.specs.declared.frame.Frame.TheVariants.{Whole}
+use Rattle.kwire.specs.Frames.{next_frame_of}
+use Rattle.kwire.proofs.Laws.{whole_within}
 use Rattle.kafka_room.proofs.PlainStreams.{walk_stops, walk_goes, walk_ends, cut_rest}
 use Rattle.kafka_room.proofs.broker.plain.is_plain_stream.Goals as goal
 

@@ -1,6 +1,6 @@
 use Rattle.std.proofs.Common.{◌≡◌, ◌≤◌, ◌+◌, ◌++◌, drop, length, sum_by, All}
 use Rattle.std.specs.List.{flat_map}
-use Rattle.kafka_room.specs.AreReadings.{HasCarriable}
+use Rattle.kanswer.specs.LogReadings.{HasCarriable}
 use Rattle.kafka_room.specs.Gathered.{readings_now, bytes_read, most_left}
 use Rattle.kafka_room.proofs.broker.reply.read_fetch.Given as goal
 

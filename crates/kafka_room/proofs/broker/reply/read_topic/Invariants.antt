@@ -1,5 +1,5 @@
 use Rattle.std.proofs.Common.{◌≡◌, ◌≤◌, ◌+◌, ◌++◌, drop, All}
-use Rattle.kafka_room.specs.AreReadings.{HasCarriable}
+use Rattle.kanswer.specs.LogReadings.{HasCarriable}
 use Rattle.kafka_room.specs.Gathered.{readings_now, left_behind, bytes_read, most_left}
 use Rattle.kafka_room.proofs.broker.reply.read_topic.Given as goal
 

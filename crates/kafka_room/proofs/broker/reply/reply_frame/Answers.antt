@@ -1,12 +1,12 @@
 use Rattle.std.proofs.Common.{◌≡◌, List, sym, ap, subst, ◌∙◌}
-use Rattle.kafka_room.specs.declared.kanswer.accepted.Reading.{Reading}
-use Rattle.kafka_room.specs.declared.kwire.reply.Reply.{Reply}
-use Rattle.kafka_room.specs.AreReadings.{AreReadings}
-use Rattle.kafka_room.specs.Answer.{answer}
+use Rattle.kanswer.specs.declared.accepted.Reading.{Reading}
+use Rattle.kwire.specs.declared.reply.Reply.{Reply}
+use Rattle.kanswer.specs.LogReadings.{AreReadings}
+use Rattle.kanswer.specs.Answer.{answer}
 use Rattle.kafka_room.specs.Gathered.{shown_now}
-use Rattle.kafka_room.specs.IsData.{IsData}
-use Rattle.kafka_room.specs.IsSpellable.{IsSpellable}
-use Rattle.kafka_room.specs.Spelling.{spelling}
+use Rattle.kwire.specs.IsData.{IsData}
+use Rattle.kwire.specs.IsSpellable.{IsSpellable}
+use Rattle.kwire.specs.Spelling.{spelling}
 use Rattle.kafka_room.proofs.Gathering.{if_ok_then}
 use Rattle.kafka_room.proofs.Alike.{same_answer}
 use Rattle.kafka_room.proofs.PlainSpellable.{plain_spellable, plain_data}

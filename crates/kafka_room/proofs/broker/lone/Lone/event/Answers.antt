@@ -1,6 +1,6 @@
 use Rattle.std.proofs.Common.{◌≡◌, ◌≢◌, ℕ, ◌++◌, ◌∷◌, [], List, length, sym, ap, subst, ◌∙◌, arith, append-nil}
-use Rattle.kafka_room.specs.declared.trace_file.line.Line.{Line}
-use Rattle.kafka_room.specs.declared.trace_file.line.Line.TheVariants.{Feed}
+use Rattle.trace_file.specs.declared.line.Line.{Line}
+use Rattle.trace_file.specs.declared.line.Line.TheVariants.{Feed}
 use Rattle.kafka_room.specs.Board.{Board}
 use Rattle.kafka_room.specs.Play.{Rests, brought}
 use Rattle.kafka_room.specs.UnderWay.{IsUnderWay, IsServing}

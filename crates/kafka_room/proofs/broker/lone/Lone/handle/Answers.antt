@@ -2,10 +2,10 @@ use Rattle.std.proofs.Common.{◌≡◌, ℕ, ◌-◌, ◌++◌, List, length, t
 use Rattle.partlog.specs.History.{History}
 use Rattle.kafka_room.specs.AtOnce.{IsAnsweredAtOnce}
 use Rattle.kafka_room.specs.Board.{Seat, seat_at}
-use Rattle.kafka_room.specs.IsRequest.{IsRequest}
+use Rattle.kwire.specs.IsRequest.{IsRequest}
 use Rattle.kafka_room.specs.Ready.{front_body}
 use Rattle.kafka_room.proofs.Calling.{parts_written, desk_written, seat_shown, board_of, call_of, noted, counted_at, call_made}
-use Rattle.kafka_room.proofs.StreamLaws.{whole_within}
+use Rattle.kwire.proofs.Laws.{whole_within}
 use Rattle.kafka_room.proofs.broker.lone.Lone.handle.Goals as goal
 
 pub note-requires : goal.note-requires

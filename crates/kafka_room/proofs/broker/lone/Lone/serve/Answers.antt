@@ -1,7 +1,7 @@
 use Rattle.std.proofs.Common.{◌≢◌, ℕ, length, refl, sym, ap, ◌∙◌, arith}
-use Rattle.kafka_room.specs.declared.kwire.frame.Frame.TheVariants.{Whole}
+use Rattle.kwire.specs.declared.frame.Frame.TheVariants.{Whole}
 use Rattle.kafka_room.specs.Board.{Board, seat_at}
-use Rattle.kafka_room.specs.Frames.{next_frame_of}
+use Rattle.kwire.specs.Frames.{next_frame_of}
 use Rattle.kafka_room.proofs.Calling.{front_shown}
 use Rattle.kafka_room.proofs.Serving.{ready, keeps_serving, serves_less, came_further, comes_to_rest, came_to_rest}
 use Rattle.kafka_room.proofs.broker.lone.Lone.serve.Goals as goal

@@ -1,5 +1,5 @@
 use Rattle.std.proofs.Common.{◌≡◌, ℕ, List, ◌++◌, length}
-use Rattle.kafka_room.specs.declared.trace_file.line.Line.{Line}
+use Rattle.trace_file.specs.declared.line.Line.{Line}
 use Rattle.kafka_room.specs.Board.{seat_at}
 use Rattle.kafka_room.specs.UnderWay.{IsServing}
 use Rattle.kafka_room.proofs.Serving.{Came}
