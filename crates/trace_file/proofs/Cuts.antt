@@ -4,7 +4,7 @@ use Rattle.std.proofs.lemmas.Bool.{ne_eqb}
 use Rattle.std.proofs.lemmas.List.{take-append-drop, drop_more, get_or-take, get_or_default, length-take-le}
 use Rattle.std.proofs.lemmas.List.Splits.{slice_split_at, slice_split_none}
 use Rattle.std.specs.List.{slice_split, onto_first, All}
-use Rattle.kafka_room.specs.Trace.{pieces_of, without_empty_end}
+use Rattle.trace_file.specs.Trace.{pieces_of, without_empty_end}
 
 -- the byte isn't among the first of a text
 none_before : (text : List ℕ) (byte i : ℕ) → i ≤ length text → ((k : ℕ) → k < i → get_or text k 0 ≢ byte) → All (λ c. eqb c byte ≡ false) (take i text)

@@ -7,11 +7,12 @@ use Rattle.std.specs.List.{AllZip, slice_split, onto_first}
 use Rattle.hex.specs.declared.error.FromHexError.TheVariants.{OddLength}
 use Rattle.hex.specs.Hex.{decode_of, decode_pairs}
 use Rattle.hex.proofs.HexLemmas.{decode_pairs-ok}
-use Rattle.kafka_room.specs.declared.trace_file.line.Line.{Line}
-use Rattle.kafka_room.specs.declared.trace_file.line.Line.TheVariants.{Topic, Feed, Shut, Clock, End}
-use Rattle.kafka_room.specs.IsLine.{IsLine, IsFeedLine, words_of}
-use Rattle.kafka_room.specs.Contents.{bytes_in, input_of, is_named}
-use Rattle.kafka_room.specs.Trace.{pieces_of, without_empty_end, IsTrace}
+use Rattle.trace_file.specs.declared.line.Line.{Line}
+use Rattle.trace_file.specs.declared.line.Line.TheVariants.{Topic, Feed, Shut, Clock, End}
+use Rattle.trace_file.specs.declared.line.TheConstants.{MOST_SESSIONS, MOST_TRACE_BYTES}
+use Rattle.trace_file.specs.IsLine.{IsLine, IsFeedLine, words_of}
+use Rattle.trace_file.specs.Contents.{bytes_in, input_of, is_named}
+use Rattle.trace_file.specs.Trace.{pieces_of, without_empty_end, IsTrace}
 
 -- how many bytes these pieces have
 abbrev size_of : List (List ℕ) → ℕ
@@ -70,18 +71,18 @@ lines_size s (piece ∷ pieces) [] h = absurd h
 lines_size s (piece ∷ pieces) (line ∷ lines) h =
     omega (arith, length-append (bytes_in s line) (input_of s lines), line_size s piece line h.0, lines_size s pieces lines h.1)
 
-pub few_bytes : (text : List ℕ) (lines : List Line) (s : ℕ) → IsTrace text lines → length (input_of s lines) ≤ 67108864
+pub few_bytes : (text : List ℕ) (lines : List Line) (s : ℕ) → IsTrace text lines → length (input_of s lines) ≤ MOST_TRACE_BYTES
 few_bytes text lines s h =
     omega (arith, h.size, lines_size s (pieces_of text) lines h.spelled, end_size (slice_split (λ byte. eqb byte 10) text), split_size (λ byte. eqb byte 10) text)
 
-named_there : (s session : ℕ) (rest : Bool) → session < 64 → (rest ≡ true → s < 64) → (eqb session s || rest) ≡ true → s < 64
+named_there : (s session : ℕ) (rest : Bool) → session < MOST_SESSIONS → (rest ≡ true → s < MOST_SESSIONS) → (eqb session s || rest) ≡ true → s < MOST_SESSIONS
 named_there s session rest lt later found =
     elim (or_cases (eqb session s) rest found) [
       | inl this ↦ omega (arith, lt, eqb-true session s this)
       | inr behind ↦ later behind
     ]
 
-lines_named : (s : ℕ) (pieces : List (List ℕ)) (lines : List Line) → AllZip IsLine pieces lines → is_named s lines ≡ true → s < 64
+lines_named : (s : ℕ) (pieces : List (List ℕ)) (lines : List Line) → AllZip IsLine pieces lines → is_named s lines ≡ true → s < MOST_SESSIONS
 lines_named s pieces [] h found = absurd cc
 lines_named s [] (line ∷ lines) h found = absurd h
 lines_named s (piece ∷ pieces) (Topic name partitions followers ∷ lines) h found = lines_named s pieces lines h.1 found
@@ -90,5 +91,5 @@ lines_named s (piece ∷ pieces) (Shut session ∷ lines) h found = named_there 
 lines_named s (piece ∷ pieces) (Clock t ∷ lines) h found = lines_named s pieces lines h.1 found
 lines_named s (piece ∷ pieces) (End ∷ lines) h found = lines_named s pieces lines h.1 found
 
-pub few_sessions : (text : List ℕ) (lines : List Line) (s : ℕ) → IsTrace text lines → is_named s lines ≡ true → s < 64
+pub few_sessions : (text : List ℕ) (lines : List Line) (s : ℕ) → IsTrace text lines → is_named s lines ≡ true → s < MOST_SESSIONS
 few_sessions text lines s h found = lines_named s (pieces_of text) lines h.spelled found

@@ -6,13 +6,14 @@ use Rattle.std.specs.Cmp.Lexicographic.{pointwise, other_text}
 use Rattle.std.specs.Str.Parse.{digits_value}
 use Rattle.hex.specs.Hex.{decode_of}
 use Rattle.hex.specs.declared.error.FromHexError.{FromHexError}
-use Rattle.kafka_room.specs.declared.trace_file.line.Line.{Line}
-use Rattle.kafka_room.specs.declared.trace_file.line.Line.TheVariants.{Topic, Feed, Shut, Clock, End}
-use Rattle.kafka_room.specs.declared.trace_file.fault.NotRead.{NotRead}
-use Rattle.kafka_room.specs.declared.trace_file.fault.NotRead.TheVariants.{Other, NoMemory}
-use Rattle.kafka_room.specs.Denies.{Denies}
-use Rattle.kafka_room.proofs.Numbers.{decimal_value}
-use Rattle.kafka_room.specs.IsLine.{IsTopicLine, IsFeedLine, IsShutLine, IsClockLine, AreWordsOf}
+use Rattle.trace_file.specs.declared.line.Line.{Line}
+use Rattle.trace_file.specs.declared.line.Line.TheVariants.{Topic, Feed, Shut, Clock, End}
+use Rattle.trace_file.specs.declared.line.TheConstants.{LAST_MOMENT}
+use Rattle.trace_file.specs.declared.fault.NotRead.{NotRead}
+use Rattle.trace_file.specs.declared.fault.NotRead.TheVariants.{Other, NoMemory}
+use Rattle.trace_file.specs.Denies.{Denies}
+use Rattle.trace_file.proofs.Numbers.{decimal_value}
+use Rattle.trace_file.specs.IsLine.{IsTopicLine, IsFeedLine, IsShutLine, IsClockLine, AreWordsOf}
 
 -- the first word of a line
 abbrev pub kind_of : Line → List ℕ
@@ -102,7 +103,7 @@ line_by kind a b c =
 line_in : List (List ℕ) → Line
 line_in words = line_by (get_or words 0 []) (get_or words 1 []) (get_or words 2 []) (get_or words 3 [])
 
-value_is : (n : ℕ) → n ≤ 10 ^ 15 → digits_value 10 (decimal n) ≡ n
+value_is : (n : ℕ) → n ≤ LAST_MOMENT → digits_value 10 (decimal n) ≡ n
 value_is n h = (decimal_value n (omega arith)).1
 
 is_line_in : (words : List (List ℕ)) (line : Line) → AreWordsOf words line → line_in words ≡ line

@@ -5,15 +5,15 @@ use Rattle.std.proofs.lemmas.Bool.{eqb-true}
 use Rattle.std.proofs.lemmas.List.{get_or_append_left, get_or_at, length-append}
 use Rattle.std.proofs.lemmas.List.Elements.{All-push, All-contains, Contains-push, Contains-append_left, All-weaker}
 use Rattle.std.proofs.lemmas.List.Quantifiers.{all_pairs_push}
-use Rattle.kafka_room.specs.declared.trace_file.line.Line.{Line}
-use Rattle.kafka_room.specs.declared.trace_file.line.Line.TheVariants.{Topic, Feed, Shut, Clock, End}
-use Rattle.kafka_room.specs.declared.trace_file.plain_trace.Stage.{Stage}
-use Rattle.kafka_room.specs.declared.trace_file.plain_trace.Stage.TheVariants.{Topics, Feeds, Ended}
-use Rattle.kafka_room.specs.Configuration.{IsNewTopic}
-use Rattle.kafka_room.specs.Contents.{topic_in}
-use Rattle.kafka_room.specs.IsInOrder.{IsTopic, MayFollow, AreNewTopics, IsInOrder}
-use Rattle.kafka_room.specs.Trace.{IsPlainLine}
-use Rattle.kafka_room.specs.PlainFront.{stage_after, IsStage, IsNewLine, IsPlainFront, MayCome}
+use Rattle.trace_file.specs.declared.line.Line.{Line}
+use Rattle.trace_file.specs.declared.line.Line.TheVariants.{Topic, Feed, Shut, Clock, End}
+use Rattle.trace_file.specs.declared.plain_trace.Stage.{Stage}
+use Rattle.trace_file.specs.declared.plain_trace.Stage.TheVariants.{Topics, Feeds, Ended}
+use Rattle.kwire.specs.Configuration.{IsNewTopic}
+use Rattle.trace_file.specs.Contents.{topic_in}
+use Rattle.trace_file.specs.IsInOrder.{IsTopic, MayFollow, AreNewTopics, IsInOrder}
+use Rattle.trace_file.specs.Trace.{IsPlainLine}
+use Rattle.trace_file.specs.PlainFront.{stage_after, IsStage, IsNewLine, IsPlainFront, MayCome}
 
 -- a list with one more item, cut before an item: that item is the last one, or it stood before
 cut_push : {A : Type 0} (xs front back : List A) (x y : A) → xs ++ x ∷ [] ≡ front ++ y ∷ back → ((xs ≡ front) × (x ≡ y)) ⊎ ((rest : List A) × (xs ≡ front ++ y ∷ rest))

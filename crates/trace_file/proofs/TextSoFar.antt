@@ -2,13 +2,13 @@
 use Rattle.std.proofs.Common.{◌≡◌, ℕ, List, [], ◌∷◌, ◌++◌, refl, sym, ap, subst, ◌∙◌}
 use Rattle.std.specs.List.{All, AllZip}
 use Rattle.std.proofs.lemmas.List.{append_assoc, append-nil}
-use Rattle.kafka_room.specs.declared.trace_file.line.Line.{Line}
-use Rattle.kafka_room.specs.IsLine.{IsLine, words_of}
-use Rattle.kafka_room.specs.IsInOrder.{IsInOrder}
-use Rattle.kafka_room.specs.Trace.{pieces_of, IsTrace, IsPlainLine, IsPlainTrace}
-use Rattle.kafka_room.specs.PlainFront.{MayCome}
-use Rattle.kafka_room.proofs.Lines.{words_say}
-use Rattle.kafka_room.proofs.PlainFronts.{order_comes}
+use Rattle.trace_file.specs.declared.line.Line.{Line}
+use Rattle.trace_file.specs.IsLine.{IsLine, words_of}
+use Rattle.trace_file.specs.IsInOrder.{IsInOrder}
+use Rattle.trace_file.specs.Trace.{pieces_of, IsTrace, IsPlainLine, IsPlainTrace}
+use Rattle.trace_file.specs.PlainFront.{MayCome}
+use Rattle.trace_file.proofs.Lines.{words_say}
+use Rattle.trace_file.proofs.NextLines.{order_comes}
 
 -- these lines are read, and this text is left
 pub record IsReading (text rest : List ℕ) (lines : List Line) : Type 0 where

@@ -1,10 +1,10 @@
 -- What the lines of a trace say: the topics, what each session receives, and the moments.
 use Rattle.std.specs.Prelude.{ℕ, ◌+◌, max, Bool, false, List, [], ◌∷◌, nat_lt, ◌==◌, if◌then◌else◌}
 use Rattle.std.specs.List.{flat_map, list_any}
-use Rattle.kafka_room.specs.declared.trace_file.line.Line.{Line}
-use Rattle.kafka_room.specs.declared.trace_file.line.Line.TheVariants.{Topic, Feed, Shut, Clock, End}
-use Rattle.kafka_room.specs.declared.kwire.config.Topic as topics
-use Rattle.kafka_room.specs.Configuration.{Configuration}
+use Rattle.trace_file.specs.declared.line.Line.{Line}
+use Rattle.trace_file.specs.declared.line.Line.TheVariants.{Topic, Feed, Shut, Clock, End}
+use Rattle.kwire.specs.declared.config.Topic as topics
+use Rattle.kwire.specs.Configuration.{Configuration}
 
 abbrev pub topic_in : Line → List topics.Topic
 topic_in (Topic name partitions followers) = record { name = name; partitions = partitions; followers = followers } ∷ []

@@ -1,8 +1,8 @@
 -- What a refusal to read says.
-use Rattle.kafka_room.specs.declared.kwire.config.ConfigFault.{ConfigFault}
-use Rattle.kafka_room.specs.declared.kwire.config.ConfigFault.TheVariants as config
-use Rattle.kafka_room.specs.declared.trace_file.fault.NotRead.{NotRead}
-use Rattle.kafka_room.specs.declared.trace_file.fault.NotRead.TheVariants.{Other, NoMemory}
+use Rattle.kwire.specs.declared.config.ConfigFault.{ConfigFault}
+use Rattle.kwire.specs.declared.config.ConfigFault.TheVariants as config
+use Rattle.trace_file.specs.declared.fault.NotRead.{NotRead}
+use Rattle.trace_file.specs.declared.fault.NotRead.TheVariants.{Other, NoMemory}
 
 -- the text doesn't say this; want of memory tells nothing
 abbrev pub Denies : NotRead → Type 0 → Type 0

@@ -1,10 +1,10 @@
 -- The order of the lines of a trace.
 use Rattle.std.specs.Prelude.{ℕ, ◌≡◌, ◌≢◌, ◌≤◌, List, [], ◌∷◌, ◌++◌, IsTrue}
 use Rattle.std.specs.List.{flat_map, AllPairs}
-use Rattle.kafka_room.specs.declared.trace_file.line.Line.{Line}
-use Rattle.kafka_room.specs.declared.trace_file.line.Line.TheVariants.{Topic, Feed, Shut, Clock, End}
-use Rattle.kafka_room.specs.Configuration.{IsNewTopic}
-use Rattle.kafka_room.specs.Contents.{topic_in, names}
+use Rattle.trace_file.specs.declared.line.Line.{Line}
+use Rattle.trace_file.specs.declared.line.Line.TheVariants.{Topic, Feed, Shut, Clock, End}
+use Rattle.kwire.specs.Configuration.{IsNewTopic}
+use Rattle.trace_file.specs.Contents.{topic_in, names}
 
 abbrev pub IsTopic : Line → Type 0
 IsTopic (Topic name partitions followers) = Unit {0}

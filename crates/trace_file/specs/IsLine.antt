@@ -4,8 +4,9 @@ use Rattle.std.specs.Prelude.{ℕ, ◌≡◌, ◌<◌, ◌≤◌, ◌^◌, ◌==
 use Rattle.std.specs.Fmt.{decimal}
 use Rattle.std.specs.List.{slice_split}
 use Rattle.hex.specs.Hex.{decode_of}
-use Rattle.kafka_room.specs.declared.trace_file.line.Line.{Line}
-use Rattle.kafka_room.specs.declared.trace_file.line.Line.TheVariants.{Topic, Feed, Shut, Clock, End}
+use Rattle.trace_file.specs.declared.line.Line.{Line}
+use Rattle.trace_file.specs.declared.line.Line.TheVariants.{Topic, Feed, Shut, Clock, End}
+use Rattle.trace_file.specs.declared.line.TheConstants.{LAST_MOMENT, MOST_SESSIONS}
 
 abbrev pub words_of : List ℕ → List (List ℕ)
 words_of piece = slice_split (λ byte. byte == 32) piece
@@ -23,17 +24,17 @@ pub record IsFeedLine (words : List (List ℕ)) (session : ℕ) (bytes : List �
   pub spelled : words ≡ codes "bytes" ∷ decimal session ∷ hex ∷ []
   pub digits : decode_of hex ≡ Ok bytes
   pub some : 0 < length bytes
-  pub in_range : session < 64
+  pub in_range : session < MOST_SESSIONS
 
 -- `close S`
 pub record IsShutLine (words : List (List ℕ)) (session : ℕ) : Type 0 where
   pub spelled : words ≡ codes "close" ∷ decimal session ∷ []
-  pub in_range : session < 64
+  pub in_range : session < MOST_SESSIONS
 
 -- `clock T`
 pub record IsClockLine (words : List (List ℕ)) (t : ℕ) : Type 0 where
   pub spelled : words ≡ codes "clock" ∷ decimal t ∷ []
-  pub in_range : t ≤ 10 ^ 15
+  pub in_range : t ≤ LAST_MOMENT
 
 -- the words that spell a line
 abbrev pub AreWordsOf : List (List ℕ) → Line → Type 0

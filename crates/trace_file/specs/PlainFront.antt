@@ -1,14 +1,14 @@
 -- The lines of a plain trace as far as they are read.
 use Rattle.std.specs.Prelude.{ℕ, ◌≡◌, ◌≢◌, ◌==◌, List, [], ◌∷◌, ◌++◌, Option, Some, None, if◌then◌else◌}
 use Rattle.std.specs.List.{flat_map, All, AllPairs, Contains}
-use Rattle.kafka_room.specs.declared.trace_file.line.Line.{Line}
-use Rattle.kafka_room.specs.declared.trace_file.line.Line.TheVariants.{Topic, Feed, Shut, Clock, End}
-use Rattle.kafka_room.specs.declared.trace_file.plain_trace.Stage.{Stage}
-use Rattle.kafka_room.specs.declared.trace_file.plain_trace.Stage.TheVariants.{Topics, Feeds, Ended}
-use Rattle.kafka_room.specs.Configuration.{IsNewTopic}
-use Rattle.kafka_room.specs.Contents.{topic_in}
-use Rattle.kafka_room.specs.IsInOrder.{IsTopic, MayFollow, AreNewTopics}
-use Rattle.kafka_room.specs.Trace.{IsPlainLine}
+use Rattle.trace_file.specs.declared.line.Line.{Line}
+use Rattle.trace_file.specs.declared.line.Line.TheVariants.{Topic, Feed, Shut, Clock, End}
+use Rattle.trace_file.specs.declared.plain_trace.Stage.{Stage}
+use Rattle.trace_file.specs.declared.plain_trace.Stage.TheVariants.{Topics, Feeds, Ended}
+use Rattle.kwire.specs.Configuration.{IsNewTopic}
+use Rattle.trace_file.specs.Contents.{topic_in}
+use Rattle.trace_file.specs.IsInOrder.{IsTopic, MayFollow, AreNewTopics}
+use Rattle.trace_file.specs.Trace.{IsPlainLine}
 
 -- the stage behind one more line; none where the line can't stand there
 abbrev pub stage_after : Stage → Line → Option Stage

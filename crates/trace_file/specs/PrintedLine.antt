@@ -2,8 +2,8 @@
 use Rattle.std.specs.Prelude.{ℕ, List, [], ◌∷◌, ◌++◌, codes}
 use Rattle.std.specs.Fmt.{decimal}
 use Rattle.hex.specs.Hex.{encode_lower}
-use Rattle.kafka_room.specs.declared.kwire.reply.Reply.{Reply}
-use Rattle.kafka_room.specs.Spelling.{spelling}
+use Rattle.kwire.specs.declared.reply.Reply.{Reply}
+use Rattle.kwire.specs.Spelling.{spelling}
 
 -- words separated by one space, and a line feed
 abbrev pub line_of : List (List ℕ) → List ℕ

@@ -1,10 +1,11 @@
 -- The text of a trace: lines in order, each ended by a line feed, the last one with it or without.
 use Rattle.std.specs.Prelude.{ℕ, ◌≡◌, ◌≤◌, ◌==◌, List, [], ◌∷◌, length, if◌then◌else◌}
 use Rattle.std.specs.List.{slice_split, All, AllZip}
-use Rattle.kafka_room.specs.declared.trace_file.line.Line.{Line}
-use Rattle.kafka_room.specs.declared.trace_file.line.Line.TheVariants.{Topic, Feed, Shut, Clock, End}
-use Rattle.kafka_room.specs.IsLine.{IsLine}
-use Rattle.kafka_room.specs.IsInOrder.{IsInOrder}
+use Rattle.trace_file.specs.declared.line.Line.{Line}
+use Rattle.trace_file.specs.declared.line.Line.TheVariants.{Topic, Feed, Shut, Clock, End}
+use Rattle.trace_file.specs.declared.line.TheConstants.{MOST_TRACE_BYTES}
+use Rattle.trace_file.specs.IsLine.{IsLine}
+use Rattle.trace_file.specs.IsInOrder.{IsInOrder}
 
 -- all but the last piece where it is empty
 abbrev pub without_empty_end : List (List ℕ) → List (List ℕ)
@@ -17,7 +18,7 @@ abbrev pub pieces_of : List ℕ → List (List ℕ)
 pieces_of text = without_empty_end (slice_split (λ byte. byte == 10) text)
 
 pub record IsTrace (text : List ℕ) (lines : List Line) : Type 0 where
-  pub size : length text ≤ 67_108_864
+  pub size : length text ≤ MOST_TRACE_BYTES
   pub spelled : AllZip IsLine (pieces_of text) lines
   pub order : IsInOrder lines
 

@@ -1,5 +1,5 @@
 ghost use Rattle.std.specs.Prelude.{◌≡◌};
-ghost use Rattle.kafka_room.specs.declared.trace_file.fault.NotRead.TheVariants.{NoMemory as OutOfMemory};
+ghost use Rattle.trace_file.specs.declared.fault.NotRead.TheVariants.{NoMemory as OutOfMemory};
 
 use kbytes::NoMemory;
 

@@ -1,8 +1,19 @@
+//! The lines of a trace, and what can be wrong with one.
+
 use kbytes::Bytes;
 use thiserror::Error;
 
 /// The sessions of a trace have the numbers below this one.
 pub const MOST_SESSIONS: u32 = 64;
+
+/// The last moment, in milliseconds.
+pub const LAST_MOMENT: u64 = 1_000_000_000_000_000;
+
+/// The most bytes of a trace.
+pub const MOST_TRACE_BYTES: usize = 67_108_864;
+
+/// The port that metadata tells in a replay.
+pub const REPLAY_PORT: u16 = 9092;
 
 /// A line of a trace.
 #[derive(Debug, Drop)]
@@ -30,7 +41,9 @@ pub enum Line {
     End,
 }
 
-/// What is wrong with a line. The first that applies, in this order but for the last three, is the line's kind.
+/// What is wrong with a line. The first that applies is the line's kind: the order is that of the variants, but that `Order`
+/// comes before `BadTopic`. `NoEnd` is told of the line behind the last one, where no line is bad. `TooLong` is told of the line
+/// that goes past the limit, before every other.
 #[derive(Debug, Drop, Error, Clone, Copy, PartialEq, Eq)]
 pub enum LineKind {
     #[error("the first word isn't known")]

@@ -2,7 +2,7 @@
 
 ghost use Rattle.std.specs.Prelude.{◌≡◌, ◌<◌, ◌==◌, [], ◌∷◌, length, IfSome, IfNone, MatchOption};
 ghost use Rattle.std.specs.List.{slice_split};
-ghost use Rattle.kafka_room.specs.Trace.{pieces_of};
+ghost use Rattle.trace_file.specs.Trace.{pieces_of};
 
 /// What stands before the first such byte, and what stands behind it. `None` comes where there is none.
 pub fn cut(text: &[u8], byte: u8) -> Option<(&[u8], &[u8])>

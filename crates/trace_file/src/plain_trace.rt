@@ -2,26 +2,20 @@
 
 ghost use Rattle.std.specs.Prelude.{◌≡◌, ◌++◌, ◌∷◌, [], IfOk, IfErr, OnOk, IfSome, IfNone, List as Items};
 ghost use Rattle.std.specs.List.{flat_map};
-ghost use Rattle.kafka_room.specs.declared.trace_file.line.Line.{Line};
-ghost use Rattle.kafka_room.specs.Configuration.{IsNewTopic};
-ghost use Rattle.kafka_room.specs.Contents.{configuration_of, topic_in};
-ghost use Rattle.kafka_room.specs.Denies.{Denies, refusal_of};
-ghost use Rattle.kafka_room.specs.Trace.{IsPlainTrace};
-ghost use Rattle.kafka_room.specs.PlainFront.{stage_after, IsNewLine, IsPlainFront, MayCome};
+ghost use Rattle.trace_file.specs.declared.line.Line.{Line};
+ghost use Rattle.kwire.specs.Configuration.{IsNewTopic};
+ghost use Rattle.trace_file.specs.Contents.{configuration_of, topic_in};
+ghost use Rattle.trace_file.specs.Denies.{Denies, refusal_of};
+ghost use Rattle.trace_file.specs.Trace.{IsPlainTrace};
+ghost use Rattle.trace_file.specs.PlainFront.{stage_after, IsNewLine, IsPlainFront, MayCome};
 
-use crate::kwire::{Config, ConfigFault};
-use crate::trace_file::fault::NotRead;
-use crate::trace_file::line::Line;
-use crate::trace_file::pieces::next_piece;
-use crate::trace_file::read_line::read_line;
+use kwire::{Config, ConfigFault};
+use crate::fault::NotRead;
+use crate::line::{Line, MOST_TRACE_BYTES, REPLAY_PORT};
+use crate::pieces::next_piece;
+use crate::read_line::read_line;
 use kbytes::{List, NoMemory};
 use std::alloc::Global;
-
-/// The port that metadata tells in a replay.
-const PORT: u16 = 9092;
-
-/// The most bytes of a trace.
-const MOST: usize = 67_108_864;
 
 /// A trace that was read: its lines, and the configuration of its topics.
 #[derive(Debug, Drop)]
@@ -81,9 +75,9 @@ fn declare(config: &mut Config, line: &Line) -> Result<(), NotRead>
 // Puts a line behind those that were read.
 fn take(trace: &mut PlainTrace, stage: Stage, line: Line) -> Result<Stage, NotRead>
     requires front { IsPlainFront stage trace.old.lines }
-    requires config { trace.old.config ≡ configuration_of PORT trace.old.lines }
+    requires config { trace.old.config ≡ configuration_of REPLAY_PORT trace.old.lines }
     ensures front { IfOk result (λ next. IsPlainFront next trace.new.lines) }
-    ensures config { OnOk result (trace.new.config ≡ configuration_of PORT trace.new.lines) }
+    ensures config { OnOk result (trace.new.config ≡ configuration_of REPLAY_PORT trace.new.lines) }
     ensures lines { OnOk result (trace.new.lines ≡ trace.old.lines ++ line ∷ []) }
     ensures fault { IfErr result (λ e. Denies e (MayCome trace.old.lines line)) }
 {
@@ -97,14 +91,14 @@ fn take(trace: &mut PlainTrace, stage: Stage, line: Line) -> Result<Stage, NotRe
 
 fn read(alloc: Global, text: &[u8]) -> Result<PlainTrace, NotRead>
     ensures trace { IfOk result (λ trace. IsPlainTrace text.now trace.lines) }
-    ensures config { IfOk result (λ trace. trace.config ≡ configuration_of PORT trace.lines) }
+    ensures config { IfOk result (λ trace. trace.config ≡ configuration_of REPLAY_PORT trace.lines) }
     ensures fault { IfErr result (λ e. Denies e ((lines : Items Line) × IsPlainTrace text.now lines)) }
 {
-    if text.len() > MOST {
+    if text.len() > MOST_TRACE_BYTES {
         return Err(NotRead::Other);
     }
     let mut trace = PlainTrace {
-        config: Config::new(alloc, PORT),
+        config: Config::new(alloc, REPLAY_PORT),
         lines: List::new(alloc),
     };
     let mut stage = Stage::Topics;
@@ -124,7 +118,7 @@ fn read(alloc: Global, text: &[u8]) -> Result<PlainTrace, NotRead>
 /// Reads the text of a trace whose requests wait for nothing. `None` comes exactly where the text is no such trace.
 pub fn read_plain_trace(alloc: Global, text: &[u8]) -> Result<Option<PlainTrace>, NoMemory>
     ensures trace { IfOk result (λ o. IfSome o (λ trace. IsPlainTrace text.now trace.lines)) }
-    ensures config { IfOk result (λ o. IfSome o (λ trace. trace.config ≡ configuration_of PORT trace.lines)) }
+    ensures config { IfOk result (λ o. IfSome o (λ trace. trace.config ≡ configuration_of REPLAY_PORT trace.lines)) }
     ensures none { IfOk result (λ o. IfNone o ((lines : Items Line) → IsPlainTrace text.now lines → ⊥)) }
 {
     match read(alloc, text) {

@@ -3,20 +3,17 @@
 ghost use Rattle.std.specs.Prelude.{◌≡◌, ◌≢◌, ◌<◌, ◌≤◌, ◌^◌, ℕ, List, [], ◌∷◌, codes, Ok, IfOk, IfErr, IfSome, IfNone};
 ghost use Rattle.std.specs.Fmt.{decimal};
 ghost use Rattle.hex.specs.Hex.{decode_of};
-ghost use Rattle.kafka_room.specs.declared.trace_file.line.Line.{Line};
-ghost use Rattle.kafka_room.specs.IsLine.{words_of, IsTopicLine, IsFeedLine, IsShutLine, IsClockLine, AreWordsOf, IsLine};
-ghost use Rattle.kafka_room.specs.Denies.{Denies};
+ghost use Rattle.trace_file.specs.declared.line.Line.{Line};
+ghost use Rattle.trace_file.specs.IsLine.{words_of, IsTopicLine, IsFeedLine, IsShutLine, IsClockLine, AreWordsOf, IsLine};
+ghost use Rattle.trace_file.specs.Denies.{Denies};
 
-use crate::trace_file::fault::NotRead;
-use crate::trace_file::line::{Line, MOST_SESSIONS};
-use crate::trace_file::number::number;
-use crate::trace_file::pieces::cut;
+use crate::fault::NotRead;
+use crate::line::{LAST_MOMENT, Line, MOST_SESSIONS};
+use crate::number::number;
+use crate::pieces::cut;
 use hex::FromHexError;
 use kbytes::{Bytes, NoMemory, copied};
 use std::alloc::Global;
-
-/// The last moment, in milliseconds.
-const LAST_MOMENT: u64 = 1_000_000_000_000_000;
 
 // The one word that is left. `None` comes where more than one is.
 fn last_word(rest: &[u8]) -> Option<&[u8]>
@@ -92,8 +89,8 @@ fn topic(alloc: Global, rest: &[u8]) -> Result<Line, NotRead>
 // `S HEX`
 fn feed_words(rest: &[u8]) -> Option<(u32, &[u8])>
     ensures some { IfSome result (λ f. words_of rest.now ≡ decimal f.0 ∷ f.1.now ∷ []) }
-    ensures in_range { IfSome result (λ f. f.0 < 64) }
-    ensures none { IfNone result ((session : ℕ) (hex : List ℕ) → session < 64 → words_of rest.now ≢ decimal session ∷ hex ∷ []) }
+    ensures in_range { IfSome result (λ f. f.0 < MOST_SESSIONS) }
+    ensures none { IfNone result ((session : ℕ) (hex : List ℕ) → session < MOST_SESSIONS → words_of rest.now ≢ decimal session ∷ hex ∷ []) }
 {
     let (session, digits) = cut(rest, b' ')?;
     let session = small(session, MOST_SESSIONS - 1)?;

@@ -3,7 +3,7 @@
 ghost use Rattle.std.specs.Prelude.{◌≡◌, ◌∷◌, ◌++◌, [], codes, length, take, OnOk, OnErr};
 ghost use Rattle.std.specs.Fmt.{decimal};
 ghost use Rattle.hex.specs.Hex.{encode_lower};
-ghost use Rattle.kafka_room.specs.PrintedLine.{line_of};
+ghost use Rattle.trace_file.specs.PrintedLine.{line_of};
 
 use itoa::Buffer;
 use kbytes::{Bytes, NoMemory};

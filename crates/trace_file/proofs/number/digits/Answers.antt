@@ -1,8 +1,8 @@
 use Rattle.std.proofs.Common.{◌≡◌, ◌+◌, ◌*◌, None, ℕ, get_or, rules, sym, ap, ◌∙◌}
 use Rattle.std.proofs.lemmas.Int.Digits.{digits_value_more, digits_more}
 use Rattle.std.specs.Char.{digit_value}
-use Rattle.kafka_room.proofs.Numbers.{too_great}
-use Rattle.kafka_room.proofs.trace_file.number.digits.Goals as goal
+use Rattle.trace_file.proofs.Numbers.{too_great}
+use Rattle.trace_file.proofs.number.digits.Goals as goal
 
 pub returns-in_err-n-clause-none : goal.returns-in_err-n-clause-none
 returns-in_err-n-clause-none c =

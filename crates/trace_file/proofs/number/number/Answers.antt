@@ -2,9 +2,9 @@ use Rattle.std.proofs.Common.{◌≡◌, ◌<◌, ℕ, List, None, length, get_o
 use Rattle.std.specs.Str.Parse.{digits_value}
 use Rattle.std.proofs.lemmas.Bool.Decides.{nat_tests}
 use Rattle.std.proofs.lemmas.Fmt.{decimal_nonempty}
-use Rattle.kafka_room.proofs.Numbers.{digits_are, decimal_leads, decimal_value}
-use Rattle.kafka_room.proofs.trace_file.number.number.Goals as goal
-use Rattle.kafka_room.proofs.trace_file.number.number.Goals.{else-word-gt1-via-then-word-gt1+else-word-eq-ZERO, else-word-gt1-via-else-word-gt1}
+use Rattle.trace_file.proofs.Numbers.{digits_are, decimal_leads, decimal_value}
+use Rattle.trace_file.proofs.number.number.Goals as goal
+use Rattle.trace_file.proofs.number.number.Goals.{else-word-gt1-via-then-word-gt1+else-word-eq-ZERO, else-word-gt1-via-else-word-gt1}
 
 pub returns-then-is_empty-clause-none : goal.returns-then-is_empty-clause-none
 returns-then-is_empty-clause-none c = λ n le is.

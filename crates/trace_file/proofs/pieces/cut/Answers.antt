@@ -1,8 +1,8 @@
 use Rattle.std.proofs.Common.{◌≡◌, ℕ, List, ◌∷◌, ◌+◌, ◌-◌, length, take, drop, eqb, sym, ap, ◌∙◌, arith, length-drop}
 use Rattle.std.proofs.lemmas.List.{take_all}
 use Rattle.std.specs.List.{slice_split}
-use Rattle.kafka_room.proofs.Pieces.{cut_found, cut_nowhere}
-use Rattle.kafka_room.proofs.trace_file.pieces.cut.Goals as goal
+use Rattle.trace_file.proofs.Cuts.{cut_found, cut_nowhere}
+use Rattle.trace_file.proofs.pieces.cut.Goals as goal
 
 pub returns-then-c-byte-clause-front : goal.returns-then-c-byte-clause-front
 returns-then-c-byte-clause-front c =

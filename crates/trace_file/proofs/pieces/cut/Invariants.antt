@@ -1,5 +1,5 @@
 use Rattle.std.proofs.Common.{ℕ, ◌<◌, ◌≢◌, get_or}
-use Rattle.kafka_room.proofs.trace_file.pieces.cut.Given as goal
+use Rattle.trace_file.proofs.pieces.cut.Given as goal
 
 -- none of the bytes so far is the one
 abbrev pub invariant-loop-i : goal.invariant-loop-i

@@ -1,13 +1,13 @@
 use Rattle.std.proofs.Common.{◌≡◌, ◌≢◌, List, [], rules, sym, subst}
 use Rattle.std.proofs.lemmas.Result.{err_from_is_err_and}
-use Rattle.kafka_room.specs.declared.trace_file.line.Line.{Line}
-use Rattle.kafka_room.specs.declared.trace_file.plain_trace.Stage.TheVariants.{Ended}
-use Rattle.kafka_room.specs.IsLine.{words_of}
-use Rattle.kafka_room.specs.PlainFront.{MayCome}
-use Rattle.kafka_room.proofs.Lines.{Denies-weaker, words_say}
-use Rattle.kafka_room.proofs.PlainFronts.{front_goes_on}
-use Rattle.kafka_room.proofs.Readings.{IsReading, reading_more, next_comes, all_read}
-use Rattle.kafka_room.proofs.trace_file.plain_trace.read.Goals as goal
+use Rattle.trace_file.specs.declared.line.Line.{Line}
+use Rattle.trace_file.specs.declared.plain_trace.Stage.TheVariants.{Ended}
+use Rattle.trace_file.specs.IsLine.{words_of}
+use Rattle.trace_file.specs.PlainFront.{MayCome}
+use Rattle.trace_file.proofs.Lines.{Denies-weaker, words_say}
+use Rattle.trace_file.proofs.NextLines.{front_goes_on}
+use Rattle.trace_file.proofs.TextSoFar.{IsReading, reading_more, next_comes, all_read}
+use Rattle.trace_file.proofs.plain_trace.read.Goals as goal
 
 pub returns-in_err-line-clause-fault : goal.returns-in_err-line-clause-fault
 returns-in_err-line-clause-fault c =

@@ -1,9 +1,9 @@
 use Rattle.std.proofs.Common.{◌≡◌, List, [], ◌∷◌, ◌++◌, rules, sym, ap, subst}
-use Rattle.kafka_room.specs.Configuration.{Configuration}
-use Rattle.kafka_room.specs.declared.trace_file.line.Line.{Line}
-use Rattle.kafka_room.specs.PlainFront.{IsPlainFront}
-use Rattle.kafka_room.proofs.PlainFronts.{front_more}
-use Rattle.kafka_room.proofs.trace_file.plain_trace.take.Goals as goal
+use Rattle.kwire.specs.Configuration.{Configuration}
+use Rattle.trace_file.specs.declared.line.Line.{Line}
+use Rattle.trace_file.specs.PlainFront.{IsPlainFront}
+use Rattle.trace_file.proofs.NextLines.{front_more}
+use Rattle.trace_file.proofs.plain_trace.take.Goals as goal
 
 pub returns-clause-front : goal.returns-clause-front
 returns-clause-front c =

@@ -1,9 +1,9 @@
 use Rattle.std.proofs.Common.{◌≡◌, ◌≢◌, ℕ, List, ◌∷◌, eqb, rules, ap, subst, ◌∙◌}
 use Rattle.std.specs.Prelude.{codes}
-use Rattle.kafka_room.specs.IsLine.{words_of, AreWordsOf}
-use Rattle.kafka_room.proofs.Pieces.{first_part}
-use Rattle.kafka_room.proofs.Lines.{a_topic, a_feed, no_kind, fault-weaker}
-use Rattle.kafka_room.proofs.trace_file.read_line.read_line.Goals as goal
+use Rattle.trace_file.specs.IsLine.{words_of, AreWordsOf}
+use Rattle.trace_file.proofs.Cuts.{first_part}
+use Rattle.trace_file.proofs.Lines.{a_topic, a_feed, no_kind, fault-weaker}
+use Rattle.trace_file.proofs.read_line.read_line.Goals as goal
 
 pub returns-then-eq-clause-fault : goal.returns-then-eq-clause-fault
 returns-then-eq-clause-fault c =

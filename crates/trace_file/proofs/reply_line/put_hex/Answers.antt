@@ -2,8 +2,8 @@ use Rattle.std.proofs.Common.{◌≡◌, ℕ, List, [], ◌∷◌, ◌++◌, Res
 use Rattle.std.specs.Prelude.{IsOk, OnOk}
 use Rattle.std.proofs.lemmas.List.{append-nil, append_assoc}
 use Rattle.hex.specs.Hex.{encode_with, encode_lower, lower_digits}
-use Rattle.kafka_room.proofs.Digits.{encode_with-more}
-use Rattle.kafka_room.proofs.trace_file.reply_line.put_hex.Goals as goal
+use Rattle.trace_file.proofs.Digits.{encode_with-more}
+use Rattle.trace_file.proofs.reply_line.put_hex.Goals as goal
 
 on_ok : {A E P : Type 0} (r : Result A E) → OnOk r P → IsOk r → P
 on_ok (Ok x) h is = h
