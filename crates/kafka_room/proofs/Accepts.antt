@@ -7,13 +7,13 @@ use Rattle.std.specs.List.{AllByRecursion, AllZip, range_with_len}
 use Rattle.partlog.specs.declared.event.PartEvent.{PartEvent}
 use Rattle.partlog.specs.History.{History}
 use Rattle.partlog.specs.State.{PartState, state_of}
-use Rattle.kafka_room.specs.declared.audit.account.Account.{Account}
-use Rattle.kafka_room.specs.declared.audit.account.PartAccount.{PartAccount}
-use Rattle.kafka_room.specs.declared.audit.account.Point.{Point}
-use Rattle.kafka_room.specs.Histories.{owner_of, owners_of, history_of, before_in, at_in, before_point, at_point, event_at, event_in, no_state}
+use Rattle.audit.specs.declared.account.Account.{Account}
+use Rattle.audit.specs.declared.account.PartAccount.{PartAccount}
+use Rattle.audit.specs.declared.account.Point.{Point}
+use Rattle.audit.specs.Histories.{owner_of, owners_of, history_of, before_in, at_in, before_point, at_point, event_at, event_in, no_state}
 use Rattle.kanswer.specs.Decisions.{Entry, Put, Followed, Looked, Decision, Refuse, AskLog}
-use Rattle.kafka_room.specs.Handled.{IsStep, IsEntry, step_points, shown_as_accepted}
-use Rattle.kafka_room.specs.IsLawful.{places_in}
+use Rattle.audit.specs.Handled.{IsStep, IsEntry, step_points, shown_as_accepted}
+use Rattle.audit.specs.IsLawful.{places_in}
 use Rattle.kafka_room.specs.Board.{history_at, empty_history}
 use Rattle.kafka_room.specs.Acceptance.{Noted, entered, accept_all, steps_of, shown_of}
 use Rattle.kanswer.specs.Waiting.{Shown}
@@ -21,7 +21,7 @@ use Rattle.kanswer.specs.declared.accepted.Accepted.TheVariants.{Refused}
 use Rattle.kbatch.specs.Stamp.{stamped}
 use Rattle.kafka_room.proofs.Growth.{Longer, IsWhole, IsSized, longer_on, entered_longer, entered_whole, entered_events, entered_followers, entered_length, event_of, before_kept, at_kept, put_batches}
 pub use Rattle.kafka_room.specs.Steady.{the_owner, AllWhole, Follows}
-use Rattle.kafka_room.proofs.Places.{same_or_not, get_set_same, get_set_other, get_there, get_seam, some_is}
+use Rattle.audit.proofs.Places.{same_or_not, get_set_same, get_set_other, get_there, get_seam, some_is}
 
 -- The later history has entries of one call behind those of the earlier one, and these are their places.
 pub record Left (by seq : ℕ) (places : List ℕ) (h later : History) : Type 0 where

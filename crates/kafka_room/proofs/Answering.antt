@@ -23,7 +23,7 @@ use Rattle.kafka_room.specs.AtOnce.{IsAnsweredAtOnce}
 use Rattle.kafka_room.specs.Handling.{text_at_once}
 use Rattle.kafka_room.specs.Carried.{IsCarried}
 use Rattle.kanswer.specs.Waiting.{is_quiet}
-use Rattle.kafka_room.specs.Handled.{step_points}
+use Rattle.audit.specs.Handled.{step_points}
 use Rattle.trace_file.specs.PrintedLine.{reply_line}
 use Rattle.kafka_room.proofs.Accepts.{IsFair}
 use Rattle.kafka_room.proofs.Fair.{decides_fair}

@@ -6,11 +6,11 @@ use Rattle.std.proofs.lemmas.Option.{unwrap_or-slice_get}
 use Rattle.std.specs.Prelude.{slice_get}
 use Rattle.std.specs.List.Sorted.{IsStrictlyIncreasing}
 use Rattle.partlog.specs.History.{History}
-use Rattle.kafka_room.specs.declared.audit.account.Call.{Call}
-use Rattle.kafka_room.specs.declared.audit.account.CallHow.{CallHow}
-use Rattle.kafka_room.specs.declared.audit.account.Point.{Point}
-use Rattle.kafka_room.specs.declared.audit.account.SessionEnd.{SessionEnd}
-use Rattle.kafka_room.specs.declared.audit.account.Transcript.{Transcript}
+use Rattle.audit.specs.declared.account.Call.{Call}
+use Rattle.audit.specs.declared.account.CallHow.{CallHow}
+use Rattle.audit.specs.declared.account.Point.{Point}
+use Rattle.audit.specs.declared.account.SessionEnd.{SessionEnd}
+use Rattle.audit.specs.declared.account.Transcript.{Transcript}
 use Rattle.kwire.specs.declared.frame.Frame.{Frame}
 use Rattle.kwire.specs.declared.request.Request.{Request}
 use Rattle.trace_file.specs.declared.line.Line.{Line}
@@ -20,11 +20,11 @@ use Rattle.kafka_room.specs.Acting.{is_there}
 use Rattle.kafka_room.specs.AtOnce.{IsAnsweredAtOnce, IsHandled}
 use Rattle.kafka_room.specs.Board.{Board, Seat, empty_seat, new_transcript, seat_at, transcript_at, next_call}
 use Rattle.kwire.specs.Configuration.{Configuration}
-use Rattle.kafka_room.specs.Fits.{IsUnfinished}
+use Rattle.audit.specs.Fits.{IsUnfinished}
 use Rattle.kwire.specs.Frames.{next_frame_of}
-use Rattle.kafka_room.specs.Handled.{step_points}
+use Rattle.audit.specs.Handled.{step_points}
 use Rattle.kafka_room.specs.Handling.{seat_with, how_at_once}
-use Rattle.kafka_room.specs.IsLawful.{places_in}
+use Rattle.audit.specs.IsLawful.{places_in}
 use Rattle.kwire.specs.IsRequest.{IsRequest}
 use Rattle.kafka_room.specs.PlainStream.{IsPlainStream}
 use Rattle.kafka_room.specs.Play.{brought, PlaysLine}
@@ -33,7 +33,7 @@ use Rattle.trace_file.specs.Contents.{input_of, is_named}
 use Rattle.kafka_room.specs.Steady.{IsSteady, all_points, AllBelow}
 use Rattle.trace_file.specs.Trace.{IsPlainLine}
 use Rattle.kafka_room.specs.UnderWay.{to_come, IsUnderWay, IsServing}
-use Rattle.kafka_room.proofs.Places.{same_or_not, get_there}
+use Rattle.audit.proofs.Places.{same_or_not, get_there}
 use Rattle.kafka_room.proofs.RunLaws.{seat_set_same, seat_set_other, fed_feed, fed_topic, fed_end}
 use Rattle.kafka_room.proofs.Serving.{calls_at, calls_in_seat, turned, nobodys_turn, rests_none}
 use Rattle.kwire.proofs.Laws.{whole_ends}

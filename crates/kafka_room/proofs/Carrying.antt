@@ -14,9 +14,9 @@ use Rattle.partlog.specs.Added.{log_end_of}
 use Rattle.partlog.specs.Appended.{appended}
 use Rattle.kbatch.specs.Kept.{count_of}
 use Rattle.std.proofs.lemmas.Option.{slice_get-get_or}
-use Rattle.kafka_room.proofs.Places.{some_is}
+use Rattle.audit.proofs.Places.{some_is}
 use Rattle.partlog.proofs.Laws.{bytes_in-batches}
-use Rattle.kafka_room.specs.declared.audit.account.Point.{Point}
+use Rattle.audit.specs.declared.account.Point.{Point}
 use Rattle.kafka_room.specs.declared.broker.came.Came.{Came}
 use Rattle.kanswer.specs.declared.accepted.Accepted.{Accepted}
 use Rattle.kanswer.specs.declared.accepted.Accepted.TheVariants.{Refused, Appended}
@@ -25,8 +25,8 @@ use Rattle.kafka_room.specs.Acceptance.{Noted, entered, accept_all, steps_of, sh
 use Rattle.kafka_room.specs.Board.{history_at, empty_history}
 use Rattle.kafka_room.specs.Carried.{IsCarried}
 use Rattle.kanswer.specs.Waiting.{results_of}
-use Rattle.kafka_room.specs.Handled.{step_points, Step}
-use Rattle.kafka_room.specs.Histories.{no_state}
+use Rattle.audit.specs.Handled.{step_points, Step}
+use Rattle.audit.specs.Histories.{no_state}
 
 pub on_ok : {T E : Type 0} {P Q : Type 0} (r : Result T E) → OnOk r P → (P → Q) → OnOk r Q
 on_ok (Ok x) p f = f p

@@ -9,15 +9,15 @@ use Rattle.partlog.specs.History.{History}
 use Rattle.partlog.specs.Kept.{IsKept}
 use Rattle.partlog.proofs.Laws.{log_end-le-bytes}
 use Rattle.partlog.specs.declared.clock_event.ClockEvent.{ClockEvent}
-use Rattle.kafka_room.specs.declared.audit.account.Account.{Account}
-use Rattle.kafka_room.specs.declared.audit.account.PartAccount.{PartAccount}
-use Rattle.kafka_room.specs.declared.audit.account.Transcript.{Transcript}
+use Rattle.audit.specs.declared.account.Account.{Account}
+use Rattle.audit.specs.declared.account.PartAccount.{PartAccount}
+use Rattle.audit.specs.declared.account.Transcript.{Transcript}
 use Rattle.kafka_room.specs.Board.{Seat, put_before, passes_of, part_account, account_of, history_at, empty_history}
 use Rattle.kwire.specs.Configuration.{Configuration}
 use Rattle.kafka_room.specs.Fed.{IsPlainCall}
-use Rattle.kafka_room.specs.Histories.{calls_in}
+use Rattle.audit.specs.Histories.{calls_in}
 use Rattle.kafka_room.proofs.Lawful.{none_won, parts_get}
-use Rattle.kafka_room.proofs.Places.{get_there}
+use Rattle.audit.proofs.Places.{get_there}
 
 pub map_more : {X Y : Type 0} (f : X → Y) (xs : List X) (i : ℕ) (x : X) → i < length xs → x ≡ get_or xs i x
     → map f (take i xs) ++ f x ∷ [] ≡ map f (take (i + 1) xs)

@@ -24,7 +24,7 @@ use Rattle.kwire.specs.declared.request.FetchPart.{FetchPart}
 use Rattle.kanswer.specs.declared.accepted.Accepted.TheVariants.{Refused, Appended, Seen}
 use Rattle.kwire.specs.Configuration.{Configuration, partitions_of, followers_of, part_from, part_of}
 use Rattle.kanswer.specs.Decisions.{Entry, Put, Followed, Looked, Outcome, Decision, Refuse, Decides, ProduceDecides, BatchDecides, append_outcome, fetch_decision, fetch_outcome, in_range_outcome, offset_of, look, code_of, produce_parts, fetch_parts, is_acks}
-use Rattle.kafka_room.proofs.Places.{some_is}
+use Rattle.audit.proofs.Places.{some_is}
 use Rattle.kafka_room.proofs.Growth.{IsSized}
 use Rattle.kafka_room.proofs.Accepts.{IsFair}
 

@@ -7,24 +7,24 @@ use Rattle.std.specs.Prelude.{slice_get}
 use Rattle.std.specs.List.{All, flat_map}
 use Rattle.std.specs.List.Sorted.{IsStrictlyIncreasing}
 use Rattle.partlog.specs.History.{History}
-use Rattle.kafka_room.specs.declared.audit.account.Call.{Call}
+use Rattle.audit.specs.declared.account.Call.{Call}
 use Rattle.kwire.specs.declared.config.Topic.{Topic as TheTopic}
 use Rattle.trace_file.specs.declared.line.Line.{Line}
 use Rattle.trace_file.specs.declared.line.Line.TheVariants.{Topic, Feed, Shut, Clock, End}
 use Rattle.kafka_room.specs.Board.{Seat, empty_seat, empty_history, new_transcript, seat_at, transcript_at, opening}
 use Rattle.kafka_room.specs.Carried.{HasNoFollowers}
 use Rattle.kwire.specs.Configuration.{Configuration, followers_of, partitions_of}
-use Rattle.kafka_room.specs.Fits.{IsUnfinished}
-use Rattle.kafka_room.specs.Histories.{owner_of}
+use Rattle.audit.specs.Fits.{IsUnfinished}
+use Rattle.audit.specs.Histories.{owner_of}
 use Rattle.trace_file.specs.IsInOrder.{AreNewTopics, IsInOrder}
-use Rattle.kafka_room.specs.IsLawful.{places_in}
+use Rattle.audit.specs.IsLawful.{places_in}
 use Rattle.kafka_room.specs.PlainForm.{IsPlainForm}
 use Rattle.kafka_room.specs.PlainStream.{IsPlainStream}
 use Rattle.trace_file.specs.Contents.{topic_in, configuration_of, input_of}
 use Rattle.kafka_room.specs.Steady.{IsWhole, AllBelow, the_owner, all_points, IsSteady}
 use Rattle.trace_file.specs.Trace.{IsPlainLine}
 use Rattle.kafka_room.specs.UnderWay.{IsUnderWay}
-use Rattle.kafka_room.proofs.Places.{some_is}
+use Rattle.audit.proofs.Places.{some_is}
 use Rattle.kafka_room.proofs.Fair.{parts_size}
 use Rattle.trace_file.proofs.Laws.{few_bytes, few_sessions}
 use Rattle.kafka_room.proofs.RunLaws.{fed_opening}

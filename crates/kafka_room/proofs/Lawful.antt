@@ -7,23 +7,23 @@ use Rattle.std.specs.List.{AllByRecursion, flat_map}
 use Rattle.std.specs.List.Sorted.{IsStrictlyIncreasing}
 use Rattle.partlog.specs.declared.clock_event.ClockEvent.{ClockEvent}
 use Rattle.partlog.specs.History.{History}
-use Rattle.kafka_room.specs.declared.audit.account.Account.{Account}
-use Rattle.kafka_room.specs.declared.audit.account.PartAccount.{PartAccount}
-use Rattle.kafka_room.specs.declared.audit.account.Transcript.{Transcript}
-use Rattle.kafka_room.specs.declared.audit.account.Call.{Call}
-use Rattle.kafka_room.specs.declared.audit.account.CallHow.{CallHow}
-use Rattle.kafka_room.specs.declared.audit.account.CallHow.TheVariants.{Quiet, AtOnce}
-use Rattle.kafka_room.specs.declared.audit.account.SessionEnd.{SessionEnd}
-use Rattle.kafka_room.specs.declared.audit.account.Point.{Point}
+use Rattle.audit.specs.declared.account.Account.{Account}
+use Rattle.audit.specs.declared.account.PartAccount.{PartAccount}
+use Rattle.audit.specs.declared.account.Transcript.{Transcript}
+use Rattle.audit.specs.declared.account.Call.{Call}
+use Rattle.audit.specs.declared.account.CallHow.{CallHow}
+use Rattle.audit.specs.declared.account.CallHow.TheVariants.{Quiet, AtOnce}
+use Rattle.audit.specs.declared.account.SessionEnd.{SessionEnd}
+use Rattle.audit.specs.declared.account.Point.{Point}
 use Rattle.kwire.specs.declared.request.Request.{Request}
-use Rattle.kafka_room.specs.Histories.{Owner, owner_of, clock_owner_of, owners_of, owners_in, points_of, calls_in, calls_of, call_of, all_calls, ticks_of}
+use Rattle.audit.specs.Histories.{Owner, owner_of, clock_owner_of, owners_of, owners_in, points_of, calls_in, calls_of, call_of, all_calls, ticks_of}
 use Rattle.kanswer.specs.Waiting.{is_quiet}
-use Rattle.kafka_room.specs.Handled.{Step, IsLawfulCall, LooksAtClock, Completes, is_delayed}
-use Rattle.kafka_room.specs.IsLawful.{IsLawful, IsWholeLog, places_in, is_point, is_won_by, is_won_as, EndsAs, EndWell, FollowOn}
+use Rattle.audit.specs.Handled.{Step, IsLawfulCall, LooksAtClock, Completes, is_delayed}
+use Rattle.audit.specs.IsLawful.{IsLawful, IsWholeLog, places_in, is_point, is_won_by, is_won_as, EndsAs, EndWell, FollowOn}
 use Rattle.kafka_room.specs.Board.{Board, Seat, empty_seat, transcript_at, new_transcript, put_before, passes_of, part_account, account_of}
 pub use Rattle.kafka_room.specs.Fed.{IsPlainCall, IsTameTranscript}
 use Rattle.kafka_room.proofs.Growth.{longer_self}
-use Rattle.kafka_room.proofs.Places.{same_or_not, some_is}
+use Rattle.audit.proofs.Places.{same_or_not, some_is}
 use Rattle.kafka_room.proofs.Accepts.{the_owner, AllWhole, Follows}
 use Rattle.kafka_room.proofs.Steady.{IsSteady, IsDone}
 

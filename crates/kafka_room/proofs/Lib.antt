@@ -1,7 +1,6 @@
 pub mod Writes
 pub mod Replays
 pub mod Growth
-pub mod Places
 pub mod Accepts
 pub mod Runs
 pub mod Steady
@@ -12,7 +11,6 @@ pub mod ProduceParts
 pub mod FetchParts
 pub mod RunLaws
 pub mod ShownLogs
-pub mod Tallies
 pub mod PlainStreams
 pub mod Gathering
 pub mod Alike

@@ -5,11 +5,11 @@ use Rattle.std.specs.List.{AllZip}
 use Rattle.kbatch.specs.declared.fault.BatchFault.{BatchFault}
 use Rattle.kbatch.specs.declared.record.Record.{Record}
 use Rattle.kbatch.proofs.Laws.{batch_once, batch_none, first_is_one}
-use Rattle.kafka_room.specs.declared.audit.account.Account.{Account}
+use Rattle.audit.specs.declared.account.Account.{Account}
 use Rattle.kwire.specs.declared.frame.Frame.{Frame}
 use Rattle.kwire.specs.declared.frame.Frame.TheVariants.{Whole, NotYet, TooLong}
 use Rattle.kwire.specs.declared.frame.WireFault.{WireFault}
-use Rattle.kafka_room.specs.declared.audit.account.SessionEnd.TheVariants.{Refused}
+use Rattle.audit.specs.declared.account.SessionEnd.TheVariants.{Refused}
 use Rattle.kwire.specs.declared.request.Ask.{Ask}
 use Rattle.kwire.specs.declared.request.Ask.TheVariants.{Produce, Fetch, Metadata, Versions}
 use Rattle.kwire.specs.declared.request.ProducePart.{ProducePart}
@@ -23,9 +23,9 @@ use Rattle.kafka_room.specs.Completing.{scanned}
 use Rattle.kwire.specs.Frames.{next_frame_of}
 use Rattle.kafka_room.specs.Handling.{Turned, handled, ended}
 use Rattle.kafka_room.specs.Play.{brought, Rests, PlaysLine, Plays, IsPlay}
-use Rattle.kafka_room.specs.Printed.{summary_of}
+use Rattle.audit.specs.Printed.{summary_of}
 use Rattle.kwire.specs.Refusal.{request_at}
-use Rattle.kafka_room.proofs.Places.{some_is}
+use Rattle.audit.proofs.Places.{some_is}
 use Rattle.kwire.proofs.Laws.{request_reads}
 
 -- ---- what is decided

@@ -4,7 +4,7 @@ use Rattle.std.proofs.lemmas.List.{take_all}
 use Rattle.std.specs.List.{AllZip}
 use Rattle.kafka_room.specs.declared.streams.Input.{Input}
 use Rattle.kafka_room.specs.declared.streams.Input.TheVariants.{TooLong}
-use Rattle.kafka_room.specs.declared.audit.account.Account.{Account}
+use Rattle.audit.specs.declared.account.Account.{Account}
 use Rattle.trace_file.specs.declared.line.Line.{Line}
 use Rattle.kafka_room.specs.ArePlainStreams.{ArePlainStreams}
 use Rattle.kafka_room.specs.Board.{Board, opening, account_of}
@@ -13,7 +13,7 @@ use Rattle.kafka_room.specs.Handling.{Turned}
 use Rattle.trace_file.specs.IsLine.{IsLine, words_of}
 use Rattle.kafka_room.specs.PlainForm.{IsPlainForm}
 use Rattle.kafka_room.specs.Play.{Plays, IsPlay}
-use Rattle.kafka_room.specs.Printed.{summary_of}
+use Rattle.audit.specs.Printed.{summary_of}
 use Rattle.kafka_room.specs.Replay.{IsReplayOf, IsPlayFront, IsTextFront, IsReplayFront, IsOtherForm}
 use Rattle.trace_file.specs.Contents.{configuration_of}
 use Rattle.kafka_room.specs.Streams.{IsInput}

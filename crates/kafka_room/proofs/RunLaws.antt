@@ -15,17 +15,17 @@ use Rattle.kbytes.specs.Octets.{IsBytes}
 use Rattle.kbytes.specs.Field.{integer}
 use Rattle.kbytes.proofs.Laws.{wide_32}
 use Rattle.partlog.specs.History.{History}
-use Rattle.kafka_room.specs.declared.audit.account.Transcript.{Transcript}
-use Rattle.kafka_room.specs.declared.audit.account.Call.{Call}
+use Rattle.audit.specs.declared.account.Transcript.{Transcript}
+use Rattle.audit.specs.declared.account.Call.{Call}
 use Rattle.kwire.specs.declared.frame.Frame.{Frame}
 use Rattle.kwire.specs.declared.frame.Frame.TheVariants.{Whole, NotYet, TooLong}
 use Rattle.trace_file.specs.declared.line.Line.{Line}
 use Rattle.trace_file.specs.declared.line.Line.TheVariants.{Topic, Feed, Shut, Clock, End}
 use Rattle.kwire.specs.Configuration.{Configuration}
 use Rattle.kwire.specs.Frames.{framed, IsFrameBody, next_frame_of}
-use Rattle.kafka_room.specs.Histories.{all_calls, ticks_of}
-use Rattle.kafka_room.specs.Fits.{EndFits, IsUnfinished}
-use Rattle.kafka_room.specs.RunOf.{IsNotCut, IsSessionOf, IsRunOf}
+use Rattle.audit.specs.Histories.{all_calls, ticks_of}
+use Rattle.audit.specs.Fits.{EndFits, IsUnfinished}
+use Rattle.audit.specs.RunOf.{IsNotCut, IsSessionOf, IsRunOf}
 use Rattle.trace_file.specs.Contents.{configuration_of, bytes_in, names, input_of, is_named, is_shut, sessions_of, rising_from}
 use Rattle.trace_file.specs.Trace.{IsPlainLine}
 use Rattle.kafka_room.specs.Board.{Board, Seat, Waiting, empty_seat, new_transcript, seat_at, transcript_at, opening, put_before, passes_of, account_of}
@@ -33,7 +33,7 @@ use Rattle.kafka_room.specs.Handling.{Turned, with_call, seat_with}
 use Rattle.kafka_room.specs.Completing.{scanned, scan_sessions, answered_in, unless_none}
 use Rattle.kafka_room.specs.Acting.{is_there, can_act, next_to_act, shows_work}
 use Rattle.kafka_room.specs.Play.{brought}
-use Rattle.kafka_room.proofs.Places.{same_or_not, get_set_same, get_set_other, get_there, all_append}
+use Rattle.audit.proofs.Places.{same_or_not, get_set_same, get_set_other, get_there, all_append}
 use Rattle.kwire.proofs.Laws.{whole_parts}
 pub use Rattle.kafka_room.specs.Fed.{frames_of, IsFedSeat, IsFedBy, IsAtRest}
 use Rattle.kafka_room.proofs.Lawful.{IsPlainCall, IsTameTranscript, AreTame, passes_get, all_plain}

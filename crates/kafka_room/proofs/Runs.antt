@@ -9,9 +9,9 @@ use Rattle.std.proofs.lemmas.Bool.{cases_order, ne_eqb}
 use Rattle.std.specs.Prelude.{count_by}
 use Rattle.std.specs.List.{range_with_len}
 use Rattle.std.specs.List.Sorted.{IsStrictlyIncreasing}
-use Rattle.kafka_room.specs.declared.audit.account.Point.{Point}
-use Rattle.kafka_room.specs.IsLawful.{is_point, places_in}
-use Rattle.kafka_room.proofs.Places.{same_or_not}
+use Rattle.audit.specs.declared.account.Point.{Point}
+use Rattle.audit.specs.IsLawful.{is_point, places_in}
+use Rattle.audit.proofs.Places.{same_or_not}
 pub use Rattle.kafka_room.specs.Steady.{AllBelow}
 
 pub below_more : (n m : ℕ) (xs : List ℕ) → n ≤ m → AllBelow n xs → AllBelow m xs

@@ -26,7 +26,7 @@ use Rattle.kanswer.specs.Waiting.{results_of}
 use Rattle.kafka_room.specs.Replying.{HasLog}
 use Rattle.kafka_room.proofs.Accepts.{IsFair}
 use Rattle.kafka_room.proofs.Growth.{entered_events, event_of}
-use Rattle.kafka_room.proofs.Places.{same_or_not, get_set_same, get_set_other}
+use Rattle.audit.proofs.Places.{same_or_not, get_set_same, get_set_other}
 
 -- the outcome speaks of its own partition, and of an append at the log end
 abbrev pub IsHonestAs : ℕ → PartState → Accepted → Entry → Type 0

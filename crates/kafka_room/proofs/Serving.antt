@@ -8,8 +8,8 @@ use Rattle.std.specs.Int.{w32}
 use Rattle.std.specs.List.{AllByRecursion, flat_map, find, range_with_len}
 use Rattle.kbytes.specs.Field.{integer}
 use Rattle.kbytes.proofs.Laws.{wide_32}
-use Rattle.kafka_room.specs.declared.audit.account.Call.{Call}
-use Rattle.kafka_room.specs.declared.audit.account.CallHow.TheVariants.{Quiet, AtOnce}
+use Rattle.audit.specs.declared.account.Call.{Call}
+use Rattle.audit.specs.declared.account.CallHow.TheVariants.{Quiet, AtOnce}
 use Rattle.kwire.specs.declared.frame.Frame.{Frame}
 use Rattle.kwire.specs.declared.frame.Frame.TheVariants.{Whole, NotYet, TooLong}
 use Rattle.kwire.specs.declared.request.Request.{Request}
@@ -21,9 +21,9 @@ use Rattle.kafka_room.specs.AtOnce.{IsHandled}
 use Rattle.kafka_room.specs.Board.{Board, Seat, new_transcript, seat_at, transcript_at, next_call}
 use Rattle.kanswer.specs.Waiting.{becomes_delayed, is_quiet}
 use Rattle.kafka_room.specs.Fed.{frames_of, IsFedBy, IsAtRest}
-use Rattle.kafka_room.specs.Fits.{IsUnfinished}
+use Rattle.audit.specs.Fits.{IsUnfinished}
 use Rattle.kwire.specs.Frames.{framed, IsFrameBody, next_frame_of}
-use Rattle.kafka_room.specs.Handled.{step_points}
+use Rattle.audit.specs.Handled.{step_points}
 use Rattle.kafka_room.specs.Handling.{Turned, answered_at_once, seat_with, with_call, how_at_once}
 use Rattle.kwire.specs.IsRequest.{IsRequest}
 use Rattle.kafka_room.specs.PlainStream.{IsPlainBody, IsPlainStream}
@@ -33,7 +33,7 @@ use Rattle.trace_file.specs.Contents.{bytes_in, input_of}
 use Rattle.kafka_room.specs.UnderWay.{to_come, IsUnderWay, IsServing}
 use Rattle.kafka_room.proofs.Accepts.{IsFair}
 use Rattle.kafka_room.proofs.Fair.{parts_size, decides_fair}
-use Rattle.kafka_room.proofs.Places.{same_or_not}
+use Rattle.audit.proofs.Places.{same_or_not}
 use Rattle.kafka_room.proofs.RunLaws.{seat_set_same, seat_set_other, fed_call, fed_can_act, scanned_nothing}
 use Rattle.kafka_room.proofs.Steady.{IsSteady, steady_call}
 use Rattle.kwire.proofs.Laws.{whole_within, whole_before, whole_ends, next_body, not_too_long}

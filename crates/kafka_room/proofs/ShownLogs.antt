@@ -26,7 +26,7 @@ use Rattle.kafka_room.specs.Acceptance.{entered, accept_all, shown_of}
 use Rattle.kafka_room.specs.Board.{history_at, empty_history}
 use Rattle.kafka_room.specs.Carried.{HasNoFollowers}
 use Rattle.kafka_room.specs.Replying.{ShowsLog}
-use Rattle.kafka_room.proofs.Places.{same_or_not, get_set_same, get_set_other}
+use Rattle.audit.proofs.Places.{same_or_not, get_set_same, get_set_other}
 use Rattle.kafka_room.proofs.FetchParts.{fetch_of_no_follower}
 
 no_more : (h : List PartEvent) (by seq : ℕ) (replica : ℤ) → position_of (h ++ Look by seq ∷ []) replica ≡ position_of h replica

@@ -8,23 +8,23 @@ use Rattle.std.specs.List.{AllByRecursion}
 use Rattle.std.specs.List.Sorted.{IsStrictlyIncreasing}
 use Rattle.partlog.specs.declared.event.PartEvent.{PartEvent}
 use Rattle.partlog.specs.History.{History}
-use Rattle.kafka_room.specs.declared.audit.account.Account.{Account}
-use Rattle.kafka_room.specs.declared.audit.account.Call.{Call}
-use Rattle.kafka_room.specs.declared.audit.account.Point.{Point}
+use Rattle.audit.specs.declared.account.Account.{Account}
+use Rattle.audit.specs.declared.account.Call.{Call}
+use Rattle.audit.specs.declared.account.Point.{Point}
 use Rattle.kwire.specs.declared.request.Request.{Request}
 use Rattle.kwire.specs.Configuration.{Configuration}
 use Rattle.kwire.specs.IsRequest.{IsRequest}
-use Rattle.kafka_room.specs.Histories.{Owner, owner_of, owners_of, history_of, points_of}
+use Rattle.audit.specs.Histories.{Owner, owner_of, owners_of, history_of, points_of}
 use Rattle.kanswer.specs.Decisions.{Decision, Decides}
 use Rattle.kanswer.specs.Waiting.{becomes_delayed}
-use Rattle.kafka_room.specs.Handled.{step_points}
-use Rattle.kafka_room.specs.IsLawful.{places_in, is_point}
+use Rattle.audit.specs.Handled.{step_points}
+use Rattle.audit.specs.IsLawful.{places_in, is_point}
 use Rattle.kafka_room.specs.Board.{empty_history}
 use Rattle.kafka_room.specs.Acceptance.{Noted, accept_all, steps_of, shown_of}
 use Rattle.kafka_room.specs.Handling.{how_at_once}
 pub use Rattle.kafka_room.specs.Steady.{IsDone, StaysDone, all_points, IsSteady}
 use Rattle.kafka_room.proofs.Growth.{longer_on}
-use Rattle.kafka_room.proofs.Places.{same_or_not, get_there, get_seam, get_front, get_within, get_behind, some_is}
+use Rattle.audit.proofs.Places.{same_or_not, get_there, get_seam, get_front, get_within, get_behind, some_is}
 use Rattle.kafka_room.proofs.Runs.{AllBelow, below_more, range_below, rises_on, count_one, count_point, places_append}
 use Rattle.kafka_room.proofs.Accepts.{the_owner, Left, AllLeft, IsFair, Follows, accepted_left, accepted_size, accepted_shows, accepted_followers, accepted_nowhere}
 

@@ -8,8 +8,8 @@ use Rattle.partlog.specs.State.{PartState as State, state_of}
 use Rattle.kanswer.specs.declared.accepted.Accepted.TheVariants.{Refused}
 use Rattle.kanswer.specs.Decisions.{Entry, Put, Followed, Looked, Decision, Refuse, AskLog}
 use Rattle.kanswer.specs.Waiting.{Shown}
-use Rattle.kafka_room.specs.Histories.{no_state}
-use Rattle.kafka_room.specs.Handled.{Step}
+use Rattle.audit.specs.Histories.{no_state}
+use Rattle.audit.specs.Handled.{Step}
 use Rattle.kafka_room.specs.Board.{history_at}
 
 -- a history with an entry behind it, which a call of a pass left

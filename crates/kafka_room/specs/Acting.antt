@@ -1,8 +1,8 @@
 -- Which sessions of the one-thread broker can act, and what one does when it acts once: it handles its first whole frame, or ends.
 use Rattle.std.specs.Prelude.{ℕ, ◌-◌, ◌≡◌, ◌⊎◌, Bool, true, false, ◌&&◌, not, List, length, take, drop, ◌==◌, if◌then◌else◌, Option, Some, None, MatchBool}
 use Rattle.std.specs.List.{find, list_any, range_with_len}
-use Rattle.kafka_room.specs.declared.audit.account.SessionEnd.{SessionEnd}
-use Rattle.kafka_room.specs.declared.audit.account.SessionEnd.TheVariants.{Closed, Truncated, FrameTooLong, Refused, CallsFull}
+use Rattle.audit.specs.declared.account.SessionEnd.{SessionEnd}
+use Rattle.audit.specs.declared.account.SessionEnd.TheVariants.{Closed, Truncated, FrameTooLong, Refused, CallsFull}
 use Rattle.kwire.specs.declared.frame.Frame.{Frame}
 use Rattle.kwire.specs.declared.frame.Frame.TheVariants.{Whole, NotYet, TooLong}
 use Rattle.kwire.specs.declared.frame.WireFault.{WireFault}

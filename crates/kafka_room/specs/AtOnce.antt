@@ -1,14 +1,14 @@
 -- A request that needn't wait was accepted and answered: the histories, its points and what is printed.
 use Rattle.std.specs.Prelude.{ℕ, ◌≡◌, false, List, ◌++◌}
 use Rattle.partlog.specs.History.{History}
-use Rattle.kafka_room.specs.declared.audit.account.Point.{Point}
+use Rattle.audit.specs.declared.account.Point.{Point}
 use Rattle.kwire.specs.declared.request.Request.{Request}
 use Rattle.kafka_room.specs.Acceptance.{accept_all, steps_of, shown_of}
 use Rattle.kanswer.specs.Decisions.{Decision, Decides}
 use Rattle.kafka_room.specs.Board.{Board, next_call}
 use Rattle.kwire.specs.Configuration.{Configuration}
 use Rattle.kanswer.specs.Waiting.{becomes_delayed}
-use Rattle.kafka_room.specs.Handled.{step_points}
+use Rattle.audit.specs.Handled.{step_points}
 use Rattle.kafka_room.specs.Handling.{text_at_once, answered_at_once}
 use Rattle.kwire.specs.IsRequest.{IsRequest}
 

@@ -4,15 +4,15 @@ use Rattle.std.specs.Prelude.{ℕ, ◌+◌, Bool, false, List, [], ◌∷◌, le
 use Rattle.std.specs.List.{flat_map}
 use Rattle.partlog.specs.declared.clock_event.ClockEvent.{ClockEvent}
 use Rattle.partlog.specs.History.{History}
-use Rattle.kafka_room.specs.declared.audit.account.Account.{Account}
-use Rattle.kafka_room.specs.declared.audit.account.PartAccount.{PartAccount}
-use Rattle.kafka_room.specs.declared.audit.account.Transcript.{Transcript}
+use Rattle.audit.specs.declared.account.Account.{Account}
+use Rattle.audit.specs.declared.account.PartAccount.{PartAccount}
+use Rattle.audit.specs.declared.account.Transcript.{Transcript}
 use Rattle.kwire.specs.declared.request.Request.{Request}
 use Rattle.kwire.specs.Configuration.{Configuration, followers_of}
 use Rattle.opcond.specs.Operation.{Operation}
-use Rattle.kafka_room.specs.Histories.{calls_in}
-use Rattle.kafka_room.specs.Handled.{Step}
-use Rattle.kafka_room.specs.IsLawful.{is_won_by}
+use Rattle.audit.specs.Histories.{calls_in}
+use Rattle.audit.specs.Handled.{Step}
+use Rattle.audit.specs.IsLawful.{is_won_by}
 
 -- a session: what it received and nobody has handled yet, whether its input ended, and what it did, once a line named it
 pub record Seat : Type 0 where

@@ -6,15 +6,15 @@ use Rattle.partlog.specs.declared.clock_event.ClockEvent.TheVariants as clocks
 use Rattle.partlog.specs.History.{History}
 use Rattle.partlog.specs.Moment.{moment_of}
 use Rattle.partlog.specs.State.{PartState as State, state_of}
-use Rattle.kafka_room.specs.declared.audit.account.Call.{Call}
-use Rattle.kafka_room.specs.declared.audit.account.CallHow.{CallHow}
-use Rattle.kafka_room.specs.declared.audit.account.CallHow.TheVariants.{Satisfied, Expired}
-use Rattle.kafka_room.specs.declared.audit.account.Point.{Point}
+use Rattle.audit.specs.declared.account.Call.{Call}
+use Rattle.audit.specs.declared.account.CallHow.{CallHow}
+use Rattle.audit.specs.declared.account.CallHow.TheVariants.{Satisfied, Expired}
+use Rattle.audit.specs.declared.account.Point.{Point}
 use Rattle.kanswer.specs.Decisions.{Looked}
 use Rattle.kanswer.specs.Answer.{answer}
 use Rattle.kanswer.specs.Waiting.{Shown, values_of}
-use Rattle.kafka_room.specs.Handled.{Step, operation_parts, part_in}
-use Rattle.kafka_room.specs.Histories.{clock_part, no_state}
+use Rattle.audit.specs.Handled.{Step, operation_parts, part_in}
+use Rattle.audit.specs.Histories.{clock_part, no_state}
 use Rattle.opcond.specs.Tally.{tally}
 use Rattle.trace_file.specs.PrintedLine.{reply_line}
 use Rattle.kafka_room.specs.Board.{Board, Waiting, history_at, most_sessions, seat_at, transcript_at, next_call}

@@ -1,12 +1,12 @@
 -- What a broker keeps of the lines that it was given, where no session was closed, no time passed and nothing waits.
 use Rattle.std.specs.Prelude.{ℕ, ◌≡◌, ◌⊎◌, ◌<◌, Bool, true, false, List, [], ◌++◌, length, Some, None, unwrap_or, MatchBool}
 use Rattle.std.specs.List.{AllByRecursion, flat_map}
-use Rattle.kafka_room.specs.declared.audit.account.Transcript.{Transcript}
-use Rattle.kafka_room.specs.declared.audit.account.Call.{Call}
-use Rattle.kafka_room.specs.declared.audit.account.CallHow.TheVariants.{Quiet, AtOnce}
+use Rattle.audit.specs.declared.account.Transcript.{Transcript}
+use Rattle.audit.specs.declared.account.Call.{Call}
+use Rattle.audit.specs.declared.account.CallHow.TheVariants.{Quiet, AtOnce}
 use Rattle.trace_file.specs.declared.line.Line.{Line}
 use Rattle.kwire.specs.Frames.{framed, IsFrameBody}
-use Rattle.kafka_room.specs.Fits.{IsUnfinished}
+use Rattle.audit.specs.Fits.{IsUnfinished}
 use Rattle.trace_file.specs.Contents.{input_of, is_named}
 use Rattle.kafka_room.specs.Board.{Board, Seat, new_transcript, seat_at}
 

@@ -3,19 +3,19 @@ use Rattle.std.specs.Prelude.{ℕ, ◌+◌, List, [], ◌∷◌, ◌++◌, lengt
 use Rattle.partlog.specs.declared.clock_event.ClockEvent.TheVariants as clocks
 use Rattle.partlog.specs.History.{History}
 use Rattle.partlog.specs.Moment.{moment_of}
-use Rattle.kafka_room.specs.declared.audit.account.Call.{Call}
-use Rattle.kafka_room.specs.declared.audit.account.CallHow.{CallHow}
-use Rattle.kafka_room.specs.declared.audit.account.CallHow.TheVariants.{Quiet, AtOnce, Parked}
-use Rattle.kafka_room.specs.declared.audit.account.SessionEnd.{SessionEnd}
+use Rattle.audit.specs.declared.account.Call.{Call}
+use Rattle.audit.specs.declared.account.CallHow.{CallHow}
+use Rattle.audit.specs.declared.account.CallHow.TheVariants.{Quiet, AtOnce, Parked}
+use Rattle.audit.specs.declared.account.SessionEnd.{SessionEnd}
 use Rattle.kwire.specs.declared.request.Ask.{Ask}
 use Rattle.kwire.specs.declared.request.Request.{Request}
 use Rattle.kanswer.specs.Decisions.{Decision}
 use Rattle.kanswer.specs.Answer.{answer}
 use Rattle.kwire.specs.Configuration.{Configuration}
 use Rattle.kanswer.specs.Waiting.{Shown, becomes_delayed, is_quiet, operation_of, results_of}
-use Rattle.kafka_room.specs.Handled.{step_points}
-use Rattle.kafka_room.specs.Histories.{clock_part}
-use Rattle.kafka_room.specs.Printed.{end_line}
+use Rattle.audit.specs.Handled.{step_points}
+use Rattle.audit.specs.Histories.{clock_part}
+use Rattle.audit.specs.Printed.{end_line}
 use Rattle.trace_file.specs.PrintedLine.{reply_line}
 use Rattle.kafka_room.specs.Board.{Board, Seat, seat_at, transcript_at, next_call}
 use Rattle.kafka_room.specs.Acceptance.{Noted, accept_all, steps_of, shown_of}

@@ -1,15 +1,3 @@
--- who left each entry of an account, and the states at its points
-pub mod Histories
--- what a lawful call is
-pub mod Handled
--- a lawful account
-pub mod IsLawful
--- a transcript fits its input, and the bytes sent
-pub mod Fits
--- what is printed of an account
-pub mod Printed
--- what the account of a trace's run is to the trace
-pub mod RunOf
 -- what was read of a source
 pub mod Streams
 -- what a replay comes to

@@ -3,11 +3,11 @@
 use Rattle.std.specs.Prelude.{ℕ, zero, suc, ◌≡◌, Bool, true, List, [], ◌∷◌, ◌++◌, nat_lt, slice_set, if◌then◌else◌, Some, None}
 use Rattle.partlog.specs.declared.clock_event.ClockEvent.TheVariants as clocks
 use Rattle.partlog.specs.Moment.{moment_of}
-use Rattle.kafka_room.specs.declared.audit.account.Account.{Account}
+use Rattle.audit.specs.declared.account.Account.{Account}
 use Rattle.trace_file.specs.declared.line.Line.{Line}
 use Rattle.trace_file.specs.declared.line.Line.TheVariants.{Topic, Feed, Shut, Clock, End}
 use Rattle.kwire.specs.Configuration.{Configuration}
-use Rattle.kafka_room.specs.Printed.{summary_of}
+use Rattle.audit.specs.Printed.{summary_of}
 use Rattle.kafka_room.specs.Board.{Board, seat_at, transcript_at, opening, account_of}
 use Rattle.kafka_room.specs.Handling.{Turned}
 use Rattle.kafka_room.specs.Completing.{scanned}

@@ -1,13 +1,13 @@
 -- What a replay comes to: its account is lawful, is that of the run of the trace that was read, and this is what is printed.
 use Rattle.std.specs.Prelude.{ℕ, ◌≡◌, ◌++◌, List, take, Option, None, Bool, false, IfSome, ◌⊎◌}
-use Rattle.kafka_room.specs.declared.audit.account.Account.{Account}
+use Rattle.audit.specs.declared.account.Account.{Account}
 use Rattle.trace_file.specs.declared.line.Line.{Line}
 use Rattle.kafka_room.specs.Board.{Board, opening}
 use Rattle.kafka_room.specs.Handling.{Turned}
-use Rattle.kafka_room.specs.IsLawful.{IsLawful}
+use Rattle.audit.specs.IsLawful.{IsLawful}
 use Rattle.kafka_room.specs.PlainForm.{IsPlainForm}
 use Rattle.kafka_room.specs.Play.{Plays, IsPlay}
-use Rattle.kafka_room.specs.RunOf.{IsRunOf}
+use Rattle.audit.specs.RunOf.{IsRunOf}
 use Rattle.trace_file.specs.Contents.{configuration_of}
 
 -- what the replay of these lines comes to

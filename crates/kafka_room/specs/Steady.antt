@@ -6,15 +6,15 @@ use Rattle.std.specs.List.Sorted.{IsStrictlyIncreasing}
 use Rattle.partlog.specs.declared.event.PartEvent.{PartEvent}
 use Rattle.partlog.specs.Added.{bytes_of}
 use Rattle.partlog.specs.History.{History}
-use Rattle.kafka_room.specs.declared.audit.account.Account.{Account}
-use Rattle.kafka_room.specs.declared.audit.account.PartAccount.{PartAccount}
-use Rattle.kafka_room.specs.declared.audit.account.Call.{Call}
-use Rattle.kafka_room.specs.declared.audit.account.Point.{Point}
+use Rattle.audit.specs.declared.account.Account.{Account}
+use Rattle.audit.specs.declared.account.PartAccount.{PartAccount}
+use Rattle.audit.specs.declared.account.Call.{Call}
+use Rattle.audit.specs.declared.account.Point.{Point}
 use Rattle.kwire.specs.declared.request.Request.{Request}
 use Rattle.kwire.specs.Configuration.{Configuration, followers_of}
-use Rattle.kafka_room.specs.Histories.{Owner, owner_of, owners_of, history_of, points_of}
-use Rattle.kafka_room.specs.Handled.{Step, IsAcceptance, step_points, is_delayed}
-use Rattle.kafka_room.specs.IsLawful.{places_in, is_point}
+use Rattle.audit.specs.Histories.{Owner, owner_of, owners_of, history_of, points_of}
+use Rattle.audit.specs.Handled.{Step, IsAcceptance, step_points, is_delayed}
+use Rattle.audit.specs.IsLawful.{places_in, is_point}
 use Rattle.kafka_room.specs.Handling.{how_at_once}
 
 -- the later history goes on from the earlier one

@@ -4,7 +4,7 @@ use Rattle.trace_file.specs.declared.line.Line.{Line}
 use Rattle.kafka_room.specs.Board.{Board, seat_at, transcript_at}
 use Rattle.kafka_room.specs.Carried.{HasNoFollowers}
 use Rattle.kafka_room.specs.Fed.{IsFedBy, IsAtRest}
-use Rattle.kafka_room.specs.Fits.{IsUnfinished}
+use Rattle.audit.specs.Fits.{IsUnfinished}
 use Rattle.kafka_room.specs.PlainStream.{IsPlainStream}
 use Rattle.trace_file.specs.Contents.{input_of, is_named}
 use Rattle.kafka_room.specs.Steady.{IsSteady}

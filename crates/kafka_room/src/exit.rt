@@ -1,6 +1,6 @@
 //! How a run ended.
 
-use crate::audit::Account;
+use audit::Account;
 use trace_file::LineFault;
 
 /// What a run answers. The port and the clock are those that were handed in.

@@ -7,7 +7,7 @@ ghost use Rattle.outside.specs.Causes.{Rose};
 ghost use Rattle.kafka_room.specs.declared.replay.Halt.TheVariants.{WriteFault, NoMemory as OutOfMemory};
 ghost use Rattle.trace_file.specs.declared.line.Line.{Line as TheLine};
 ghost use Rattle.kafka_room.specs.Board.{opening};
-ghost use Rattle.kafka_room.specs.IsLawful.{IsLawful};
+ghost use Rattle.audit.specs.IsLawful.{IsLawful};
 ghost use Rattle.kafka_room.specs.PlainForm.{IsPlainForm};
 ghost use Rattle.kafka_room.specs.Play.{Plays};
 ghost use Rattle.kafka_room.specs.Replay.{IsReplayOf, IsReplay, IsPlayFront, IsTextFront, IsReplayFront, IsOtherForm, IsSilent};
@@ -15,7 +15,7 @@ ghost use Rattle.trace_file.specs.Contents.{configuration_of};
 ghost use Rattle.trace_file.specs.Trace.{IsPlainLine};
 ghost use Rattle.kafka_room.specs.UnderWay.{IsUnderWay};
 
-use crate::audit::{Account, put_summary};
+use audit::{Account, put_summary};
 use crate::broker::lone::Lone;
 use crate::broker::plain::are_plain_streams;
 use crate::streams::{Input, Unread, read_all, write_all};

@@ -4,7 +4,7 @@ ghost use Rattle.std.specs.Prelude.{◌≡◌, ◌∷◌, [], ◌↔◌, ◌⊎�
 ghost use Rattle.std.specs.Io.KnownBytes.{Appends, Keeps, IsAtEnd};
 ghost use Rattle.std.specs.String.{string_bytes};
 ghost use Rattle.outside.specs.Causes.{Rose};
-ghost use Rattle.kafka_room.specs.IsLawful.{IsLawful};
+ghost use Rattle.audit.specs.IsLawful.{IsLawful};
 ghost use Rattle.kafka_room.specs.Replay.{IsReplay, IsReplayFront, IsOtherForm, IsSilent, IsNewPort};
 
 use crate::exit::Exit;

@@ -10,7 +10,7 @@ ghost use Rattle.kwire.specs.IsRequest.{IsRequest};
 ghost use Rattle.kafka_room.specs.PlainStream.{IsPlainAsk};
 ghost use Rattle.kafka_room.specs.AtOnce.{IsAnsweredAtOnce};
 
-use crate::audit::Point;
+use audit::Point;
 use crate::broker::came::Came;
 use crate::broker::handle::accept;
 use crate::broker::reply::reply_frame;

@@ -2,7 +2,7 @@
 
 ghost use Rattle.std.specs.Prelude.{◌≡◌, ◌∷◌, [], ◌++◌, OnOk};
 
-use crate::audit::Point;
+use audit::Point;
 use kanswer::Accepted;
 use kbytes::{List, NoMemory};
 use std::alloc::Global;

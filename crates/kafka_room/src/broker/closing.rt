@@ -4,9 +4,9 @@ ghost use Rattle.std.specs.Prelude.{◌≡◌, [], ◌∷◌, map, option_to_lis
 ghost use Rattle.std.specs.List.{flat_map, AllByRecursion};
 ghost use Rattle.kafka_room.specs.Board.{account_of, part_account, passes_of, put_before};
 ghost use Rattle.kafka_room.specs.Fed.{IsPlainCall};
-ghost use Rattle.kafka_room.specs.Histories.{calls_in};
+ghost use Rattle.audit.specs.Histories.{calls_in};
 
-use crate::audit::{Account, PartAccount, Transcript};
+use audit::{Account, PartAccount, Transcript};
 use crate::broker::desk::Desk;
 use kwire::Config;
 use kbytes::{List, NoMemory, copied};

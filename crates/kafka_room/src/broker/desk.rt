@@ -4,7 +4,7 @@ ghost use Rattle.std.specs.Prelude.{◌≡◌, ◌≤◌, ◌∷◌, [], ◌++�
 ghost use Rattle.kafka_room.specs.Board.{empty_seat, new_transcript};
 ghost use Rattle.kwire.specs.Frames.{next_frame_of};
 
-use crate::audit::{Call, Transcript};
+use audit::{Call, Transcript};
 use kwire::Inbox;
 use kwire::{Frame, next_frame};
 use kbytes::{Bytes, List, NoMemory, copied};

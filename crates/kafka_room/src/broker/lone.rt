@@ -15,7 +15,7 @@ ghost use Rattle.kafka_room.specs.Ready.{IsReady, front_body};
 ghost use Rattle.trace_file.specs.Trace.{IsPlainLine};
 ghost use Rattle.kafka_room.specs.UnderWay.{IsUnderWay, IsServing};
 
-use crate::audit::{Account, Call, CallHow};
+use audit::{Account, Call, CallHow};
 use crate::broker::answering::{answer_at_once, is_quiet, look_at_all};
 use crate::broker::closing::account;
 use crate::broker::desk::Desk;

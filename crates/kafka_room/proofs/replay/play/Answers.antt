@@ -5,7 +5,7 @@ use Rattle.std.specs.Io.KnownBytes.{Appends}
 use Rattle.trace_file.specs.declared.line.Line.{Line}
 use Rattle.kafka_room.specs.Board.{opening}
 use Rattle.kafka_room.specs.Handling.{Turned}
-use Rattle.kafka_room.specs.Printed.{summary_of}
+use Rattle.audit.specs.Printed.{summary_of}
 use Rattle.trace_file.specs.Contents.{configuration_of}
 use Rattle.kafka_room.specs.UnderWay.{IsUnderWay}
 use Rattle.kafka_room.proofs.Replays.{before_lines, played_from, replayed_as, front_of_lines}

@@ -1,5 +1,5 @@
 use Rattle.std.proofs.Common.{List, Option, reverse, option_to_list, ap, ◌∙◌}
-use Rattle.kafka_room.specs.declared.audit.account.Transcript.{Transcript}
+use Rattle.audit.specs.declared.account.Transcript.{Transcript}
 use Rattle.kafka_room.specs.Board.{put_before}
 use Rattle.kafka_room.proofs.Closings.{passes_before, before_none, seat_taken}
 use Rattle.kafka_room.proofs.broker.closing.passes_of.Goals as goal

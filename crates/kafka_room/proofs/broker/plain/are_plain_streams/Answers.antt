@@ -1,7 +1,7 @@
 use Rattle.std.proofs.Common.{rules, ◌≡◌, ℕ, true, false, sym, subst, ◌∙◌, arith, inl, inr}
 use Rattle.trace_file.specs.Contents.{input_of}
 use Rattle.kafka_room.specs.PlainStream.{IsPlainStream}
-use Rattle.kafka_room.proofs.Places.{same_or_not}
+use Rattle.audit.proofs.Places.{same_or_not}
 use Rattle.kafka_room.proofs.broker.plain.are_plain_streams.Goals as goal
 
 pub returns-then-not-branch : goal.returns-then-not-branch

@@ -4,7 +4,7 @@ use Rattle.partlog.specs.History.{History}
 use Rattle.partlog.specs.Kept.{IsKept}
 use Rattle.kafka_room.specs.Board.{Board, passes_of, history_at}
 use Rattle.kafka_room.specs.Fed.{IsPlainCall}
-use Rattle.kafka_room.specs.Histories.{calls_in}
+use Rattle.audit.specs.Histories.{calls_in}
 use Rattle.kafka_room.proofs.Closings.{account_few}
 use Rattle.kafka_room.proofs.Lawful.{all_plain}
 use Rattle.kafka_room.proofs.RunLaws.{fed_tame}
