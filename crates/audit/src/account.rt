@@ -1,7 +1,7 @@
 //! What an account is made of.
 
-use kwire::{Config, WireFault};
 use kbytes::{Bytes, List};
+use kwire::{Config, WireFault};
 use partlog::{ClockEvent, PartEvent};
 
 /// The number of the clock's history, behind those of the partitions.

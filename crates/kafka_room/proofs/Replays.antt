@@ -6,25 +6,21 @@ use Rattle.kafka_room.specs.declared.streams.Input.{Input}
 use Rattle.kafka_room.specs.declared.streams.Input.TheVariants.{TooLong}
 use Rattle.audit.specs.declared.account.Account.{Account}
 use Rattle.trace_file.specs.declared.line.Line.{Line}
-use Rattle.kafka_room.specs.ArePlainStreams.{ArePlainStreams}
-use Rattle.kafka_room.specs.Board.{Board, opening, account_of}
+use Rattle.broker.specs.ArePlainStreams.{ArePlainStreams}
+use Rattle.broker.specs.Board.{Board, opening, account_of}
 use Rattle.kwire.specs.Configuration.{Configuration}
-use Rattle.kafka_room.specs.Handling.{Turned}
+use Rattle.broker.specs.Turns.{Turned}
 use Rattle.trace_file.specs.IsLine.{IsLine, words_of}
-use Rattle.kafka_room.specs.PlainForm.{IsPlainForm}
-use Rattle.kafka_room.specs.Play.{Plays, IsPlay}
+use Rattle.broker.specs.PlainForm.{IsPlainForm}
+use Rattle.broker.specs.Play.{Plays, IsPlay}
 use Rattle.audit.specs.Printed.{summary_of}
 use Rattle.kafka_room.specs.Replay.{IsReplayOf, IsPlayFront, IsTextFront, IsReplayFront, IsOtherForm}
 use Rattle.trace_file.specs.Contents.{configuration_of}
 use Rattle.kafka_room.specs.Streams.{IsInput}
 use Rattle.trace_file.specs.Trace.{pieces_of, IsPlainTrace}
-use Rattle.kafka_room.specs.UnderWay.{IsUnderWay}
-use Rattle.kafka_room.proofs.FirstBoard.{before_first}
-use Rattle.kafka_room.proofs.Lawful.{board_lawful}
+use Rattle.broker.specs.UnderWay.{IsUnderWay}
+use Rattle.broker.proofs.Laws.{before_first, board_lawful, plays_keep, play_is_one, front_of_play, fed_tame, fed_run}
 use Rattle.trace_file.proofs.Laws.{words_say}
-use Rattle.kafka_room.proofs.PlayLaws.{plays_keep}
-use Rattle.kafka_room.proofs.PlayOnce.{play_is_one, front_of_play}
-use Rattle.kafka_room.proofs.RunLaws.{fed_tame, fed_run}
 
 -- ---- texts of another form
 

@@ -1,38 +1,9 @@
--- what was read of a source
-pub mod Streams
+-- ==== the words of public contracts
+
 -- what a replay comes to
 pub mod Replay
--- what the one-thread broker keeps, and its account
-pub mod Board
--- what accepting a request does to the histories
-pub mod Acceptance
--- what the one-thread broker does with a request
-pub mod Handling
--- how it scans the requests that wait
-pub mod Completing
--- which sessions can act, and what one does
-pub mod Acting
--- what a trace comes to on one thread
-pub mod Play
--- decisions that were carried out
-pub mod Carried
--- histories and calls in which nothing waits
-pub mod Steady
--- what a broker keeps of the lines that it was given
-pub mod Fed
--- streams of requests that wait for nothing
-pub mod PlainStream
--- from what a reply that needn't wait is computed
-pub mod Replying
--- a request that needn't wait was accepted and answered
-pub mod AtOnce
--- traces whose sessions receive such streams
-pub mod ArePlainStreams
--- what is read of the named partitions as their logs are
-pub mod Gathered
--- a broker amid a trace
-pub mod UnderWay
--- a broker that can handle the frame at the front of a session's bytes
-pub mod Ready
--- traces of the form that is built so far
-pub mod PlainForm
+
+-- ==== the words of private functions
+
+-- what was read of a source
+pub mod Streams

@@ -2,11 +2,11 @@
 use Rattle.std.specs.Prelude.{ℕ, ◌≡◌, ◌++◌, List, take, Option, None, Bool, false, IfSome, ◌⊎◌}
 use Rattle.audit.specs.declared.account.Account.{Account}
 use Rattle.trace_file.specs.declared.line.Line.{Line}
-use Rattle.kafka_room.specs.Board.{Board, opening}
-use Rattle.kafka_room.specs.Handling.{Turned}
+use Rattle.broker.specs.Board.{Board, opening}
+use Rattle.broker.specs.Turns.{Turned}
 use Rattle.audit.specs.IsLawful.{IsLawful}
-use Rattle.kafka_room.specs.PlainForm.{IsPlainForm}
-use Rattle.kafka_room.specs.Play.{Plays, IsPlay}
+use Rattle.broker.specs.PlainForm.{IsPlainForm}
+use Rattle.broker.specs.Play.{Plays, IsPlay}
 use Rattle.audit.specs.RunOf.{IsRunOf}
 use Rattle.trace_file.specs.Contents.{configuration_of}
 

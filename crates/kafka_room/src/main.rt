@@ -1,18 +1,13 @@
 //! The request purgatory of a Kafka broker: `kafka_room replay` replays a recorded trace.
 #![tactic(auto)]
 
-mod audit;
-mod broker;
 mod exit;
-mod kanswer;
-mod kwire;
 mod nothing;
 mod replay;
 mod run;
 mod streams;
 #[cfg(test)]
 mod tests;
-mod trace_file;
 
 use exit::exit_text;
 use nothing::{NoClock, NoPort};

@@ -8,7 +8,6 @@ pub mod Waiting
 pub mod Answer
 -- what was read of each named partition for a reply
 pub mod LogReadings
-
 -- ==== the words of private functions
 
 -- what is told of each named partition, from what was read

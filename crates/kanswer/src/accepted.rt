@@ -1,7 +1,7 @@
 ghost use Rattle.std.specs.Prelude.{◌≡◌};
 
-use kwire::{Ask, Request};
 use kbytes::Bytes;
+use kwire::{Ask, Request};
 use partlog::Numbers;
 
 /// What became of one named partition of a request as it was accepted.

@@ -2,8 +2,8 @@
 ghost use Rattle.std.specs.Prelude.{◌≡◌, Some, map, IfOk};
 ghost use Rattle.kanswer.specs.Answer.{info_as, info_of, infos_of};
 
-use kwire::{Topic, TopicInfo};
 use kbytes::{Bytes, List, NoMemory, copied};
+use kwire::{Topic, TopicInfo};
 use std::alloc::Global;
 
 // A declared topic.

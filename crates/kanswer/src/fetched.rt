@@ -4,8 +4,8 @@ ghost use Rattle.kanswer.specs.LogReadings.{HasCarriable};
 ghost use Rattle.kanswer.specs.ToldParts.{parts_by, fetched_part, fetched_topic, fetched_of};
 
 use crate::accepted::{Accepted, Reading};
-use kwire::{FetchPart, FetchTopic, FetchedPart, FetchedTopic};
 use kbytes::{Bytes, List, NoMemory, copied};
+use kwire::{FetchPart, FetchTopic, FetchedPart, FetchedTopic};
 use std::alloc::Global;
 
 // A partition with an error has the high watermark -1 and no records.

@@ -7,8 +7,8 @@ ghost use Rattle.kanswer.specs.Waiting.{at_least_zero, is_consumer};
 ghost use Rattle.kanswer.specs.Answer.{is_readable, read_of, budget_after};
 
 use crate::accepted::{Budget, Reading};
-use kwire::FetchPart;
 use kbytes::{Bytes, NoMemory, copied};
+use kwire::FetchPart;
 use partlog::{Numbers, PartLog};
 use std::alloc::Global;
 

@@ -4,8 +4,8 @@ ghost use Rattle.kanswer.specs.LogReadings.{IsCarriable};
 ghost use Rattle.kanswer.specs.ToldParts.{code_at, parts_by, produced_part, produced_topic, produced_of};
 
 use crate::accepted::{Accepted, Reading};
-use kwire::{ProducePart, ProduceTopic, ProducedPart, ProducedTopic};
 use kbytes::{List, NoMemory, copied};
+use kwire::{ProducePart, ProduceTopic, ProducedPart, ProducedTopic};
 use std::alloc::Global;
 
 // With acks -1 code 7 where some follower hasn't the whole batch yet.

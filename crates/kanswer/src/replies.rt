@@ -4,12 +4,12 @@ ghost use Rattle.kanswer.specs.Waiting.{Shown};
 ghost use Rattle.kanswer.specs.Answer.{answer, told_to};
 ghost use Rattle.kanswer.specs.LogReadings.{AreReadings, IsCarriable, HasCarriable, named_count};
 
+use crate::accepted::{Accepted, Reading};
 use crate::described::described;
 use crate::fetched::fetched_topics;
 use crate::produced::produced_topics;
-use crate::accepted::{Accepted, Reading};
-use kwire::{Ask, Config, Reply, Request, Told};
 use kbytes::NoMemory;
+use kwire::{Ask, Config, Reply, Request, Told};
 use std::alloc::Global;
 
 // What is answered to this.

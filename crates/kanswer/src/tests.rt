@@ -3,9 +3,9 @@ ghost use Rattle.std.specs.Prelude.{◌≡◌, IfOk};
 ghost use Rattle.kanswer.specs.LogReadings.{named_count};
 
 use super::{Accepted, Budget, answer, read_nothing, read_part};
-use kwire::{Ask, Config, FetchPart, FetchTopic, ProducePart, ProduceTopic, Reply, Request, Told};
 use kbatch::read_batch;
 use kbytes::{List, NoMemory, copied};
+use kwire::{Ask, Config, FetchPart, FetchTopic, ProducePart, ProduceTopic, Reply, Request, Told};
 use partlog::{PartLog, Who};
 use std::alloc::Global;
 use std::test::*;

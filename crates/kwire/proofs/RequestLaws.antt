@@ -15,7 +15,7 @@ use Rattle.kwire.specs.declared.request.Request.{Request}
 use Rattle.kwire.specs.declared.request.Ask.{Ask}
 use Rattle.kwire.specs.declared.request.Ask.TheVariants.{Produce, Fetch, Metadata, Versions}
 use Rattle.kwire.specs.IsRequest.{Named, IsWhole, IsOtherVersion, IsRequest, key_of, version_of, IsKnownVersion, ask_fields, head_fields, request_fields}
-use Rattle.kwire.specs.Refusal.{Read, wire, ask_at, mentions_of, repeat_after, unless_repeated, ended, is_known, known_version, body_at, by_version, request_at, Mention}
+use Rattle.kwire.specs.Refusal.{Read, wire, ask_at, mentions_of, repeat_after, unless_repeated, at_its_end, is_known, known_version, body_at, by_version, request_at, Mention}
 use Rattle.std.specs.Prelude.{IfOk, IsErrAnd, FitsSigned}
 use mir.Val.{of_z, to_z}
 use Rattle.std.proofs.lemmas.Int.{to_z-of_z}
@@ -45,15 +45,15 @@ asked_at key correlation client c = ask_at key c >>= λ asked. Ok (request_of co
 abbrev read_body : ℤ → ℤ → Cursor → Read Request
 read_body key correlation c = wire (sized_at w16 c) >>= λ client. asked_at key correlation client.0 client.1
 
-ended_last : (correlation : ℤ) (client : Option (List ℕ)) (read : Read Ask) → (read >>= λ asked. ended (request_of correlation client asked.0, asked.1)) ≡ ((read >>= λ asked. Ok (request_of correlation client asked.0, asked.1)) >>= ended)
+ended_last : (correlation : ℤ) (client : Option (List ℕ)) (read : Read Ask) → (read >>= λ asked. at_its_end (request_of correlation client asked.0, asked.1)) ≡ ((read >>= λ asked. Ok (request_of correlation client asked.0, asked.1)) >>= at_its_end)
 ended_last correlation client (Ok x) = refl
 ended_last correlation client (Err e) = refl
 
-ended_late : (key correlation : ℤ) (read : Read (Option (List ℕ))) → (read >>= λ client. ask_at key client.1 >>= λ asked. ended (request_of correlation client.0 asked.0, asked.1)) ≡ ((read >>= λ client. asked_at key correlation client.0 client.1) >>= ended)
+ended_late : (key correlation : ℤ) (read : Read (Option (List ℕ))) → (read >>= λ client. ask_at key client.1 >>= λ asked. at_its_end (request_of correlation client.0 asked.0, asked.1)) ≡ ((read >>= λ client. asked_at key correlation client.0 client.1) >>= at_its_end)
 ended_late key correlation (Ok x) = ended_last correlation x.0 (ask_at key x.1)
 ended_late key correlation (Err e) = refl
 
-body_is : (key correlation : ℤ) (c : Cursor) → body_at key correlation c ≡ (read_body key correlation c >>= ended)
+body_is : (key correlation : ℤ) (c : Cursor) → body_at key correlation c ≡ (read_body key correlation c >>= at_its_end)
 unfolding body_at
 body_is key correlation c = ended_late key correlation (wire (sized_at w16 c))
 
@@ -87,7 +87,7 @@ length_empty : (xs : List ℕ) → eqb (length xs) 0 ≡ true → xs ≡ []
 length_empty [] e = refl
 length_empty (x ∷ xs) e = absurd (omega (arith, eqb-true (length (x ∷ xs)) 0 e))
 
-ended_again : (request : Request) (c : Cursor) → rest_of c ≡ [] → repeat_after [] (mentions_of request.ask) ≡ None → ended (request, c) ≡ Ok request
+ended_again : (request : Request) (c : Cursor) → rest_of c ≡ [] → repeat_after [] (mentions_of request.ask) ≡ None → at_its_end (request, c) ≡ Ok request
 ended_again request c none once = rw (empty_length (rest_of c) none) (rw once refl)
 
 -- what the end says
@@ -100,7 +100,7 @@ unrepeated : (read request : Request) (mention : Option Mention) → unless_repe
 unrepeated read request None e = let there : answer read ≡ answer request = e in (refl, cc)
 unrepeated read request (Some m) e = let other : bad (Twice m.entry m.index) ≡ answer request = e in absurd cc
 
-ended_back : (read request : Request) (c : Cursor) → ended (read, c) ≡ Ok request → IsEnded read request c
+ended_back : (read request : Request) (c : Cursor) → at_its_end (read, c) ≡ Ok request → IsEnded read request c
 ended_back read request c e =
     elim (cases_Bool (eqb (length (rest_of c)) 0)) [
       | inl over ↦
@@ -255,7 +255,7 @@ same_head head request version is =
 whole_found : (bytes : List ℕ) (head : Head) (d : Cursor) (request : Request) → IsBytes d.bytes → Codec (ask_at head.api) ask_fields (IsAsk head.api) → head.version ≡ known_version head.api
     → IsParted bytes head d request → body_at head.api head.correlation d ≡ Ok request → IsWhole bytes request
 whole_found bytes head d request fits ask version parted is =
-    let w = went_on (read_body head.api head.correlation d) ended request (sym (body_is head.api head.correlation d) ∙ is) in
+    let w = went_on (read_body head.api head.correlation d) at_its_end request (sym (body_is head.api head.correlation d) ∙ is) in
     let over = ended_back w.value request w.place w.others in
     let read : read_body head.api head.correlation d ≡ got request w.place = w.read ∙ ap (λ (r : Request). got r w.place) over.same in
     let h = (body head.api head.correlation ask).back request d w.place fits read in

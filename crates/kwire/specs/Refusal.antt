@@ -157,8 +157,8 @@ unless_repeated None request = Ok request
 unless_repeated (Some mention) request = Err (Twice mention.entry mention.index)
 
 -- nothing stands behind the request, and no partition is named twice
-abbrev pub ended : Request × Cursor → Result Request WireFault
-ended (request, c) =
+abbrev pub at_its_end : Request × Cursor → Result Request WireFault
+at_its_end (request, c) =
     if length (rest_of c) == 0 then unless_repeated (repeat_after [] (mentions_of request.ask)) request else Err (BadRequest c.at)
 
 abbrev pub is_known : ℤ → Bool
@@ -170,7 +170,7 @@ known_version key = if int_eq key (pos 0) then pos 3 else (if int_eq key (pos 1)
 unfoldable pub body_at : ℤ → ℤ → Cursor → Result Request WireFault
 body_at key correlation c =
     wire (sized_at w16 c) >>= λ client. ask_at key client.1 >>= λ asked.
-    ended (record { correlation = correlation; client = client.0; ask = asked.0 }, asked.1)
+    at_its_end (record { correlation = correlation; client = client.0; ask = asked.0 }, asked.1)
 
 -- ApiVersions in another version is a request whatever follows
 abbrev pub by_version : ℤ → ℤ → ℤ → Cursor → Result Request WireFault

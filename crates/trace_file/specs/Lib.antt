@@ -10,7 +10,6 @@ pub mod IsInOrder
 pub mod Trace
 -- one printed line
 pub mod PrintedLine
-
 -- ==== the words of private functions
 
 -- what a refusal to read says

@@ -13,7 +13,8 @@ mod read_line;
 mod reply_line;
 
 pub use line::{
-    LAST_MOMENT, Line, LineFault, LineKind, MOST_SESSIONS, MOST_TRACE_BYTES, REPLAY_PORT, TraceFault,
+    LAST_MOMENT, Line, LineFault, LineKind, MOST_SESSIONS, MOST_TRACE_BYTES, REPLAY_PORT,
+    TraceFault,
 };
 pub use plain_trace::{PlainTrace, read_plain_trace};
 pub use reply_line::put_reply_line;

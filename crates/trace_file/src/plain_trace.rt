@@ -9,12 +9,12 @@ ghost use Rattle.trace_file.specs.Denies.{Denies, refusal_of};
 ghost use Rattle.trace_file.specs.Trace.{IsPlainTrace};
 ghost use Rattle.trace_file.specs.PlainFront.{stage_after, IsNewLine, IsPlainFront, MayCome};
 
-use kwire::{Config, ConfigFault};
 use crate::fault::NotRead;
 use crate::line::{Line, MOST_TRACE_BYTES, REPLAY_PORT};
 use crate::pieces::next_piece;
 use crate::read_line::read_line;
 use kbytes::{List, NoMemory};
+use kwire::{Config, ConfigFault};
 use std::alloc::Global;
 
 /// A trace that was read: its lines, and the configuration of its topics.

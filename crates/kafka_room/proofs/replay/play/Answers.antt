@@ -3,11 +3,11 @@ use Rattle.std.proofs.KnownBytes.{Appends-nil, Appends-trans}
 use Rattle.std.proofs.lemmas.Result.{err_from_is_err_and}
 use Rattle.std.specs.Io.KnownBytes.{Appends}
 use Rattle.trace_file.specs.declared.line.Line.{Line}
-use Rattle.kafka_room.specs.Board.{opening}
-use Rattle.kafka_room.specs.Handling.{Turned}
+use Rattle.broker.specs.Board.{opening}
+use Rattle.broker.specs.Turns.{Turned}
 use Rattle.audit.specs.Printed.{summary_of}
 use Rattle.trace_file.specs.Contents.{configuration_of}
-use Rattle.kafka_room.specs.UnderWay.{IsUnderWay}
+use Rattle.broker.specs.UnderWay.{IsUnderWay}
 use Rattle.kafka_room.proofs.Replays.{before_lines, played_from, replayed_as, front_of_lines}
 use Rattle.kafka_room.proofs.Writes.{front_behind}
 use Rattle.kafka_room.proofs.replay.play.Goals as goal
