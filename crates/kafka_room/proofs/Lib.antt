@@ -52,3 +52,5 @@ pub mod PlayLaws
 pub mod FewBytes
 pub mod FirstBoard
 pub mod PlayOnce
+pub mod ReplyOnce
+pub mod Prints

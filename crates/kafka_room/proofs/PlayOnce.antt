@@ -66,7 +66,7 @@ all_decided config id acks (a ∷ named) (x ∷ xs) [] p q = absurd q
 all_decided config id acks (a ∷ named) (x ∷ xs) (y ∷ ys) p q =
     ap (λ (d : Decision). d ∷ xs) (produce_decided config id acks a x y p.0 q.0) ∙ ap (λ (ds : List Decision). y ∷ ds) (all_decided config id acks named xs ys p.1 q.1)
 
-decided_once : (config : Configuration) (ask : Ask) (xs ys : List Decision) → Decides config ask xs → Decides config ask ys → xs ≡ ys
+pub decided_once : (config : Configuration) (ask : Ask) (xs ys : List Decision) → Decides config ask xs → Decides config ask ys → xs ≡ ys
 decided_once config (Produce id acks timeout topics) xs ys p q = all_decided config id acks (produce_parts topics) xs ys p q
 decided_once config (Fetch replica max_wait min_bytes max_bytes isolation topics) xs ys p q = p ∙ sym q
 decided_once config (Metadata topics) xs ys p q = p ∙ sym q
@@ -74,7 +74,7 @@ decided_once config (Versions version) xs ys p q = p ∙ sym q
 
 -- ---- what is done
 
-same_request : (body : List ℕ) (r s : Request) → request_at body ≡ Ok r → request_at body ≡ Ok s → r ≡ s
+pub same_request : (body : List ℕ) (r s : Request) → request_at body ≡ Ok r → request_at body ≡ Ok s → r ≡ s
 same_request body r s p q = let e : ◌≡◌ {A = Result Request WireFault} (Ok r) (Ok s) = sym p ∙ q in cc
 
 same_refusal : (body : List ℕ) (v w : WireFault) → request_at body ≡ Err v → request_at body ≡ Err w → v ≡ w

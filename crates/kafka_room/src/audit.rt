@@ -1,5 +1,6 @@
 //! The account of a run.
 
 pub mod account;
+pub mod laws;
 
 pub use account::{Account, Call, CallHow, PartAccount, Point, SessionEnd, Transcript};
