@@ -4,3 +4,7 @@ pub mod Laws
 pub mod Places
 -- the numbers of a summary, step by step
 pub mod Tallies
+-- a call was accepted in one way, and has one reply at most
+pub mod ReplyOnce
+-- a lawful account has one print
+pub mod Prints

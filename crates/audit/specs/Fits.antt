@@ -11,14 +11,14 @@ use Rattle.audit.specs.declared.account.SessionEnd.{SessionEnd}
 use Rattle.audit.specs.declared.account.SessionEnd.TheVariants.{Closed, Truncated, FrameTooLong, Refused, CallsFull, ReadFault, WriteFault, NoMemory}
 use Rattle.audit.specs.declared.account.Point.{Point}
 use Rattle.kwire.specs.declared.frame.Frame.TheVariants.{TooLong}
+use Rattle.kwire.specs.declared.frame.WireFault.{WireFault}
 use Rattle.kwire.specs.declared.reply.Reply.{Reply}
-use Rattle.kwire.specs.declared.request.Request.{Request}
 use Rattle.kwire.specs.Frames.{framed, IsFrameBody, BeginsWhole, BeginsTooLong, next_frame_of}
 use Rattle.kwire.specs.Refusal.{IsRefused}
 use Rattle.kwire.specs.Spelling.{spelling}
 use Rattle.kanswer.specs.Answer.{answer}
 use Rattle.kanswer.specs.Waiting.{Shown}
-use Rattle.audit.specs.Handled.{Step, IsAcceptance, shown_as_accepted, shown_as_completed}
+use Rattle.audit.specs.Handled.{Step, IsAccepted, shown_as_accepted, shown_as_completed}
 
 -- nothing more can be read of this: no whole frame stands at its front, and none that is too long
 pub record IsUnfinished (rest : List ℕ) : Type 0 where
@@ -32,10 +32,9 @@ LastIsParked (call ∷ []) = call.how ≡ Parked
 LastIsParked (call ∷ next ∷ calls) = LastIsParked (next ∷ calls)
 
 -- a whole frame at the front that is refused with this
-abbrev pub BeginsRefused : List ℕ → SessionEnd → Type 0
-BeginsRefused rest (Refused why) =
+abbrev pub BeginsRefused : List ℕ → WireFault → Type 0
+BeginsRefused rest why =
     (body : List ℕ) × (more : List ℕ) × (rest ≡ framed body ++ more) × IsFrameBody body × IsRefused body why
-BeginsRefused rest other = ⊥
 
 -- how the transcript ends is as the rest of the input shows; `ended` says that no more input comes
 abbrev pub EndFits : List ℕ → Bool → Transcript → Option SessionEnd → Type 0
@@ -43,7 +42,7 @@ EndFits rest ended transcript None = LastIsParked transcript.calls ⊎ (IsUnfini
 EndFits rest ended transcript (Some Closed) = (ended ≡ true) × (rest ≡ [])
 EndFits rest ended transcript (Some (Truncated got)) = (ended ≡ true) × (length rest ≡ got) × (0 < got) × IsUnfinished rest
 EndFits rest ended transcript (Some (FrameTooLong size)) = next_frame_of rest ≡ TooLong size
-EndFits rest ended transcript (Some (Refused why)) = BeginsRefused rest (Refused why)
+EndFits rest ended transcript (Some (Refused why)) = BeginsRefused rest why
 EndFits rest ended transcript (Some CallsFull) = BeginsWhole rest × (transcript.first + length transcript.calls ≡ MOST_CALLS)
 EndFits rest ended transcript (Some ReadFault) = IsUnfinished rest
 EndFits rest ended transcript (Some WriteFault) = Unit {0}
@@ -66,14 +65,12 @@ ShowsFor account steps finish (Expired by) shown =
 ShowsFor account steps finish Parked shown = ⊥
 ShowsFor account steps finish (Cut won) shown = ⊥
 
--- the reply of a call is Kafka's answer at its points
+-- the reply of a call is Kafka's answer at its own points
 pub record IsReplyOf (account : Account) (call : Call) (reply : Reply) : Type 0 where
-  pub request : Request
-  pub steps : List Step
-  pub accepted : IsAcceptance account call.frame request steps
+  pub whole : IsAccepted account call
   pub shown : List Shown
-  pub shows : ShowsFor account steps call.finish call.how shown
-  pub answered : reply ≡ answer account.config request shown
+  pub shows : ShowsFor account whole.steps call.finish call.how shown
+  pub answered : reply ≡ answer account.config whole.request shown
 
 abbrev pub is_answered : CallHow → Bool
 is_answered Quiet = false

@@ -131,8 +131,37 @@ abbrev pub AreLooksAfterClock : Account → List Step → List Point → Type 0
 AreLooksAfterClock account steps [] = ⊥
 AreLooksAfterClock account steps (point ∷ points) = IsClockLook account point × AreLooks account steps points
 
+-- such looks at the first so many of these partitions alone
+abbrev pub AreFirstLooks : Account → List Step → List Point → Type 0
+AreFirstLooks account steps points = (reached : ℕ) × AllZip (IsLook account) (take reached (operation_parts steps)) points
+
+abbrev pub AreFirstLooksAfterClock : Account → List Step → List Point → Type 0
+AreFirstLooksAfterClock account steps [] = ⊥
+AreFirstLooksAfterClock account steps (point ∷ points) = IsClockLook account point × AreFirstLooks account steps points
+
 abbrev pub is_delayed : Account → Request → List Step → Bool
 is_delayed account request steps = becomes_delayed request.ask (shown_as_accepted account steps)
+
+-- the states at these looks satisfy the request
+abbrev pub IsSatisfiedAt : Account → Request → List Step → List Point → List Point → Type 0
+IsSatisfiedAt account request steps looks finish =
+    IsSatisfied (operation_in account request steps looks) (values_of request.ask (shown_as_completed account steps finish))
+
+-- the moment at the first of these is at least the request's deadline
+abbrev pub IsOverdueAt : Account → Request → List Step → List Point → List Point → Type 0
+IsOverdueAt account request steps looks finish =
+    IsOverdue (operation_in account request steps looks) (moment_among account finish)
+
+-- The completion of a satisfied request was cut off behind so many of its looks; where these are all, their states satisfy it.
+-- Of the partitions that weren't reached nothing is asked.
+pub record IsCutAsSatisfied (account : Account) (request : Request) (steps : List Step) (looks finish : List Point) : Type 0 where
+  pub first : AreFirstLooks account steps finish
+  pub satisfied : AreLooks account steps finish → IsSatisfiedAt account request steps looks finish
+
+-- that of an expired one, behind its look at the clock or later
+pub record IsCutAsExpired (account : Account) (request : Request) (steps : List Step) (looks finish : List Point) : Type 0 where
+  pub first : AreFirstLooksAfterClock account steps finish
+  pub overdue : IsOverdueAt account request steps looks finish
 
 -- what the last entries of a call that was accepted whole are, by how it came to its end
 abbrev pub Completes : Account → Request → List Step → List Point → List Point → CallHow → Type 0
@@ -143,29 +172,34 @@ Completes account request steps looks finish AtOnce =
     (is_quiet request.ask ≡ false) × (is_delayed account request steps ≡ false) × (finish ≡ [])
 -- the states at its looks satisfy it
 Completes account request steps looks finish (Satisfied by) =
-    (is_delayed account request steps ≡ true) × AreLooks account steps finish
-    × IsSatisfied (operation_in account request steps looks) (values_of request.ask (shown_as_completed account steps finish))
+    (is_delayed account request steps ≡ true) × AreLooks account steps finish × IsSatisfiedAt account request steps looks finish
 -- the moment at its look at the clock is at least the deadline
 Completes account request steps looks finish (Expired by) =
-    (is_delayed account request steps ≡ true) × AreLooksAfterClock account steps finish
-    × IsOverdue (operation_in account request steps looks) (moment_among account finish)
+    (is_delayed account request steps ≡ true) × AreLooksAfterClock account steps finish × IsOverdueAt account request steps looks finish
 -- it waits, and isn't answerable at the end
 Completes account request steps looks finish Parked =
     (is_delayed account request steps ≡ true) × (finish ≡ [])
     × (IsAnswerable (operation_in account request steps looks) (values_of request.ask (shown_at_last account steps)) (moment_of account.clock) → ⊥)
--- it met want of memory: some of the last entries of a completion, from the front, and none where it isn't delayed
-Completes account request steps looks finish (Cut won) =
-    (more : List Point) × ((finish ≡ []) ⊎ AreLooks account steps (finish ++ more) ⊎ AreLooksAfterClock account steps (finish ++ more))
-    × (((finish ≡ []) × (won ≡ None)) ⊎ (is_delayed account request steps ≡ true))
+-- it met want of memory before anyone had won its operation, or with none
+Completes account request steps looks finish (Cut None) = finish ≡ []
+-- it was won, and met want of memory amid its last entries or behind them
+Completes account request steps looks finish (Cut (Some by)) =
+    (is_delayed account request steps ≡ true)
+    × (IsCutAsSatisfied account request steps looks finish ⊎ IsCutAsExpired account request steps looks finish)
 
--- a call that was accepted whole
-pub record IsWholeCall (account : Account) (call : Call) : Type 0 where
+-- A call was accepted whole: its frame is this request, these steps are what became of the partitions that it names, and
+-- their points and the look at the clock are the entries of the call's own acceptance.
+pub record IsAccepted (account : Account) (call : Call) : Type 0 where
   pub request : Request
   pub steps : List Step
   pub looks : List Point
   pub accepted : IsAcceptance account call.frame request steps
   pub entries : HasAccepted account request steps call.accept looks
-  pub completed : Completes account request steps looks call.finish call.how
+
+-- a call that was accepted whole, and came to its end as its last entries show
+pub record IsWholeCall (account : Account) (call : Call) : Type 0 where
+  pub whole : IsAccepted account call
+  pub completed : Completes account whole.request whole.steps whole.looks call.finish call.how
 
 -- a call that met want of memory as it was accepted: the entries for the first of its partitions, from the front
 pub record IsCutShort (account : Account) (call : Call) : Type 0 where

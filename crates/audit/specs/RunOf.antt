@@ -1,5 +1,5 @@
 -- What the account of a trace's run is to the trace: its topics, what each session received, and its ticks.
-use Rattle.std.specs.Prelude.{ℕ, ◌≡◌, ◌≢◌, ◌<◌, List, [], ◌∷◌, length, Option, Some, slice_get, MatchBool}
+use Rattle.std.specs.Prelude.{ℕ, ◌+◌, ◌≡◌, ◌≢◌, ◌<◌, List, [], ◌∷◌, ◌++◌, length, drop, Option, Some, slice_get, MatchBool}
 use Rattle.std.specs.List.{AllByRecursion}
 use Rattle.trace_file.specs.declared.line.Line.{Line}
 use Rattle.audit.specs.declared.account.Account.{Account}
@@ -27,11 +27,14 @@ pub record IsSessionOf (lines : List Line) (account : Account) (session : ℕ) :
   pub fits : Fits (input_of session lines) (is_shut session lines) transcript
   pub end : IsTraceEnd transcript.end
 
-pub record IsRunOf (lines : List Line) (port : ℕ) (account : Account) : Type 0 where
+-- `further` are the passes behind those of the sessions (that of the clock, where the command has threads), and `added` the
+-- ticks that the command adds to those of the lines
+pub record IsRunOf (lines : List Line) (port : ℕ) (further : List (List Transcript)) (added : List ℕ) (account : Account) : Type 0 where
   pub config : account.config ≡ configuration_of port lines
-  pub passes : length account.passes ≡ sessions_of lines
+  pub passes : length account.passes ≡ sessions_of lines + length further
+  pub behind : drop (sessions_of lines) account.passes ≡ further
   -- a pass holds the transcript of its session where a line named it, and none otherwise
   pub sessions : (session : ℕ) → session < sessions_of lines
       → MatchBool (is_named session lines) (IsSessionOf lines account session) (slice_get account.passes session ≡ Some [])
   pub whole : AllByRecursion IsNotCut (all_calls account)
-  pub ticks : ticks_of account.clock ≡ rising_from 0 lines
+  pub ticks : ticks_of account.clock ≡ rising_from 0 lines ++ added

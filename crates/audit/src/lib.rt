@@ -4,10 +4,12 @@
 #![tactic(auto)]
 
 mod account;
+mod promises;
 mod summary;
 mod tally;
 
 pub use account::{
     Account, CLOCK_PART, Call, CallHow, MOST_CALLS, PartAccount, Point, SessionEnd, Transcript,
 };
+pub use promises::{one_print, one_reply};
 pub use summary::put_summary;

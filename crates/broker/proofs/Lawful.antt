@@ -136,13 +136,15 @@ completes account request steps finish false quiet undelayed none = (quiet, unde
 
 pub done_lawful : (by seq : ℕ) (account : Account) (call : Call) → IsDone by seq account call → IsLawfulCall account call
 done_lawful by seq account call d = inl (record {
-  request = d.request;
-  steps = d.steps;
-  looks = [];
-  accepted = d.accepted;
-  entries = record {
-    points = d.entries ∙ sym (append-nil _);
-    clock = subst (λ (b : Bool). LooksAtClock account b []) (sym d.undelayed) refl;
+  whole = record {
+    request = d.request;
+    steps = d.steps;
+    looks = [];
+    accepted = d.accepted;
+    entries = record {
+      points = d.entries ∙ sym (append-nil _);
+      clock = subst (λ (b : Bool). LooksAtClock account b []) (sym d.undelayed) refl;
+    };
   };
   completed = subst (λ (how : CallHow). Completes account d.request d.steps [] call.finish how) (sym d.how) (completes account d.request d.steps call.finish (is_quiet d.request.ask) refl d.undelayed d.unfinished);
 })

@@ -3,7 +3,7 @@
 use Rattle.std.proofs.Common.{◌≡◌, ◌≢◌, ℕ, zero, suc, ◌+◌, ◌-◌, ◌≤◌, ◌<◌, ◌⊎◌, pos, Bool, true, false, ◌||◌, cond, eqb, max, List, [], ◌∷◌, ◌++◌, length, take, drop, set, Option, Some, None, unwrap_or, MatchBool, refl, sym, ap, subst, ◌∙◌, arith, inl, inr, append-nil, append_assoc, length-append, eq-eqb}
 use Rattle.std.proofs.lemmas.Bool.{or_cases, eqb-true, cases_Bool, cases_lt, ne_eqb, or_right}
 use Rattle.std.proofs.Math.Bool.{or-false}
-use Rattle.std.proofs.lemmas.List.{length-set, length-replicate, get_or-replicate}
+use Rattle.std.proofs.lemmas.List.{drop_all, length-set, length-replicate, get_or-replicate}
 use Rattle.std.proofs.lemmas.List.Elements.{All-tail}
 use Rattle.std.proofs.lemmas.List.Folds.{list_any-append}
 use Rattle.std.proofs.lemmas.Grind.{flat_map-append}
@@ -253,15 +253,16 @@ sessions_few fed n few = by_count (sessions_of fed) refl
     by_count (suc k) e = omega (arith, few k (last_named k fed e))
 
 -- the account of a board at rest is that of the run of the lines that it was fed
-pub fed_run : (fed : List Line) (board : Board) → IsFedBy fed board → IsAtRest board → board.config ≡ configuration_of 9092 fed → All IsPlainLine fed → IsRunOf fed 9092 (account_of board)
+pub fed_run : (fed : List Line) (board : Board) → IsFedBy fed board → IsAtRest board → board.config ≡ configuration_of 9092 fed → All IsPlainLine fed → IsRunOf fed 9092 [] [] (account_of board)
 fed_run fed board h rest config plain = record {
   config = config;
-  passes = passes_count fed board h;
+  passes = omega (arith, passes_count fed board h);
+  behind = drop_all (sessions_of fed) (account_of board).passes (omega (arith, passes_count fed board h));
   sessions = λ s lt.
       let small : s < 64 = omega (arith, lt, sessions_few fed 64 h.few) in
       some_session fed board s (is_named s fed) refl plain (omega (arith, lt, passes_count fed board h)) (h.seats s small) (rest s small);
   whole = none_cut (all_calls (account_of board)) (all_plain 0 board.seats (fed_tame fed board h));
-  ticks = ap ticks_of h.no_clock ∙ sym (no_ticks 0 fed plain);
+  ticks = ap ticks_of h.no_clock ∙ sym (no_ticks 0 fed plain) ∙ sym (append-nil (rising_from 0 fed));
 }
 
 -- ---- how it goes on

@@ -1,5 +1,5 @@
 -- What a replay comes to: its account is lawful, is that of the run of the trace that was read, and this is what is printed.
-use Rattle.std.specs.Prelude.{ℕ, ◌≡◌, ◌++◌, List, take, Option, None, Bool, false, IfSome, ◌⊎◌}
+use Rattle.std.specs.Prelude.{ℕ, ◌≡◌, ◌++◌, List, [], take, Option, None, Bool, false, IfSome, ◌⊎◌}
 use Rattle.audit.specs.declared.account.Account.{Account}
 use Rattle.trace_file.specs.declared.line.Line.{Line}
 use Rattle.broker.specs.Board.{Board, opening}
@@ -13,7 +13,7 @@ use Rattle.trace_file.specs.Contents.{configuration_of}
 -- what the replay of these lines comes to
 pub record IsReplayOf (lines : List Line) (account : Account) (text : List ℕ) : Type 0 where
   pub lawful : IsLawful account
-  pub run : IsRunOf lines 9092 account
+  pub run : IsRunOf lines 9092 [] [] account
   pub played : IsPlay (configuration_of 9092 lines) lines account text
   -- and it plays to nothing else
   pub only : (other : Account) (more : List ℕ) → IsPlay (configuration_of 9092 lines) lines other more → (other ≡ account) × (more ≡ text)

@@ -7,6 +7,7 @@ pub mod TopicCodecs
 pub mod AskCodecs
 pub mod TwiceNamed
 pub mod RequestLaws
+pub mod OneReading
 pub mod ItemLoops
 pub mod MentionLoops
 pub mod StreamLaws
