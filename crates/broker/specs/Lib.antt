@@ -26,7 +26,6 @@ pub mod Fed
 pub mod Carried
 -- a broker amid a trace
 pub mod UnderWay
-
 -- ==== the words of private functions
 
 -- a broker that can handle the frame at the front of a session's bytes

@@ -13,9 +13,9 @@ ghost use Rattle.broker.specs.PlainStream.{IsPlainAsk};
 
 use crate::came::Came;
 use kanswer::{Accepted, code_of};
-use kwire::{Ask, Config, FetchPart, FetchTopic, ProducePart, ProduceTopic, Request};
 use kbatch::{Batch, BatchFault, read_batch};
 use kbytes::{List, NoMemory};
+use kwire::{Ask, Config, FetchPart, FetchTopic, ProducePart, ProduceTopic, Request};
 use partlog::{LogFault, PartLog, Who};
 use std::alloc::Global;
 

@@ -10,15 +10,15 @@ ghost use Rattle.kwire.specs.IsRequest.{IsRequest};
 ghost use Rattle.broker.specs.PlainStream.{IsPlainAsk};
 ghost use Rattle.broker.specs.AtOnce.{IsAnsweredAtOnce};
 
-use audit::Point;
-use crate::came::Came;
 use crate::accept::accept;
+use crate::came::Came;
 use crate::reply::reply_frame;
-use kwire::{Ask, Config, Request};
-use trace_file::put_reply_line;
+use audit::Point;
 use kbytes::{Bytes, List, NoMemory};
+use kwire::{Ask, Config, Request};
 use partlog::{PartLog, Who};
 use std::alloc::Global;
+use trace_file::put_reply_line;
 
 /// It asks for no reply.
 pub fn is_quiet(ask: &Ask) -> bool

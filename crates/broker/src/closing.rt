@@ -6,10 +6,10 @@ ghost use Rattle.broker.specs.Board.{account_of, part_account, passes_of, put_be
 ghost use Rattle.broker.specs.Fed.{IsPlainCall};
 ghost use Rattle.audit.specs.Histories.{calls_in};
 
-use audit::{Account, PartAccount, Transcript};
 use crate::desk::Desk;
-use kwire::Config;
+use audit::{Account, PartAccount, Transcript};
 use kbytes::{List, NoMemory, copied};
+use kwire::Config;
 use partlog::PartLog;
 use std::alloc::Global;
 

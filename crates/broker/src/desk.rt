@@ -5,9 +5,8 @@ ghost use Rattle.broker.specs.Board.{empty_seat, new_transcript};
 ghost use Rattle.kwire.specs.Frames.{next_frame_of};
 
 use audit::{Call, Transcript};
-use kwire::Inbox;
-use kwire::{Frame, next_frame};
 use kbytes::{Bytes, List, NoMemory, copied};
+use kwire::{Frame, Inbox, next_frame};
 use std::alloc::Global;
 use std::marker::Model;
 

@@ -15,18 +15,17 @@ ghost use Rattle.broker.specs.Ready.{IsReady, front_body};
 ghost use Rattle.trace_file.specs.Trace.{IsPlainLine};
 ghost use Rattle.broker.specs.UnderWay.{IsUnderWay, IsServing};
 
-use audit::{Account, Call, CallHow};
 use crate::answering::{answer_at_once, is_quiet, look_at_all};
 use crate::closing::account;
 use crate::desk::Desk;
 use crate::opening::{open_desks, open_parts};
-use kwire::read_request;
-use kwire::{Ask, Config, Frame, Request, WireFault};
-use trace_file::Line;
+use audit::{Account, Call, CallHow};
 use kbytes::{Bytes, List, NoMemory};
+use kwire::{Ask, Config, Frame, Request, WireFault, read_request};
 use partlog::{PartLog, Who};
 use std::alloc::Global;
 use std::marker::Model;
+use trace_file::Line;
 
 /// The one-thread broker, as far as it is built: no topic has followers, no request waits and no session ends.
 #[derive(Debug, Drop)]

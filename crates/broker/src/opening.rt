@@ -5,11 +5,11 @@ ghost use Rattle.broker.specs.Board.{empty_history, empty_seat, most_sessions};
 ghost use Rattle.kwire.specs.Configuration.{followers_of};
 
 use crate::desk::Desk;
-use kwire::Config;
-use trace_file::MOST_SESSIONS;
 use kbytes::{List, NoMemory};
+use kwire::Config;
 use partlog::PartLog;
 use std::alloc::Global;
+use trace_file::MOST_SESSIONS;
 
 // Puts so many logs without entries at the end. After want of memory some of them may stand there.
 #[tactic(auto, using(crate::proofs::Openings::one_more_behind))]

@@ -5,11 +5,10 @@ ghost use Rattle.broker.specs.PlainStream.{IsPlainAsk, IsPlainBody, IsPlainStrea
 ghost use Rattle.broker.specs.ArePlainStreams.{ArePlainStreams};
 ghost use Rattle.trace_file.specs.Contents.{input_of};
 
-use kwire::read_request;
-use kwire::{Ask, Frame, WireFault, next_frame};
-use trace_file::{Line, MOST_SESSIONS};
 use kbytes::{Bytes, NoMemory};
+use kwire::{Ask, Frame, WireFault, next_frame, read_request};
 use std::alloc::Global;
+use trace_file::{Line, MOST_SESSIONS};
 
 fn is_plain_ask(ask: &Ask) -> bool
     ensures { IsTrue result ↔ IsPlainAsk ask.now }

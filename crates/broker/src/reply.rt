@@ -12,8 +12,8 @@ ghost use Rattle.broker.specs.PlainStream.{IsPlainAsk};
 ghost use Rattle.broker.specs.Replying.{HasLog, ShowsLogs};
 
 use kanswer::{Accepted, Budget, Reading, answer, read_nothing, read_part};
-use kwire::{Ask, Config, FetchPart, FetchTopic, Request, reply_bytes};
 use kbytes::{Bytes, List, NoMemory};
+use kwire::{Ask, Config, FetchPart, FetchTopic, Request, reply_bytes};
 use partlog::PartLog;
 use std::alloc::Global;
 

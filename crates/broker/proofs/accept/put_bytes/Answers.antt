@@ -1,4 +1,7 @@
-use Rattle.std.proofs.Common.{◌≡◌, ℕ, List, [], ◌∷◌, length, refl, ap, subst, ◌∙◌, inl, inr}
+use Rattle.std.proofs.Common.{◌≡◌, ℕ, List, [], ◌∷◌, length, refl, ap, subst, ◌∙◌, inl, inr, rules}
+use Rattle.std.proofs.lemmas.Int.{to_z-of_z}
+use Rattle.std.specs.Int.{w16}
+use mir.Val.{SFits}
 use Rattle.kbatch.specs.Kept.{count_of}
 use Rattle.kbatch.proofs.Laws.{batch_count}
 use Rattle.kanswer.specs.declared.accepted.Accepted.TheVariants.{Refused}
@@ -21,4 +24,5 @@ returns-in-Ok c =
 
 pub returns-in_default : goal.returns-in_default
 returns-in_default c =
-    on_ok c.refuse.result c.refuse.ensures (λ k. (Refuse (code_of c.in-Err.fault), inl (c.in-Err.fault, (c.in-Err.ensures.fault c.in-Err.fault c.in_default.not-NoMemory).0 refl, refl), k (code_of c.in-Err.fault) (ap Refused c.code_of.ensures) c.args.who.by c.args.who.seq c.args.parts.now))
+    let fits : SFits w16 c.code_of.result = search rules in
+    on_ok c.refuse.result c.refuse.ensures (λ k. (Refuse (code_of c.in-Err.fault), inl (c.in-Err.fault, (c.in-Err.ensures.fault c.in-Err.fault c.in_default.not-NoMemory).0 refl, refl), k (code_of c.in-Err.fault) (ap Refused (to_z-of_z w16 c.code_of.result fits ∙ c.code_of.ensures)) c.args.who.by c.args.who.seq c.args.parts.now))
