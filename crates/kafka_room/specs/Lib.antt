@@ -1,8 +1,9 @@
 -- ==== the words of public contracts
 
+-- the exit code of what stopped a run
+pub mod Codes
 -- what a replay comes to
 pub mod Replay
-
 -- ==== the words of private functions
 
 -- what was read of a source
