@@ -52,3 +52,9 @@ pub mod PlayLaws
 pub mod FewBytes
 pub mod FirstBoard
 pub mod PlayOnce
+-- what a body of bytes carries are bytes
+pub mod RequestBytes
+-- how much is left to do on a board
+pub mod Work
+-- lines play to something
+pub mod Plays
