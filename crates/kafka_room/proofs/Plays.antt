@@ -1,5 +1,5 @@
 -- Every configuration and list of lines plays to something, where what its sessions receive are bytes.
-use Rattle.std.proofs.Common.{◌≡◌, ◌⊎◌, ℕ, zero, suc, ◌-◌, ◌≤◌, ◌<◌, ℤ, pos, Bool, true, false, cond, List, [], ◌∷◌, ◌++◌, length, map, take, drop, set, Option, Some, None, Result, Ok, Err, MatchBool, unwrap_or, refl, sym, ap, subst, arith, inl, inr, eq-eqb}
+use Rattle.std.proofs.Common.{◌≡◌, ℕ, zero, suc, ◌-◌, ◌≤◌, ◌<◌, ℤ, pos, Bool, true, false, cond, List, [], ◌∷◌, ◌++◌, length, drop, Option, Some, None, Result, Ok, Err, MatchBool, unwrap_or, refl, subst, arith, inl, inr, eq-eqb}
 use Rattle.std.specs.Prelude.{MatchOption, nat_lt, ◌==◌}
 use Rattle.std.specs.List.{AllByRecursion, AllZip}
 use Rattle.hex.proofs.HexLemmas.{decode_of-ok}
@@ -19,13 +19,13 @@ use Rattle.kafka_room.specs.declared.kwire.request.Request.{Request}
 use Rattle.kafka_room.specs.declared.trace_file.line.Line.{Line}
 use Rattle.kafka_room.specs.declared.trace_file.line.Line.TheVariants.{Topic, Feed, Shut, Clock, End}
 use Rattle.kafka_room.specs.Accepting.{Decision, Refuse, AskLog, Decides, ProduceDecides, BatchDecides, append_outcome, code_of, part_of, produce_parts, is_acks}
-use Rattle.kafka_room.specs.Acting.{is_there, next_to_act, Acts, ActsOn, HandlesFrame}
+use Rattle.kafka_room.specs.Acting.{is_there, next_to_act, ActsOn, HandlesFrame}
 use Rattle.kafka_room.specs.Board.{Board, seat_at, transcript_at, next_call, opening, account_of}
 use Rattle.kafka_room.specs.Completing.{scanned}
 use Rattle.kafka_room.specs.Configuration.{Configuration}
 use Rattle.kafka_room.specs.Frames.{next_frame_of}
 use Rattle.kafka_room.specs.Handling.{Turned, handled, ended}
-use Rattle.kafka_room.specs.Play.{brought, Rests, PlaysLine, Plays, IsPlay}
+use Rattle.kafka_room.specs.Play.{brought, Rests, Plays, IsPlay}
 use Rattle.kafka_room.specs.Printed.{summary_of}
 use Rattle.kafka_room.specs.Refusal.{request_at}
 use Rattle.kafka_room.specs.RunOf.{bytes_in, input_of}
@@ -33,7 +33,7 @@ use Rattle.kafka_room.specs.IsLine.{IsLine}
 use Rattle.kafka_room.specs.Trace.{pieces_of, IsTrace}
 use Rattle.kafka_room.proofs.RequestBytes.{HasBytes, CarriesBytes, request_bytes, none_are_bytes, front_bytes, back_bytes, both_bytes}
 use Rattle.kafka_room.proofs.RequestLaws.{read_request_is}
-use Rattle.kafka_room.proofs.Work.{AreSeats, IsLess, work_on, seats_set, inbox_bytes, opening_seats, scanned_as_much, acts_less, its_turn}
+use Rattle.kafka_room.proofs.Work.{AreSeats, work_on, seats_set, inbox_bytes, opening_seats, scanned_as_much, acts_less, its_turn}
 
 -- ---- what is decided
 

@@ -1,11 +1,11 @@
 -- How much is left to do on a board: over the sessions that haven't ended, one and what nobody has handled yet. A scan changes
 -- nothing of it, and each act leaves less.
-use Rattle.std.proofs.Common.{◌≡◌, ℕ, zero, suc, ◌+◌, ◌-◌, ◌<◌, ◌≤◌, Bool, true, false, cond, not, ◌&&◌, List, [], ◌∷◌, ◌++◌, length, set, take, drop, replicate, Option, Some, None, unwrap_or, MatchBool, refl, sym, ap, subst, ◌∙◌, arith, inl, inr, length-append}
+use Rattle.std.proofs.Common.{◌≡◌, ℕ, zero, suc, ◌+◌, ◌<◌, ◌≤◌, Bool, true, false, cond, not, ◌&&◌, List, [], ◌∷◌, length, set, drop, replicate, Option, Some, None, unwrap_or, MatchBool, refl, sym, ap, subst, ◌∙◌, arith, inl, inr}
 use Rattle.std.proofs.lemmas.List.{length-set, length-drop, length-replicate}
-use Rattle.std.specs.Prelude.{slice_get, ◌==◌, nat_lt}
-use Rattle.std.specs.List.{AllByRecursion, find, range_with_len, list_any}
+use Rattle.std.specs.Prelude.{slice_get, ◌==◌}
+use Rattle.std.specs.List.{AllByRecursion, find, range_with_len}
 use Rattle.kbytes.specs.Octets.{IsBytes}
-use Rattle.kbytes.proofs.Octets.{IsBytes-take, IsBytes-drop}
+use Rattle.kbytes.proofs.Octets.{IsBytes-drop}
 use Rattle.partlog.specs.History.{History}
 use Rattle.kafka_room.specs.declared.audit.account.Call.{Call}
 use Rattle.kafka_room.specs.declared.audit.account.SessionEnd.{SessionEnd}
@@ -15,9 +15,9 @@ use Rattle.kafka_room.specs.declared.kwire.frame.Frame.TheVariants.{Whole, NotYe
 use Rattle.kafka_room.specs.declared.kwire.request.Request.{Request}
 use Rattle.kafka_room.specs.Acceptance.{Noted, accept_all, shown_of}
 use Rattle.kafka_room.specs.Accepting.{Decision}
-use Rattle.kafka_room.specs.Acting.{is_there, can_act, next_to_act, shows_work, HandlesFrame, ActsOn, Acts}
+use Rattle.kafka_room.specs.Acting.{is_there, can_act, next_to_act, HandlesFrame, ActsOn, Acts}
 use Rattle.kafka_room.specs.Board.{Board, Seat, Waiting, empty_seat, new_transcript, seat_at, transcript_at, next_call}
-use Rattle.kafka_room.specs.Completing.{is_satisfied_now, is_answerable_now, completed, unless_none, answered_in, scan_sessions, scanned, finish_last}
+use Rattle.kafka_room.specs.Completing.{is_satisfied_now, is_answerable_now, completed, unless_none, answered_in, scan_sessions, scanned}
 use Rattle.kafka_room.specs.Delayed.{becomes_delayed}
 use Rattle.kafka_room.specs.Frames.{next_frame_of}
 use Rattle.kafka_room.specs.Handling.{Turned, seat_with, answered_at_once, left_waiting, handled, ended}

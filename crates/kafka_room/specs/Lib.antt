@@ -88,3 +88,5 @@ pub mod UnderWay
 pub mod Ready
 -- traces of the form that is built so far
 pub mod PlainForm
+-- what is written of lines that weren't played to the last
+pub mod LinesFront

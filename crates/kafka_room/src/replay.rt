@@ -1,16 +1,16 @@
 //! The replay of a trace, on one thread.
 
-ghost use Rattle.std.specs.Prelude.{◌≡◌, ◌≤◌, ◌++◌, [], ℕ, List as Items, take, IfOk, OnOk, OnErr, IsErrOf, IfSome, IfNone, IsSome, ◌↔◌, ◌⊎◌};
+ghost use Rattle.std.specs.Prelude.{◌≡◌, ◌≤◌, ◌++◌, [], ℕ, List as Items, Some, IfOk, OnOk, OnErr, IsErrOf, IfSome, IfNone, IsSome, ◌↔◌, ◌⊎◌};
 ghost use Rattle.std.specs.Io.KnownBytes.{Appends, Keeps, IsAtEnd};
 ghost use Rattle.std.specs.List.{All};
 ghost use Rattle.outside.specs.Causes.{Rose};
 ghost use Rattle.kafka_room.specs.declared.replay.Halt.TheVariants.{WriteFault, NoMemory as OutOfMemory};
 ghost use Rattle.kafka_room.specs.declared.trace_file.line.Line.{Line as TheLine};
-ghost use Rattle.kafka_room.specs.Board.{opening};
 ghost use Rattle.kafka_room.specs.IsLawful.{IsLawful};
+ghost use Rattle.kafka_room.specs.LinesFront.{IsLinesFront};
 ghost use Rattle.kafka_room.specs.PlainForm.{IsPlainForm};
 ghost use Rattle.kafka_room.specs.Play.{Plays};
-ghost use Rattle.kafka_room.specs.Replay.{IsReplayOf, IsReplay, IsPlayFront, IsTextFront, IsReplayFront, IsOtherForm, IsSilent};
+ghost use Rattle.kafka_room.specs.Replay.{IsReplayOf, IsReplay, IsReplayFront, IsOtherForm, IsSilent};
 ghost use Rattle.kafka_room.specs.RunOf.{configuration_of};
 ghost use Rattle.kafka_room.specs.Trace.{IsPlainLine};
 ghost use Rattle.kafka_room.specs.UnderWay.{IsUnderWay};
@@ -115,7 +115,7 @@ fn play_lines<K: Sink>(
     ensures played { OnOk result ((text : Items ℕ) × Plays lone.old lines.now (record { board = lone.new; text = text })
         × Appends (K.written sink.old) (K.written sink.new) text) }
     ensures under_way { OnOk result (IsUnderWay lines.now [] lone.new) }
-    ensures front { OnErr result ((written : Items ℕ) × IsPlayFront lone.old lines.now written
+    ensures front { OnErr result ((written : Items ℕ) × IsLinesFront lone.old lines.now written
         × Appends (K.written sink.old) (K.written sink.new) written) }
     ensures later { K.faults sink.old ≤ K.faults sink.new }
     ensures failed { IsErrOf result Halt.WriteFault → Rose (K.faults sink.old) (K.faults sink.new) }
@@ -134,8 +134,7 @@ fn play<K: Sink>(alloc: Global, trace: PlainTrace, sink: &mut K) -> Result<Accou
     requires config { trace.config ≡ configuration_of 9092 trace.lines }
     ensures replay { IfOk result (λ account. (text : Items ℕ) × IsReplayOf trace.lines account text
         × Appends (K.written sink.old) (K.written sink.new) text) }
-    ensures front { OnErr result ((written : Items ℕ)
-        × (IsPlayFront (opening (configuration_of 9092 trace.lines)) trace.lines written ⊎ IsTextFront trace.lines written)
+    ensures front { (text : Items ℕ) → IsPlainForm text trace.lines → OnErr result ((written : Items ℕ) × IsReplayFront (Some text) written
         × Appends (K.written sink.old) (K.written sink.new) written) }
     ensures failed { IsErrOf result Halt.WriteFault → Rose (K.faults sink.old) (K.faults sink.new) }
 {
