@@ -9,6 +9,7 @@ pub mod handle;
 pub mod lone;
 pub mod opening;
 pub mod plain;
+pub mod promises;
 pub mod reply;
 pub mod summary;
 pub mod tally;
