@@ -4,7 +4,8 @@
 pub use Rattle.broker.proofs.FirstBoard.{before_first}
 -- lines that are played, one more at a time
 pub use Rattle.broker.proofs.PlayLaws.{plays_keep, plays_on, lines_left, lines_more}
--- lines play to one thing at most
+-- lines play to something, and to one thing at most
+pub use Rattle.broker.proofs.Plays.{trace_plays}
 pub use Rattle.broker.proofs.PlayOnce.{play_is_one, front_of_play}
 -- the account at the end is lawful, and that of the run of its lines
 pub use Rattle.broker.proofs.Lawful.{board_lawful}

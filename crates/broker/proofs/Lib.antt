@@ -23,3 +23,9 @@ pub mod Calling
 pub mod PlayLaws
 pub mod FirstBoard
 pub mod PlayOnce
+-- what a body of bytes carries are bytes
+pub mod RequestBytes
+-- how much is left to do on a board
+pub mod Work
+-- lines play to something
+pub mod Plays

@@ -12,7 +12,9 @@ mod desk;
 mod lone;
 mod opening;
 mod plain;
+mod promises;
 mod reply;
 
 pub use lone::Lone;
 pub use plain::are_plain_streams;
+pub use promises::lines_play;

@@ -6,5 +6,7 @@ pub mod Codes
 pub mod Replay
 -- ==== the words of private functions
 
+-- what is written of lines that weren't played to the last
+pub mod LinesFront
 -- what was read of a source
 pub mod Streams

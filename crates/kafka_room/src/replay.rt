@@ -1,15 +1,15 @@
 //! The replay of a trace, on one thread.
 
-ghost use Rattle.std.specs.Prelude.{◌≡◌, ◌≤◌, ◌++◌, [], ℕ, List as Items, take, IfOk, IfErr, OnOk, OnErr, IsErrOf, IfSome, IfNone, ◌⊎◌};
+ghost use Rattle.std.specs.Prelude.{◌≡◌, ◌≤◌, ◌++◌, [], ℕ, List as Items, Some, IfOk, IfErr, OnOk, OnErr, IsErrOf, IfSome, IfNone, ◌⊎◌};
 ghost use Rattle.std.specs.Io.KnownBytes.{Appends, Keeps, IsAtEnd};
 ghost use Rattle.std.specs.List.{All};
 ghost use Rattle.outside.specs.Causes.{Rose};
 ghost use Rattle.trace_file.specs.declared.line.Line.{Line as TheLine};
-ghost use Rattle.broker.specs.Board.{opening};
 ghost use Rattle.audit.specs.IsLawful.{IsLawful};
 ghost use Rattle.broker.specs.PlainForm.{IsPlainForm};
 ghost use Rattle.broker.specs.Play.{Plays};
-ghost use Rattle.kafka_room.specs.Replay.{IsReplayOf, IsReplay, IsPlayFront, IsTextFront, IsReplayFront, IsOtherForm};
+ghost use Rattle.kafka_room.specs.LinesFront.{IsLinesFront};
+ghost use Rattle.kafka_room.specs.Replay.{IsReplayOf, IsReplay, IsReplayFront, IsOtherForm};
 ghost use Rattle.trace_file.specs.Contents.{configuration_of};
 ghost use Rattle.trace_file.specs.Trace.{IsPlainLine};
 ghost use Rattle.broker.specs.UnderWay.{IsUnderWay};
@@ -71,7 +71,7 @@ fn play_lines<K: Sink>(
     ensures played { OnOk result ((text : Items ℕ) × Plays lone.old lines.now (record { board = lone.new; text = text })
         × Appends (K.written sink.old) (K.written sink.new) text) }
     ensures under_way { OnOk result (IsUnderWay lines.now [] lone.new) }
-    ensures front { OnErr result ((written : Items ℕ) × IsPlayFront lone.old lines.now written
+    ensures front { OnErr result ((written : Items ℕ) × IsLinesFront lone.old lines.now written
         × Appends (K.written sink.old) (K.written sink.new) written) }
     ensures later { K.faults sink.old ≤ K.faults sink.new }
     ensures failed { IsErrOf result Stop.WriteFault → Rose (K.faults sink.old) (K.faults sink.new) }
@@ -91,8 +91,7 @@ fn play<K: Sink>(alloc: Global, trace: PlainTrace, sink: &mut K) -> Result<Accou
     requires config { trace.config ≡ configuration_of REPLAY_PORT trace.lines }
     ensures replay { IfOk result (λ account. (text : Items ℕ) × IsReplayOf trace.lines account text
         × Appends (K.written sink.old) (K.written sink.new) text) }
-    ensures front { OnErr result ((written : Items ℕ)
-        × (IsPlayFront (opening (configuration_of REPLAY_PORT trace.lines)) trace.lines written ⊎ IsTextFront trace.lines written)
+    ensures front { (text : Items ℕ) → IsPlainForm text trace.lines → OnErr result ((written : Items ℕ) × IsReplayFront (Some text) written
         × Appends (K.written sink.old) (K.written sink.new) written) }
     ensures failed { IsErrOf result Stop.WriteFault → Rose (K.faults sink.old) (K.faults sink.new) }
     ensures only { IfErr result (λ stop. (stop ≡ Stop.WriteFault) ⊎ (stop ≡ Stop.NoMemory)) }

@@ -5,7 +5,7 @@ pub use Rattle.kwire.proofs.FrameLaws.{whole_frame, whole_parts}
 -- whole frames, one after the other
 pub use Rattle.kwire.proofs.StreamLaws.{IsNextBody, next_body, not_too_long, nothing_left, whole_ends, whole_within, whole_before}
 -- a request is what reading its body gives
-pub use Rattle.kwire.proofs.RequestLaws.{request_reads}
+pub use Rattle.kwire.proofs.RequestLaws.{request_reads, read_request_is}
 -- and a body is one request, or is refused for one cause
 pub use Rattle.kwire.proofs.OneReading.{same_request, same_refusal, not_both}
 -- replies to a produce or a fetch that have a frame
