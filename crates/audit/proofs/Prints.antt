@@ -13,7 +13,7 @@ use Rattle.kwire.specs.declared.request.Request.{Request}
 use Rattle.kanswer.specs.Answer.{answer}
 use Rattle.kanswer.specs.Waiting.{Shown}
 use Rattle.audit.specs.Fits.{ShowsFor, IsReplyOf, is_answered, answered_of, HasReplies}
-use Rattle.audit.specs.Handled.{Step, IsAccepted, IsLawfulCall, Completes, AreLooksAfterClock, shown_as_accepted, shown_as_completed}
+use Rattle.audit.specs.LawfulCall.{Step, IsAccepted, IsLawfulCall, Completes, AreLooksAfterClock, shown_as_accepted, shown_as_completed}
 use Rattle.audit.specs.Histories.{calls_in, calls_of, call_of}
 use Rattle.audit.specs.IsLawful.{IsLawful}
 use Rattle.audit.specs.Printed.{IsPrintOf, transcripts_of, session_text, summary_of}

@@ -14,7 +14,7 @@ use Rattle.kanswer.specs.Decisions.{Decision, Refuse, AskLog, Decides}
 use Rattle.kanswer.specs.Answer.{answer}
 use Rattle.kanswer.specs.Waiting.{Shown}
 use Rattle.audit.specs.Fits.{ShowsFor, IsReplyOf, answered_of, HasReplies}
-use Rattle.audit.specs.Handled.{Step, IsStep, IsAccepted, step_points, shown_as_accepted, shown_as_completed}
+use Rattle.audit.specs.LawfulCall.{Step, IsStep, IsAccepted, step_points, shown_as_accepted, shown_as_completed}
 use Rattle.audit.specs.Histories.{before_point}
 use Rattle.audit.proofs.Places.{some_is}
 use Rattle.kanswer.proofs.Laws.{decided_once}

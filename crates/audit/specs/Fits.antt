@@ -18,7 +18,7 @@ use Rattle.kwire.specs.Refusal.{IsRefused}
 use Rattle.kwire.specs.Spelling.{spelling}
 use Rattle.kanswer.specs.Answer.{answer}
 use Rattle.kanswer.specs.Waiting.{Shown}
-use Rattle.audit.specs.Handled.{Step, IsAccepted, shown_as_accepted, shown_as_completed}
+use Rattle.audit.specs.LawfulCall.{Step, IsAccepted, shown_as_accepted, shown_as_completed}
 
 -- nothing more can be read of this: no whole frame stands at its front, and none that is too long
 pub record IsUnfinished (rest : List ℕ) : Type 0 where

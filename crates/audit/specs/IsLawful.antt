@@ -14,7 +14,7 @@ use Rattle.audit.specs.declared.account.SessionEnd.TheVariants.{NoMemory}
 use Rattle.audit.specs.declared.account.Point.{Point}
 use Rattle.kwire.specs.Configuration.{followers_of}
 use Rattle.audit.specs.Histories.{owners_of, ticks_of, calls_of, call_of, all_calls, points_of}
-use Rattle.audit.specs.Handled.{IsLawfulCall}
+use Rattle.audit.specs.LawfulCall.{IsLawfulCall}
 
 -- a point names this place
 abbrev pub is_point : ℕ → ℕ → Point → Bool

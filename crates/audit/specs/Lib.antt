@@ -3,7 +3,7 @@
 -- who left each entry of an account, and the states at its points
 pub mod Histories
 -- what a lawful call is
-pub mod Handled
+pub mod LawfulCall
 -- a lawful account
 pub mod IsLawful
 -- a transcript fits its input, and the bytes sent

@@ -41,20 +41,20 @@ abbrev pub end_line : ℕ → Option SessionEnd → List ℕ
 end_line session None = []
 end_line session (Some end) = line_of (codes "end" ∷ decimal session ∷ end_words end)
 
-abbrev pub final_of : PartAccount → State
-final_of part = state_of (history_of part)
+abbrev pub last_state_of : PartAccount → State
+last_state_of part = state_of (history_of part)
 
 -- `part P end E high H batches B bytes Y`
 abbrev pub part_line : ℕ × PartAccount → List ℕ
 part_line (number, part) =
-    line_of (codes "part" ∷ decimal number ∷ codes "end" ∷ decimal (final_of part).log_end ∷ codes "high" ∷ decimal (high_of (final_of part))
-    ∷ codes "batches" ∷ decimal (length (final_of part).batches) ∷ codes "bytes" ∷ decimal (length part.log) ∷ [])
+    line_of (codes "part" ∷ decimal number ∷ codes "end" ∷ decimal (last_state_of part).log_end ∷ codes "high" ∷ decimal (high_of (last_state_of part))
+    ∷ codes "batches" ∷ decimal (length (last_state_of part).batches) ∷ codes "bytes" ∷ decimal (length part.log) ∷ [])
 
 -- the same without the high watermark
 abbrev pub short_part_line : ℕ × PartAccount → List ℕ
 short_part_line (number, part) =
-    line_of (codes "part" ∷ decimal number ∷ codes "end" ∷ decimal (final_of part).log_end
-    ∷ codes "batches" ∷ decimal (length (final_of part).batches) ∷ codes "bytes" ∷ decimal (length part.log) ∷ [])
+    line_of (codes "part" ∷ decimal number ∷ codes "end" ∷ decimal (last_state_of part).log_end
+    ∷ codes "batches" ∷ decimal (length (last_state_of part).batches) ∷ codes "bytes" ∷ decimal (length part.log) ∷ [])
 
 abbrev pub is_parked : CallHow → Bool
 is_parked Quiet = false

@@ -1,7 +1,7 @@
 //! Laws of accounts. They do nothing.
 ghost use Rattle.std.specs.Prelude.{◌≡◌, true, List, ℕ};
 ghost use Rattle.audit.specs.Fits.{HasReplies, IsReplyOf, is_answered, sent};
-ghost use Rattle.audit.specs.Handled.{IsLawfulCall};
+ghost use Rattle.audit.specs.LawfulCall.{IsLawfulCall};
 ghost use Rattle.audit.specs.IsLawful.{IsLawful};
 ghost use Rattle.audit.specs.Printed.{IsPrintOf};
 ghost use Rattle.audit.specs.declared.account.Account.{Account as TheAccount};

@@ -23,7 +23,7 @@ use Rattle.broker.specs.AtOnce.{IsAnsweredAtOnce}
 use Rattle.broker.specs.Turns.{text_at_once}
 use Rattle.broker.specs.Carried.{IsCarried}
 use Rattle.kanswer.specs.Waiting.{is_quiet}
-use Rattle.audit.specs.Handled.{step_points}
+use Rattle.audit.specs.LawfulCall.{step_points}
 use Rattle.trace_file.specs.PrintedLine.{reply_line}
 use Rattle.broker.proofs.Entries.{IsFair}
 use Rattle.broker.proofs.Fair.{decides_fair}

@@ -22,7 +22,7 @@ use Rattle.broker.specs.Board.{Board, Seat, empty_seat, new_transcript, seat_at,
 use Rattle.kwire.specs.Configuration.{Configuration}
 use Rattle.audit.specs.Fits.{IsUnfinished}
 use Rattle.kwire.specs.Frames.{next_frame_of}
-use Rattle.audit.specs.Handled.{step_points}
+use Rattle.audit.specs.LawfulCall.{step_points}
 use Rattle.broker.specs.Turns.{seat_with, how_at_once}
 use Rattle.audit.specs.IsLawful.{places_in}
 use Rattle.kwire.specs.IsRequest.{IsRequest}
@@ -34,7 +34,7 @@ use Rattle.broker.specs.Steady.{IsSteady, all_points, AllBelow}
 use Rattle.trace_file.specs.Trace.{IsPlainLine}
 use Rattle.broker.specs.UnderWay.{to_come, IsUnderWay, IsServing}
 use Rattle.audit.proofs.Laws.{same_or_not, get_there}
-use Rattle.broker.proofs.RunLaws.{seat_set_same, seat_set_other, fed_feed, fed_topic, fed_end}
+use Rattle.broker.proofs.FedLines.{seat_set_same, seat_set_other, fed_feed, fed_topic, fed_end}
 use Rattle.broker.proofs.Serving.{calls_at, calls_in_seat, turned, nobodys_turn, rests_none}
 use Rattle.kwire.proofs.Laws.{whole_ends}
 

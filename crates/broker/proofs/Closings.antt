@@ -16,7 +16,7 @@ use Rattle.broker.specs.Board.{Seat, put_before, passes_of, part_account, accoun
 use Rattle.kwire.specs.Configuration.{Configuration}
 use Rattle.broker.specs.Fed.{IsPlainCall}
 use Rattle.audit.specs.Histories.{calls_in}
-use Rattle.broker.proofs.Lawful.{none_won, parts_get}
+use Rattle.broker.proofs.LawfulAtRest.{none_won, parts_get}
 use Rattle.audit.proofs.Laws.{get_there}
 
 pub map_more : {X Y : Type 0} (f : X → Y) (xs : List X) (i : ℕ) (x : X) → i < length xs → x ≡ get_or xs i x

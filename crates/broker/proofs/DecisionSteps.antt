@@ -25,7 +25,7 @@ use Rattle.broker.specs.Entering.{Noted, entered, accept_all, steps_of, shown_of
 use Rattle.broker.specs.Board.{history_at, empty_history}
 use Rattle.broker.specs.Carried.{IsCarried}
 use Rattle.kanswer.specs.Waiting.{results_of}
-use Rattle.audit.specs.Handled.{step_points, Step}
+use Rattle.audit.specs.LawfulCall.{step_points, Step}
 use Rattle.audit.specs.Histories.{no_state}
 
 pub on_ok : {T E : Type 0} {P Q : Type 0} (r : Result T E) → OnOk r P → (P → Q) → OnOk r Q

@@ -12,7 +12,7 @@ use Rattle.audit.specs.declared.account.PartAccount.{PartAccount}
 use Rattle.audit.specs.declared.account.Point.{Point}
 use Rattle.audit.specs.Histories.{owner_of, owners_of, history_of, before_in, at_in, before_point, at_point, event_at, event_in, no_state}
 use Rattle.kanswer.specs.Decisions.{Entry, Put, Followed, Looked, Decision, Refuse, AskLog}
-use Rattle.audit.specs.Handled.{IsStep, IsEntry, step_points, shown_as_accepted}
+use Rattle.audit.specs.LawfulCall.{IsStep, IsEntry, step_points, shown_as_accepted}
 use Rattle.audit.specs.IsLawful.{places_in}
 use Rattle.broker.specs.Board.{history_at, empty_history}
 use Rattle.broker.specs.Entering.{Noted, entered, accept_all, steps_of, shown_of}

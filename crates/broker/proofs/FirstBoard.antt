@@ -27,7 +27,7 @@ use Rattle.broker.specs.UnderWay.{IsUnderWay}
 use Rattle.audit.proofs.Laws.{some_is}
 use Rattle.broker.proofs.Fair.{parts_size}
 use Rattle.trace_file.proofs.Laws.{few_bytes, few_sessions}
-use Rattle.broker.proofs.RunLaws.{fed_opening}
+use Rattle.broker.proofs.FedLines.{fed_opening}
 
 nothing_left : IsUnfinished []
 nothing_left = record { not_whole = λ w. absurd (cc w.1); not_too_long = λ w. absurd (cc w.1) }

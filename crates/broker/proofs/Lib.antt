@@ -3,12 +3,12 @@ pub mod Growth
 pub mod Entries
 pub mod Counting
 pub mod OneCallMore
-pub mod Lawful
+pub mod LawfulAtRest
 pub mod Fair
 pub mod DecisionSteps
 pub mod ProduceParts
 pub mod FetchParts
-pub mod RunLaws
+pub mod FedLines
 pub mod ShownLogs
 pub mod StreamByFrame
 pub mod ReadForReply
@@ -20,7 +20,7 @@ pub mod Openings
 pub mod Closings
 pub mod Serving
 pub mod Calling
-pub mod PlayLaws
+pub mod LineByLine
 pub mod FirstBoard
 pub mod PlayOnce
 -- what a body of bytes carries are bytes
@@ -28,4 +28,4 @@ pub mod RequestBytes
 -- how much is left to do on a board
 pub mod Work
 -- lines play to something
-pub mod Plays
+pub mod PlaySome

@@ -17,7 +17,7 @@ use Rattle.kwire.specs.IsRequest.{IsRequest}
 use Rattle.audit.specs.Histories.{Owner, owner_of, owners_of, history_of, points_of}
 use Rattle.kanswer.specs.Decisions.{Decision, Decides}
 use Rattle.kanswer.specs.Waiting.{becomes_delayed}
-use Rattle.audit.specs.Handled.{step_points}
+use Rattle.audit.specs.LawfulCall.{step_points}
 use Rattle.audit.specs.IsLawful.{places_in, is_point}
 use Rattle.broker.specs.Board.{empty_history}
 use Rattle.broker.specs.Entering.{Noted, accept_all, steps_of, shown_of}

@@ -23,7 +23,7 @@ use Rattle.kanswer.specs.Waiting.{becomes_delayed, is_quiet}
 use Rattle.broker.specs.Fed.{framed_calls, IsFedBy, IsAtRest}
 use Rattle.audit.specs.Fits.{IsUnfinished}
 use Rattle.kwire.specs.Frames.{framed, IsFrameBody, next_frame_of}
-use Rattle.audit.specs.Handled.{step_points}
+use Rattle.audit.specs.LawfulCall.{step_points}
 use Rattle.broker.specs.Turns.{Turned, answered_at_once, seat_with, with_call, how_at_once}
 use Rattle.kwire.specs.IsRequest.{IsRequest}
 use Rattle.broker.specs.PlainStream.{IsPlainBody, IsPlainStream}
@@ -34,7 +34,7 @@ use Rattle.broker.specs.UnderWay.{to_come, IsUnderWay, IsServing}
 use Rattle.broker.proofs.Entries.{IsFair}
 use Rattle.broker.proofs.Fair.{parts_size, decides_fair}
 use Rattle.audit.proofs.Laws.{same_or_not}
-use Rattle.broker.proofs.RunLaws.{seat_set_same, seat_set_other, fed_call, fed_can_act, scanned_nothing}
+use Rattle.broker.proofs.FedLines.{seat_set_same, seat_set_other, fed_call, fed_can_act, scanned_nothing}
 use Rattle.broker.proofs.OneCallMore.{IsSteady, steady_call}
 use Rattle.kwire.proofs.Laws.{whole_within, whole_before, whole_ends, next_body, not_too_long}
 

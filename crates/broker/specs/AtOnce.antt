@@ -8,7 +8,7 @@ use Rattle.kanswer.specs.Decisions.{Decision, Decides}
 use Rattle.broker.specs.Board.{Board, next_call}
 use Rattle.kwire.specs.Configuration.{Configuration}
 use Rattle.kanswer.specs.Waiting.{becomes_delayed}
-use Rattle.audit.specs.Handled.{step_points}
+use Rattle.audit.specs.LawfulCall.{step_points}
 use Rattle.broker.specs.Turns.{text_at_once, answered_at_once}
 use Rattle.kwire.specs.IsRequest.{IsRequest}
 

@@ -11,7 +11,7 @@ use Rattle.kwire.specs.declared.request.Request.{Request}
 use Rattle.kwire.specs.Configuration.{Configuration, followers_of}
 use Rattle.opcond.specs.Operation.{Operation}
 use Rattle.audit.specs.Histories.{calls_in}
-use Rattle.audit.specs.Handled.{Step}
+use Rattle.audit.specs.LawfulCall.{Step}
 use Rattle.audit.specs.IsLawful.{is_won_by}
 use Rattle.trace_file.specs.declared.line.TheConstants.{MOST_SESSIONS}
 

@@ -12,7 +12,7 @@ use Rattle.kwire.specs.Configuration.{Configuration, part_of}
 use Rattle.kanswer.specs.Decisions.{Decision, ProduceDecides, produce_parts, fetch_parts, fetch_decision}
 use Rattle.broker.specs.Entering.{accept_all, steps_of, shown_of}
 use Rattle.kanswer.specs.Waiting.{results_of}
-use Rattle.audit.specs.Handled.{step_points}
+use Rattle.audit.specs.LawfulCall.{step_points}
 
 pub record IsCarried (by seq : ℕ) (decisions : List Decision) (before after : List History) (came later : Came) : Type 0 where
   pub histories : after ≡ (accept_all by seq decisions before).1

@@ -13,7 +13,7 @@ use Rattle.audit.specs.declared.account.Point.{Point}
 use Rattle.kanswer.specs.Decisions.{Looked}
 use Rattle.kanswer.specs.Answer.{answer}
 use Rattle.kanswer.specs.Waiting.{Shown, values_of}
-use Rattle.audit.specs.Handled.{Step, operation_parts, part_in}
+use Rattle.audit.specs.LawfulCall.{Step, operation_parts, part_in}
 use Rattle.audit.specs.Histories.{clock_part, no_state}
 use Rattle.opcond.specs.Tally.{tally}
 use Rattle.trace_file.specs.PrintedLine.{reply_line}

@@ -9,7 +9,7 @@ use Rattle.kanswer.specs.declared.accepted.Accepted.TheVariants.{Refused}
 use Rattle.kanswer.specs.Decisions.{Entry, Put, Followed, Looked, Decision, Refuse, AskLog}
 use Rattle.kanswer.specs.Waiting.{Shown}
 use Rattle.audit.specs.Histories.{no_state}
-use Rattle.audit.specs.Handled.{Step}
+use Rattle.audit.specs.LawfulCall.{Step}
 use Rattle.broker.specs.Board.{history_at}
 
 -- a history with an entry behind it, which a call of a pass left

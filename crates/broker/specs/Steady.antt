@@ -13,7 +13,7 @@ use Rattle.audit.specs.declared.account.Point.{Point}
 use Rattle.kwire.specs.declared.request.Request.{Request}
 use Rattle.kwire.specs.Configuration.{Configuration, followers_of}
 use Rattle.audit.specs.Histories.{Owner, owner_of, owners_of, history_of, points_of}
-use Rattle.audit.specs.Handled.{Step, IsAcceptance, step_points, is_delayed}
+use Rattle.audit.specs.LawfulCall.{Step, IsAcceptance, step_points, is_delayed}
 use Rattle.audit.specs.IsLawful.{places_in, is_point}
 use Rattle.broker.specs.Turns.{how_at_once}
 use Rattle.kwire.specs.declared.config.TheConstants.{MOST_PARTITIONS}

@@ -13,7 +13,7 @@ use Rattle.kanswer.specs.Decisions.{Decision}
 use Rattle.kanswer.specs.Answer.{answer}
 use Rattle.kwire.specs.Configuration.{Configuration}
 use Rattle.kanswer.specs.Waiting.{Shown, becomes_delayed, is_quiet, operation_of, results_of}
-use Rattle.audit.specs.Handled.{step_points}
+use Rattle.audit.specs.LawfulCall.{step_points}
 use Rattle.audit.specs.Histories.{clock_part}
 use Rattle.audit.specs.Printed.{end_line}
 use Rattle.trace_file.specs.PrintedLine.{reply_line}

@@ -1,3 +1,5 @@
+//! What became of the named partitions, and what a reply may take.
+
 ghost use Rattle.std.specs.Prelude.{◌≡◌};
 
 use kbytes::Bytes;

@@ -1,3 +1,5 @@
+//! The topics that are declared, and the numbers of their partitions.
+
 ghost use Rattle.std.specs.Prelude.{◌≡◌, ◌↔◌, ◌+◌, ◌≤◌, Contains, IsTrue, Some, None, Err, OnOk, OnErr, nat_lt, if◌then◌else◌};
 ghost use Rattle.std.specs.List.{list_all};
 ghost use Rattle.kwire.specs.Configuration.{is_name_byte, IsTopicName, names_of};

@@ -1,3 +1,5 @@
+//! Frames, and the faults of their bodies.
+
 ghost use Rattle.std.specs.Prelude.{◌≡◌};
 ghost use Rattle.kwire.specs.declared.frame.WireFault.TheVariants.{BadRequest, NoMemory as OutOfMemory};
 ghost use Rattle.kwire.specs.Refusal.{place_of_fault};

@@ -1,3 +1,5 @@
+//! Replies, as they are before they are spelled.
+
 use kbytes::{Bytes, List};
 
 #[derive(Debug, Drop)]

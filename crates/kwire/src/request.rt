@@ -1,3 +1,5 @@
+//! Requests, as they are once they are read.
+
 use kbytes::{Bytes, List};
 
 /// The most topics that a request names, and the most partitions.

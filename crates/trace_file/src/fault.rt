@@ -1,3 +1,5 @@
+//! Why a line or a text isn't read.
+
 ghost use Rattle.std.specs.Prelude.{◌≡◌};
 ghost use Rattle.trace_file.specs.declared.fault.NotRead.TheVariants.{NoMemory as OutOfMemory};
 

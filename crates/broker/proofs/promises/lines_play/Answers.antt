@@ -1,5 +1,5 @@
 use Rattle.broker.proofs.PlayOnce.{play_is_one}
-use Rattle.broker.proofs.Plays.{lines_play}
+use Rattle.broker.proofs.PlaySome.{lines_play}
 use Rattle.broker.proofs.promises.lines_play.Goals as goal
 
 pub returns-clause-some : goal.returns-clause-some

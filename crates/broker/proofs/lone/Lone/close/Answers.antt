@@ -6,8 +6,8 @@ use Rattle.broker.specs.Board.{Board, passes_of, history_at}
 use Rattle.broker.specs.Fed.{IsPlainCall}
 use Rattle.audit.specs.Histories.{calls_in}
 use Rattle.broker.proofs.Closings.{account_few}
-use Rattle.broker.proofs.Lawful.{all_plain}
-use Rattle.broker.proofs.RunLaws.{fed_tame}
+use Rattle.broker.proofs.LawfulAtRest.{all_plain}
+use Rattle.broker.proofs.FedLines.{fed_tame}
 use Rattle.broker.proofs.lone.Lone.close.Goals as goal
 
 pub account-requires : goal.account-requires

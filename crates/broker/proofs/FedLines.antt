@@ -36,7 +36,7 @@ use Rattle.broker.specs.Play.{brought}
 use Rattle.audit.proofs.Laws.{same_or_not, get_set_same, get_set_other, get_there, all_append}
 use Rattle.kwire.proofs.Laws.{whole_parts}
 pub use Rattle.broker.specs.Fed.{framed_calls, IsFedSeat, IsFedBy, IsAtRest}
-use Rattle.broker.proofs.Lawful.{IsPlainCall, IsTameTranscript, AreTame, passes_get, all_plain}
+use Rattle.broker.proofs.LawfulAtRest.{IsPlainCall, IsTameTranscript, AreTame, passes_get, all_plain}
 
 -- ---- the lines
 

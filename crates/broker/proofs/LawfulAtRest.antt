@@ -18,7 +18,7 @@ use Rattle.audit.specs.declared.account.Point.{Point}
 use Rattle.kwire.specs.declared.request.Request.{Request}
 use Rattle.audit.specs.Histories.{Owner, owner_of, clock_owner_of, owners_of, owners_in, points_of, calls_in, calls_of, call_of, all_calls, ticks_of}
 use Rattle.kanswer.specs.Waiting.{is_quiet}
-use Rattle.audit.specs.Handled.{Step, IsLawfulCall, LooksAtClock, Completes, is_delayed}
+use Rattle.audit.specs.LawfulCall.{Step, IsLawfulCall, LooksAtClock, Completes, is_delayed}
 use Rattle.audit.specs.IsLawful.{IsLawful, IsWholeLog, places_in, is_point, is_won_by, is_won_as, EndsAs, EndWell, FollowOn}
 use Rattle.broker.specs.Board.{Board, Seat, empty_seat, transcript_at, new_transcript, put_before, passes_of, part_account, account_of}
 pub use Rattle.broker.specs.Fed.{IsPlainCall, IsTameTranscript}
