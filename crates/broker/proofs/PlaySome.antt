@@ -20,7 +20,7 @@ use Rattle.trace_file.specs.declared.line.Line.{Line}
 use Rattle.trace_file.specs.declared.line.Line.TheVariants.{Topic, Feed, Shut, Clock, End}
 use Rattle.kanswer.specs.Decisions.{Decision, Refuse, AskLog, Decides, ProduceDecides, BatchDecides, append_outcome, code_of, produce_parts, is_acks}
 use Rattle.kwire.specs.Configuration.{part_of}
-use Rattle.broker.specs.Acting.{is_there, next_to_act, ActsOn, HandlesFrame}
+use Rattle.broker.specs.Acting.{is_there, next_to_act, Acts, ActsOn, HandlesFrame}
 use Rattle.broker.specs.Board.{Board, seat_at, transcript_at, next_call, opening, account_of}
 use Rattle.broker.specs.Completing.{scanned}
 use Rattle.kwire.specs.Configuration.{Configuration}
@@ -99,25 +99,26 @@ on_frame board session (TooLong size) fits = (_, refl)
 abbrev ComesToRest : Board → Type 0
 ComesToRest board = (acts : ℕ) × (turned : Turned) × Rests acts board turned × AreSeats turned.board.seats
 
-rests_by : (least : ℕ) (board : Board) → AreSeats board.seats → work_on board.seats ≤ least → (next : Option ℕ) → next_to_act (scanned board).board ≡ next
+-- one act, and what comes after it
+rests_on : (board : Board) (session k : ℕ) (act rest : Turned) → next_to_act (scanned board).board ≡ Some session → Acts (scanned board).board session act → Rests k act.board rest
+    → Rests (suc k) board (record { board = rest.board; text = (scanned board).text ++ (act.text ++ rest.text) })
+rests_on board session k act rest is acts rests = (session, act, rest, is, acts, rests, λ i. record { board = rest.board; text = (scanned board).text ++ (act.text ++ rest.text) })
+
+rests_by : (board : Board) → AreSeats board.seats → (next : Option ℕ) → next_to_act (scanned board).board ≡ next
     → ((later : Board) → AreSeats later.seats → work_on later.seats < work_on board.seats → ComesToRest later) → ComesToRest board
-rests_by least board are le None is on = (0, scanned board, (is, refl), (scanned_as_much board).seats are)
-rests_by least board are le (Some session) is on =
+rests_by board are None is on = (0, scanned board, (is, refl), (scanned_as_much board).seats are)
+rests_by board are (Some session) is on =
     let scan = scanned_as_much board in
     let here = (scanned board).board in
     let still = scan.seats are in
     let act = on_frame here session (next_frame_of (seat_at here session).inbox) (inbox_bytes here session still) in
     let less = acts_less here session act.0 still (its_turn here session is) act.1 in
-    let rest = on act.0.board less.seats (omega (arith, less.work, scan.work)) in (
-      suc rest.0,
-      record { board = rest.1.board; text = (scanned board).text ++ (act.0.text ++ rest.1.text) },
-      (session, act.0, rest.1, is, act.1, rest.2, refl),
-      rest.3,
-    )
+    let rest = on act.0.board less.seats (omega (arith, less.work, scan.work)) in
+    (suc rest.0, _, rests_on board session rest.0 act.0 rest.1 is act.1 rest.2, rest.3)
 
 rests : (least : ℕ) (board : Board) → AreSeats board.seats → work_on board.seats ≤ least → ComesToRest board
-rests zero board are le = rests_by zero board are le (next_to_act (scanned board).board) refl (λ later seats less. absurd (omega (arith, less, le)))
-rests (suc least) board are le = rests_by (suc least) board are le (next_to_act (scanned board).board) refl (λ later seats less. rests least later seats (omega (arith, less, le)))
+rests zero board are le = rests_by board are (next_to_act (scanned board).board) refl (λ later seats less. absurd (omega (arith, less, le)))
+rests (suc least) board are le = rests_by board are (next_to_act (scanned board).board) refl (λ later seats less. rests least later seats (omega (arith, less, le)))
 
 -- ---- the lines
 
