@@ -1,30 +1,27 @@
 -- What a replay comes to, from what was read and what was played.
-use Rattle.std.proofs.Common.{◌≡◌, ◌⊎◌, ℕ, List, [], ◌∷◌, ◌++◌, length, take, Option, Some, None, IfSome, refl, sym, ap, subst, ◌∙◌, arith, inl, inr, length-append}
+use Rattle.std.proofs.Common.{◌≡◌, ℕ, List, [], ◌∷◌, ◌++◌, length, take, Option, Some, None, IfSome, refl, sym, ap, subst, ◌∙◌, arith, length-append}
 use Rattle.std.proofs.lemmas.List.{take_all}
 use Rattle.std.specs.List.{AllZip}
 use Rattle.kafka_room.specs.declared.streams.Input.{Input}
 use Rattle.kafka_room.specs.declared.streams.Input.TheVariants.{TooLong}
-use Rattle.kafka_room.specs.declared.audit.account.Account.{Account}
-use Rattle.kafka_room.specs.declared.trace_file.line.Line.{Line}
-use Rattle.kafka_room.specs.ArePlainStreams.{ArePlainStreams}
-use Rattle.kafka_room.specs.Board.{Board, opening, account_of}
-use Rattle.kafka_room.specs.Configuration.{Configuration}
-use Rattle.kafka_room.specs.Handling.{Turned}
-use Rattle.kafka_room.specs.IsLine.{IsLine, words_of}
-use Rattle.kafka_room.specs.PlainForm.{IsPlainForm}
-use Rattle.kafka_room.specs.Play.{Plays, IsPlay}
-use Rattle.kafka_room.specs.Printed.{summary_of}
-use Rattle.kafka_room.specs.Replay.{IsReplayOf, IsPlayFront, IsTextFront, IsReplayFront, IsOtherForm}
-use Rattle.kafka_room.specs.RunOf.{configuration_of}
+use Rattle.audit.specs.declared.account.Account.{Account}
+use Rattle.trace_file.specs.declared.line.Line.{Line}
+use Rattle.broker.specs.ArePlainStreams.{ArePlainStreams}
+use Rattle.broker.specs.Board.{Board, opening, account_of}
+use Rattle.kwire.specs.Configuration.{Configuration}
+use Rattle.broker.specs.Turns.{Turned}
+use Rattle.trace_file.specs.IsLine.{IsLine, words_of}
+use Rattle.kafka_room.specs.LinesFront.{IsLinesFront}
+use Rattle.broker.specs.PlainForm.{IsPlainForm}
+use Rattle.broker.specs.Play.{Plays}
+use Rattle.audit.specs.Printed.{summary_of}
+use Rattle.kafka_room.specs.Replay.{IsReplayOf, IsReplayFront, IsOtherForm}
+use Rattle.trace_file.specs.Contents.{configuration_of}
 use Rattle.kafka_room.specs.Streams.{IsInput}
-use Rattle.kafka_room.specs.Trace.{pieces_of, IsPlainTrace}
-use Rattle.kafka_room.specs.UnderWay.{IsUnderWay}
-use Rattle.kafka_room.proofs.FirstBoard.{before_first}
-use Rattle.kafka_room.proofs.Lawful.{board_lawful}
-use Rattle.kafka_room.proofs.Lines.{words_say}
-use Rattle.kafka_room.proofs.PlayLaws.{plays_keep}
-use Rattle.kafka_room.proofs.PlayOnce.{play_is_one, front_of_play}
-use Rattle.kafka_room.proofs.RunLaws.{fed_tame, fed_run}
+use Rattle.trace_file.specs.Trace.{pieces_of, IsPlainTrace}
+use Rattle.broker.specs.UnderWay.{IsUnderWay}
+use Rattle.broker.proofs.Laws.{before_first, board_lawful, plays_keep, play_is_one, front_of_play, trace_plays, fed_tame, fed_run}
+use Rattle.trace_file.proofs.Laws.{words_say}
 
 -- ---- texts of another form
 
@@ -81,30 +78,33 @@ replayed_as text lines last account form played way is =
     subst (λ (a : Account). IsReplayOf lines a (last.text ++ summary_of a)) (sym is) (replayed text lines last form played way)
 
 -- all that the lines up to here print stands written
-pub front_of_lines : (start : Board) (lines done more : List Line) (last : Turned) → lines ≡ done ++ more → Plays start done last → IsPlayFront start lines last.text
+pub front_of_lines : (start : Board) (lines done more : List Line) (last : Turned) → lines ≡ done ++ more → Plays start done last → IsLinesFront start lines last.text
 front_of_lines start lines done more last parts played = record { done = done; more = more; parts = parts; last = last; played = played; count = length last.text; front = sym (take_all (length last.text) last.text (omega arith)) }
 
 -- the front of it
-pub front_within : (start : Board) (lines done more : List Line) (last : Turned) (n : ℕ) → lines ≡ done ++ more → Plays start done last → IsPlayFront start lines (take n last.text)
+pub front_within : (start : Board) (lines done more : List Line) (last : Turned) (n : ℕ) → lines ≡ done ++ more → Plays start done last → IsLinesFront start lines (take n last.text)
 front_within start lines done more last n parts played = record { done = done; more = more; parts = parts; last = last; played = played; count = n; front = refl }
+
+-- it is one of the text of the play, to which these lines come
+pub front_of_text : (text : List ℕ) (lines : List Line) (written : List ℕ) → IsPlainForm text lines → IsLinesFront (opening (configuration_of 9092 lines)) lines written → IsReplayFront (Some text) written
+front_of_text text lines written form f =
+    let config = configuration_of 9092 lines in
+    let play = trace_plays config text lines form.trace.0 in
+    let k = front_of_play config lines f.done f.more f.last f.count play.0 play.1 f.parts f.played play.2 in
+    record { lines = lines; form = form; account = play.0; text = play.1; played = play.2; count = k.0; front = f.front ∙ k.1 }
+
+-- the same, as the slice of the lines and the broker are known
+pub front_from : (text : List ℕ) (lines slice : List Line) (config : Configuration) (lone : Board) (written : List ℕ) → IsPlainForm text lines → slice ≡ lines → config ≡ configuration_of 9092 lines → lone ≡ opening config
+    → IsLinesFront lone slice written → IsReplayFront (Some text) written
+front_from text lines slice config lone written form same configured made front =
+    front_of_text text lines written form
+    (subst (λ (ls : List Line). IsLinesFront (opening (configuration_of 9092 lines)) ls written) same (subst (λ (b : Board). IsLinesFront b slice written) (made ∙ ap opening configured) front))
 
 told_form : (left : Option (List ℕ)) (text : List ℕ) (lines : List Line) → IsPlainForm text lines → IfSome left (λ trace. trace ≡ text) → IfSome left (λ trace. IsPlainForm trace lines)
 told_form None text lines form told = tt
 told_form (Some trace) text lines form told = subst (λ (t : List ℕ). IsPlainForm t lines) (sym told) form
 
-front_of_any : (lines : List Line) (written : List ℕ) → IsPlayFront (opening (configuration_of 9092 lines)) lines written ⊎ IsTextFront lines written → (account : Account) (text : List ℕ) → IsPlay (configuration_of 9092 lines) lines account text
-    → (count : ℕ) × (written ≡ take count text)
-front_of_any lines written front account text p =
-    elim front [
-      | inl f ↦
-          let k = front_of_play (configuration_of 9092 lines) lines f.done f.more f.last f.count account text f.parts f.played p in
-          (k.0, f.front ∙ k.1)
-      | inr f ↦
-          let same = play_is_one (configuration_of 9092 lines) lines f.account account f.text text f.replay.played p in
-          (f.count, f.front ∙ ap (take f.count) same.1)
-    ]
-
--- what was written of these lines is the front of a replay
-pub replay_front : (left : Option (List ℕ)) (text : List ℕ) (lines : List Line) (written : List ℕ) → IsPlainForm text lines → IfSome left (λ trace. trace ≡ text)
-    → IsPlayFront (opening (configuration_of 9092 lines)) lines written ⊎ IsTextFront lines written → IsReplayFront left written
-replay_front left text lines written form told front = record { lines = lines; form = told_form left text lines form told; front = front; of_play = front_of_any lines written front }
+-- where the source tells what it had, that is the text that was read
+pub front_of_source : (left : Option (List ℕ)) (text written : List ℕ) → IfSome left (λ trace. trace ≡ text) → IsReplayFront (Some text) written → IsReplayFront left written
+front_of_source left text written told f =
+    record { lines = f.lines; form = told_form left text f.lines f.form told; account = f.account; text = f.text; played = f.played; count = f.count; front = f.front }

@@ -1,21 +1,21 @@
 -- What a replay comes to: its account is lawful, is that of the run of the trace that was read, and this is what is printed.
-use Rattle.std.specs.Prelude.{ℕ, ◌≡◌, ◌++◌, List, take, Option, None, Bool, false, IfSome, ◌⊎◌}
-use Rattle.kafka_room.specs.declared.audit.account.Account.{Account}
-use Rattle.kafka_room.specs.declared.trace_file.line.Line.{Line}
-use Rattle.kafka_room.specs.Board.{Board, opening}
-use Rattle.kafka_room.specs.Handling.{Turned}
-use Rattle.kafka_room.specs.IsLawful.{IsLawful}
-use Rattle.kafka_room.specs.PlainForm.{IsPlainForm}
-use Rattle.kafka_room.specs.Play.{Plays, IsPlay}
-use Rattle.kafka_room.specs.RunOf.{IsRunOf, configuration_of}
+use Rattle.std.specs.Prelude.{ℕ, ◌≡◌, List, [], take, Option, None, Bool, false, IfSome, ◌⊎◌}
+use Rattle.audit.specs.declared.account.Account.{Account}
+use Rattle.trace_file.specs.declared.line.Line.{Line}
+use Rattle.trace_file.specs.declared.line.TheConstants.{REPLAY_PORT}
+use Rattle.audit.specs.IsLawful.{IsLawful}
+use Rattle.broker.specs.PlainForm.{IsPlainForm}
+use Rattle.broker.specs.Play.{IsPlay}
+use Rattle.audit.specs.RunOf.{IsRunOf}
+use Rattle.trace_file.specs.Contents.{configuration_of}
 
 -- what the replay of these lines comes to
 pub record IsReplayOf (lines : List Line) (account : Account) (text : List ℕ) : Type 0 where
   pub lawful : IsLawful account
-  pub run : IsRunOf lines 9092 account
-  pub played : IsPlay (configuration_of 9092 lines) lines account text
+  pub run : IsRunOf lines REPLAY_PORT [] [] account
+  pub played : IsPlay (configuration_of REPLAY_PORT lines) lines account text
   -- and it plays to nothing else
-  pub only : (other : Account) (more : List ℕ) → IsPlay (configuration_of 9092 lines) lines other more → (other ≡ account) × (more ≡ text)
+  pub only : (other : Account) (more : List ℕ) → IsPlay (configuration_of REPLAY_PORT lines) lines other more → (other ≡ account) × (more ≡ text)
 
 -- `left` is what the source had, where it tells
 pub record IsReplay (left : Option (List ℕ)) (account : Account) (text : List ℕ) : Type 0 where
@@ -23,31 +23,15 @@ pub record IsReplay (left : Option (List ℕ)) (account : Account) (text : List 
   pub form : IfSome left (λ trace. IsPlainForm trace lines)
   pub replay : IsReplayOf lines account text
 
--- the front of what the first so many of these lines print
-pub record IsPlayFront (start : Board) (lines : List Line) (written : List ℕ) : Type 0 where
-  pub done : List Line
-  pub more : List Line
-  pub parts : lines ≡ done ++ more
-  pub last : Turned
-  pub played : Plays start done last
-  pub count : ℕ
-  pub front : written ≡ take count last.text
-
--- the front of the text to which the replay of these lines comes
-pub record IsTextFront (lines : List Line) (written : List ℕ) : Type 0 where
-  pub account : Account
-  pub text : List ℕ
-  pub replay : IsReplayOf lines account text
-  pub count : ℕ
-  pub front : written ≡ take count text
-
--- what a replay that came to no end wrote
+-- what a replay that came to no end wrote: a front of the text to which the lines that were read play
 pub record IsReplayFront (left : Option (List ℕ)) (written : List ℕ) : Type 0 where
   pub lines : List Line
   pub form : IfSome left (λ trace. IsPlainForm trace lines)
-  pub front : IsPlayFront (opening (configuration_of 9092 lines)) lines written ⊎ IsTextFront lines written
-  -- a front of the whole play's text
-  pub of_play : (account : Account) (text : List ℕ) → IsPlay (configuration_of 9092 lines) lines account text → (count : ℕ) × (written ≡ take count text)
+  pub account : Account
+  pub text : List ℕ
+  pub played : IsPlay (configuration_of REPLAY_PORT lines) lines account text
+  pub count : ℕ
+  pub front : written ≡ take count text
 
 -- no text that the source may have had is of the form that is built so far
 abbrev pub IsOtherForm : Option (List ℕ) → Type 0

@@ -1,7 +1,68 @@
-//! How a run ended.
+//! How a run ended: what stopped it, the code of that, and what the code means.
 
-use crate::audit::Account;
-use crate::trace_file::LineFault;
+ghost use Rattle.std.specs.Prelude.{◌≡◌, Some, None};
+ghost use Rattle.kafka_room.specs.declared.exit.Stop.TheVariants.{WriteFault, NoMemory as OutOfMemory};
+ghost use Rattle.kafka_room.specs.Codes.{code_of};
+
+use audit::Account;
+use kbytes::NoMemory;
+use outside::Failed;
+use std::alloc::AllocError;
+use trace_file::LineFault;
+
+/// What stopped a run.
+#[derive(Clone, Copy, Debug, PartialEq, Eq)]
+pub enum Stop {
+    /// The words are no command that is built.
+    Usage,
+    /// A read of the source failed.
+    ReadFault,
+    /// A write to the sink failed.
+    WriteFault,
+    NoMemory,
+    /// The trace is of a form that isn't built yet.
+    Unbuilt,
+}
+
+impl Stop {
+    /// The exit code.
+    pub fn code(self) -> u8
+        ensures { result ≡ code_of self }
+    {
+        match self {
+            Stop::Usage => 1,
+            Stop::ReadFault => 3,
+            Stop::WriteFault => 4,
+            Stop::NoMemory => 6,
+            Stop::Unbuilt => 7,
+        }
+    }
+}
+
+impl From<NoMemory> for Stop {
+    ghost from_gives = { λ _ e. e ≡ OutOfMemory };
+
+    fn from(_refused: NoMemory) -> Stop {
+        Stop::NoMemory
+    }
+}
+
+impl From<AllocError> for Stop {
+    ghost from_gives = { λ _ e. e ≡ OutOfMemory };
+
+    fn from(_refused: AllocError) -> Stop {
+        Stop::NoMemory
+    }
+}
+
+// A sink's failure. A source's is told as `ReadFault` where it is read.
+impl From<Failed> for Stop {
+    ghost from_gives = { λ _ e. e ≡ WriteFault };
+
+    fn from(_failed: Failed) -> Stop {
+        Stop::WriteFault
+    }
+}
 
 /// What a run answers. The port and the clock are those that were handed in.
 #[derive(Debug, Drop)]
@@ -14,6 +75,34 @@ pub struct Exit<P: Drop, C: Drop> {
     pub account: Option<Account>,
     pub port: Option<P>,
     pub clock: Option<C>,
+}
+
+impl<P: Drop, C: Drop> Exit<P, C> {
+    /// All was done and written.
+    pub fn done(account: Account, port: P, clock: C) -> Exit<P, C>
+        ensures { result ≡ record { code = 0; line = None; account = Some account; port = Some port; clock = Some clock } }
+    {
+        Exit {
+            code: 0,
+            line: None,
+            account: Some(account),
+            port: Some(port),
+            clock: Some(clock),
+        }
+    }
+
+    /// The run was stopped, with no account.
+    pub fn stopped(stop: Stop, port: P, clock: C) -> Exit<P, C>
+        ensures { result ≡ record { code = code_of stop; line = None; account = None; port = Some port; clock = Some clock } }
+    {
+        Exit {
+            code: stop.code(),
+            line: None,
+            account: None,
+            port: Some(port),
+            clock: Some(clock),
+        }
+    }
 }
 
 /// What a code means, in one line, for standard error.

@@ -1,20 +1,15 @@
 //! The request purgatory of a Kafka broker: `kafka_room replay` replays a recorded trace.
 #![tactic(auto)]
 
-mod audit;
-mod broker;
 mod exit;
-mod kanswer;
-mod kwire;
 mod nothing;
 mod replay;
 mod run;
 mod streams;
 #[cfg(test)]
 mod tests;
-mod trace_file;
 
-use exit::exit_text;
+use exit::{Stop, exit_text};
 use nothing::{NoClock, NoPort};
 use outside::{StdSink, StdSource};
 use run::run;
@@ -73,15 +68,25 @@ fn ended(rt: &HostRuntime, code: u8) -> ExitCode {
 }
 
 fn shown(rt: &HostRuntime, text: &str) -> ExitCode {
-    ended(rt, if rt.print(text).is_ok() { 0 } else { 4 })
+    ended(
+        rt,
+        if rt.print(text).is_ok() {
+            0
+        } else {
+            Stop::WriteFault.code()
+        },
+    )
 }
 
 fn main(rt: HostRuntime) -> ExitCode {
     let words = match words(&rt) {
         Ok(words) => words,
-        Err(error) if error.kind() == io::ErrorKind::OutOfMemory => return ended(&rt, 6),
+        Err(error) if error.kind() == io::ErrorKind::OutOfMemory => return ended(
+            &rt,
+            Stop::NoMemory.code(),
+        ),
         // A word that isn't UTF-8.
-        Err(_) => return ended(&rt, 1),
+        Err(_) => return ended(&rt, Stop::Usage.code()),
     };
     if let [word] = words.as_slice() {
         match word.as_str() {

@@ -4,10 +4,10 @@ ghost use Rattle.std.specs.Prelude.{◌≡◌, ◌∷◌, [], ◌↔◌, ◌⊎�
 ghost use Rattle.std.specs.Io.KnownBytes.{Appends, Keeps, IsAtEnd};
 ghost use Rattle.std.specs.String.{string_bytes};
 ghost use Rattle.outside.specs.Causes.{Rose};
-ghost use Rattle.kafka_room.specs.IsLawful.{IsLawful};
+ghost use Rattle.audit.specs.IsLawful.{IsLawful};
 ghost use Rattle.kafka_room.specs.Replay.{IsReplay, IsReplayFront, IsOtherForm, IsSilent, IsNewPort};
 
-use crate::exit::Exit;
+use crate::exit::{Exit, Stop};
 use crate::replay::replay;
 use outside::{Clock, Port, Sink, Source};
 use std::alloc::Global;
@@ -70,20 +70,10 @@ where
     ensures clock { result.clock ≡ Some clock }
 {
     if !is_replay(words) {
-        return Exit {
-            code: 1,
-            line: None,
-            account: None,
-            port: Some(port),
-            clock: Some(clock),
-        };
+        return Exit::stopped(Stop::Usage, port, clock);
     }
-    let ended = replay(alloc, source, sink);
-    Exit {
-        code: ended.code,
-        line: None,
-        account: ended.account,
-        port: Some(port),
-        clock: Some(clock),
+    match replay(alloc, source, sink) {
+        Ok(account) => Exit::done(account, port, clock),
+        Err(stop) => Exit::stopped(stop, port, clock),
     }
 }

@@ -1,65 +1,40 @@
 //! Reading a source to its end and writing to a sink whole.
 
-ghost use Rattle.std.specs.Prelude.{◌≡◌, ◌<◌, ◌≤◌, ◌++◌, ℕ, List, length, take, vec_len, IfOk, OnOk, OnErr, IsErrOf};
+ghost use Rattle.std.specs.Prelude.{◌≡◌, ◌<◌, ◌≤◌, ◌++◌, ℕ, List, length, take, vec_len, IfOk, IfErr, OnOk, OnErr, IsErrOf, ◌⊎◌};
 ghost use Rattle.std.specs.Io.KnownBytes.{Appends, Consumes, IsAtEnd};
 ghost use Rattle.outside.specs.Causes.{Rose};
 ghost use Rattle.kafka_room.specs.Streams.{IsInput};
-ghost use Rattle.kafka_room.specs.declared.streams.Unread.TheVariants.{NoMemory as OutOfMemory};
 
-use kbytes::{Bytes, NoMemory};
+use crate::exit::Stop;
+use kbytes::Bytes;
 use outside::{Failed, Sink, Source};
 use std::alloc::{AllocError, Global};
-
-/// The most bytes that a text may have.
-const LIMIT: usize = 67_108_864;
+use trace_file::MOST_TRACE_BYTES;
 
 /// The most bytes that are read at a time.
 const PIECE: usize = 65_536;
-
-/// Why a source wasn't read to its end.
-#[derive(Clone, Copy, Debug, PartialEq, Eq)]
-pub enum Unread {
-    /// A read failed, and the source counted it.
-    Failed,
-    NoMemory,
-}
-
-impl From<NoMemory> for Unread {
-    ghost from_gives = { λ _ e. e ≡ OutOfMemory };
-
-    fn from(_refused: NoMemory) -> Unread {
-        Unread::NoMemory
-    }
-}
-
-impl From<AllocError> for Unread {
-    ghost from_gives = { λ _ e. e ≡ OutOfMemory };
-
-    fn from(_refused: AllocError) -> Unread {
-        Unread::NoMemory
-    }
-}
 
 /// What a source gave.
 #[derive(Debug, Drop)]
 pub enum Input {
     /// All that it had left.
     Whole(Bytes),
-    /// More bytes than a text may have: it wasn't read on.
+    /// More bytes than a trace may have: it wasn't read on.
     TooLong,
 }
 
 // One read, put behind the text. It answers how many bytes came.
-fn read_piece<S: Source>(source: &mut S, room: &mut [u8], text: &mut Bytes) -> Result<usize, Unread>
+fn read_piece<S: Source>(source: &mut S, room: &mut [u8], text: &mut Bytes) -> Result<usize, Stop>
     requires { 0 < length room.old }
     ensures came { IfOk result (λ n. (piece : List ℕ) × (length piece ≡ n) × (n ≤ length room.old)
         × (text.new ≡ text.old ++ piece) × Consumes (S.left source.old) (S.left source.new) piece) }
     ensures end { IfOk result (λ n. n ≡ 0 → IsAtEnd (S.left source.new)) }
     ensures later { S.faults source.old ≤ S.faults source.new }
-    ensures failed { IsErrOf result Unread.Failed → Rose (S.faults source.old) (S.faults source.new) }
+    ensures failed { IsErrOf result Stop.ReadFault → Rose (S.faults source.old) (S.faults source.new) }
+    ensures only { IfErr result (λ stop. (stop ≡ Stop.ReadFault) ⊎ (stop ≡ Stop.NoMemory)) }
 {
     match source.read(room) {
-        Err(_) => Err(Unread::Failed),
+        Err(_) => Err(Stop::ReadFault),
         Ok(count) => {
             text.extend(&room[..count])?;
             Ok(count)
@@ -73,16 +48,17 @@ fn make_room(alloc: Global) -> Result<Vec<u8>, AllocError>
     vec![in alloc; 0u8; PIECE]
 }
 
-/// Reads the source until it ends, fails, or has given one byte more than a text may have.
-pub fn read_all<S: Source>(alloc: Global, source: &mut S) -> Result<Input, Unread>
+/// Reads the source until it ends, fails, or has given one byte more than a trace may have.
+pub fn read_all<S: Source>(alloc: Global, source: &mut S) -> Result<Input, Stop>
     ensures input { IfOk result (IsInput (S.left source.old) (S.left source.new)) }
     ensures later { S.faults source.old ≤ S.faults source.new }
-    ensures failed { IsErrOf result Unread.Failed → Rose (S.faults source.old) (S.faults source.new) }
+    ensures failed { IsErrOf result Stop.ReadFault → Rose (S.faults source.old) (S.faults source.new) }
+    ensures only { IfErr result (λ stop. (stop ≡ Stop.ReadFault) ⊎ (stop ≡ Stop.NoMemory)) }
 {
     let mut text = Bytes::new(alloc);
     let mut room = make_room(alloc)?;
-    while text.len() <= LIMIT {
-        let want = PIECE.min(LIMIT + 1 - text.len());
+    while text.len() <= MOST_TRACE_BYTES {
+        let want = PIECE.min(MOST_TRACE_BYTES + 1 - text.len());
         let came = read_piece(source, &mut room[..want], &mut text)?;
         if came == 0 {
             return Ok(Input::Whole(text));

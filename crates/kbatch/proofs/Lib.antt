@@ -24,3 +24,7 @@ pub mod Sizes
 pub mod Puts
 -- the batch that is written of records is one of these records
 pub mod Making
+-- bytes are a batch, or one fault is their first
+pub mod Total
+-- what proofs of other crates may cite
+pub mod Laws

@@ -7,3 +7,4 @@ pub mod Grouped
 pub mod Sized
 pub mod Written
 pub mod RoundTrips
+pub mod Laws

@@ -5,6 +5,7 @@
 
 mod again;
 mod bytes;
+mod copies;
 mod fault;
 mod list;
 mod no_memory;
@@ -14,6 +15,7 @@ mod writing;
 
 pub use again::reads_again;
 pub use bytes::Bytes;
+pub use copies::{copied, copied_or_null};
 pub use fault::ByteFault;
 pub use list::List;
 pub use no_memory::NoMemory;

@@ -1,5 +1,5 @@
 -- How far the gauges have come for an operation.
-use Rattle.std.specs.Prelude.{ℕ, ◌+◌, ◌-◌, ◌≤◌, min, List, [], ◌∷◌}
+use Rattle.std.specs.Prelude.{ℕ, ◌+◌, ◌-◌, ◌≤◌, ◌⊎◌, min, List, [], ◌∷◌}
 use Rattle.opcond.specs.declared.need.Need.{Need}
 use Rattle.opcond.specs.Operation.{Operation}
 
@@ -18,3 +18,7 @@ IsSatisfied op values = op.least ≤ tally op.needs values
 
 abbrev pub IsOverdue : Operation → ℕ → Type 0
 IsOverdue op moment = op.deadline ≤ moment
+
+-- what waits no longer
+abbrev pub IsAnswerable : Operation → List ℕ → ℕ → Type 0
+IsAnswerable op values moment = IsSatisfied op values ⊎ IsOverdue op moment

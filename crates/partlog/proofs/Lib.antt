@@ -20,3 +20,5 @@ pub mod Below
 pub mod Whole
 -- earlier states of a log
 pub mod Earlier
+-- what proofs of other crates may cite
+pub mod Laws

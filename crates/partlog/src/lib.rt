@@ -8,10 +8,10 @@
 mod clock_event;
 mod event;
 mod fault;
-mod laws;
 mod numbers;
 mod part_log;
 mod placed;
+mod promises;
 mod reading;
 mod scan;
 mod stamp;
@@ -20,10 +20,10 @@ mod who;
 pub use clock_event::ClockEvent;
 pub use event::PartEvent;
 pub use fault::{FollowFault, LogFault};
-pub use laws::{fronts_are_kept, visible_is_readable};
 pub use numbers::Numbers;
 pub use part_log::PartLog;
 pub use placed::Placed;
+pub use promises::{fronts_are_kept, visible_is_readable};
 pub use scan::{high_watermark, log_end};
 pub use who::Who;
 

@@ -1,14 +1,14 @@
-use Rattle.std.proofs.Common.{◌≡◌, ◌+◌, ℕ, List, [], ◌++◌, length, take, append-nil, refl, sym, ap, subst, ◌∙◌, inl, inr}
+use Rattle.std.proofs.Common.{◌≡◌, ◌+◌, ℕ, List, [], ◌++◌, length, take, append-nil, refl, sym, ap, subst, ◌∙◌}
 use Rattle.std.proofs.KnownBytes.{Appends-nil, Appends-trans}
 use Rattle.std.proofs.lemmas.Result.{err_from_is_err_and}
 use Rattle.std.specs.Io.KnownBytes.{Appends}
-use Rattle.kafka_room.specs.declared.trace_file.line.Line.{Line}
-use Rattle.kafka_room.specs.Board.{opening}
-use Rattle.kafka_room.specs.Handling.{Turned}
-use Rattle.kafka_room.specs.Printed.{summary_of}
-use Rattle.kafka_room.specs.RunOf.{configuration_of}
-use Rattle.kafka_room.specs.UnderWay.{IsUnderWay}
-use Rattle.kafka_room.proofs.Replays.{before_lines, played_from, replayed_as, front_of_lines}
+use Rattle.trace_file.specs.declared.line.Line.{Line}
+use Rattle.broker.specs.Board.{opening}
+use Rattle.broker.specs.Turns.{Turned}
+use Rattle.audit.specs.Printed.{summary_of}
+use Rattle.trace_file.specs.Contents.{configuration_of}
+use Rattle.broker.specs.UnderWay.{IsUnderWay}
+use Rattle.kafka_room.proofs.Replays.{before_lines, played_from, replayed_as, front_of_lines, front_of_text, front_from}
 use Rattle.kafka_room.proofs.Writes.{front_behind}
 use Rattle.kafka_room.proofs.replay.play.Goals as goal
 
@@ -17,14 +17,24 @@ play_lines-requires-clause-under_way g c =
     before_lines c.requires.form.0 c.args.trace.lines c.as_slice.result.now c.args.trace.config c.in_ok-lone.lone c.requires.form.1 c.as_slice.ensures c.requires.config c.in_ok-lone.ensures
 
 pub returns-in_err-lone-clause-front : goal.returns-in_err-lone-clause-front
-returns-in_err-lone-clause-front g c =
+returns-in_err-lone-clause-front g c text form =
     let p = err_from_is_err_and c.from_residual.result c.from_residual.ensures.1 in
     let lines = c.args.trace.lines in
     let start = opening (configuration_of 9092 lines) in
-    rw p.1 ([], inl (front_of_lines start lines [] lines (record { board = start; text = [] }) refl refl), Appends-nil (g.K.Sink.written c.args.sink.now))
+    rw p.1 ([], front_of_text text lines [] form (front_of_lines start lines [] lines (record { board = start; text = [] }) refl refl), Appends-nil (g.K.Sink.written c.args.sink.now))
+
+pub returns-in_err-play_lines-clause-front : goal.returns-in_err-play_lines-clause-front
+returns-in_err-play_lines-clause-front g c text form =
+    let p = err_from_is_err_and c.from_residual-in_err-play_lines.result c.from_residual-in_err-play_lines.ensures.1 in
+    let front = c.in_err-play_lines.ensures.front in
+    rw p.1 (
+      front.0,
+      front_from text c.args.trace.lines c.as_slice.result.now c.args.trace.config c.in_ok-lone.lone front.0 form c.as_slice.ensures c.requires.config c.in_ok-lone.ensures front.1,
+      front.2,
+    )
 
 pub returns-in_err-account-clause-front : goal.returns-in_err-account-clause-front
-returns-in_err-account-clause-front g c =
+returns-in_err-account-clause-front g c text form =
     let p = err_from_is_err_and c.from_residual-in_err-account.result c.from_residual-in_err-account.ensures.1 in
     let lines = c.args.trace.lines in
     let start = opening (configuration_of 9092 lines) in
@@ -32,10 +42,10 @@ returns-in_err-account-clause-front g c =
     let here = c.in_ok-play_lines.ensures.played in
     let last : Turned = record { board = lone; text = here.0 } in
     let played = played_from lines c.as_slice.result.now c.args.trace.config c.in_ok-lone.lone last c.as_slice.ensures c.requires.config c.in_ok-lone.ensures here.1 in
-    rw p.1 (here.0, inl (front_of_lines start lines lines [] last (sym (append-nil lines)) played), here.2)
+    rw p.1 (here.0, front_of_text text lines here.0 form (front_of_lines start lines lines [] last (sym (append-nil lines)) played), here.2)
 
 pub returns-in_err-put_summary-clause-front : goal.returns-in_err-put_summary-clause-front
-returns-in_err-put_summary-clause-front g c =
+returns-in_err-put_summary-clause-front g c text form =
     let p = err_from_is_err_and c.from_residual-in_err-put_summary.result c.from_residual-in_err-put_summary.ensures.1 in
     let lines = c.args.trace.lines in
     let start = opening (configuration_of 9092 lines) in
@@ -43,19 +53,17 @@ returns-in_err-put_summary-clause-front g c =
     let here = c.in_ok-play_lines.ensures.played in
     let last : Turned = record { board = lone; text = here.0 } in
     let played = played_from lines c.as_slice.result.now c.args.trace.config c.in_ok-lone.lone last c.as_slice.ensures c.requires.config c.in_ok-lone.ensures here.1 in
-    rw p.1 (here.0, inl (front_of_lines start lines lines [] last (sym (append-nil lines)) played), here.2)
+    rw p.1 (here.0, front_of_text text lines here.0 form (front_of_lines start lines lines [] last (sym (append-nil lines)) played), here.2)
 
 pub returns-in_err-write_all-clause-front : goal.returns-in_err-write_all-clause-front
-returns-in_err-write_all-clause-front g c =
+returns-in_err-write_all-clause-front g c text form =
     let p = err_from_is_err_and c.from_residual-in_err-write_all.result c.from_residual-in_err-write_all.ensures.1 in
     let lines = c.args.trace.lines in
-    let lone = c.play_lines.new.lone in
     let account = c.in_ok-account.account in
     let here = c.in_ok-play_lines.ensures.played in
     let front = c.in_err-write_all.ensures.front in
-    let last : Turned = record { board = lone; text = here.0 } in
+    let last : Turned = record { board = c.play_lines.new.lone; text = here.0 } in
     let played = played_from lines c.as_slice.result.now c.args.trace.config c.in_ok-lone.lone last c.as_slice.ensures c.requires.config c.in_ok-lone.ensures here.1 in
-    let way : IsUnderWay lines [] lone = subst (λ (ls : List Line). IsUnderWay ls [] lone) c.as_slice.ensures c.in_ok-play_lines.ensures.under_way in
     let part : c.as_slice-2.result.now ≡ summary_of account = c.as_slice-2.ensures ∙ c.in_ok-put_summary.ensures.ok ∙ ap (λ (xs : List ℕ). xs ++ summary_of account) c.new-summary.ensures in
     let before = g.K.Sink.written c.args.sink.now in
     let between = g.K.Sink.written c.play_lines.new.sink in
@@ -63,13 +71,15 @@ returns-in_err-write_all-clause-front g c =
     let written : Appends between after (take front.0 (summary_of account)) = subst (λ (xs : List ℕ). Appends between after (take front.0 xs)) part front.2 in
     rw p.1 (
       take (length here.0 + front.0) (here.0 ++ summary_of account),
-      inr (record {
+      record {
+        lines = lines;
+        form = form;
         account = account;
         text = here.0 ++ summary_of account;
-        replay = replayed_as c.requires.form.0 lines last account c.requires.form.1 played way c.in_ok-account.ensures.account;
+        played = record { last = last; played = played; accounted = c.in_ok-account.ensures.account; printed = refl };
         count = length here.0 + front.0;
         front = refl;
-      }),
+      },
       front_behind before between after here.0 (summary_of account) front.0 here.2 written,
     )
 

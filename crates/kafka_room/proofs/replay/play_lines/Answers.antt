@@ -2,11 +2,11 @@ use Rattle.std.proofs.Common.{◌≡◌, ◌+◌, ℕ, List, ◌∷◌, ◌++◌
 use Rattle.std.proofs.KnownBytes.{Appends-trans}
 use Rattle.std.proofs.lemmas.Result.{err_from_is_err_and}
 use Rattle.std.specs.Io.KnownBytes.{Appends}
-use Rattle.kafka_room.specs.declared.trace_file.line.Line.{Line}
-use Rattle.kafka_room.specs.Handling.{Turned}
-use Rattle.kafka_room.specs.Play.{Plays}
-use Rattle.kafka_room.specs.UnderWay.{IsUnderWay}
-use Rattle.kafka_room.proofs.PlayLaws.{plays_on, lines_left, lines_more}
+use Rattle.trace_file.specs.declared.line.Line.{Line}
+use Rattle.broker.specs.Turns.{Turned}
+use Rattle.broker.specs.Play.{Plays}
+use Rattle.broker.specs.UnderWay.{IsUnderWay}
+use Rattle.broker.proofs.Laws.{plays_on, lines_left, lines_more}
 use Rattle.kafka_room.proofs.Replays.{front_of_lines, front_within}
 use Rattle.kafka_room.proofs.Writes.{front_behind}
 use Rattle.kafka_room.proofs.replay.play_lines.Goals as goal

@@ -1,7 +1,7 @@
 use Rattle.std.proofs.Common.{◌≤◌, ℕ, List, take, drop}
 use Rattle.std.specs.Io.KnownBytes.{Appends}
-use Rattle.kafka_room.specs.Play.{Plays}
-use Rattle.kafka_room.specs.UnderWay.{IsUnderWay}
+use Rattle.broker.specs.Play.{Plays}
+use Rattle.broker.specs.UnderWay.{IsUnderWay}
 use Rattle.kafka_room.proofs.replay.play_lines.Given as goal
 
 abbrev pub invariant-loop-line : goal.invariant-loop-line

@@ -1,5 +1,5 @@
 use Rattle.std.proofs.Common.{sym, subst}
-use Rattle.kafka_room.specs.ArePlainStreams.{ArePlainStreams}
+use Rattle.broker.specs.ArePlainStreams.{ArePlainStreams}
 use Rattle.kafka_room.proofs.Replays.{other_streams}
 use Rattle.kafka_room.proofs.replay.read_form.Goals as goal
 

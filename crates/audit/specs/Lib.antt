@@ -1,0 +1,14 @@
+-- ==== the words of public contracts
+
+-- who left each entry of an account, and the states at its points
+pub mod Histories
+-- what a lawful call is
+pub mod LawfulCall
+-- a lawful account
+pub mod IsLawful
+-- a transcript fits its input, and the bytes sent
+pub mod Fits
+-- what the account of a trace's run is to the trace
+pub mod RunOf
+-- what is printed of an account
+pub mod Printed

@@ -1,0 +1,15 @@
+//! The account of a run: what each session did and what each partition holds, what of it is lawful, and what is printed of it.
+//!
+//! The layer above makes an `Account`, shows it lawful, and prints its summary.
+#![tactic(auto)]
+
+mod account;
+mod promises;
+mod summary;
+mod tally;
+
+pub use account::{
+    Account, CLOCK_PART, Call, CallHow, MOST_CALLS, PartAccount, Point, SessionEnd, Transcript,
+};
+pub use promises::{one_print, one_reply};
+pub use summary::put_summary;

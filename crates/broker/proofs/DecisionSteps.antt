@@ -1,0 +1,155 @@
+-- Decisions that are carried out one after the other.
+use Rattle.std.proofs.Common.{◌≡◌, ℕ, ◌+◌, ◌≤◌, ◌<◌, Bool, true, false, cond, ltb, pos, List, [], ◌∷◌, ◌++◌, length, get_or, set, Option, Some, None, Result, Ok, Err, unwrap_or, refl, sym, ap, ◌∙◌, arith, append_assoc, append-nil, inl, inr}
+use Rattle.std.proofs.lemmas.List.{map-append}
+use Rattle.std.proofs.lemmas.List.Elements.{filter_map-append}
+use Rattle.std.proofs.lemmas.Bool.{le-ltb, lt-ltb}
+use Rattle.std.proofs.lemmas.Bool.Decides.{leb_tells}
+use Rattle.std.specs.Prelude.{slice_get, OnOk}
+use Rattle.std.specs.List.{AllZip}
+use Rattle.partlog.specs.History.{History}
+use Rattle.partlog.specs.State.{PartState, state_of}
+use Rattle.partlog.specs.Gauges.{gauges_of}
+use Rattle.partlog.specs.Kept.{IsKept}
+use Rattle.partlog.specs.Added.{log_end_of}
+use Rattle.partlog.specs.Appended.{appended}
+use Rattle.kbatch.specs.Kept.{count_of}
+use Rattle.std.proofs.lemmas.Option.{slice_get-get_or}
+use Rattle.audit.proofs.Laws.{some_is}
+use Rattle.partlog.proofs.Laws.{bytes_in-batches}
+use Rattle.audit.specs.declared.account.Point.{Point}
+use Rattle.broker.specs.declared.came.Came.{Came}
+use Rattle.kanswer.specs.declared.accepted.Accepted.{Accepted}
+use Rattle.kanswer.specs.declared.accepted.Accepted.TheVariants.{Refused, Appended}
+use Rattle.kanswer.specs.Decisions.{Put, Outcome, Decision, Refuse, AskLog, look, append_outcome}
+use Rattle.broker.specs.Entering.{Noted, entered, accept_all, steps_of, shown_of}
+use Rattle.broker.specs.Board.{history_at, empty_history}
+use Rattle.broker.specs.Carried.{IsCarried}
+use Rattle.kanswer.specs.Waiting.{results_of}
+use Rattle.audit.specs.LawfulCall.{step_points, Step}
+use Rattle.audit.specs.Histories.{no_state}
+
+pub on_ok : {T E : Type 0} {P Q : Type 0} (r : Result T E) → OnOk r P → (P → Q) → OnOk r Q
+on_ok (Ok x) p f = f p
+on_ok (Err e) p f = tt
+
+-- a partition that is refused before its log is asked
+pub refusal_carried : (by seq : ℕ) (code : _) (parts : List History) (came later : Came) → later ≡ record { accepted = came.accepted ++ Refused code ∷ []; points = came.points }
+    → IsCarried by seq (Refuse code ∷ []) parts parts came later
+refusal_carried by seq code parts came later e =
+    record { histories = refl; accepted = ap (λ (c : Came). c.accepted) e; points = ap (λ (c : Came). c.points) e ∙ sym (append-nil came.points) }
+
+-- a partition whose log is asked
+pub entry_carried : (by seq part : ℕ) (parts after : List History) (found left : History) (outcome : PartState → Outcome) (came later : Came) → slice_get parts part ≡ Some found
+    → left ≡ entered found by seq (outcome (state_of found)).entry → after ≡ set parts part left
+    → later ≡ record { accepted = came.accepted ++ (outcome (state_of found)).result ∷ []; points = came.points ++ record { part = part; place = length found.events } ∷ [] }
+    → IsCarried by seq (AskLog part outcome ∷ []) parts after came later
+entry_carried by seq part parts after found left outcome came later there is_left is_after e =
+    let same : found ≡ history_at parts part = sym (ap (λ (o : Option History). unwrap_or o (empty_history 0)) there) in
+    record {
+      histories = is_after ∙ ap (set parts part) is_left ∙ ap (λ (h : History). set parts part (entered h by seq (outcome (state_of h)).entry)) same;
+      accepted = ap (λ (c : Came). c.accepted) e ∙ ap (λ (h : History). came.accepted ++ (outcome (state_of h)).result ∷ []) same;
+      points = ap (λ (c : Came). c.points) e ∙ ap (λ (h : History). came.points ++ record { part = part; place = length h.events } ∷ []) same;
+    }
+
+-- a log's bytes are those of its batches
+pub log_bytes : (h : History) → IsKept h.log h.events → (gauges_of (state_of h)).bytes ≡ length h.log
+log_bytes h kept = bytes_in-batches [] h.events h.log (omega (arith, kept.whole)) ∙ kept.whole
+
+pub has_room : (part count : ℕ) (batch : List ℕ) (h : History) → IsKept h.log h.events → length h.log + length batch ≤ 67108864
+    → append_outcome part count batch (state_of h) ≡ record { result = Appended part (state_of h).log_end count; entry = Put count batch }
+has_room part count batch h kept room =
+    let no : ltb 67108864 ((gauges_of (state_of h)).bytes + length batch) ≡ false = le-ltb 67108864 ((gauges_of (state_of h)).bytes + length batch) (omega (arith, room, log_bytes h kept)) in
+    ap (λ (b : Bool). cond b (look (Refused (pos 6))) (record { result = Appended part (state_of h).log_end count; entry = Put count batch })) no
+
+pub has_no_room : (part count : ℕ) (batch : List ℕ) (h : History) → IsKept h.log h.events → 67108864 < length h.log + length batch
+    → append_outcome part count batch (state_of h) ≡ look (Refused (pos 6))
+has_no_room part count batch h kept full =
+    let yes : ltb 67108864 ((gauges_of (state_of h)).bytes + length batch) ≡ true = lt-ltb 67108864 ((gauges_of (state_of h)).bytes + length batch) (omega (arith, full, log_bytes h kept)) in
+    ap (λ (b : Bool). cond b (look (Refused (pos 6))) (record { result = Appended part (state_of h).log_end count; entry = Put count batch })) yes
+
+-- ---- some decisions and then others
+
+pub accept_append : (by seq : ℕ) (xs ys : List Decision) (parts : List History)
+    → ((accept_all by seq (xs ++ ys) parts).0 ≡ (accept_all by seq xs parts).0 ++ (accept_all by seq ys (accept_all by seq xs parts).1).0)
+    × ((accept_all by seq (xs ++ ys) parts).1 ≡ (accept_all by seq ys (accept_all by seq xs parts).1).1)
+accept_append by seq [] ys parts = (refl, refl)
+accept_append by seq (Refuse code ∷ xs) ys parts =
+    let rest = accept_append by seq xs ys parts in
+    (ap (λ (ns : List Noted). record { step = record { result = Refused code; point = None }; state = no_state } ∷ ns) rest.0, rest.1)
+accept_append by seq (AskLog part outcome ∷ xs) ys parts =
+    let found = history_at parts part in
+    let came = outcome (state_of found) in
+    let left = entered found by seq came.entry in
+    let rest = accept_append by seq xs ys (set parts part left) in
+    (ap (λ (ns : List Noted). record { step = record { result = came.result; point = Some (record { part = part; place = length found.events }) }; state = state_of left } ∷ ns) rest.0, rest.1)
+
+results_append : (xs ys : List Noted) → results_of (shown_of (xs ++ ys)) ≡ results_of (shown_of xs) ++ results_of (shown_of ys)
+results_append [] ys = refl
+results_append (x ∷ xs) ys = ap (λ (rs : List Accepted). x.step.result ∷ rs) (results_append xs ys)
+
+pub points_append : (xs ys : List Noted) → step_points (steps_of (xs ++ ys)) ≡ step_points (steps_of xs) ++ step_points (steps_of ys)
+points_append xs ys = ap step_points (map-append (λ (n : Noted). n.step) xs ys) ∙ filter_map-append (λ (s : Step). s.point) (steps_of xs) (steps_of ys)
+
+pub carried_on : (by seq : ℕ) (xs ys : List Decision) (p0 p1 p2 : List History) (c0 c1 c2 : Came) → IsCarried by seq xs p0 p1 c0 c1 → IsCarried by seq ys p1 p2 c1 c2 → IsCarried by seq (xs ++ ys) p0 p2 c0 c2
+carried_on by seq xs ys p0 p1 p2 c0 c1 c2 a b =
+    let both = accept_append by seq xs ys p0 in
+    let first = accept_all by seq xs p0 in
+    let then = accept_all by seq ys (accept_all by seq xs p0).1 in
+    record {
+      histories = b.histories ∙ ap (λ (ps : List History). (accept_all by seq ys ps).1) a.histories ∙ sym both.1;
+      accepted = b.accepted ∙ ap (λ (rs : List Accepted). rs ++ results_of (shown_of (accept_all by seq ys p1).0)) a.accepted
+          ∙ append_assoc c0.accepted (results_of (shown_of first.0)) (results_of (shown_of (accept_all by seq ys p1).0))
+          ∙ ap (λ (ps : List History). c0.accepted ++ (results_of (shown_of first.0) ++ results_of (shown_of (accept_all by seq ys ps).0))) a.histories
+          ∙ ap (λ (rs : List Accepted). c0.accepted ++ rs) (sym (results_append first.0 then.0) ∙ sym (ap (λ (ns : List Noted). results_of (shown_of ns)) both.0));
+      points = b.points ∙ ap (λ (ps : List Point). ps ++ step_points (steps_of (accept_all by seq ys p1).0)) a.points
+          ∙ append_assoc c0.points (step_points (steps_of first.0)) (step_points (steps_of (accept_all by seq ys p1).0))
+          ∙ ap (λ (ps : List History). c0.points ++ (step_points (steps_of first.0) ++ step_points (steps_of (accept_all by seq ys ps).0))) a.histories
+          ∙ ap (λ (ps : List Point). c0.points ++ ps) (sym (points_append first.0 then.0) ∙ sym (ap (λ (ns : List Noted). step_points (steps_of ns)) both.0));
+    }
+
+pub carried_none : (by seq : ℕ) (parts : List History) (came : Came) → IsCarried by seq [] parts parts came came
+carried_none by seq parts came = record { histories = refl; accepted = sym (append-nil came.accepted); points = sym (append-nil came.points) }
+
+-- a relation of lists, one item more
+pub all_zip_push : {A B : Type 0} (R : A → B → Type 0) (xs : List A) (ys : List B) (x : A) (y : B) → AllZip R xs ys → R x y → AllZip R (xs ++ x ∷ []) (ys ++ y ∷ [])
+all_zip_push R [] [] x y all r = (r, tt)
+all_zip_push R [] (b ∷ ys) x y all r = absurd all
+all_zip_push R (a ∷ xs) [] x y all r = absurd all
+all_zip_push R (a ∷ xs) (b ∷ ys) x y all r = (all.0, all_zip_push R xs ys x y all.1 r)
+
+pub all_zip_append : {A B : Type 0} (R : A → B → Type 0) (xs xs1 : List A) (ys ys1 : List B) → AllZip R xs ys → AllZip R xs1 ys1 → AllZip R (xs ++ xs1) (ys ++ ys1)
+all_zip_append R [] xs1 [] ys1 a b = b
+all_zip_append R [] xs1 (y ∷ ys) ys1 a b = absurd a
+all_zip_append R (x ∷ xs) xs1 [] ys1 a b = absurd a
+all_zip_append R (x ∷ xs) xs1 (y ∷ ys) ys1 a b = (a.0, all_zip_append R xs xs1 ys ys1 a.1 b)
+
+-- an item that is there, whatever else would be taken for it
+pub same_item : {X : Type 0} (xs : List X) (i : ℕ) (x y : X) → i < length xs → get_or xs i x ≡ get_or xs i y
+same_item xs i x y lt = some_is (get_or xs i x) (get_or xs i y) (sym (slice_get-get_or xs i x lt) ∙ slice_get-get_or xs i y lt)
+
+pub not_above : (a b : ℕ) → (a < b → ⊥) → b ≤ a
+not_above a b never = elim (leb_tells b a) [ inl le ↦ le.1 | inr lt ↦ absurd (never lt.1) ]
+
+-- a batch was put
+pub put_carried : (by seq part base place count : ℕ) (parts after : List History) (h left : History) (batch : List ℕ) (came later : Came) → slice_get parts part ≡ Some h → IsKept h.log h.events
+    → length h.log + length batch ≤ 67108864 → left ≡ appended h by seq batch → base ≡ log_end_of h.events → place ≡ length h.events → count ≡ count_of batch → after ≡ set parts part left
+    → later ≡ record { accepted = came.accepted ++ Appended part base count ∷ []; points = came.points ++ record { part = part; place = place } ∷ [] }
+    → IsCarried by seq (AskLog part (append_outcome part (count_of batch) batch) ∷ []) parts after came later
+put_carried by seq part base place count parts after h left batch came later there kept room is_left is_base is_place is_count is_after e =
+    let outcome = append_outcome part (count_of batch) batch in
+    let found : outcome (state_of h) ≡ record { result = Appended part (state_of h).log_end (count_of batch); entry = Put (count_of batch) batch } = has_room part (count_of batch) batch h kept room in
+    entry_carried by seq part parts after h left outcome came later there
+    (is_left ∙ ap (λ (o : Outcome). entered h by seq o.entry) (sym found)) is_after
+    (e ∙ ap (λ (b : ℕ). record { accepted = came.accepted ++ Appended part b count ∷ []; points = came.points ++ record { part = part; place = place } ∷ [] }) is_base
+    ∙ ap (λ (k : ℕ). record { accepted = came.accepted ++ Appended part (log_end_of h.events) k ∷ []; points = came.points ++ record { part = part; place = place } ∷ [] }) is_count
+    ∙ ap (λ (p : ℕ). record { accepted = came.accepted ++ Appended part (log_end_of h.events) (count_of batch) ∷ []; points = came.points ++ record { part = part; place = p } ∷ [] }) is_place
+    ∙ ap (λ (o : Outcome). record { accepted = came.accepted ++ o.result ∷ []; points = came.points ++ record { part = part; place = length h.events } ∷ [] }) (sym found))
+
+-- the log was full
+pub full_carried : (by seq part : ℕ) (parts after : List History) (h : History) (batch : List ℕ) (came later : Came) → slice_get parts part ≡ Some h → IsKept h.log h.events
+    → 67108864 < length h.log + length batch
+    → ((outcome : PartState → Outcome) → outcome (state_of (history_at parts part)) ≡ look (Refused (pos 6)) → IsCarried by seq (AskLog part outcome ∷ []) parts after came later)
+    → IsCarried by seq (AskLog part (append_outcome part (count_of batch) batch) ∷ []) parts after came later
+full_carried by seq part parts after h batch came later there kept full then =
+    let same : history_at parts part ≡ h = ap (λ (o : Option History). unwrap_or o (empty_history 0)) there in
+    then (append_outcome part (count_of batch) batch) (ap (λ (x : History). append_outcome part (count_of batch) batch (state_of x)) same ∙ has_no_room part (count_of batch) batch h kept full)

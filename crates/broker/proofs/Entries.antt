@@ -1,0 +1,235 @@
+-- What accepting a request leaves in the histories: the entries, their owner and places, and the states at them.
+use Rattle.std.proofs.Common.{◌≡◌, ◌≢◌, ℕ, zero, suc, ◌≤◌, ◌<◌, true, false, eqb, List, [], ◌∷◌, ◌++◌, length, map, set, Option, Some, refl, sym, ap, subst, ◌∙◌, arith, inl, inr, append_assoc, append-nil, eq-eqb}
+use Rattle.std.proofs.lemmas.Bool.{ne_eqb}
+use Rattle.std.proofs.lemmas.List.{length-set}
+use Rattle.std.specs.Prelude.{slice_get}
+use Rattle.std.specs.List.{AllByRecursion, AllZip, range_with_len}
+use Rattle.partlog.specs.declared.event.PartEvent.{PartEvent}
+use Rattle.partlog.specs.History.{History}
+use Rattle.partlog.specs.State.{PartState, state_of}
+use Rattle.audit.specs.declared.account.Account.{Account}
+use Rattle.audit.specs.declared.account.PartAccount.{PartAccount}
+use Rattle.audit.specs.declared.account.Point.{Point}
+use Rattle.audit.specs.Histories.{owner_of, owners_of, history_of, before_in, at_in, before_point, at_point, event_at, event_in, no_state}
+use Rattle.kanswer.specs.Decisions.{Entry, Put, Followed, Looked, Decision, Refuse, AskLog}
+use Rattle.audit.specs.LawfulCall.{IsStep, IsEntry, step_points, shown_as_accepted}
+use Rattle.audit.specs.IsLawful.{places_in}
+use Rattle.broker.specs.Board.{history_at, empty_history}
+use Rattle.broker.specs.Entering.{Noted, entered, accept_all, steps_of, shown_of}
+use Rattle.kanswer.specs.Waiting.{Shown}
+use Rattle.kanswer.specs.declared.accepted.Accepted.TheVariants.{Refused}
+use Rattle.kbatch.specs.Stamp.{stamped}
+use Rattle.broker.proofs.Growth.{Longer, IsWhole, IsSized, longer_on, entered_longer, entered_whole, entered_events, entered_followers, entered_length, event_of, before_kept, at_kept, put_batches}
+pub use Rattle.broker.specs.Steady.{the_owner, AllWhole, Follows}
+use Rattle.audit.proofs.Laws.{same_or_not, get_set_same, get_set_other, get_there, get_seam, some_is}
+
+-- The later history has entries of one call behind those of the earlier one, and these are their places.
+pub record Left (by seq : ℕ) (places : List ℕ) (h later : History) : Type 0 where
+  pub longer : Longer h later
+  pub whole : IsWhole later
+  pub owned : (k : ℕ) (e : PartEvent) → slice_get longer.more k ≡ Some e → owner_of e ≡ the_owner by seq
+  pub run : places ≡ range_with_len (length h.events) (length longer.more)
+
+abbrev pub AllLeft : ℕ → ℕ → List Point → List History → List History → Type 0
+AllLeft by seq points parts later =
+    (p : ℕ) (h : History) → slice_get parts p ≡ Some h → (l : History) × (slice_get later p ≡ Some l) × Left by seq (places_in p points) h l
+
+-- a decision that asks the log of one of so many partitions, and says rightly how many bytes it puts
+abbrev pub IsFair : ℕ → Decision → Type 0
+IsFair n (Refuse code) = Unit {0}
+IsFair n (AskLog part outcome) = (part < n) × ((state : PartState) → IsSized (outcome state).entry)
+
+event_owner : (by seq : ℕ) (entry : Entry) → owner_of (event_of by seq entry) ≡ the_owner by seq
+event_owner by seq (Put count batch) = refl
+event_owner by seq (Followed replica offset) = refl
+event_owner by seq Looked = refl
+
+-- the histories with one more entry are whole
+set_whole : (parts : List History) (part : ℕ) (h : History) → AllWhole parts → part < length parts → IsWhole h → AllWhole (set parts part h)
+set_whole parts part h whole within w p k e =
+    elim (same_or_not p part) [
+      | inl same ↦
+          let there : slice_get (set parts part h) p ≡ Some h = subst (λ (i : ℕ). slice_get (set parts part h) i ≡ Some h) (sym same) (get_set_same parts part h within) in
+          subst IsWhole (some_is h k (sym there ∙ e)) w
+      | inr other ↦ whole p k (sym (get_set_other parts part p h other) ∙ e)
+    ]
+
+places_here : (part place : ℕ) (points : List Point) → places_in part (record { part = part; place = place } ∷ points) ≡ place ∷ places_in part points
+places_here part place points =
+    let yes : eqb part part ≡ true = eq-eqb part part refl in rw yes refl
+
+places_other : (p part place : ℕ) (points : List Point) → p ≢ part → places_in p (record { part = part; place = place } ∷ points) ≡ places_in p points
+places_other p part place points ne =
+    let no : eqb part p ≡ false = ne_eqb part p (λ e. ne (sym e)) in rw no refl
+
+-- one entry of a call, and then the others of it
+left_more : (by seq : ℕ) (entry : Entry) (places : List ℕ) (h l : History) → Left by seq places (entered h by seq entry) l → Left by seq (length h.events ∷ places) h l
+left_more by seq entry places h l left =
+    let first = entered_longer h by seq entry in
+    let event = event_of by seq entry in
+    record {
+      longer = record {
+        followers = left.longer.followers ∙ first.followers;
+        more = event ∷ left.longer.more;
+        bytes = first.bytes ++ left.longer.bytes;
+        events = left.longer.events ∙ ap (λ (es : List PartEvent). es ++ left.longer.more) (entered_events h by seq entry) ∙ append_assoc h.events (event ∷ []) left.longer.more;
+        log = left.longer.log ∙ ap (λ (bs : List ℕ). bs ++ left.longer.bytes) first.log ∙ append_assoc h.log first.bytes left.longer.bytes;
+      };
+      whole = left.whole;
+      owned = owned_more event left.longer.more (event_owner by seq entry) left.owned;
+      run = ap (λ (ps : List ℕ). length h.events ∷ ps) (left.run ∙ ap (λ (n : ℕ). range_with_len n (length left.longer.more)) (entered_length h by seq entry));
+    }
+  where
+    owned_more : (event : PartEvent) (more : List PartEvent) → owner_of event ≡ the_owner by seq → ((k : ℕ) (e : PartEvent) → slice_get more k ≡ Some e → owner_of e ≡ the_owner by seq)
+        → (k : ℕ) (e : PartEvent) → slice_get (event ∷ more) k ≡ Some e → owner_of e ≡ the_owner by seq
+    owned_more event more here rest zero e is = subst (λ (x : PartEvent). owner_of x ≡ the_owner by seq) (some_is event e is) here
+    owned_more event more here rest (suc k) e is = rest k e is
+
+pub accepted_left : (by seq n : ℕ) (decisions : List Decision) (parts : List History) → length parts ≡ n → AllWhole parts → AllByRecursion (IsFair n) decisions
+    → AllLeft by seq (step_points (steps_of (accept_all by seq decisions parts).0)) parts (accept_all by seq decisions parts).1
+accepted_left by seq n [] parts size whole fair p h e =
+    (h, e, record { longer = record { followers = refl; more = []; bytes = []; events = sym (append-nil h.events); log = sym (append-nil h.log) }; whole = whole p h e; owned = λ k x is. absurd cc; run = refl })
+accepted_left by seq n (Refuse code ∷ decisions) parts size whole fair p h e = accepted_left by seq n decisions parts size whole fair.1 p h e
+accepted_left by seq n (AskLog part outcome ∷ decisions) parts size whole fair p h e =
+    let found = history_at parts part in
+    let entry = (outcome (state_of found)).entry in
+    let left = entered found by seq entry in
+    let within : part < length parts = omega (arith, size, fair.0.0) in
+    let there : slice_get parts part ≡ Some found = get_there parts part (empty_history 0) within in
+    let parts1 = set parts part left in
+    let whole1 : AllWhole parts1 = set_whole parts part left whole within (entered_whole found by seq entry (whole part found there) (fair.0.1 (state_of found))) in
+    let rest = accepted_left by seq n decisions parts1 (length-set parts part left ∙ size) whole1 fair.1 in
+    let points = step_points (steps_of (accept_all by seq decisions parts1).0) in
+    elim (same_or_not p part) [
+      | inl same ↦
+          let is : h ≡ found = some_is h found (sym e ∙ ap (slice_get parts) same ∙ there) in
+          let r = rest part left (get_set_same parts part left within) in
+          let ps : places_in p (record { part = part; place = length found.events } ∷ points) ≡ length found.events ∷ places_in part points =
+          ap (λ (i : ℕ). places_in i (record { part = part; place = length found.events } ∷ points)) same ∙ places_here part (length found.events) points in (
+            r.0,
+            ap (slice_get (accept_all by seq decisions parts1).1) same ∙ r.1,
+            subst (λ (k : History). Left by seq (places_in p (record { part = part; place = length found.events } ∷ points)) k r.0) (sym is)
+                (subst (λ (xs : List ℕ). Left by seq xs found r.0) (sym ps) (left_more by seq entry (places_in part points) found r.0 r.2)),
+          )
+      | inr other ↦
+          let r = rest p h (get_set_other parts part p left other ∙ e) in
+          (r.0, r.1, subst (λ (xs : List ℕ). Left by seq xs h r.0) (sym (places_other p part (length found.events) points other)) r.2)
+    ]
+
+pub accepted_size : (by seq n : ℕ) (decisions : List Decision) (parts : List History) → length (accept_all by seq decisions parts).1 ≡ length parts
+accepted_size by seq n [] parts = refl
+accepted_size by seq n (Refuse code ∷ decisions) parts = accepted_size by seq n decisions parts
+accepted_size by seq n (AskLog part outcome ∷ decisions) parts =
+    let found = history_at parts part in
+    let left = entered found by seq (outcome (state_of found)).entry in
+    accepted_size by seq n decisions (set parts part left) ∙ length-set parts part left
+
+-- what an account shows at an entry
+pub record ShowsEntry (by seq : ℕ) (account : Account) (part : ℕ) (found : History) (entry : Entry) : Type 0 where
+  pub before : before_point account (record { part = part; place = length found.events }) ≡ state_of found
+  pub at : at_point account (record { part = part; place = length found.events }) ≡ state_of (entered found by seq entry)
+  pub event : event_at account (record { part = part; place = length found.events }) ≡ Some (event_of by seq entry)
+  pub owner : part < 64 → slice_get (owners_of account part) (length found.events) ≡ Some (the_owner by seq)
+
+slice_map : (es : List PartEvent) (k : ℕ) (e : PartEvent) → slice_get es k ≡ Some e → slice_get (map owner_of es) k ≡ Some (owner_of e)
+slice_map [] k e is = absurd cc
+slice_map (x ∷ es) zero e is = ap (λ (y : PartEvent). Some (owner_of y)) (some_is x e is)
+slice_map (x ∷ es) (suc k) e is = slice_map es k e is
+
+shows_entry : (by seq : ℕ) (account : Account) (part : ℕ) (found : History) (entry : Entry) (pa : PartAccount) → IsWhole found → IsSized entry → slice_get account.parts part ≡ Some pa
+    → Longer (entered found by seq entry) (history_of pa) → ShowsEntry by seq account part found entry
+shows_entry by seq account part found entry pa whole sized there longer =
+    let n = length found.events in
+    let event = event_of by seq entry in
+    let events : pa.events ≡ found.events ++ event ∷ longer.more =
+    longer.events ∙ ap (λ (es : List PartEvent). es ++ longer.more) (entered_events found by seq entry) ∙ append_assoc found.events (event ∷ []) longer.more in
+    let here : slice_get pa.events n ≡ Some event = ap (λ (es : List PartEvent). slice_get es n) events ∙ get_seam found.events longer.more event in
+    record {
+      before = ap (λ (o : Option PartAccount). before_in o n) there ∙ before_kept found (history_of pa) whole (longer_on found (entered found by seq entry) (history_of pa) (entered_longer found by seq entry) longer);
+      at = ap (λ (o : Option PartAccount). at_in o n) there ∙ at_kept found (history_of pa) by seq entry whole sized longer;
+      event = ap (λ (o : Option PartAccount). event_in o n) there ∙ here;
+      owner = λ lt.
+          let no : eqb part 64 ≡ false = ne_eqb part 64 (λ e. omega (arith, lt, e)) in
+          rw (no, there) (slice_map pa.events n event here ∙ ap Some (event_owner by seq entry));
+    }
+
+-- what accepting leaves in an account that goes on from it
+pub record ShowsAccepted (by seq : ℕ) (account : Account) (decisions : List Decision) (noted : List Noted) : Type 0 where
+  pub steps : AllZip (IsStep account) decisions (steps_of noted)
+  pub shown : shown_as_accepted account (steps_of noted) ≡ shown_of noted
+  pub owned : AllByRecursion (λ point. slice_get (owners_of account point.part) point.place ≡ Some (the_owner by seq)) (step_points (steps_of noted))
+
+is_entry : (by seq : ℕ) (account : Account) (part : ℕ) (found : History) (entry : Entry) → IsWhole found → IsSized entry → ShowsEntry by seq account part found entry
+    → IsEntry account (record { part = part; place = length found.events }) entry
+is_entry by seq account part found (Put count batch) whole sized s =
+    let before = λ (state : PartState). state.batches ++ record { base = state.log_end; count = count; bytes = stamped state.log_end batch } ∷ [] in
+    ap (λ (state : PartState). state.batches) s.at ∙ put_batches found by seq count batch whole sized ∙ ap before (sym s.before)
+is_entry by seq account part found (Followed replica offset) whole sized s = (by, seq, s.event)
+is_entry by seq account part found Looked whole sized s = (by, seq, s.event)
+
+pub accepted_shows : (by seq n : ℕ) (decisions : List Decision) (parts : List History) (account : Account) → length parts ≡ n → n ≤ 64 → AllWhole parts → AllByRecursion (IsFair n) decisions
+    → Follows account (accept_all by seq decisions parts).1 → ShowsAccepted by seq account decisions (accept_all by seq decisions parts).0
+accepted_shows by seq n [] parts account size few whole fair follows = record { steps = tt; shown = refl; owned = tt }
+accepted_shows by seq n (Refuse code ∷ decisions) parts account size few whole fair follows =
+    let rest = accepted_shows by seq n decisions parts account size few whole fair.1 follows in
+    record { steps = (refl, rest.steps); shown = ap (λ (s : List Shown). record { result = Refused code; state = no_state } ∷ s) rest.shown; owned = rest.owned }
+accepted_shows by seq n (AskLog part outcome ∷ decisions) parts account size few whole fair follows =
+    let found = history_at parts part in
+    let came = outcome (state_of found) in
+    let left = entered found by seq came.entry in
+    let within : part < length parts = omega (arith, size, fair.0.0) in
+    let there : slice_get parts part ≡ Some found = get_there parts part (empty_history 0) within in
+    let found_whole : IsWhole found = whole part found there in
+    let sized : IsSized came.entry = fair.0.1 (state_of found) in
+    let parts1 = set parts part left in
+    let size1 : length parts1 ≡ n = length-set parts part left ∙ size in
+    let whole1 : AllWhole parts1 = set_whole parts part left whole within (entered_whole found by seq came.entry found_whole sized) in
+    let rest = accepted_shows by seq n decisions parts1 account size1 few whole1 fair.1 follows in
+    let later = accepted_left by seq n decisions parts1 size1 whole1 fair.1 part left (get_set_same parts part left within) in
+    let kept = follows part later.0 later.1 in
+    let s = shows_entry by seq account part found came.entry kept.0 found_whole sized kept.1 (longer_on left later.0 (history_of kept.0) later.2.longer kept.2) in
+    let point : Point = record { part = part; place = length found.events } in
+    record {
+      steps = (
+        record {
+          point = point;
+          left = refl;
+          there = refl;
+          result = ap (λ (state : PartState). (outcome state).result) (sym s.before);
+          entry = subst (λ (state : PartState). IsEntry account point (outcome state).entry) (sym s.before) (is_entry by seq account part found came.entry found_whole sized s);
+        },
+        rest.steps,
+      );
+      shown = ap (λ (state : PartState). record { result = came.result; state = state } ∷ shown_as_accepted account (steps_of (accept_all by seq decisions parts1).0)) s.at
+          ∙ ap (λ (ss : List Shown). record { result = came.result; state = state_of left } ∷ ss) rest.shown;
+      owned = (s.owner (omega (arith, size, few, fair.0.0)), rest.owned);
+    }
+
+-- no entry stands in a partition that there isn't
+pub accepted_nowhere : (by seq n : ℕ) (decisions : List Decision) (parts : List History) → AllByRecursion (IsFair n) decisions → (p : ℕ) → n ≤ p
+    → places_in p (step_points (steps_of (accept_all by seq decisions parts).0)) ≡ []
+accepted_nowhere by seq n [] parts fair p past = refl
+accepted_nowhere by seq n (Refuse code ∷ decisions) parts fair p past = accepted_nowhere by seq n decisions parts fair.1 p past
+accepted_nowhere by seq n (AskLog part outcome ∷ decisions) parts fair p past =
+    let found = history_at parts part in
+    let left = entered found by seq (outcome (state_of found)).entry in
+    places_other p part (length found.events) (step_points (steps_of (accept_all by seq decisions (set parts part left)).0)) (λ e. omega (arith, e, past, fair.0.0))
+    ∙ accepted_nowhere by seq n decisions (set parts part left) fair.1 p past
+
+set_same : {X Y : Type 0} (f : X → Y) (xs : List X) (i : ℕ) (x y : X) → slice_get xs i ≡ Some x → f y ≡ f x → map f (set xs i y) ≡ map f xs
+set_same {Y = Y} f [] i x y there same = refl
+set_same {Y = Y} f (z ∷ xs) zero x y there same = ap (λ (v : Y). v ∷ map f xs) (same ∙ ap f (sym (some_is z x there)))
+set_same {Y = Y} f (z ∷ xs) (suc i) x y there same = ap (λ (vs : List Y). f z ∷ vs) (set_same f xs i x y there same)
+
+-- the numbers of followers stay
+pub accepted_followers : (by seq n : ℕ) (decisions : List Decision) (parts : List History) → length parts ≡ n → AllByRecursion (IsFair n) decisions
+    → map (λ h. h.followers) (accept_all by seq decisions parts).1 ≡ map (λ h. h.followers) parts
+accepted_followers by seq n [] parts size fair = refl
+accepted_followers by seq n (Refuse code ∷ decisions) parts size fair = accepted_followers by seq n decisions parts size fair.1
+accepted_followers by seq n (AskLog part outcome ∷ decisions) parts size fair =
+    let found = history_at parts part in
+    let entry = (outcome (state_of found)).entry in
+    let left = entered found by seq entry in
+    let there : slice_get parts part ≡ Some found = get_there parts part (empty_history 0) (omega (arith, size, fair.0.0)) in
+    accepted_followers by seq n decisions (set parts part left) (length-set parts part left ∙ size) fair.1
+    ∙ set_same (λ (h : History). h.followers) parts part found left there (entered_followers found by seq entry)

@@ -1,0 +1,164 @@
+-- The reply to a plain request has a frame.
+use Rattle.std.proofs.Common.{◌≡◌, ℕ, ◌<◌, ◌≤◌, ◌^◌, ℤ, List, [], ◌∷◌, ◌++◌, length, take, drop, map, sum_by, subst, refl, arith, length-append, inl, inr}
+use Rattle.std.proofs.lemmas.List.{length-map}
+use Rattle.std.proofs.lemmas.List.Sums.{sum_by-cons, sum_by-take-drop}
+use Rattle.std.specs.List.{flat_map, AllByRecursion}
+use Rattle.kbytes.specs.Field.{Field}
+use Rattle.kbytes.specs.FitsField.{FitsField}
+use Rattle.kwire.specs.declared.request.Ask.{Ask}
+use Rattle.kwire.specs.declared.request.Ask.TheVariants.{Produce, Fetch, Metadata, Versions}
+use Rattle.kwire.specs.declared.request.Request.{Request}
+use Rattle.kwire.specs.declared.request.ProducePart.{ProducePart}
+use Rattle.kwire.specs.declared.request.ProduceTopic.{ProduceTopic}
+use Rattle.kwire.specs.declared.request.FetchPart.{FetchPart}
+use Rattle.kwire.specs.declared.request.FetchTopic.{FetchTopic}
+use Rattle.kwire.specs.declared.reply.Told.TheVariants.{Fetched}
+use Rattle.kwire.specs.declared.reply.FetchedPart.{FetchedPart}
+use Rattle.kwire.specs.declared.reply.FetchedTopic.{FetchedTopic}
+use Rattle.kanswer.specs.declared.accepted.Accepted.{Accepted}
+use Rattle.kanswer.specs.declared.accepted.Accepted.TheVariants.{Refused, Appended, Seen}
+use Rattle.kanswer.specs.declared.accepted.Reading.{Reading}
+use Rattle.kanswer.specs.Answer.{produced_parts, produced_topics, first_budget, told_to, answer}
+use Rattle.kanswer.specs.LogReadings.{AreReadings, budget_of}
+use Rattle.kwire.specs.Configuration.{Configuration}
+use Rattle.kanswer.specs.Waiting.{Shown}
+use Rattle.broker.specs.Gathered.{bytes_read, most_left}
+use Rattle.kwire.specs.IsData.{IsData}
+use Rattle.kwire.specs.IsRequest.{IsRequest, Named, named_of, topics_named, ask_fields, produce_part_fields, produce_topic_fields, fetch_part_fields, fetch_topic_fields}
+use Rattle.kwire.specs.IsSpellable.{IsSpellable}
+use Rattle.broker.specs.PlainStream.{IsPlainAsk}
+use Rattle.kanswer.specs.ToldParts.{parts_by, fetched_part, fetched_topic, fetched_of}
+use Rattle.kanswer.proofs.Laws.{fetched_is}
+use Rattle.kwire.proofs.Laws.{IsProducedTopic, IsFetchedPart, IsFetchedTopic, records_in, produced_spellable, fetched_spellable}
+
+-- what stands behind some fields fits too
+behind_fit : (fs gs : List Field) → AllByRecursion FitsField (fs ++ gs) → AllByRecursion FitsField gs
+behind_fit [] gs all = all
+behind_fit (f ∷ fs) gs all = behind_fit fs gs all.1
+
+module _ {T P : Type 0} (parts : T → List P) (named : T → P → Named) where
+  all_named : (topics : List T) → length (flat_map (λ t. map (named t) (parts t)) topics) ≡ sum_by (λ t. length (parts t)) topics
+  all_named [] = refl
+  all_named (t ∷ topics) =
+      omega (
+        arith,
+        length-append (map (named t) (parts t)) (flat_map (λ (u : T). map (named u) (parts u)) topics),
+        length-map (parts t) (named t),
+        sum_by-cons (λ (u : T). length (parts u)) t topics,
+        all_named topics,
+      )
+
+-- ---- produces
+
+few_produced : (acks : ℤ) (parts : List ProducePart) (shown : List Shown) → length (produced_parts acks parts shown) ≤ length parts
+few_produced acks [] shown = omega arith
+few_produced acks (asked ∷ parts) [] = omega arith
+few_produced acks (asked ∷ parts) (s ∷ shown) = let rest = few_produced acks parts shown in omega arith
+
+produced_length : (acks : ℤ) (topics : List ProduceTopic) (shown : List Shown) → length (produced_topics acks topics shown) ≡ length topics
+produced_length acks [] shown = refl
+produced_length acks (topic ∷ topics) shown = let rest = produced_length acks topics (drop (length topic.parts) shown) in omega arith
+
+produced_fine : (acks : ℤ) (topics : List ProduceTopic) (shown : List Shown) → sum_by (λ topic. length topic.parts) topics ≤ 64
+    → AllByRecursion FitsField (flat_map produce_topic_fields topics) → AllByRecursion IsProducedTopic (produced_topics acks topics shown)
+produced_fine acks [] shown few fits = tt
+produced_fine acks (topic ∷ topics) shown few fits =
+    let count = sum_by-cons (λ (t : ProduceTopic). length t.parts) topic topics in
+    let here = few_produced acks topic.parts (take (length topic.parts) shown) in
+    let rest = behind_fit (flat_map produce_part_fields topic.parts) (flat_map produce_topic_fields topics) fits.1.1 in
+    (record { name = fits.0; few = omega arith }, produced_fine acks topics (drop (length topic.parts) shown) (omega arith) rest)
+
+-- ---- fetches
+
+few_parts : {A B : Type 0} (f : A → Accepted → Reading → B) (parts : List A) (results : List Accepted) (readings : List Reading) → length (parts_by f parts results readings) ≤ length parts
+few_parts f [] results readings = omega arith
+few_parts f (asked ∷ parts) [] readings = omega arith
+few_parts f (asked ∷ parts) (result ∷ results) [] = omega arith
+few_parts f (asked ∷ parts) (result ∷ results) (reading ∷ readings) = let rest = few_parts f parts results readings in omega arith
+
+fetched_length : (topics : List FetchTopic) (results : List Accepted) (readings : List Reading) → length (fetched_of topics results readings) ≡ length topics
+fetched_length [] results readings = refl
+fetched_length (topic ∷ topics) results readings =
+    let rest = fetched_length topics (drop (length topic.parts) results) (drop (length topic.parts) readings) in
+    omega arith
+
+part_bytes : (asked : FetchPart) (result : Accepted) (reading : Reading) → length (fetched_part asked result reading).records ≤ length reading.records
+part_bytes asked (Refused code) reading = omega arith
+part_bytes asked (Appended part base count) reading = omega arith
+part_bytes asked (Seen part start) reading = omega arith
+
+abbrev records_of : List FetchedPart → List ℕ
+records_of parts = flat_map (λ part. part.records) parts
+
+parts_bytes : (parts : List FetchPart) (results : List Accepted) (readings : List Reading) → length (records_of (parts_by fetched_part parts results readings)) ≤ bytes_read readings
+parts_bytes [] results readings = omega arith
+parts_bytes (asked ∷ parts) [] readings = omega arith
+parts_bytes (asked ∷ parts) (result ∷ results) [] = omega arith
+parts_bytes (asked ∷ parts) (result ∷ results) (reading ∷ readings) =
+    let here = part_bytes asked result reading in
+    let rest = parts_bytes parts results readings in
+    let read = sum_by-cons (λ (r : Reading). length r.records) reading readings in
+    omega (arith, length-append (fetched_part asked result reading).records (records_of (parts_by fetched_part parts results readings)))
+
+topics_bytes : (topics : List FetchTopic) (results : List Accepted) (readings : List Reading) → length (flat_map records_in (fetched_of topics results readings)) ≤ bytes_read readings
+topics_bytes [] results readings = omega arith
+topics_bytes (topic ∷ topics) results readings =
+    let n : ℕ = length topic.parts in
+    let here = parts_bytes topic.parts (take n results) (take n readings) in
+    let rest = topics_bytes topics (drop n results) (drop n readings) in
+    let read = sum_by-take-drop (λ (r : Reading). length r.records) readings n in
+    omega (arith, length-append (records_of (parts_by fetched_part topic.parts (take n results) (take n readings))) (flat_map records_in (fetched_of topics (drop n results) (drop n readings))))
+
+each_short : (parts : List FetchedPart) → length (records_of parts) < 2 ^ 31 → AllByRecursion IsFetchedPart parts
+each_short [] lt = tt
+each_short (part ∷ parts) lt =
+    let both = length-append part.records (records_of parts) in
+    (omega arith, each_short parts (omega arith))
+
+fetched_fine : (topics : List FetchTopic) (results : List Accepted) (readings : List Reading) → sum_by (λ topic. length topic.parts) topics ≤ 64 → bytes_read readings < 2 ^ 31
+    → AllByRecursion FitsField (flat_map fetch_topic_fields topics) → AllByRecursion IsFetchedTopic (fetched_of topics results readings)
+fetched_fine [] results readings few short fits = tt
+fetched_fine (topic ∷ topics) results readings few short fits =
+    let n : ℕ = length topic.parts in
+    let count = sum_by-cons (λ (t : FetchTopic). length t.parts) topic topics in
+    let here = few_parts fetched_part topic.parts (take n results) (take n readings) in
+    let bytes = parts_bytes topic.parts (take n results) (take n readings) in
+    let read = sum_by-take-drop (λ (r : Reading). length r.records) readings n in
+    let rest = behind_fit (flat_map fetch_part_fields topic.parts) (flat_map fetch_topic_fields topics) fits.1.1 in
+    let one : IsFetchedTopic (fetched_topic topic (take n results) (take n readings)) = record {
+      name = fits.0;
+      few = omega arith;
+      parts = each_short (parts_by fetched_part topic.parts (take n results) (take n readings)) (omega arith);
+    }
+    in
+    (one, fetched_fine topics (drop n results) (drop n readings) (omega arith) (omega arith) rest)
+
+-- ---- a plain request
+
+told_spellable : (config : Configuration) (correlation : ℤ) (ask : Ask) (accepted : List Accepted) (readings : List Reading) (shown : List Shown) → IsPlainAsk ask → AllByRecursion FitsField (ask_fields ask)
+    → topics_named ask ≤ 64 → length (named_of ask) ≤ 64 → AreReadings ask accepted readings shown → bytes_read readings ≤ most_left (budget_of ask)
+    → IsSpellable (record { correlation = correlation; told = told_to config ask shown })
+told_spellable config correlation (Produce transactional acks timeout topics) accepted readings shown plain fits few_topics few are room =
+    let count = all_named (λ (t : ProduceTopic). t.parts) (λ (t : ProduceTopic) (p : ProducePart). record { topic = t.name; index = p.index }) topics in
+    let size = produced_length acks topics shown in
+    produced_spellable correlation (produced_topics acks topics shown) (omega arith) (produced_fine acks topics shown (omega arith) fits.1.1.1.1)
+told_spellable config correlation (Fetch replica max_wait min_bytes max_bytes isolation topics) accepted readings shown plain fits few_topics few are room =
+    let count = all_named (λ (t : FetchTopic). t.parts) (λ (t : FetchTopic) (p : FetchPart). record { topic = t.name; index = p.index }) topics in
+    let size = fetched_length topics accepted readings in
+    let bytes = topics_bytes topics accepted readings in
+    subst (λ (told : List FetchedTopic). IsSpellable (record { correlation = correlation; told = Fetched isolation told })) (fetched_is replica topics accepted readings shown (first_budget max_bytes) are)
+    (fetched_spellable correlation isolation (fetched_of topics accepted readings) (omega arith) (fetched_fine topics accepted readings (omega arith) (omega arith) fits.1.1.1.1.1.1) (omega arith))
+told_spellable config correlation (Metadata topics) accepted readings shown plain fits few_topics few are room = absurd plain
+told_spellable config correlation (Versions version) accepted readings shown plain fits few_topics few are room = absurd plain
+
+pub plain_spellable : (config : Configuration) (request : Request) (body : List ℕ) (accepted : List Accepted) (readings : List Reading) (shown : List Shown) → IsRequest body request → IsPlainAsk request.ask
+    → AreReadings request.ask accepted readings shown → bytes_read readings ≤ most_left (budget_of request.ask) → IsSpellable (answer config request shown)
+plain_spellable config request body accepted readings shown (inl whole) plain are room =
+    told_spellable config request.correlation request.ask accepted readings shown plain whole.fits.1.1.1.1 whole.few_topics whole.few_partitions are room
+plain_spellable config request body accepted readings shown (inr other) plain are room = absurd (subst IsPlainAsk other.asked plain)
+
+pub plain_data : (config : Configuration) (ask : Ask) (shown : List Shown) → IsPlainAsk ask → IsData (told_to config ask shown)
+plain_data config (Produce transactional acks timeout topics) shown plain = tt
+plain_data config (Fetch replica max_wait min_bytes max_bytes isolation topics) shown plain = tt
+plain_data config (Metadata topics) shown plain = absurd plain
+plain_data config (Versions version) shown plain = absurd plain

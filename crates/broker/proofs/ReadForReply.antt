@@ -1,0 +1,263 @@
+-- What is read of the logs for a reply, and how many bytes of records that are.
+use Rattle.std.proofs.Common.{◌≡◌, ◌≤◌, ◌<◌, ◌+◌, ◌-◌, ◌||◌, ℕ, suc, ℤ, pos, Bool, true, false, cond, ltb, List, [], ◌∷◌, ◌++◌, length, get_or, take, drop, map, filter, min, sum_by, Option, Result, Ok, Err, IfOk, OnOk, All, length-append, refl, sym, ap, subst, ◌∙◌, arith, inl, inr}
+use Rattle.std.specs.Prelude.{unwrap_or, ⊤}
+use Rattle.std.specs.List.{flat_map}
+use Rattle.std.proofs.lemmas.Bool.{lt-ltb, cases_lt}
+use Rattle.std.proofs.lemmas.Option.{slice_get-get_or}
+use Rattle.std.proofs.lemmas.List.{append_assoc, drop-drop, drop_more, take_more, map-append}
+use Rattle.std.proofs.lemmas.List.Sums.{sum_by-cons, sum_by-drop_more}
+use Rattle.std.proofs.lemmas.List.Elements.{All-nil, All-push, All-append}
+use Rattle.partlog.specs.History.{History}
+use Rattle.partlog.specs.Batches.{StoredBatch}
+use Rattle.partlog.specs.State.{PartState, state_of}
+use Rattle.partlog.specs.Gauges.{bytes_in}
+use Rattle.partlog.specs.Taken.{batches_past, fitting, taken, joined}
+use Rattle.partlog.proofs.Laws.{bytes_in-cons, fitting-more, fitting-none, past-le, sum_by-filter-le}
+use Rattle.kwire.specs.declared.request.Ask.{Ask}
+use Rattle.kwire.specs.declared.request.Ask.TheVariants.{Produce, Fetch, Metadata, Versions}
+use Rattle.kwire.specs.declared.request.FetchPart.{FetchPart}
+use Rattle.kwire.specs.declared.request.FetchTopic.{FetchTopic}
+use Rattle.kanswer.specs.declared.accepted.Accepted.{Accepted}
+use Rattle.kanswer.specs.declared.accepted.Accepted.TheVariants.{Refused, Appended, Seen}
+use Rattle.kanswer.specs.declared.accepted.Reading.{Reading}
+use Rattle.kanswer.specs.declared.accepted.Budget.{Budget}
+use Rattle.broker.specs.Board.{history_at, empty_history}
+use Rattle.kanswer.specs.Waiting.{at_least_zero}
+use Rattle.kanswer.specs.Answer.{is_readable, read_of, batches_as, budget_after, first_budget}
+use Rattle.kanswer.specs.LogReadings.{AreReadings, HasNumbers, ProduceReadings, HasRecords, FetchReadings, HasCarriable, named_count, budget_of}
+use Rattle.broker.specs.Gathered.{nothing_read, state_now, shown_in_logs, reading_now, left_now, readings_now, left_behind, bytes_read, most_left}
+use Rattle.broker.specs.Replying.{HasLog}
+use Rattle.broker.specs.PlainStream.{IsPlainAsk}
+
+-- ---- one partition
+
+pub if_ok_two : {T E : Type 0} {P R : T → Type 0} {Q : Type 0} (r : Result T E) → IfOk r P → OnOk r Q → ((x : T) → P x → Q → R x) → IfOk r R
+if_ok_two (Ok x) p q f = f x p q
+if_ok_two (Err e) p q f = tt
+
+pub if_ok_then : {T E : Type 0} {P R : T → Type 0} (r : Result T E) → IfOk r P → ((x : T) → P x → R x) → IfOk r R
+if_ok_then (Ok x) p f = f x p
+if_ok_then (Err e) p f = tt
+
+seen_at : (parts : List History) (part : ℕ) (h : History) → part < length parts → h ≡ get_or parts part h → history_at parts part ≡ h
+seen_at parts part h lt is = ap (λ (o : Option History). unwrap_or o (empty_history 0)) (slice_get-get_or parts part h lt) ∙ sym is
+
+pub seen_left : (parts : List History) (r replica : ℤ) (asked : FetchPart) (became : Accepted) (part start : ℕ) (h : History) (b new : Budget) → r ≡ replica → became ≡ Seen part start → HasLog parts became → h ≡ get_or parts part h
+    → new ≡ budget_after (read_of r asked start (state_of h) b) b → new ≡ left_now parts replica asked became b
+seen_left parts r replica asked became part start h b new who is has at e =
+    let lt : part < length parts = subst (HasLog parts) is has in
+    e
+    ∙ ap (λ (z : ℤ). budget_after (read_of z asked start (state_of h) b) b) who
+    ∙ ap (λ (x : History). budget_after (read_of replica asked start (state_of x) b) b) (sym (seen_at parts part h lt at))
+    ∙ ap (λ (a : Accepted). left_now parts replica asked a b) (sym is)
+
+joined_bytes : (bs : List StoredBatch) → length (joined bs) ≡ bytes_in bs
+joined_bytes [] = refl
+joined_bytes (b ∷ bs) = length-append b.bytes (joined bs) ∙ ap (λ (n : ℕ). length b.bytes + n) (joined_bytes bs) ∙ sym (bytes_in-cons b bs)
+
+fitting_within : (limit : ℕ) (bs : List StoredBatch) → bytes_in (fitting limit bs) ≤ limit
+fitting_within limit [] = omega arith
+fitting_within limit (b ∷ bs) =
+    let rest = fitting_within (limit - length b.bytes) bs in
+    elim (cases_lt limit (length b.bytes)) as (λ _. bytes_in (fitting limit (b ∷ bs)) ≤ limit) [
+      | inl lt ↦ let none = ap bytes_in (fitting-none b bs limit lt) in omega arith
+      | inr le ↦ let more = ap bytes_in (fitting-more b bs limit le) in omega (arith, bytes_in-cons b (fitting (limit - length b.bytes) bs))
+    ]
+
+first_within : (bs : List StoredBatch) → bytes_in (take 1 bs) ≤ bytes_in bs
+first_within [] = omega arith
+first_within (b ∷ bs) = omega (arith, bytes_in-cons b [], bytes_in-cons b bs)
+
+none_joined : (bs : List StoredBatch) → ltb 0 (length bs) ≡ false → length (joined bs) ≡ 0
+none_joined [] e = refl
+none_joined (b ∷ bs) e = let some : true ≡ false = sym (lt-ltb 0 (length (b ∷ bs)) (omega arith)) ∙ e in absurd cc
+
+slack_step : (left len : ℕ) (some : Bool) → len ≤ left + 67108864 → (some ≡ false → len ≡ 0) → len + ((left - len) + cond some 0 67108864) ≤ left + 67108864
+slack_step left len true le none = omega arith
+slack_step left len false le none = let z : len ≡ 0 = none refl in omega arith
+
+abbrev budget_at : ℕ → Bool → Budget
+budget_at left any = record { left = left; any = any }
+
+taken_room : (limit left : ℕ) (any : Bool) (bs : List StoredBatch) → limit ≤ left → bytes_in bs ≤ 67108864
+    → length (joined (taken limit any bs)) + most_left (budget_after (taken limit any bs) (record { left = left; any = any })) ≤ most_left (record { left = left; any = any })
+taken_room limit left true bs le few = omega (arith, joined_bytes (fitting limit bs), fitting_within limit bs)
+taken_room limit left false bs le few =
+    let ts : List StoredBatch = taken limit false bs in
+    let within : length (joined ts) ≤ left + 67108864 =
+    elim (ltb 0 (length (fitting limit bs))) as (λ some. length (joined (cond some (fitting limit bs) (take 1 bs))) ≤ left + 67108864) [
+      | true ↦ omega (arith, joined_bytes (fitting limit bs), fitting_within limit bs)
+      | false ↦ omega (arith, joined_bytes (take 1 bs), first_within bs)
+    ]
+    in
+    slack_step left (length (joined ts)) (ltb 0 (length ts)) within (none_joined ts)
+
+pub seen_room : (replica : ℤ) (asked : FetchPart) (start : ℕ) (state : PartState) (b new : Budget) (records : List ℕ) → bytes_in state.batches ≤ 67108864
+    → records ≡ joined (read_of replica asked start state b) → new ≡ budget_after (read_of replica asked start state b) b → length records + most_left new ≤ most_left b
+seen_room replica asked start state b new records few e1 e2 =
+    let read = read_of replica asked start state b in
+    let bs = filter (is_readable replica state) (batches_past start state.batches) in
+    let less = sum_by-filter-le (λ (x : StoredBatch). length x.bytes) (is_readable replica state) (batches_past start state.batches) in
+    let past = past-le start state.batches in
+    let r = taken_room (min (at_least_zero asked.most) b.left) b.left b.any bs (omega arith) (omega arith) in
+    subst (λ (n : Budget). length records + most_left n ≤ most_left b) (sym e2)
+    (subst (λ (rs : List ℕ). length rs + most_left (budget_after read b) ≤ most_left b) (sym e1) r)
+
+-- ---- partitions one after the other
+
+pub readings-append : (parts : List History) (replica : ℤ) (asked more : List FetchPart) (accepted : List Accepted) (b : Budget)
+    → readings_now parts replica (asked ++ more) accepted b ≡ readings_now parts replica asked (take (length asked) accepted) b ++ readings_now parts replica more (drop (length asked) accepted) (left_behind parts replica asked (take (length asked) accepted) b)
+readings-append parts replica [] more accepted b = refl
+readings-append parts replica (a ∷ asked) [] [] b = refl
+readings-append parts replica (a ∷ asked) (m ∷ more) [] b = refl
+readings-append parts replica (a ∷ asked) more (x ∷ accepted) b =
+    ap (λ (rs : List Reading). reading_now parts replica a x b ∷ rs) (readings-append parts replica asked more accepted (left_now parts replica a x b))
+
+pub readings-length : (parts : List History) (replica : ℤ) (asked : List FetchPart) (accepted : List Accepted) (b : Budget) → length accepted ≡ length asked → length (readings_now parts replica asked accepted b) ≡ length accepted
+readings-length parts replica [] [] b e = refl
+readings-length parts replica [] (x ∷ accepted) b e = absurd (omega arith)
+readings-length parts replica (a ∷ asked) [] b e = refl
+readings-length parts replica (a ∷ asked) (x ∷ accepted) b e = ap (λ (n : ℕ). suc n) (readings-length parts replica asked accepted (left_now parts replica a x b) (omega arith))
+
+none_after : (b : Budget) → budget_after [] b ≡ b
+none_after b =
+    let same : (any : Bool) → (any || false) ≡ any = λ any. elim any as (λ y. (y || false) ≡ y) [ true ↦ refl | false ↦ refl ] in
+    let left : b.left - 0 ≡ b.left = omega arith in
+    ap (λ (n : ℕ). budget_at n (b.any || false)) left ∙ ap (λ (y : Bool). budget_at b.left y) (same b.any)
+
+left_after : (parts : List History) (replica : ℤ) (asked : FetchPart) (became : Accepted) (b : Budget) → left_now parts replica asked became b ≡ budget_after (batches_as replica asked became (state_now parts became) b) b
+left_after parts replica asked (Refused code) b = sym (none_after b)
+left_after parts replica asked (Appended part base count) b = sym (none_after b)
+left_after parts replica asked (Seen part start) b = refl
+
+records_now : (parts : List History) (replica : ℤ) (asked : FetchPart) (became : Accepted) (b : Budget) → HasRecords replica asked became (reading_now parts replica asked became b) (state_now parts became) b
+records_now parts replica asked (Refused code) b = tt
+records_now parts replica asked (Appended part base count) b = tt
+records_now parts replica asked (Seen part start) b = (refl, refl)
+
+pub now_are_readings : (parts : List History) (replica : ℤ) (asked : List FetchPart) (accepted : List Accepted) (b : Budget) → length accepted ≡ length asked → FetchReadings replica asked accepted (readings_now parts replica asked accepted b) (shown_in_logs parts accepted) b
+now_are_readings parts replica [] [] b e = tt
+now_are_readings parts replica [] (x ∷ accepted) b e = absurd (omega arith)
+now_are_readings parts replica (a ∷ asked) [] b e = absurd (omega arith)
+now_are_readings parts replica (a ∷ asked) (x ∷ accepted) b e =
+    let rest = now_are_readings parts replica asked accepted (left_now parts replica a x b) (omega arith) in (
+      refl,
+      records_now parts replica a x b,
+      subst (λ (n : Budget). FetchReadings replica asked accepted (readings_now parts replica asked accepted (left_now parts replica a x b)) (shown_in_logs parts accepted) n) (left_after parts replica a x b) rest,
+    )
+
+flat_length : (topics : List FetchTopic) → length (flat_map (λ topic. topic.parts) topics) ≡ sum_by (λ topic. length topic.parts) topics
+flat_length [] = refl
+flat_length (t ∷ topics) =
+    length-append t.parts (flat_map (λ topic. topic.parts) topics) ∙ ap (λ (n : ℕ). length t.parts + n) (flat_length topics) ∙ sym (sum_by-cons (λ (topic : FetchTopic). length topic.parts) t topics)
+
+-- ---- the whole request
+
+-- so many partitions as became something
+fetch_count : (ask : Ask) (replica max_wait min_bytes max_bytes isolation : ℤ) (topics : List FetchTopic) (accepted : List Accepted) → ask ≡ Fetch replica max_wait min_bytes max_bytes isolation topics
+    → length accepted ≡ named_count ask → length accepted ≡ length (flat_map (λ topic. topic.parts) topics)
+fetch_count ask replica max_wait min_bytes max_bytes isolation topics accepted is size = size ∙ ap named_count is ∙ sym (flat_length topics)
+
+pub fetch_size : (parts : List History) (ask : Ask) (r replica max_wait min_bytes max_bytes isolation : ℤ) (topics items : List FetchTopic) (accepted : List Accepted) (b : Budget) (readings : List Reading) → ask ≡ Fetch replica max_wait min_bytes max_bytes isolation topics
+    → items ≡ topics → length accepted ≡ named_count ask → readings ≡ readings_now parts r (flat_map (λ topic. topic.parts) items) accepted b → length readings ≡ length accepted
+fetch_size parts ask r replica max_wait min_bytes max_bytes isolation topics items accepted b readings is same size e =
+    let count = fetch_count ask replica max_wait min_bytes max_bytes isolation topics accepted is size in
+    ap (λ (rs : List Reading). length rs) e
+    ∙ readings-length parts r (flat_map (λ topic. topic.parts) items) accepted b (count ∙ ap (λ (ts : List FetchTopic). length (flat_map (λ topic. topic.parts) ts)) (sym same))
+
+pub fetch_read : (parts : List History) (ask : Ask) (r replica max_wait min_bytes max_bytes isolation : ℤ) (topics items : List FetchTopic) (accepted : List Accepted) (b : Budget) (readings : List Reading) → ask ≡ Fetch replica max_wait min_bytes max_bytes isolation topics
+    → r ≡ replica → items ≡ topics → b ≡ budget_of ask → length accepted ≡ named_count ask → readings ≡ readings_now parts r (flat_map (λ topic. topic.parts) items) accepted b
+    → AreReadings ask accepted readings (shown_in_logs parts accepted)
+fetch_read parts ask r replica max_wait min_bytes max_bytes isolation topics items accepted b readings is who same eb size e =
+    let count = fetch_count ask replica max_wait min_bytes max_bytes isolation topics accepted is size in
+    let all : readings ≡ readings_now parts replica (flat_map (λ topic. topic.parts) topics) accepted (first_budget max_bytes) =
+    e
+    ∙ ap (λ (z : ℤ). readings_now parts z (flat_map (λ topic. topic.parts) items) accepted b) who
+    ∙ ap (λ (ts : List FetchTopic). readings_now parts replica (flat_map (λ topic. topic.parts) ts) accepted b) same
+    ∙ ap (λ (x : Budget). readings_now parts replica (flat_map (λ topic. topic.parts) topics) accepted x) (eb ∙ ap budget_of is)
+    in
+    subst (λ (a : Ask). AreReadings a accepted readings (shown_in_logs parts accepted)) (sym is)
+    (subst (λ (rs : List Reading). FetchReadings replica (flat_map (λ topic. topic.parts) topics) accepted rs (shown_in_logs parts accepted) (first_budget max_bytes)) (sym all)
+    (now_are_readings parts replica (flat_map (λ topic. topic.parts) topics) accepted (first_budget max_bytes) count))
+
+nothing_numbers : (parts : List History) (became : Accepted) → HasNumbers became nothing_read (state_now parts became)
+nothing_numbers parts (Refused code) = tt
+nothing_numbers parts (Appended part base count) = refl
+nothing_numbers parts (Seen part start) = tt
+
+nothing_are : (parts : List History) (accepted : List Accepted) → ProduceReadings accepted (map (λ became. nothing_read) accepted) (shown_in_logs parts accepted)
+nothing_are parts [] = tt
+nothing_are parts (x ∷ accepted) = (refl, nothing_numbers parts x, nothing_are parts accepted)
+
+pub nothing_offsets : (accepted : List Accepted) → All HasCarriable (map (λ became. nothing_read) accepted)
+nothing_offsets [] = All-nil HasCarriable
+nothing_offsets (x ∷ accepted) = All-append HasCarriable (nothing_read ∷ []) (map (λ became. nothing_read) accepted) (All-push HasCarriable [] nothing_read (All-nil HasCarriable) (omega arith)) (nothing_offsets accepted)
+
+pub nothing_bytes : (accepted : List Accepted) → bytes_read (map (λ became. nothing_read) accepted) ≡ 0
+nothing_bytes [] = refl
+nothing_bytes (x ∷ accepted) = omega (arith, sum_by-cons (λ (reading : Reading). length reading.records) nothing_read (map (λ became. nothing_read) accepted), nothing_bytes accepted)
+
+-- a plain request that is no fetch
+abbrev pub IsNoFetch : Ask → Type 0
+IsNoFetch (Produce transactional acks timeout topics) = ⊤
+IsNoFetch (Fetch replica max_wait min_bytes max_bytes isolation topics) = ⊥
+IsNoFetch (Metadata topics) = ⊤
+IsNoFetch (Versions version) = ⊤
+
+pub nothing_read_are : (parts : List History) (ask : Ask) (accepted : List Accepted) (readings : List Reading) → IsNoFetch ask → IsPlainAsk ask → readings ≡ map (λ became. nothing_read) accepted → AreReadings ask accepted readings (shown_in_logs parts accepted)
+nothing_read_are parts (Produce transactional acks timeout topics) accepted readings other plain e =
+    subst (λ (rs : List Reading). ProduceReadings accepted rs (shown_in_logs parts accepted)) (sym e) (nothing_are parts accepted)
+nothing_read_are parts (Fetch replica max_wait min_bytes max_bytes isolation topics) accepted readings other plain e = absurd other
+nothing_read_are parts (Metadata topics) accepted readings other plain e = absurd plain
+nothing_read_are parts (Versions version) accepted readings other plain e = absurd plain
+
+-- ---- topic after topic
+
+pub topic_size : (topics : List FetchTopic) (i : ℕ) (t : FetchTopic) → i < length topics → t ≡ get_or topics i t
+    → sum_by (λ topic. length topic.parts) (drop i topics) ≡ length t.parts + sum_by (λ topic. length topic.parts) (drop (i + 1) topics)
+topic_size topics i t lt is =
+    sum_by-drop_more (λ (topic : FetchTopic). length topic.parts) topics i t lt
+    ∙ ap (λ (x : FetchTopic). length x.parts + sum_by (λ (topic : FetchTopic). length topic.parts) (drop (i + 1) topics)) (sym is)
+
+pub topic_read : (parts : List History) (r : ℤ) (topics : List FetchTopic) (items : List FetchPart) (accepted : List Accepted) (i from n : ℕ) (t : FetchTopic) (b left : Budget) (before now whole : List Reading)
+    → i < length topics → t ≡ get_or topics i t → items ≡ t.parts → n ≡ length t.parts
+    → now ≡ before ++ readings_now parts r items (take (from + n - from) (drop from accepted)) b
+    → left ≡ left_behind parts r items (take (from + n - from) (drop from accepted)) b
+    → before ++ readings_now parts r (flat_map (λ topic. topic.parts) (drop i topics)) (drop from accepted) b ≡ whole
+    → now ++ readings_now parts r (flat_map (λ topic. topic.parts) (drop (i + 1) topics)) (drop (from + n) accepted) left ≡ whole
+topic_read parts r topics items accepted i from n t b left before now whole lt is same len e1 e2 so_far =
+    let more : List FetchPart = flat_map (λ (topic : FetchTopic). topic.parts) (drop (i + 1) topics) in
+    let here : List Accepted = drop from accepted in
+    let k : from + n - from ≡ length items = omega (arith, ap (λ (ps : List FetchPart). length ps) same) in
+    let size : n ≡ length items = len ∙ ap (λ (ps : List FetchPart). length ps) (sym same) in
+    let cut : take (from + n - from) here ≡ take (length items) here = ap (λ (m : ℕ). take m here) k in
+    let rest : drop (from + n) accepted ≡ drop (length items) here = ap (λ (m : ℕ). drop (from + m) accepted) size ∙ sym (drop-drop (length items) from accepted) in
+    let first : List Reading = readings_now parts r items (take (length items) here) b in
+    let behind : Budget = left_behind parts r items (take (length items) here) b in
+    let now_is : now ≡ before ++ first = e1 ∙ ap (λ (xs : List Accepted). before ++ readings_now parts r items xs b) cut in
+    let left_is : left ≡ behind = e2 ∙ ap (λ (xs : List Accepted). left_behind parts r items xs b) cut in
+    let flat : flat_map (λ (topic : FetchTopic). topic.parts) (drop i topics) ≡ items ++ more =
+    ap (λ (ts : List FetchTopic). flat_map (λ (topic : FetchTopic). topic.parts) ts) (drop_more topics i t lt) ∙ ap (λ (x : FetchTopic). x.parts ++ more) (sym is) ∙ ap (λ (ps : List FetchPart). ps ++ more) (sym same) in
+    let split : readings_now parts r (flat_map (λ (topic : FetchTopic). topic.parts) (drop i topics)) here b ≡ first ++ readings_now parts r more (drop (length items) here) behind =
+    ap (λ (ps : List FetchPart). readings_now parts r ps here b) flat ∙ readings-append parts r items more here b in
+    ap (λ (xs : List Accepted). now ++ readings_now parts r more xs left) rest
+    ∙ ap (λ (x : Budget). now ++ readings_now parts r more (drop (length items) here) x) left_is
+    ∙ ap (λ (rs : List Reading). rs ++ readings_now parts r more (drop (length items) here) behind) now_is
+    ∙ append_assoc before first (readings_now parts r more (drop (length items) here) behind)
+    ∙ ap (λ (rs : List Reading). before ++ rs) (sym split)
+    ∙ so_far
+
+pub nothing_held : (accepted : List Accepted) (readings : List Reading) → readings ≡ map (λ became. nothing_read) accepted → All HasCarriable readings
+nothing_held accepted readings e = subst (λ (rs : List Reading). All HasCarriable rs) (sym e) (nothing_offsets accepted)
+
+pub nothing_room : (accepted : List Accepted) (readings : List Reading) (room : ℕ) → readings ≡ map (λ became. nothing_read) accepted → bytes_read readings ≤ room
+nothing_room accepted readings room e = omega (arith, ap bytes_read e, nothing_bytes accepted)
+
+pub nothing_next : (accepted : List Accepted) (i : ℕ) (readings new : List Reading) (r : Reading) → i < length accepted → readings ≡ map (λ became. nothing_read) (take i accepted) → r ≡ nothing_read → new ≡ readings ++ r ∷ []
+    → new ≡ map (λ became. nothing_read) (take (i + 1) accepted)
+nothing_next accepted i readings new r lt so_far is e =
+    let none : Accepted → Reading = λ became. nothing_read in
+    e
+    ∙ ap (λ (x : Reading). readings ++ x ∷ []) is
+    ∙ ap (λ (rs : List Reading). rs ++ nothing_read ∷ []) so_far
+    ∙ sym (ap (map none) (take_more accepted i (Refused (pos 0)) lt) ∙ map-append none (take i accepted) (get_or accepted i (Refused (pos 0)) ∷ []))

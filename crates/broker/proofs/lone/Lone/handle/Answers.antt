@@ -1,0 +1,34 @@
+use Rattle.std.proofs.Common.{◌≡◌, ℕ, ◌-◌, ◌++◌, List, length, take, drop, set, sym, ap, subst, ◌∙◌, arith}
+use Rattle.partlog.specs.History.{History}
+use Rattle.broker.specs.AtOnce.{IsAnsweredAtOnce}
+use Rattle.broker.specs.Board.{Seat, seat_at}
+use Rattle.kwire.specs.IsRequest.{IsRequest}
+use Rattle.broker.specs.Ready.{front_body}
+use Rattle.broker.proofs.Calling.{parts_written, desk_written, seat_shown, board_of, call_of, noted, counted_at, call_made}
+use Rattle.kwire.proofs.Laws.{whole_within}
+use Rattle.broker.proofs.lone.Lone.handle.Goals as goal
+
+pub note-requires : goal.note-requires
+note-requires c =
+    let seat = seat_shown c.args.self.now _ c.as_mut_slice.result.now c.args.session c.index-as_mut_slice-session.result c.self.view_is c.as_mut_slice.ensures.value c.requires.there c.index-as_mut_slice-session.is in
+    omega (arith, whole_within (seat_at c.args.self.now c.args.session).inbox c.args.end c.requires.whole, ap (λ (s : Seat). length s.inbox) seat, ap (λ (s : Seat). length s.inbox) c.index-as_mut_slice-session.is)
+
+pub returns : goal.returns
+returns c =
+    let view = c.self.view_is in
+    let config = c.self.inside.config in
+    let session = c.args.session in
+    let board = c.args.self.now in
+    let first = seat_shown board _ c.as_slice.result.now session c.index-as_slice-session.result view c.as_slice.ensures c.requires.there c.index-as_slice-session.is in
+    let seat = seat_shown board _ c.as_mut_slice.result.now session c.index-as_mut_slice-session.result view c.as_mut_slice.ensures.value c.requires.there c.index-as_mut_slice-session.is in
+    let parts : length c.answer_at_once.new.parts ≡ length c.self.inside.parts = c.answer_at_once.auto.parts ∙ ap length c.as_mut_slice-parts.ensures.value in
+    let frame : c.in_ok-body.body ≡ front_body board session c.args.end = c.in_ok-body.ensures ∙ ap (λ (s : Seat). take (c.args.end - 4) (drop 4 s.inbox)) (sym first) in
+    let call = call_of c.in_ok-body.body c.in_ok-accept.accept c.new.result c.how_at_once.result in
+    let desk : c.note.new.self ≡ noted session c.args.end (seat_at board session) call = c.in_ok-note.ensures ∙ ap (λ (s : Seat). noted session c.args.end s call) (sym (seat ∙ c.index-as_mut_slice-session.is)) in
+    let answered = subst (λ (ps : List History). IsAnsweredAtOnce config session c.calls.result c.in_ok-request.request ps c.answer_at_once.new.parts c.in_ok-accept.accept c.args.out.now c.answer_at_once.new.out) c.as_mut_slice-parts.ensures.value c.in_ok-accept.ensures in
+    let noted_seats : List Seat = set c.as_mut_slice.result.now session c.note.new.self in
+    let seats : List Seat = take (length c.self.inside.desks) (noted_seats ++ drop (length noted_seats) c.self.inside.desks) in
+    call_made config c.self.inside.parts c.answer_at_once.new.parts c.self.inside.desks board _ session c.args.end c.calls.result c.in_ok-request.request c.in_ok-body.body c.in_ok-accept.accept c.new.result c.how_at_once.result
+    c.args.out.now c.answer_at_once.new.out view c.requires (counted_at board session c.calls.result c.index-as_slice-session.result first c.calls.ensures) frame (subst (λ (x : List ℕ). IsRequest x c.in_ok-request.request) c.as_slice-2.ensures c.in_ok-request.ensures.0) answered c.new.ensures c.how_at_once.ensures
+    (ap (λ (ps : List History). board_of config ps seats) (parts_written c.self.inside.parts c.answer_at_once.new.parts parts)
+    ∙ ap (λ (ss : List Seat). board_of config c.answer_at_once.new.parts ss) (desk_written c.self.inside.desks c.as_mut_slice.result.now session c.note.new.self c.as_mut_slice.ensures.value ∙ ap (set c.self.inside.desks session) desk))

@@ -1,0 +1,38 @@
+-- ==== the words of public contracts
+
+-- what the one-thread broker keeps, and its account
+pub mod Board
+-- what accepting a request does to the histories
+pub mod Entering
+-- what the one-thread broker does with a request
+pub mod Turns
+-- how it scans the requests that wait
+pub mod Completing
+-- which sessions can act, and what one does
+pub mod Acting
+-- what a trace comes to on one thread
+pub mod Play
+-- streams of requests that wait for nothing
+pub mod PlainStream
+-- traces whose sessions receive such streams
+pub mod ArePlainStreams
+-- traces of the form that is built so far
+pub mod PlainForm
+-- histories and calls in which nothing waits
+pub mod Steady
+-- what a broker keeps of the lines that it was given
+pub mod Fed
+-- decisions that were carried out
+pub mod Carried
+-- a broker amid a trace
+pub mod UnderWay
+-- ==== the words of private functions
+
+-- a broker that can handle the frame at the front of a session's bytes
+pub mod Ready
+-- a request that needn't wait was accepted and answered
+pub mod AtOnce
+-- from what a reply that needn't wait is computed
+pub mod Replying
+-- what is read of the named partitions as their logs are
+pub mod Gathered

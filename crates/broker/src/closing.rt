@@ -1,0 +1,116 @@
+//! What the one-thread broker did, as the account of a run.
+
+ghost use Rattle.std.specs.Prelude.{◌≡◌, [], ◌∷◌, map, option_to_list, reverse, IfOk, OnOk};
+ghost use Rattle.std.specs.List.{flat_map, AllByRecursion};
+ghost use Rattle.broker.specs.Board.{account_of, part_account, passes_of, put_before};
+ghost use Rattle.broker.specs.Fed.{IsPlainCall};
+ghost use Rattle.audit.specs.Histories.{calls_in};
+
+use crate::desk::Desk;
+use audit::{Account, PartAccount, Transcript};
+use kbytes::{List, NoMemory, copied};
+use kwire::Config;
+use partlog::PartLog;
+use std::alloc::Global;
+
+// A copy of a partition's log and history.
+fn part_account(alloc: Global, part: &PartLog) -> Result<PartAccount, NoMemory>
+    ensures { IfOk result (λ account. account ≡ part_account part.now) }
+{
+    let log = copied(alloc, part.log())?;
+    let mut events = List::new(alloc);
+    for event in part.events() {
+        events.push(*event)?;
+    }
+    Ok(PartAccount {
+        followers: part.followers(),
+        log,
+        events,
+    })
+}
+
+// The same of each partition, in order.
+#[tactic(auto, using(crate::proofs::Closings::map_more))]
+fn part_accounts(alloc: Global, parts: &[PartLog]) -> Result<List<PartAccount>, NoMemory>
+    ensures { IfOk result (λ accounts. accounts ≡ map part_account parts.now) }
+{
+    let mut accounts = List::new(alloc);
+    for part in parts {
+        accounts.push(part_account(alloc, part)?)?;
+    }
+    Ok(accounts)
+}
+
+// Puts the list of a session before the passes, which stand in reverse. Sessions behind the last named one have none.
+fn put_before(
+    alloc: Global,
+    passes: &mut List<List<Transcript>>,
+    transcript: Option<Transcript>,
+) -> Result<(), NoMemory>
+    ensures { OnOk result (reverse passes.new ≡ put_before (option_to_list transcript) (reverse passes.old)) }
+{
+    let Some(transcript) = transcript else {
+        if passes.is_empty() {
+            return Ok(());
+        }
+        return passes.push(List::new(alloc));
+    };
+    let mut pass = List::new(alloc);
+    pass.push(transcript)?;
+    passes.push(pass)
+}
+
+// The passes, the last first.
+fn reversed(
+    alloc: Global,
+    mut passes: List<List<Transcript>>,
+) -> Result<List<List<Transcript>>, NoMemory>
+    ensures { IfOk result (λ turned. turned ≡ reverse passes) }
+{
+    let mut turned = List::new(alloc);
+    while let Some(pass) = passes.pop() {
+        turned.push(pass)?;
+    }
+    Ok(turned)
+}
+
+// One list for each session up to the greatest that a line named.
+fn passes_of(alloc: Global, mut desks: List<Desk>) -> Result<List<List<Transcript>>, NoMemory>
+    ensures { IfOk result (λ passes. passes ≡ passes_of desks) }
+{
+    let mut passes = List::new(alloc);
+    while let Some(desk) = desks.pop() {
+        put_before(alloc, &mut passes, desk.into_transcript())?;
+    }
+    reversed(alloc, passes)
+}
+
+/// The account of a run in which no time passed and no request waited: the histories of the partitions, what each session
+/// did, and that the one winner completed nothing.
+pub fn account(
+    alloc: Global,
+    config: Config,
+    parts: List<PartLog>,
+    desks: List<Desk>,
+) -> Result<Account, NoMemory>
+    requires { AllByRecursion IsPlainCall (flat_map calls_in (passes_of desks)) }
+    ensures { IfOk result (λ account. account ≡ account_of (record {
+      config = config;
+      parts = parts;
+      clock = [];
+      seats = desks;
+      waiting = [];
+    })) }
+{
+    let accounts = part_accounts(alloc, parts.as_slice())?;
+    let passes = passes_of(alloc, desks)?;
+    let mut wins = List::new(alloc);
+    wins.push(0)?;
+    Ok(Account {
+        config,
+        parts: accounts,
+        clock: List::new(alloc),
+        passes,
+        wins,
+    })
+}

@@ -1,0 +1,164 @@
+//! The reply to a request that was accepted and needn't wait.
+
+ghost use Rattle.std.specs.Prelude.{ℕ, ◌≡◌, ◌≤◌, ◌+◌, ◌++◌, ◌∷◌, [], length, All, List as Items, IfOk, OnOk, sum_by, map};
+ghost use Rattle.std.specs.List.{AllByRecursion, flat_map};
+ghost use Rattle.kanswer.specs.Waiting.{Shown};
+ghost use Rattle.kanswer.specs.Answer.{answer};
+ghost use Rattle.kanswer.specs.LogReadings.{AreReadings, IsCarriable, HasCarriable, named_count, budget_of};
+ghost use Rattle.kwire.specs.IsRequest.{IsRequest};
+ghost use Rattle.broker.specs.Gathered.{reading_now, left_now, readings_now, left_behind, bytes_read, most_left, shown_in_logs, nothing_read};
+ghost use Rattle.kwire.specs.Spelling.{spelling};
+ghost use Rattle.broker.specs.PlainStream.{IsPlainAsk};
+ghost use Rattle.broker.specs.Replying.{HasLog, ShowsLogs};
+
+use kanswer::{Accepted, Budget, Reading, answer, read_nothing, read_part};
+use kbytes::{Bytes, List, NoMemory};
+use kwire::{Ask, Config, FetchPart, FetchTopic, Request, reply_bytes};
+use partlog::PartLog;
+use std::alloc::Global;
+
+// What is read of a partition as its log is.
+fn read_one(
+    alloc: Global,
+    parts: &[PartLog],
+    replica: i32,
+    asked: &FetchPart,
+    became: &Accepted,
+    budget: &mut Budget,
+) -> Result<Reading, NoMemory>
+    requires { HasLog parts.now became.now }
+    ensures read { IfOk result (λ reading. reading ≡ reading_now parts.now replica asked.now became.now budget.old) }
+    ensures left { OnOk result (budget.new ≡ left_now parts.now replica asked.now became.now budget.old) }
+    ensures offset { IfOk result HasCarriable }
+    ensures room { IfOk result (λ reading. length reading.records + most_left budget.new ≤ most_left budget.old) }
+{
+    match *became {
+        Accepted::Refused { .. } | Accepted::Appended { .. } => Ok(read_nothing(alloc)),
+        Accepted::Seen { part, start } => {
+            let log = &parts[part as usize];
+            let _log = log.log();
+            let _numbers = log.numbers();
+            read_part(alloc, replica, asked, start, log, budget)
+        }
+    }
+}
+
+// The partitions of one topic.
+fn read_topic(
+    alloc: Global,
+    parts: &[PartLog],
+    replica: i32,
+    asked: &[FetchPart],
+    accepted: &[Accepted],
+    budget: &mut Budget,
+    readings: &mut List<Reading>,
+) -> Result<(), NoMemory>
+    requires size { length accepted.now ≡ length asked.now }
+    requires logs { AllByRecursion (HasLog parts.now) accepted.now }
+    ensures read { OnOk result (readings.new ≡ readings.old ++ readings_now parts.now replica asked.now accepted.now budget.old) }
+    ensures left { OnOk result (budget.new ≡ left_behind parts.now replica asked.now accepted.now budget.old) }
+    ensures offsets { OnOk result (All HasCarriable readings.old → All HasCarriable readings.new) }
+    ensures room { OnOk result (bytes_read readings.new + most_left budget.new ≤ bytes_read readings.old + most_left budget.old) }
+{
+    for at in 0..asked.len() {
+        readings.push(read_one(alloc, parts, replica, &asked[at], &accepted[at], budget)?)?;
+    }
+    Ok(())
+}
+
+// What is read for a fetch.
+fn read_fetch(
+    alloc: Global,
+    parts: &[PartLog],
+    replica: i32,
+    topics: &[FetchTopic],
+    accepted: &[Accepted],
+    budget: Budget,
+) -> Result<List<Reading>, NoMemory>
+    requires size { length accepted.now ≡ sum_by (λ topic. length topic.parts) topics.now }
+    requires logs { AllByRecursion (HasLog parts.now) accepted.now }
+    ensures read { IfOk result (λ readings. readings ≡ readings_now parts.now replica (flat_map (λ topic. topic.parts) topics.now) accepted.now budget) }
+    ensures offsets { IfOk result (All HasCarriable) }
+    ensures room { IfOk result (λ readings. bytes_read readings ≤ most_left budget) }
+{
+    let mut budget = budget;
+    let mut readings = List::new(alloc);
+    let mut from = 0;
+    for topic in topics {
+        let upto = from + topic.parts.len();
+        let became = &accepted[from..upto];
+        read_topic(
+            alloc,
+            parts,
+            replica,
+            topic.parts.as_slice(),
+            became,
+            &mut budget,
+            &mut readings,
+        )?;
+        from = upto;
+    }
+    Ok(readings)
+}
+
+// For a produce that doesn't ask for all replicas no log is read.
+fn read_none(alloc: Global, accepted: &[Accepted]) -> Result<List<Reading>, NoMemory>
+    ensures { IfOk result (λ readings. readings ≡ map (λ became. nothing_read) accepted.now) }
+{
+    let mut readings = List::new(alloc);
+    for _became in accepted {
+        readings.push(read_nothing(alloc))?;
+    }
+    Ok(readings)
+}
+
+// What the reply needs of the logs.
+fn gather(
+    alloc: Global,
+    parts: &[PartLog],
+    request: &Request,
+    accepted: &[Accepted],
+) -> Result<List<Reading>, NoMemory>
+    requires plain { IsPlainAsk request.now.ask }
+    requires size { length accepted.now ≡ named_count request.now.ask }
+    requires logs { AllByRecursion (HasLog parts.now) accepted.now }
+    ensures read { IfOk result (λ readings. AreReadings request.now.ask accepted.now readings (shown_in_logs parts.now accepted.now)) }
+    ensures size { IfOk result (λ readings. length readings ≡ length accepted.now) }
+    ensures offsets { IfOk result (All HasCarriable) }
+    ensures room { IfOk result (λ readings. bytes_read readings ≤ most_left (budget_of request.now.ask)) }
+{
+    let budget = Budget::of(request);
+    match &request.ask {
+        Ask::Fetch {
+            replica,
+            topics,
+            ..
+        } => read_fetch(alloc, parts, *replica, topics.as_slice(), accepted, budget),
+        Ask::Produce { .. } => read_none(alloc, accepted),
+        Ask::Metadata { .. } => read_none(alloc, accepted),
+        Ask::Versions { .. } => read_none(alloc, accepted),
+    }
+}
+
+/// The frame of the reply, from what became of each named partition and from the logs as they are. A fetch reads the logs of the
+/// partitions that are seen; a produce that doesn't ask for all replicas needs none. The request was read from a body, so
+/// that its reply has a frame.
+pub fn reply_frame(
+    alloc: Global,
+    config: &Config,
+    parts: &[PartLog],
+    request: &Request,
+    accepted: &[Accepted],
+) -> Result<Bytes, NoMemory>
+    requires plain { IsPlainAsk request.now.ask }
+    requires size { length accepted.now ≡ named_count request.now.ask }
+    requires logs { AllByRecursion (HasLog parts.now) accepted.now }
+    requires offsets { All IsCarriable accepted.now }
+    requires asked { (body : Items ℕ) × IsRequest body request.now }
+    ensures { IfOk result (λ frame. (shown : Items Shown) → ShowsLogs parts.now request.now.ask accepted.now shown
+        → frame ≡ spelling (answer config.now request.now shown)) }
+{
+    let readings = gather(alloc, parts, request, accepted)?;
+    let reply = answer(alloc, config, request, accepted, readings.as_slice())?;
+    reply_bytes(alloc, &reply)
+}

@@ -1,9 +1,0 @@
-use Rattle.std.proofs.Common.{◌≡◌, length, take}
-use Rattle.kafka_room.specs.Carried.{IsCarried, fetch_decisions}
-use Rattle.kafka_room.proofs.broker.accept.accept_fetch.Given as goal
-
-abbrev pub invariant-loop-topic : goal.invariant-loop-topic
-invariant-loop-topic l = record {
-  size : length l.parts ≡ length l.fn.parts;
-  carried : IsCarried l.who.by l.who.seq (fetch_decisions l.config l.replica (take l.topic-index l.topics)) l.fn.parts l.parts l.fn.came l.came;
-}

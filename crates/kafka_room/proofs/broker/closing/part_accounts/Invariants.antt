@@ -1,6 +1,0 @@
-use Rattle.std.proofs.Common.{◌≡◌, map, take}
-use Rattle.kafka_room.specs.Board.{part_account}
-use Rattle.kafka_room.proofs.broker.closing.part_accounts.Given as goal
-
-abbrev pub invariant-loop-part : goal.invariant-loop-part
-invariant-loop-part l = l.accounts ≡ map part_account (take l.part-index l.parts)

@@ -1,6 +1,0 @@
-use Rattle.std.proofs.Common.{◌≡◌, replicate}
-use Rattle.kafka_room.specs.Board.{empty_seat}
-use Rattle.kafka_room.proofs.broker.opening.open_desks.Given as goal
-
-abbrev pub invariant-loop-number : goal.invariant-loop-number
-invariant-loop-number l = l.desks ≡ replicate l._number empty_seat

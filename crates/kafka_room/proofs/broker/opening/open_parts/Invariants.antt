@@ -1,7 +1,0 @@
-use Rattle.std.proofs.Common.{◌≡◌, map, take}
-use Rattle.kafka_room.specs.Board.{empty_history}
-use Rattle.kafka_room.specs.Configuration.{followers_of}
-use Rattle.kafka_room.proofs.broker.opening.open_parts.Given as goal
-
-abbrev pub invariant-loop-topic : goal.invariant-loop-topic
-invariant-loop-topic l = l.parts ≡ map empty_history (followers_of (take l.topic-index l.topic-items))

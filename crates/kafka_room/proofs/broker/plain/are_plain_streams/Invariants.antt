@@ -1,7 +1,0 @@
-use Rattle.std.proofs.Common.{ℕ, ◌<◌}
-use Rattle.kafka_room.specs.RunOf.{input_of}
-use Rattle.kafka_room.specs.PlainStream.{IsPlainStream}
-use Rattle.kafka_room.proofs.broker.plain.are_plain_streams.Given as goal
-
-abbrev pub invariant-loop-session : goal.invariant-loop-session
-invariant-loop-session l = (s : ℕ) → s < l.session → IsPlainStream (input_of s l.lines)

@@ -1,6 +1,0 @@
-use Rattle.std.proofs.Common.{◌≡◌, take}
-use Rattle.kafka_room.specs.RunOf.{input_of}
-use Rattle.kafka_room.proofs.broker.plain.input.Given as goal
-
-abbrev pub invariant-loop-line : goal.invariant-loop-line
-invariant-loop-line l = l.input ≡ input_of l.session (take l.line-index l.lines)

@@ -1,7 +1,0 @@
-use Rattle.std.proofs.Common.{◌≡◌, ◌++◌, take}
-use Rattle.std.specs.List.{flat_map}
-use Rattle.kafka_room.specs.Printed.{part_line, numbered}
-use Rattle.kafka_room.proofs.broker.summary.put_parts.Given as goal
-
-abbrev pub invariant-loop-number : goal.invariant-loop-number
-invariant-loop-number l = l.out ≡ l.initial.out ++ flat_map part_line (numbered 0 (take l.number l.parts))

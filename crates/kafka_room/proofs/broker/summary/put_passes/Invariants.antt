@@ -1,7 +1,0 @@
-use Rattle.std.proofs.Common.{◌≡◌, ◌++◌, take}
-use Rattle.std.specs.List.{flat_map}
-use Rattle.kafka_room.specs.Printed.{session_line}
-use Rattle.kafka_room.proofs.broker.summary.put_passes.Given as goal
-
-abbrev pub invariant-loop-transcripts : goal.invariant-loop-transcripts
-invariant-loop-transcripts l = l.out ≡ l.initial.out ++ flat_map session_line (flat_map (λ transcripts. transcripts) (take l.transcripts-index l.passes))

@@ -1,7 +1,0 @@
-use Rattle.std.proofs.Common.{◌≡◌, ◌++◌, take}
-use Rattle.std.specs.List.{flat_map}
-use Rattle.kafka_room.specs.Printed.{session_line}
-use Rattle.kafka_room.proofs.broker.summary.put_sessions.Given as goal
-
-abbrev pub invariant-loop-transcript : goal.invariant-loop-transcript
-invariant-loop-transcript l = l.out ≡ l.initial.out ++ flat_map session_line (take l.transcript-index l.transcripts)

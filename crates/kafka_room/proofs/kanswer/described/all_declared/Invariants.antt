@@ -1,6 +1,0 @@
-use Rattle.std.proofs.Common.{◌≡◌, Some, map, take}
-use Rattle.kafka_room.specs.Answer.{info_as}
-use Rattle.kafka_room.proofs.kanswer.described.all_declared.Given as goal
-
-abbrev pub invariant-loop-topic : goal.invariant-loop-topic
-invariant-loop-topic l = l.infos ≡ map (λ topic. info_as topic.name (Some topic)) (take l.topic-index l.topics)

@@ -1,5 +1,0 @@
-use Rattle.kafka_room.proofs.MentionLoops.{NoneSoFar}
-use Rattle.kafka_room.proofs.kwire.repeats.first_repeat.Given as goal
-
-abbrev pub invariant-loop-place : goal.invariant-loop-place
-invariant-loop-place l = NoneSoFar l.mentions l.place

@@ -1,5 +1,0 @@
-use Rattle.kafka_room.proofs.Pieces.{pieces_of-cut}
-use Rattle.kafka_room.proofs.trace_file.pieces.next_piece.Goals as goal
-
-pub returns-in-Some-clause-piece : goal.returns-in-Some-clause-piece
-returns-in-Some-clause-piece c = pieces_of-cut c.args.text.now c.in-Some.piece.now c.in-Some.behind.now c.in-Some.ensures.front

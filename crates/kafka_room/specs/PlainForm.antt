@@ -1,9 +1,0 @@
--- The traces that are built so far: all that their sessions receive are requests that wait for nothing.
-use Rattle.std.specs.Prelude.{ℕ, List}
-use Rattle.kafka_room.specs.declared.trace_file.line.Line.{Line}
-use Rattle.kafka_room.specs.ArePlainStreams.{ArePlainStreams}
-use Rattle.kafka_room.specs.Trace.{IsPlainTrace}
-
-pub record IsPlainForm (text : List ℕ) (lines : List Line) : Type 0 where
-  pub trace : IsPlainTrace text lines
-  pub streams : ArePlainStreams lines

@@ -1,5 +1,0 @@
-//! The account of a run.
-
-pub mod account;
-
-pub use account::{Account, Call, CallHow, PartAccount, Point, SessionEnd, Transcript};

@@ -1,0 +1,6 @@
+-- What the crates above may cite.
+
+-- what is decided of a request is one thing
+pub use Rattle.kanswer.proofs.DecidedOnce.{decided_once}
+-- what is told from the readings is the answer over the states that were read
+pub use Rattle.kanswer.proofs.AnswersAgree.{produced_is, fetched_is}

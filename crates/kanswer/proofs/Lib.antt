@@ -1,0 +1,8 @@
+-- what the crates above may cite
+pub mod Laws
+-- what is read of one partition
+pub mod PartBatches
+-- what is decided of a request is one thing
+pub mod DecidedOnce
+-- what is told from the readings is the answer over the states that were read
+pub mod AnswersAgree

@@ -1,0 +1,47 @@
+use Rattle.std.proofs.Common.{◌≡◌, ℤ, List, sym, ap, subst, ◌∙◌, rules}
+use Rattle.std.proofs.lemmas.Int.{to_z-of_z}
+use Rattle.std.specs.Int.{w8, w16}
+use mir.Val.{SFits}
+use Rattle.kwire.specs.declared.request.Ask.{Ask}
+use Rattle.kwire.specs.declared.request.ProduceTopic.{ProduceTopic}
+use Rattle.kwire.specs.declared.request.FetchTopic.{FetchTopic}
+use Rattle.kwire.specs.declared.reply.Told.TheVariants.{Produced, Fetched}
+use Rattle.kanswer.specs.Answer.{first_budget, told_to}
+use Rattle.kanswer.specs.LogReadings.{AreReadings}
+use Rattle.kanswer.specs.ToldParts.{produced_of, fetched_of}
+use Rattle.kanswer.proofs.AnswersAgree.{produced_is, fetched_is}
+use Rattle.kanswer.proofs.replies.told_to.Goals as goal
+
+pub returns-in_ok-produced_topics-in-Produce : goal.returns-in_ok-produced_topics-in-Produce
+returns-in_ok-produced_topics-in-Produce c =
+    let a = c.in-Produce in
+    let results = c.args.accepted.now in
+    let readings = c.args.readings.now in
+    let topics = c.in_ok-produced_topics-in-Produce.field-0 in
+    let acks_fit : SFits w16 a.acks = search rules in
+    λ shown.
+    let Tells : Ask → Type 0 = λ ask. AreReadings ask results readings shown → Produced topics ≡ told_to c.args.config.now ask shown in
+    subst Tells (sym a.is) (λ are. ap Produced (
+    c.in_ok-produced_topics-in-Produce.ensures
+    ∙ ap (λ (acks : ℤ). produced_of acks c.as_slice.result.now results readings) (to_z-of_z w16 a.acks acks_fit)
+    ∙ ap (λ (ts : List ProduceTopic). produced_of a.acks ts results readings) c.as_slice.ensures
+    ∙ produced_is a.acks a.topics results readings shown are
+    ))
+
+pub returns-in_ok-fetched_topics-in-Fetch : goal.returns-in_ok-fetched_topics-in-Fetch
+returns-in_ok-fetched_topics-in-Fetch c =
+    let a = c.in-Fetch in
+    let results = c.args.accepted.now in
+    let readings = c.args.readings.now in
+    let topics = c.in_ok-fetched_topics-in-Fetch.field-0 in
+    let isolation_fits : SFits w8 a.isolation = search rules in
+    λ shown.
+    let Tells : Ask → Type 0 = λ ask. AreReadings ask results readings shown → Fetched a.isolation topics ≡ told_to c.args.config.now ask shown in
+    let told : AreReadings c.args.ask.now results readings shown → Fetched a.isolation topics ≡ told_to c.args.config.now c.args.ask.now shown =
+    subst Tells (sym a.is) (λ are. ap (Fetched a.isolation) (
+    c.in_ok-fetched_topics-in-Fetch.ensures
+    ∙ ap (λ (ts : List FetchTopic). fetched_of ts results readings) c.as_slice-in-Fetch.ensures
+    ∙ fetched_is a.replica a.topics results readings shown (first_budget a.max_bytes) are
+    ))
+    in
+    λ are. ap (λ (isolation : ℤ). Fetched isolation topics) (to_z-of_z w8 a.isolation isolation_fits) ∙ told are

@@ -1,0 +1,127 @@
+-- The reply to a request, from what became of each named partition and a state of it. The same function serves a request
+-- that is answered at once, one that was satisfied and one that expired.
+use Rattle.std.specs.Prelude.{ℕ, ◌+◌, ◌-◌, min, ℤ, pos, negsuc, Bool, true, false, ◌||◌, List, [], ◌∷◌, length, map, take, drop, filter, nat_lt, nat_le, if◌then◌else◌, Option, Some, None}
+use Rattle.std.specs.List.{find}
+use Rattle.std.specs.Cmp.Lexicographic.{pointwise}
+use Rattle.std.specs.Ordering.{int_eq}
+use Rattle.std.specs.Bool.{nat_eq}
+use Rattle.partlog.specs.State.{PartState as State, high_of}
+use Rattle.partlog.specs.Batches.{StoredBatch as Stored, next_offset}
+use Rattle.partlog.specs.Taken.{batches_past, taken, joined}
+use Rattle.kwire.specs.declared.config.Topic.{Topic}
+use Rattle.kwire.specs.declared.request.Request.{Request}
+use Rattle.kwire.specs.declared.request.Ask.{Ask}
+use Rattle.kwire.specs.declared.request.Ask.TheVariants as ask
+use Rattle.kwire.specs.declared.request.ProducePart.{ProducePart}
+use Rattle.kwire.specs.declared.request.ProduceTopic.{ProduceTopic}
+use Rattle.kwire.specs.declared.request.FetchPart.{FetchPart}
+use Rattle.kwire.specs.declared.request.FetchTopic.{FetchTopic}
+use Rattle.kwire.specs.declared.reply.Reply.{Reply}
+use Rattle.kwire.specs.declared.reply.Told.{Told}
+use Rattle.kwire.specs.declared.reply.Told.TheVariants as told
+use Rattle.kwire.specs.declared.reply.ProducedPart.{ProducedPart}
+use Rattle.kwire.specs.declared.reply.ProducedTopic.{ProducedTopic}
+use Rattle.kwire.specs.declared.reply.FetchedPart.{FetchedPart}
+use Rattle.kwire.specs.declared.reply.FetchedTopic.{FetchedTopic}
+use Rattle.kwire.specs.declared.reply.TopicInfo.{TopicInfo}
+use Rattle.kanswer.specs.declared.accepted.Accepted.{Accepted}
+use Rattle.kanswer.specs.declared.accepted.Accepted.TheVariants.{Refused, Appended, Seen}
+use Rattle.kanswer.specs.declared.accepted.Budget.{Budget}
+use Rattle.kwire.specs.Configuration.{Configuration}
+use Rattle.kanswer.specs.Waiting.{Shown, at_least_zero, reply_limit, is_consumer}
+
+-- with acks -1 every follower has to have the batch; else the time has run out, which is code 7
+abbrev pub produced_code : ℤ → ℕ → State → ℤ
+produced_code acks behind state =
+    if int_eq acks (negsuc 0) then (if nat_le behind (high_of state) then pos 0 else pos 7) else pos 0
+
+-- a refused partition has the base offset -1
+abbrev pub produced_as : ℤ → ℤ → Accepted → State → ProducedPart
+produced_as acks index (Refused code) state = record { index = index; code = code; base = negsuc 0 }
+produced_as acks index (Appended part base count) state =
+    record { index = index; code = produced_code acks (base + count) state; base = pos base }
+produced_as acks index (Seen part start) state = record { index = index; code = pos 0; base = negsuc 0 }
+
+abbrev pub produced_parts : ℤ → List ProducePart → List Shown → List ProducedPart
+produced_parts acks [] shown = []
+produced_parts acks (asked ∷ parts) [] = []
+produced_parts acks (asked ∷ parts) (s ∷ shown) = produced_as acks asked.index s.result s.state ∷ produced_parts acks parts shown
+
+-- what was shown stands in order over all topics
+abbrev pub produced_topics : ℤ → List ProduceTopic → List Shown → List ProducedTopic
+produced_topics acks [] shown = []
+produced_topics acks (topic ∷ topics) shown =
+    record { name = topic.name; parts = produced_parts acks topic.parts (take (length topic.parts) shown) }
+    ∷ produced_topics acks topics (drop (length topic.parts) shown)
+
+-- a consumer reads below the high watermark, a follower to the log's end
+abbrev pub is_readable : ℤ → State → Stored → Bool
+is_readable replica state batch = if is_consumer replica then nat_le (next_offset batch) (high_of state) else true
+
+-- the batches of one partition, within what is left to the reply
+abbrev pub read_of : ℤ → FetchPart → ℕ → State → Budget → List Stored
+read_of replica asked start state budget =
+    taken (min (at_least_zero asked.most) budget.left) budget.any (filter (is_readable replica state) (batches_past start state.batches))
+
+-- what is left to the reply behind them
+abbrev pub budget_after : List Stored → Budget → Budget
+budget_after batches budget =
+    record { left = budget.left - length (joined batches); any = budget.any || nat_lt 0 (length batches) }
+
+abbrev pub batches_as : ℤ → FetchPart → Accepted → State → Budget → List Stored
+batches_as replica asked (Refused code) state budget = []
+batches_as replica asked (Appended part base count) state budget = []
+batches_as replica asked (Seen part start) state budget = read_of replica asked start state budget
+
+-- a partition with an error has the high watermark -1
+abbrev pub fetched_as : FetchPart → Accepted → State → List Stored → FetchedPart
+fetched_as asked (Refused code) state batches = record { index = asked.index; code = code; high = negsuc 0; records = [] }
+fetched_as asked (Appended part base count) state batches = record { index = asked.index; code = pos 0; high = negsuc 0; records = [] }
+fetched_as asked (Seen part start) state batches =
+    record { index = asked.index; code = pos 0; high = pos (high_of state); records = joined batches }
+
+abbrev pub fetched_parts : ℤ → List FetchPart → List Shown → Budget → List FetchedPart
+fetched_parts replica [] shown budget = []
+fetched_parts replica (asked ∷ parts) [] budget = []
+fetched_parts replica (asked ∷ parts) (s ∷ shown) budget =
+    let batches = batches_as replica asked s.result s.state budget in
+    fetched_as asked s.result s.state batches ∷ fetched_parts replica parts shown (budget_after batches budget)
+
+-- what is left to the reply behind these partitions
+abbrev pub budget_behind : ℤ → List FetchPart → List Shown → Budget → Budget
+budget_behind replica [] shown budget = budget
+budget_behind replica (asked ∷ parts) [] budget = budget
+budget_behind replica (asked ∷ parts) (s ∷ shown) budget =
+    budget_behind replica parts shown (budget_after (batches_as replica asked s.result s.state budget) budget)
+
+abbrev pub fetched_topics : ℤ → List FetchTopic → List Shown → Budget → List FetchedTopic
+fetched_topics replica [] shown budget = []
+fetched_topics replica (topic ∷ topics) shown budget =
+    let here = take (length topic.parts) shown in
+    record { name = topic.name; parts = fetched_parts replica topic.parts here budget }
+    ∷ fetched_topics replica topics (drop (length topic.parts) shown) (budget_behind replica topic.parts here budget)
+
+abbrev pub first_budget : ℤ → Budget
+first_budget max_bytes = record { left = reply_limit max_bytes; any = false }
+
+-- an unknown topic has the code 3 and no partitions
+abbrev pub info_as : List ℕ → Option Topic → TopicInfo
+info_as name None = record { code = pos 3; name = name; partitions = 0; followers = 0 }
+info_as name (Some topic) = record { code = pos 0; name = topic.name; partitions = topic.partitions; followers = topic.followers }
+
+abbrev pub info_of : List Topic → List ℕ → TopicInfo
+info_of topics name = info_as name (find (λ topic. pointwise nat_eq topic.name name) topics)
+
+abbrev pub infos_of : List Topic → Option (List (List ℕ)) → List TopicInfo
+infos_of topics None = map (λ topic. info_as topic.name (Some topic)) topics
+infos_of topics (Some names) = map (info_of topics) names
+
+abbrev pub told_to : Configuration → Ask → List Shown → Told
+told_to config (ask.Produce transactional acks timeout topics) shown = told.Produced (produced_topics acks topics shown)
+told_to config (ask.Fetch replica max_wait min_bytes max_bytes isolation topics) shown =
+    told.Fetched isolation (fetched_topics replica topics shown (first_budget max_bytes))
+told_to config (ask.Metadata topics) shown = told.Metadata config.port (infos_of config.topics topics)
+told_to config (ask.Versions version) shown = told.Versions (if int_eq version (pos 0) then pos 0 else pos 35)
+
+abbrev pub answer : Configuration → Request → List Shown → Reply
+answer config request shown = record { correlation = request.correlation; told = told_to config request.ask shown }

@@ -1,0 +1,111 @@
+-- Accepting a request: what becomes of each named partition, from the state that is found, and the entry that it leaves.
+use Rattle.std.specs.Prelude.{ℕ, ◌+◌, ◌≡◌, ◌⊎◌, ℤ, pos, negsuc, Bool, ◌&&◌, ◌||◌, List, [], length, map, nat_lt, nat_le, if◌then◌else◌, Option, Some, None, unwrap_or, MatchOption, MatchBool, slice_index}
+use Rattle.std.specs.List.{flat_map, AllZip}
+use Rattle.std.specs.Ordering.{int_eq}
+use Rattle.partlog.specs.State.{PartState as State}
+use Rattle.partlog.specs.Gauges.{gauges_of}
+use Rattle.partlog.specs.Start.{start_of}
+use Rattle.kbatch.specs.declared.fault.BatchFault.{BatchFault}
+use Rattle.kbatch.specs.declared.fault.BatchFault.TheVariants.{TooLarge, Short, Length, Magic, Crc, Compressed, Control, Count, Records, NoMemory}
+use Rattle.kbatch.specs.declared.record.Record.{Record}
+use Rattle.kbatch.specs.Batch.{IsBatch}
+use Rattle.kbatch.specs.Fault.{IsFirstFault}
+use Rattle.kwire.specs.Configuration.{Configuration, followers_of, part_of}
+use Rattle.kwire.specs.declared.request.Ask.{Ask}
+use Rattle.kwire.specs.declared.request.Ask.TheVariants.{Produce, Fetch, Metadata, Versions}
+use Rattle.kwire.specs.declared.request.ProducePart.{ProducePart}
+use Rattle.kwire.specs.declared.request.ProduceTopic.{ProduceTopic}
+use Rattle.kwire.specs.declared.request.FetchPart.{FetchPart}
+use Rattle.kwire.specs.declared.request.FetchTopic.{FetchTopic}
+use Rattle.kanswer.specs.declared.accepted.Accepted.{Accepted}
+use Rattle.kanswer.specs.declared.accepted.Accepted.TheVariants.{Refused, Appended, Seen}
+
+-- the entry that is left in a partition's history: a batch of so many records as it was sent, a follower's fetch in range, or a look
+pub data Entry : Type 0 where
+  Put : ℕ → List ℕ → Entry
+  Followed : ℤ → ℕ → Entry
+  Looked : Entry
+
+pub record Outcome : Type 0 where
+  pub result : Accepted
+  pub entry : Entry
+
+-- A named partition is refused before its log is asked, or its log is asked, and the outcome comes from the state that is found.
+pub data Decision : Type 0 where
+  Refuse : ℤ → Decision
+  AskLog : ℕ → (State → Outcome) → Decision
+
+-- the error codes of the protocol
+abbrev pub code_of : BatchFault → ℤ
+code_of (TooLarge len) = pos 10
+code_of Short = pos 87
+code_of (Length kept) = pos 87
+code_of (Magic found) = pos 87
+code_of (Crc kept found) = pos 2
+code_of (Compressed codec) = pos 76
+code_of Control = pos 87
+code_of (Count count last) = pos 87
+code_of (Records at) = pos 87
+code_of NoMemory = pos 0
+
+abbrev pub look : Accepted → Outcome
+look result = record { result = result; entry = Looked }
+
+-- a batch is put at the end, where the log keeps at most 67,108,864 bytes
+abbrev pub append_outcome : ℕ → ℕ → List ℕ → State → Outcome
+append_outcome part count batch state =
+    if nat_lt 67108864 ((gauges_of state).bytes + length batch) then look (Refused (pos 6))
+    else record { result = Appended part state.log_end count; entry = Put count batch }
+
+abbrev pub is_acks : ℤ → Bool
+is_acks acks = int_eq acks (negsuc 0) || int_eq acks (pos 0) || int_eq acks (pos 1)
+
+abbrev pub BatchDecides : ℕ → List ℕ → Decision → Type 0
+BatchDecides part bytes decision =
+    ((fault : BatchFault) × IsFirstFault bytes fault × (decision ≡ Refuse (code_of fault)))
+    ⊎ ((records : List Record) × IsBatch bytes records × (decision ≡ AskLog part (append_outcome part (length records) bytes)))
+
+-- the first cause that applies decides: a transactional id, no such partition, unknown acks, a fault of the batch
+abbrev pub ProduceDecides : Configuration → Option (List ℕ) → ℤ → List ℕ × ProducePart → Decision → Type 0
+ProduceDecides config (Some id) acks named decision = decision ≡ Refuse (pos 42)
+ProduceDecides config None acks named decision =
+    MatchOption (part_of config named.0 named.1.index) (decision ≡ Refuse (pos 3)) (λ part.
+    MatchBool (is_acks acks) (BatchDecides part (unwrap_or named.1.records []) decision) (decision ≡ Refuse (pos 21)))
+
+abbrev pub in_range_outcome : ℕ → ℤ → Entry → State → Outcome
+in_range_outcome part (negsuc n) entry state = look (Refused (pos 1))
+in_range_outcome part (pos offset) entry state =
+    if nat_lt state.log_end offset then look (Refused (pos 1))
+    else record { result = Seen part (start_of offset state); entry = entry }
+
+abbrev pub offset_of : ℤ → ℕ
+offset_of (pos n) = n
+offset_of (negsuc n) = 0
+
+-- a negative replica id is a consumer's, and the others are those of followers, from 1 on
+abbrev pub fetch_outcome : ℕ → ℤ → FetchPart → ℕ → State → Outcome
+fetch_outcome followers (negsuc n) asked part state = in_range_outcome part asked.offset Looked state
+fetch_outcome followers (pos replica) asked part state =
+    if nat_lt 0 replica && nat_le replica followers then in_range_outcome part asked.offset (Followed (pos replica) (offset_of asked.offset)) state
+    else look (Refused (pos 9))
+
+abbrev pub fetch_decision : Configuration → ℤ → List ℕ × FetchPart → Option ℕ → Decision
+fetch_decision config replica named None = Refuse (pos 3)
+fetch_decision config replica named (Some part) =
+    AskLog part (fetch_outcome (slice_index (followers_of config.topics) part) replica named.1 part)
+
+-- the named partitions with what is asked of them, in order over all topics
+abbrev pub produce_parts : List ProduceTopic → List (List ℕ × ProducePart)
+produce_parts topics = flat_map (λ topic. map (λ part. (topic.name, part)) topic.parts) topics
+
+abbrev pub fetch_parts : List FetchTopic → List (List ℕ × FetchPart)
+fetch_parts topics = flat_map (λ topic. map (λ part. (topic.name, part)) topic.parts) topics
+
+-- one decision for each named partition
+abbrev pub Decides : Configuration → Ask → List Decision → Type 0
+Decides config (Produce transactional acks timeout topics) decisions =
+    AllZip (ProduceDecides config transactional acks) (produce_parts topics) decisions
+Decides config (Fetch replica max_wait min_bytes max_bytes isolation topics) decisions =
+    decisions ≡ map (λ named. fetch_decision config replica named (part_of config named.0 named.1.index)) (fetch_parts topics)
+Decides config (Metadata topics) decisions = decisions ≡ []
+Decides config (Versions version) decisions = decisions ≡ []

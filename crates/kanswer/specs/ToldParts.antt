@@ -1,0 +1,57 @@
+-- What is told of the named partitions, from what became of each and what was read of it.
+use Rattle.std.specs.Prelude.{ℕ, ◌+◌, ℤ, pos, negsuc, List, [], ◌∷◌, length, take, drop, nat_le, if◌then◌else◌}
+use Rattle.std.specs.Ordering.{int_eq}
+use Rattle.kwire.specs.declared.request.ProducePart.{ProducePart}
+use Rattle.kwire.specs.declared.request.ProduceTopic.{ProduceTopic}
+use Rattle.kwire.specs.declared.request.FetchPart.{FetchPart}
+use Rattle.kwire.specs.declared.request.FetchTopic.{FetchTopic}
+use Rattle.kwire.specs.declared.reply.ProducedPart.{ProducedPart}
+use Rattle.kwire.specs.declared.reply.ProducedTopic.{ProducedTopic}
+use Rattle.kwire.specs.declared.reply.FetchedPart.{FetchedPart}
+use Rattle.kwire.specs.declared.reply.FetchedTopic.{FetchedTopic}
+use Rattle.kanswer.specs.declared.accepted.Accepted.{Accepted}
+use Rattle.kanswer.specs.declared.accepted.Accepted.TheVariants.{Refused, Appended, Seen}
+use Rattle.kanswer.specs.declared.accepted.Reading.{Reading}
+
+-- with acks -1 a batch that every follower has, or else the time ran out
+abbrev pub code_at : ℤ → ℕ → ℕ → ℤ
+code_at acks behind high = if int_eq acks (negsuc 0) then (if nat_le behind high then pos 0 else pos 7) else pos 0
+
+abbrev pub produced_part : ℤ → ProducePart → Accepted → Reading → ProducedPart
+produced_part acks asked (Refused code) reading = record { index = asked.index; code = code; base = negsuc 0 }
+produced_part acks asked (Appended part base count) reading =
+    record { index = asked.index; code = code_at acks (base + count) reading.numbers.high; base = pos base }
+produced_part acks asked (Seen part start) reading = record { index = asked.index; code = pos 0; base = negsuc 0 }
+
+abbrev pub fetched_part : FetchPart → Accepted → Reading → FetchedPart
+fetched_part asked (Refused code) reading = record { index = asked.index; code = code; high = negsuc 0; records = [] }
+fetched_part asked (Appended part base count) reading = record { index = asked.index; code = pos 0; high = negsuc 0; records = [] }
+fetched_part asked (Seen part start) reading =
+    record { index = asked.index; code = pos 0; high = pos reading.numbers.high; records = reading.records }
+
+-- one partition after the other
+abbrev pub parts_by : {A B : Type 0} → (A → Accepted → Reading → B) → List A → List Accepted → List Reading → List B
+parts_by f [] results readings = []
+parts_by f (asked ∷ parts) [] readings = []
+parts_by f (asked ∷ parts) (result ∷ results) [] = []
+parts_by f (asked ∷ parts) (result ∷ results) (reading ∷ readings) = f asked result reading ∷ parts_by f parts results readings
+
+-- one topic after the other, each with its own of the flat lists
+abbrev pub topics_by : {A B : Type 0} → (A → ℕ) → (A → List Accepted → List Reading → B) → List A → List Accepted → List Reading → List B
+topics_by size f [] results readings = []
+topics_by size f (topic ∷ topics) results readings =
+    f topic (take (size topic) results) (take (size topic) readings)
+    ∷ topics_by size f topics (drop (size topic) results) (drop (size topic) readings)
+
+abbrev pub produced_topic : ℤ → ProduceTopic → List Accepted → List Reading → ProducedTopic
+produced_topic acks topic results readings =
+    record { name = topic.name; parts = parts_by (produced_part acks) topic.parts results readings }
+
+abbrev pub fetched_topic : FetchTopic → List Accepted → List Reading → FetchedTopic
+fetched_topic topic results readings = record { name = topic.name; parts = parts_by fetched_part topic.parts results readings }
+
+abbrev pub produced_of : ℤ → List ProduceTopic → List Accepted → List Reading → List ProducedTopic
+produced_of acks topics results readings = topics_by (λ topic. length topic.parts) (produced_topic acks) topics results readings
+
+abbrev pub fetched_of : List FetchTopic → List Accepted → List Reading → List FetchedTopic
+fetched_of topics results readings = topics_by (λ topic. length topic.parts) fetched_topic topics results readings

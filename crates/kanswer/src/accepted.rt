@@ -1,0 +1,49 @@
+//! What became of the named partitions, and what a reply may take.
+
+ghost use Rattle.std.specs.Prelude.{◌≡◌};
+
+use kbytes::Bytes;
+use kwire::{Ask, Request};
+use partlog::Numbers;
+
+/// What became of one named partition of a request as it was accepted.
+#[derive(Clone, Copy, Debug, PartialEq, Eq)]
+pub enum Accepted {
+    Refused { code: i16 },
+    /// A batch of `count` records was put at the end of the partition's log, at the offset `base`.
+    Appended { part: u32, base: u64, count: u32 },
+    /// The partition is read from the byte place `start` of its log on.
+    Seen { part: u32, start: u64 },
+}
+
+/// What was read of one named partition.
+#[derive(Debug, Drop)]
+pub struct Reading {
+    pub numbers: Numbers,
+    pub records: Bytes,
+}
+
+/// How many bytes a reply may still take, and whether it holds a batch yet.
+#[derive(Clone, Copy, Debug, PartialEq, Eq)]
+pub struct Budget {
+    pub left: u64,
+    pub any: bool,
+}
+
+/// The most bytes of records that a reply holds, whatever is asked.
+pub const MOST_REPLY_BYTES: u64 = 52_428_800;
+
+impl Budget {
+    ghost use Rattle.kanswer.specs.LogReadings.{budget_of};
+
+    /// What a reply to this request may take: for a fetch as many bytes as it asks for, at most 52,428,800.
+    pub fn of(request: &Request) -> Budget
+        ensures { result ≡ budget_of request.now.ask }
+    {
+        let left = match &request.ask {
+            Ask::Fetch { max_bytes, .. } => ((*max_bytes).max(0) as u64).min(MOST_REPLY_BYTES),
+            Ask::Produce { .. } | Ask::Metadata { .. } | Ask::Versions { .. } => 0,
+        };
+        Budget { left, any: false }
+    }
+}

@@ -1,0 +1,100 @@
+//! What is told of the partitions of a fetch.
+ghost use Rattle.std.specs.Prelude.{◌≡◌, [], negsuc, length, sum_by, All, IfOk};
+ghost use Rattle.kanswer.specs.LogReadings.{HasCarriable};
+ghost use Rattle.kanswer.specs.ToldParts.{parts_by, fetched_part, fetched_topic, fetched_of};
+
+use crate::accepted::{Accepted, Reading};
+use kbytes::{Bytes, List, NoMemory, copied};
+use kwire::{FetchPart, FetchTopic, FetchedPart, FetchedTopic};
+use std::alloc::Global;
+
+// A partition with an error has the high watermark -1 and no records.
+fn without_records(alloc: Global, index: i32, code: i16) -> FetchedPart
+    ensures { result ≡ record { index = index; code = code; high = negsuc 0; records = [] } }
+{
+    FetchedPart {
+        index,
+        code,
+        high: -1,
+        records: Bytes::new(alloc),
+    }
+}
+
+fn fetched_part(
+    alloc: Global,
+    asked: &FetchPart,
+    became: &Accepted,
+    reading: &Reading,
+) -> Result<FetchedPart, NoMemory>
+    requires { HasCarriable reading.now }
+    ensures { IfOk result (λ told. told ≡ fetched_part asked.now became.now reading.now) }
+{
+    let index = asked.index;
+    match *became {
+        Accepted::Refused { code } => Ok(without_records(alloc, index, code)),
+        Accepted::Appended { .. } => Ok(without_records(alloc, index, 0)),
+        Accepted::Seen { .. } => Ok(FetchedPart {
+            index,
+            code: 0,
+            high: reading.numbers.high as i64,
+            records: copied(alloc, reading.records.as_slice())?,
+        }),
+    }
+}
+
+fn fetched_parts(
+    alloc: Global,
+    parts: &[FetchPart],
+    accepted: &[Accepted],
+    readings: &[Reading],
+) -> Result<List<FetchedPart>, NoMemory>
+    requires accepted { length accepted.now ≡ length parts.now }
+    requires readings { length readings.now ≡ length parts.now }
+    requires carriable { All HasCarriable readings.now }
+    ensures { IfOk result (λ told. told ≡ parts_by fetched_part parts.now accepted.now readings.now) }
+{
+    let mut told = List::new(alloc);
+    for at in 0..parts.len() {
+        told.push(fetched_part(alloc, &parts[at], &accepted[at], &readings[at])?)?;
+    }
+    Ok(told)
+}
+
+fn fetched_topic(
+    alloc: Global,
+    topic: &FetchTopic,
+    accepted: &[Accepted],
+    readings: &[Reading],
+) -> Result<FetchedTopic, NoMemory>
+    requires accepted { length accepted.now ≡ length topic.now.parts }
+    requires readings { length readings.now ≡ length topic.now.parts }
+    requires carriable { All HasCarriable readings.now }
+    ensures { IfOk result (λ told. told ≡ fetched_topic topic.now accepted.now readings.now) }
+{
+    let name = copied(alloc, topic.name.as_slice())?;
+    let parts = fetched_parts(alloc, topic.parts.as_slice(), accepted, readings)?;
+    Ok(FetchedTopic { name, parts })
+}
+
+/// What is told of each topic of a fetch.
+pub fn fetched_topics(
+    alloc: Global,
+    topics: &[FetchTopic],
+    accepted: &[Accepted],
+    readings: &[Reading],
+) -> Result<List<FetchedTopic>, NoMemory>
+    requires accepted { length accepted.now ≡ sum_by (λ topic. length topic.parts) topics.now }
+    requires readings { length readings.now ≡ sum_by (λ topic. length topic.parts) topics.now }
+    requires carriable { All HasCarriable readings.now }
+    ensures { IfOk result (λ told. told ≡ fetched_of topics.now accepted.now readings.now) }
+{
+    let mut told = List::new(alloc);
+    let mut from = 0;
+    for topic in topics {
+        let upto = from + topic.parts.len();
+        let became = &accepted[from..upto];
+        told.push(fetched_topic(alloc, topic, became, &readings[from..upto])?)?;
+        from = upto;
+    }
+    Ok(told)
+}

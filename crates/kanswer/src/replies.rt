@@ -1,0 +1,73 @@
+//! The reply to a request.
+ghost use Rattle.std.specs.Prelude.{◌≡◌, List as Items, length, All, IfOk};
+ghost use Rattle.kanswer.specs.Waiting.{Shown};
+ghost use Rattle.kanswer.specs.Answer.{answer, told_to};
+ghost use Rattle.kanswer.specs.LogReadings.{AreReadings, IsCarriable, HasCarriable, named_count};
+
+use crate::accepted::{Accepted, Reading};
+use crate::described::described;
+use crate::fetched::fetched_topics;
+use crate::produced::produced_topics;
+use kbytes::NoMemory;
+use kwire::{Ask, Config, Reply, Request, Told};
+use std::alloc::Global;
+
+// What is answered to this.
+fn told_to(
+    alloc: Global,
+    config: &Config,
+    ask: &Ask,
+    accepted: &[Accepted],
+    readings: &[Reading],
+) -> Result<Told, NoMemory>
+    requires accepted { length accepted.now ≡ named_count ask.now }
+    requires readings { length readings.now ≡ named_count ask.now }
+    requires offsets { All IsCarriable accepted.now }
+    requires numbers { All HasCarriable readings.now }
+    ensures { IfOk result (λ told. (shown : Items Shown) → AreReadings ask.now accepted.now readings.now shown
+        → told ≡ told_to config.now ask.now shown) }
+{
+    match ask {
+        Ask::Produce { acks, topics, .. } => Ok(Told::Produced {
+            topics: produced_topics(alloc, *acks, topics.as_slice(), accepted, readings)?,
+        }),
+        Ask::Fetch {
+            isolation,
+            topics,
+            ..
+        } => Ok(Told::Fetched {
+            isolation: *isolation,
+            topics: fetched_topics(alloc, topics.as_slice(), accepted, readings)?,
+        }),
+        Ask::Metadata { topics } => Ok(Told::Metadata {
+            port: config.port(),
+            topics: described(alloc, config.topics(), topics)?,
+        }),
+        Ask::Versions { version } => Ok(Told::Versions {
+            code: if *version == 0 { 0 } else { 35 },
+        }),
+    }
+}
+
+/// The reply to a request, from what became of each partition that it names and what was read of each, in the order of
+/// the request over all topics. It is the same whether the request was answered at once, was satisfied or expired.
+pub fn answer(
+    alloc: Global,
+    config: &Config,
+    request: &Request,
+    accepted: &[Accepted],
+    readings: &[Reading],
+) -> Result<Reply, NoMemory>
+    requires accepted { length accepted.now ≡ named_count request.now.ask }
+    requires readings { length readings.now ≡ named_count request.now.ask }
+    requires offsets { All IsCarriable accepted.now }
+    requires numbers { All HasCarriable readings.now }
+    ensures { IfOk result (λ reply. (shown : Items Shown) → AreReadings request.now.ask accepted.now readings.now shown
+        → reply ≡ answer config.now request.now shown) }
+{
+    let told = told_to(alloc, config, &request.ask, accepted, readings)?;
+    Ok(Reply {
+        correlation: request.correlation,
+        told,
+    })
+}

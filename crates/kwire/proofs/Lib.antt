@@ -1,0 +1,17 @@
+pub mod Names
+pub mod FrameLaws
+pub mod Codecs
+pub mod FieldLaws
+pub mod RequestCodecs
+pub mod TopicCodecs
+pub mod AskCodecs
+pub mod TwiceNamed
+pub mod RequestLaws
+pub mod OneReading
+pub mod ItemLoops
+pub mod MentionLoops
+pub mod StreamLaws
+pub mod Lookups
+pub mod Spelled
+pub mod SpellableLaws
+pub mod Laws

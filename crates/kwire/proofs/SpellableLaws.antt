@@ -1,0 +1,146 @@
+-- Replies to produces and fetches whose lengths and counts are in range.
+use Rattle.std.proofs.Common.{◌≡◌, ℕ, ◌+◌, ◌*◌, ◌<◌, ◌≤◌, ◌^◌, ℤ, pos, Bool, true, false, cond, List, [], ◌∷◌, ◌++◌, length, Some, None, refl, ap, ◌∙◌, arith, lit<}
+use Rattle.std.specs.Prelude.{IfSome, ⊤}
+use Rattle.std.specs.List.{flat_map, AllByRecursion}
+use Rattle.std.specs.Ordering.{int_eq}
+use native.Mathlib.Nat.{suc-mul}
+use Rattle.std.proofs.lemmas.List.{length-append}
+use Rattle.kbytes.specs.Field.{Field, Int32, String, Array, field, fields}
+use Rattle.kwire.specs.declared.reply.Told.TheVariants.{Produced, Fetched}
+use Rattle.kwire.specs.declared.reply.ProducedPart.{ProducedPart}
+use Rattle.kwire.specs.declared.reply.ProducedTopic.{ProducedTopic}
+use Rattle.kwire.specs.declared.reply.FetchedPart.{FetchedPart}
+use Rattle.kwire.specs.declared.reply.FetchedTopic.{FetchedTopic}
+use Rattle.kwire.specs.IsSpellable.{AreInRange, IsSpellable}
+use Rattle.kwire.specs.Spelling.{produced_part_fields, produced_topic_fields, fetched_part_fields, fetched_topic_fields, told_fields, spelling}
+use Rattle.kwire.proofs.Codecs.{fields-append}
+
+pub record IsProducedTopic (topic : ProducedTopic) : Type 0 where
+  pub name : length topic.name < 2 ^ 15
+  pub few : length topic.parts ≤ 64
+
+abbrev pub IsFetchedPart : FetchedPart → Type 0
+IsFetchedPart part = length part.records < 2 ^ 31
+
+pub record IsFetchedTopic (topic : FetchedTopic) : Type 0 where
+  pub name : length topic.name < 2 ^ 15
+  pub few : length topic.parts ≤ 64
+  pub parts : AllByRecursion IsFetchedPart topic.parts
+
+pub in_range_both : (fs gs : List Field) → AreInRange fs → AreInRange gs → AreInRange (fs ++ gs)
+in_range_both [] gs first next = next
+in_range_both (f ∷ fs) gs first next = (first.0, in_range_both fs gs first.1 next)
+
+module _ {X : Type 0} (kind : X → List Field) (Fine : X → Type 0) (fine : (x : X) → Fine x → AreInRange (kind x)) where
+  pub in_range_all : (xs : List X) → AllByRecursion Fine xs → AreInRange (flat_map kind xs)
+  in_range_all [] all = tt
+  in_range_all (x ∷ xs) all = in_range_both (kind x) (flat_map kind xs) (fine x all.0) (in_range_all xs all.1)
+
+few_fit : (n : ℕ) → n ≤ 64 → n < 2 ^ 31
+few_fit n le = omega arith
+
+-- a part has integers alone
+produced_parts_in_range : (parts : List ProducedPart) → AreInRange (flat_map produced_part_fields parts)
+produced_parts_in_range [] = tt
+produced_parts_in_range (part ∷ parts) = (tt, (tt, (tt, (tt, produced_parts_in_range parts))))
+
+produced_topic_in_range : (topic : ProducedTopic) → IsProducedTopic topic → AreInRange (produced_topic_fields topic)
+produced_topic_in_range topic is = (is.name, (few_fit (length topic.parts) is.few, produced_parts_in_range topic.parts))
+
+pub produced_in_range : (topics : List ProducedTopic) → length topics ≤ 64 → AllByRecursion IsProducedTopic topics → AreInRange (told_fields (Produced topics))
+produced_in_range topics few all =
+    (few_fit (length topics) few, in_range_both (flat_map produced_topic_fields topics) _ (in_range_all produced_topic_fields IsProducedTopic produced_topic_in_range topics all) (tt, tt))
+
+aborted_in_range : (b : Bool) → IfSome (cond b None (Some 0)) (λ (n : ℕ). n < 2 ^ 31)
+aborted_in_range true = tt
+aborted_in_range false = lit< tt
+
+fetched_part_in_range : (isolation : ℤ) (part : FetchedPart) → IsFetchedPart part → AreInRange (fetched_part_fields isolation part)
+fetched_part_in_range isolation part is = (tt, (tt, (tt, (tt, (aborted_in_range (int_eq isolation (pos 0)), (is, tt))))))
+
+fetched_topic_in_range : (isolation : ℤ) (topic : FetchedTopic) → IsFetchedTopic topic → AreInRange (fetched_topic_fields isolation topic)
+fetched_topic_in_range isolation topic is =
+    (is.name, (few_fit (length topic.parts) is.few, in_range_all (fetched_part_fields isolation) IsFetchedPart (fetched_part_in_range isolation) topic.parts is.parts))
+
+pub fetched_in_range : (isolation : ℤ) (topics : List FetchedTopic) → length topics ≤ 64 → AllByRecursion IsFetchedTopic topics → AreInRange (told_fields (Fetched isolation topics))
+fetched_in_range isolation topics few all =
+    (tt, (few_fit (length topics) few, in_range_all (fetched_topic_fields isolation) IsFetchedTopic (fetched_topic_in_range isolation) topics all))
+
+-- ---- lengths of frames
+
+module _ {X : Type 0} (kind : X → List Field) (body : X → List ℕ) (Fine : X → Type 0) (most : ℕ)
+    (fits : (x : X) → Fine x → length (fields (kind x)) ≤ most + length (body x)) where
+  pub length_all : (xs : List X) → AllByRecursion Fine xs → length (fields (flat_map kind xs)) ≤ length xs * most + length (flat_map body xs)
+  length_all [] all = omega arith
+  length_all (x ∷ xs) all =
+      let here : length (fields (kind x)) ≤ most + length (body x) = fits x all.0 in
+      let behind : length (fields (flat_map kind xs)) ≤ length xs * most + length (flat_map body xs) = length_all xs all.1 in
+      let left : length (fields (flat_map kind (x ∷ xs))) ≡ length (fields (kind x)) + length (fields (flat_map kind xs)) =
+      ap length (fields-append (kind x) (flat_map kind xs)) ∙ length-append (fields (kind x)) (fields (flat_map kind xs)) in
+      let right : length (flat_map body (x ∷ xs)) ≡ length (body x) + length (flat_map body xs) = length-append (body x) (flat_map body xs) in
+      let product : length (x ∷ xs) * most ≡ length xs * most + most = suc-mul (length xs) most in
+      omega arith
+
+-- no bytes
+abbrev nothing : {X : Type 0} → X → List ℕ
+nothing x = []
+
+none_of_none : {X : Type 0} (xs : List X) → length (flat_map (nothing {X = X}) xs) ≡ 0
+none_of_none [] = refl
+none_of_none (x ∷ xs) = none_of_none xs
+
+all_true : {X : Type 0} (xs : List X) → AllByRecursion (λ (x : X). ⊤) xs
+all_true [] = tt
+all_true (x ∷ xs) = (tt, all_true xs)
+
+-- the records of a topic, one partition after the other
+abbrev pub records_in : FetchedTopic → List ℕ
+records_in topic = flat_map (λ part. part.records) topic.parts
+
+-- a name, a count and what stands behind them
+topic_length : (name : List ℕ) (count : ℕ) (parts : List Field) → length (fields (String name ∷ Array (Some count) ∷ parts)) ≡ 6 + length name + length (fields parts)
+topic_length name count parts =
+    let rest = field (Array (Some count)) ++ fields parts in
+    let all : length (fields (String name ∷ Array (Some count) ∷ parts)) ≡ 2 + length (name ++ rest) = omega arith in
+    let behind : length rest ≡ 4 + length (fields parts) = omega arith in
+    omega (arith, length-append name rest)
+
+produced_topic_length : (topic : ProducedTopic) → IsProducedTopic topic → length (fields (produced_topic_fields topic)) ≤ 40000 + 0
+produced_topic_length topic is =
+    let all = topic_length topic.name (length topic.parts) (flat_map produced_part_fields topic.parts) in
+    let part : (p : ProducedPart) → ⊤ → length (fields (produced_part_fields p)) ≤ 22 + 0 = λ p _. omega arith in
+    let parts = length_all produced_part_fields nothing (λ _. ⊤) 22 part topic.parts (all_true topic.parts) in
+    let none = none_of_none topic.parts in
+    let name = is.name in
+    let few = is.few in
+    omega arith
+
+pub produced_spellable : (correlation : ℤ) (topics : List ProducedTopic) → length topics ≤ 64 → AllByRecursion IsProducedTopic topics → IsSpellable (record { correlation = correlation; told = Produced topics })
+produced_spellable correlation topics few all =
+    let in_topics = flat_map produced_topic_fields topics in
+    let each = length_all produced_topic_fields nothing IsProducedTopic 40000 produced_topic_length topics all in
+    let none = none_of_none topics in
+    let joined : length (fields (in_topics ++ Int32 (pos 0) ∷ [])) ≡ length (fields in_topics) + 4 =
+    ap length (fields-append in_topics (Int32 (pos 0) ∷ [])) ∙ length-append (fields in_topics) (fields (Int32 (pos 0) ∷ [])) in
+    let whole : length (spelling (record { correlation = correlation; told = Produced topics })) ≡ 12 + length (fields (in_topics ++ Int32 (pos 0) ∷ [])) = omega arith in
+    record { in_range = produced_in_range topics few all; short = omega arith }
+
+fetched_part_length : (isolation : ℤ) (part : FetchedPart) → ⊤ → length (fields (fetched_part_fields isolation part)) ≤ 30 + length part.records
+fetched_part_length isolation part _ =
+    let whole : length (fields (fetched_part_fields isolation part)) ≡ 30 + length (part.records ++ []) = omega arith in
+    omega (arith, length-append part.records [])
+
+fetched_topic_length : (isolation : ℤ) (topic : FetchedTopic) → IsFetchedTopic topic → length (fields (fetched_topic_fields isolation topic)) ≤ 40000 + length (records_in topic)
+fetched_topic_length isolation topic is =
+    let all = topic_length topic.name (length topic.parts) (flat_map (fetched_part_fields isolation) topic.parts) in
+    let parts = length_all (fetched_part_fields isolation) (λ part. part.records) (λ _. ⊤) 30 (fetched_part_length isolation) topic.parts (all_true topic.parts) in
+    let name = is.name in
+    let few = is.few in
+    omega arith
+
+pub fetched_spellable : (correlation isolation : ℤ) (topics : List FetchedTopic) → length topics ≤ 64 → AllByRecursion IsFetchedTopic topics → length (flat_map records_in topics) ≤ 2 ^ 30
+    → IsSpellable (record { correlation = correlation; told = Fetched isolation topics })
+fetched_spellable correlation isolation topics few all bytes =
+    let each = length_all (fetched_topic_fields isolation) records_in IsFetchedTopic 40000 (fetched_topic_length isolation) topics all in
+    let whole : length (spelling (record { correlation = correlation; told = Fetched isolation topics })) ≡ 16 + length (fields (flat_map (fetched_topic_fields isolation) topics)) = omega arith in
+    record { in_range = fetched_in_range isolation topics few all; short = omega arith }

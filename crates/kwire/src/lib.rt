@@ -1,0 +1,30 @@
+//! Kafka's wire format: frames of a stream, requests, the topics that they name, and replies.
+//!
+//! The layer above may declare topics in a `Config`, take frames from an `Inbox`, read the body of a frame as a `Request`
+//! or learn the first fault from the left, and spell a `Reply` as the bytes of its frame.
+#![tactic(auto)]
+
+mod body;
+mod config;
+mod frame;
+mod framing;
+mod inbox;
+mod put_fetched;
+mod put_produced;
+mod put_reply;
+mod read_fetch;
+mod read_items;
+mod read_metadata;
+mod read_produce;
+mod repeats;
+mod reply;
+mod request;
+
+pub use body::read_request;
+pub use config::{Config, ConfigFault, MOST_FOLLOWERS, MOST_NAME_BYTES, MOST_PARTITIONS, Topic};
+pub use frame::{Frame, WireFault};
+pub use framing::{MOST_FRAME_BYTES, next_frame};
+pub use inbox::Inbox;
+pub use put_reply::reply_bytes;
+pub use reply::{FetchedPart, FetchedTopic, ProducedPart, ProducedTopic, Reply, Told, TopicInfo};
+pub use request::{Ask, FetchPart, FetchTopic, MOST_NAMED, ProducePart, ProduceTopic, Request};

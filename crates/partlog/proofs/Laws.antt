@@ -1,0 +1,13 @@
+-- What proofs of other crates may cite of logs, their batches and their histories.
+
+-- a history that goes on: its batches, and the bytes that they have
+pub use Rattle.partlog.proofs.Appending.{batches-append, bytes_in-batches}
+-- bounds
+pub use Rattle.partlog.proofs.Bounds.{log_end-le-bytes, sum_by-filter-le}
+-- what a state's batches show of the state
+pub use Rattle.partlog.proofs.Earlier.{readable-now}
+-- batches from a place on, and as many as fit
+pub use Rattle.partlog.proofs.Fronts.{bytes_in-cons, fitting-more, fitting-none, past-le, full-past, full-fitting}
+-- batches that each have bytes
+pub use Rattle.partlog.proofs.Rows.{IsFull}
+pub use Rattle.partlog.proofs.Whole.{kept-full}

@@ -1,5 +1,0 @@
-use Rattle.partlog.proofs.Earlier.{kept-front}
-use Rattle.partlog.proofs.laws.fronts_are_kept.Goals as goal
-
-pub returns : goal.returns
-returns c = kept-front

@@ -1,0 +1,6 @@
+-- What the crates above may cite.
+
+-- words spell one line
+pub use Rattle.trace_file.proofs.Lines.{words_say}
+-- no session receives more bytes than the trace has, and only sessions that there may be are named
+pub use Rattle.trace_file.proofs.FewBytes.{few_bytes, few_sessions}

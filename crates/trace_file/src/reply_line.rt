@@ -1,0 +1,49 @@
+//! The printed line of a reply.
+
+ghost use Rattle.std.specs.Prelude.{◌≡◌, ◌∷◌, ◌++◌, [], codes, length, take, OnOk, OnErr};
+ghost use Rattle.std.specs.Fmt.{decimal};
+ghost use Rattle.hex.specs.Hex.{encode_lower};
+ghost use Rattle.trace_file.specs.PrintedLine.{line_of};
+
+use itoa::Buffer;
+use kbytes::{Bytes, NoMemory};
+
+// Puts the digits of the bytes at the end. After want of memory some of them may stand there.
+fn put_hex(out: &mut Bytes, bytes: &[u8]) -> Result<(), NoMemory>
+    ensures ok { OnOk result (out.new ≡ out.old ++ encode_lower bytes.now) }
+    ensures front { OnErr result (take (length out.old) out.new ≡ out.old) }
+{
+    for byte in bytes {
+        let mut pair = [0; 2];
+        let _ = hex::encode_to_slice([*byte].as_slice(), &mut pair);
+        out.extend(pair.as_slice())?;
+    }
+    Ok(())
+}
+
+// Puts the line at the end. After want of memory some of it may stand there.
+fn put_words(out: &mut Bytes, session: u32, frame: &[u8]) -> Result<(), NoMemory>
+    ensures ok { OnOk result (out.new ≡ out.old ++ line_of (codes "reply" ∷ decimal session ∷ encode_lower frame.now ∷ [])) }
+    ensures front { OnErr result (take (length out.old) out.new ≡ out.old) }
+{
+    let mut buffer = Buffer::new();
+    out.extend(b"reply ".as_slice())?;
+    out.extend(buffer.format(session).as_bytes())?;
+    out.push(b' ')?;
+    put_hex(out, frame)?;
+    out.push(b'\n')?;
+    Ok(())
+}
+
+/// Puts the line `reply S HEX` of a whole frame, sent to the session, at the end. After want of memory the bytes are as before.
+pub fn put_reply_line(out: &mut Bytes, session: u32, frame: &[u8]) -> Result<(), NoMemory>
+    ensures ok { OnOk result (out.new ≡ out.old ++ line_of (codes "reply" ∷ decimal session ∷ encode_lower frame.now ∷ [])) }
+    ensures err { OnErr result (out.new ≡ out.old) }
+{
+    let before = out.len();
+    let put = put_words(out, session, frame);
+    if put.is_err() {
+        out.truncate(before);
+    }
+    put
+}
