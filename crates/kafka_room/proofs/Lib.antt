@@ -54,3 +54,8 @@ pub mod FirstBoard
 pub mod PlayOnce
 pub mod ReplyOnce
 pub mod Prints
+pub mod WorkedCalls
+pub mod WorkedAccounts
+pub mod FramesOnce
+pub mod WorkedPrints
+pub mod WorkedProduces

@@ -32,6 +32,8 @@ pub mod Fits
 pub mod Printed
 -- what the account of a trace's run is to the trace
 pub mod RunOf
+-- small accounts, written out
+pub mod Worked
 -- what was read of a source
 pub mod Streams
 -- what a replay comes to

@@ -4,6 +4,7 @@ pub mod config;
 pub mod copies;
 pub mod frame;
 pub mod inbox;
+pub mod laws;
 pub mod next_frame;
 pub mod put_fetched;
 pub mod put_produced;

@@ -1,5 +1,6 @@
 use Rattle.std.proofs.Common.{ap}
 use Rattle.kafka_room.specs.Fits.{sent}
+use Rattle.kafka_room.proofs.FramesOnce.{sent_frames}
 use Rattle.kafka_room.proofs.Prints.{print_there, print_once}
 use Rattle.kafka_room.proofs.ReplyOnce.{replies_once}
 use Rattle.kafka_room.proofs.audit.laws.one_print.Goals as goal
@@ -12,3 +13,6 @@ returns-clause-once c = print_once
 
 pub returns-clause-bytes : goal.returns-clause-bytes
 returns-clause-bytes c = λ account calls replies others h k. ap sent (replies_once account calls replies others h k)
+
+pub returns-clause-frames : goal.returns-clause-frames
+returns-clause-frames c = sent_frames
