@@ -25,6 +25,7 @@ use Rattle.audit.specs.Printed.{summary_of}
 use Rattle.kwire.specs.Refusal.{request_at}
 use Rattle.audit.proofs.Laws.{some_is}
 use Rattle.kwire.proofs.Laws.{request_reads, same_request, same_refusal, not_both}
+use Rattle.audit.specs.declared.account.TheConstants.{MOST_CALLS}
 
 -- ---- what is done
 
@@ -49,7 +50,7 @@ whole_once true board session body t u last p q = p ∙ sym q
 whole_once false board session body t u last p q = frame_once board session body t u p q
 
 act_once : (board : Board) (session : ℕ) (frame : Frame) (t u : Turned) → ActsOn board session frame t → ActsOn board session frame u → t ≡ u
-act_once board session (Whole end) t u p q = whole_once (next_call board session == 4294967295) board session _ t u _ p q
+act_once board session (Whole end) t u p q = whole_once (next_call board session == MOST_CALLS) board session _ t u _ p q
 act_once board session NotYet t u p q = p ∙ sym q
 act_once board session (TooLong size) t u p q = p ∙ sym q
 

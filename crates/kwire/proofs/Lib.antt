@@ -26,6 +26,8 @@ pub mod MentionLoops
 pub mod StreamLaws
 -- partitions looked up among the topics, one topic after the other
 pub mod Lookups
+-- a stream is cut into whole frames in one way
+pub mod FramesOnce
 -- fields that are written one after the other
 pub mod Spelled
 -- replies to produces and fetches whose lengths and counts are in range
