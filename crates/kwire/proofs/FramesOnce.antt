@@ -7,7 +7,6 @@ use Rattle.kbytes.specs.Field.{integer}
 use Rattle.kbytes.proofs.Laws.{wide_32}
 use Rattle.kwire.specs.declared.frame.Frame.TheVariants.{Whole, NotYet}
 use Rattle.kwire.specs.declared.reply.Reply.{Reply}
-use Rattle.audit.specs.Fits.{sent}
 use Rattle.kwire.specs.Frames.{framed, IsFrameBody, BeginsWhole, next_frame_of, AreFramesOf}
 use Rattle.kwire.specs.Spelling.{spelling}
 use Rattle.kwire.proofs.FrameLaws.{whole_frame}
@@ -69,8 +68,8 @@ all_spelled (r ∷ replies) (b ∷ bodies) e =
 nothing_begins : BeginsWhole [] → ⊥
 nothing_begins begun = let none : NotYet ≡ Whole begun.0 = begun.1 in absurd cc
 
--- what is sent is cut into the replies' frames
-pub sent_frames : (replies : List Reply) (bodies : List (List ℕ)) → map spelling replies ≡ map framed bodies → AllByRecursion IsFrameBody bodies → AreFramesOf (sent replies) bodies []
+-- replies that are sent one after the other are cut into their frames
+pub sent_frames : (replies : List Reply) (bodies : List (List ℕ)) → map spelling replies ≡ map framed bodies → AllByRecursion IsFrameBody bodies → AreFramesOf (flat_map spelling replies) bodies []
 sent_frames replies bodies spelled small = record {
   whole = all_spelled replies bodies spelled ∙ sym (append-nil (flat_map framed bodies));
   each = small;
