@@ -59,3 +59,5 @@ pub mod WorkedAccounts
 pub mod FramesOnce
 pub mod WorkedPrints
 pub mod WorkedProduces
+pub mod WorkedRequests
+pub mod WorkedRuns
