@@ -16,3 +16,7 @@ pub mod WorkedAccounts
 pub mod WorkedPrints
 -- produces of one batch to one partition
 pub mod WorkedProduces
+-- the worked requests have bodies
+pub mod WorkedRequests
+-- a worked run
+pub mod WorkedRuns

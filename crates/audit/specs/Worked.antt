@@ -9,13 +9,15 @@ use Rattle.audit.specs.declared.account.Account.{Account}
 use Rattle.audit.specs.declared.account.Transcript.{Transcript}
 use Rattle.audit.specs.declared.account.Call.{Call}
 use Rattle.audit.specs.declared.account.CallHow.TheVariants.{AtOnce, Satisfied, Expired, Parked, Cut}
-use Rattle.audit.specs.declared.account.SessionEnd.TheVariants.{NoMemory}
+use Rattle.audit.specs.declared.account.SessionEnd.TheVariants.{Closed, NoMemory}
 use Rattle.audit.specs.declared.account.Point.{Point}
 use Rattle.kwire.specs.declared.request.Request.{Request}
 use Rattle.kwire.specs.declared.request.Ask.TheVariants.{Produce, Fetch}
 use Rattle.kwire.specs.declared.request.FetchPart.{FetchPart}
 use Rattle.kwire.specs.declared.reply.Reply.{Reply}
 use Rattle.kwire.specs.declared.reply.Told.TheVariants.{Produced, Fetched}
+use Rattle.trace_file.specs.declared.line.Line.{Line}
+use Rattle.trace_file.specs.declared.line.Line.TheVariants as lines
 use Rattle.kwire.specs.Configuration.{Configuration}
 use Rattle.audit.specs.Histories.{clock_part}
 use Rattle.audit.specs.Printed.{session_text, summary_of}
@@ -177,6 +179,23 @@ abbrev pub swapped_print : List ℕ → List ℕ → List ℕ
 swapped_print plain batch =
     flat_map session_text ((produce_transcript plain 0, produced_reply 1 ∷ []) ∷ (produce_transcript plain 1, produced_reply 0 ∷ []) ∷ [])
     ++ summary_of (replicated plain batch)
+
+-- a trace of one topic, whose one session is closed at once, and whose clock tells 5
+abbrev pub closed_lines : List Line
+closed_lines = lines.Topic (codes "t") 2 0 ∷ lines.Shut 0 ∷ lines.Clock 5 ∷ lines.End ∷ []
+
+abbrev pub closed_transcript : Transcript
+closed_transcript = record { number = 0; first = 0; calls = []; end = Some Closed }
+
+-- its run by a command with a pass for the clock, which told 1000 once more
+abbrev pub closed_run : Account
+closed_run = record {
+  config = two_parts;
+  parts = record { followers = 0; log = []; events = [] } ∷ record { followers = 0; log = []; events = [] } ∷ [];
+  clock = clocks.Tick 5 ∷ clocks.Tick 1000 ∷ [];
+  passes = (closed_transcript ∷ []) ∷ [] ∷ [];
+  wins = [];
+}
 
 -- lines, each with its line feed
 abbrev pub lines_of : List (List ℕ) → List ℕ

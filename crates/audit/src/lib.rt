@@ -13,5 +13,6 @@ pub use account::{
 };
 pub use promises::{
     looks_stand, one_print, one_reply, worked_account, worked_calls, worked_prints, worked_replies,
+    worked_requests, worked_run,
 };
 pub use summary::put_summary;

@@ -1,16 +1,18 @@
 //! Laws of accounts. They do nothing.
-ghost use Rattle.std.specs.Prelude.{◌≡◌, ◌≢◌, ◌⊎◌, ◌∷◌, [], codes, map, negsuc, pos, true, List, None, Some, ℕ};
+ghost use Rattle.std.specs.Prelude.{◌≡◌, ◌≢◌, ◌<◌, ◌^◌, ◌⊎◌, ◌∷◌, [], codes, length, map, negsuc, pos, true, List, None, Some, ℕ};
 ghost use Rattle.std.specs.List.{AllByRecursion};
+ghost use Rattle.kbytes.specs.Field.{fields};
 ghost use Rattle.kbatch.specs.Batch.{IsBatch};
 ghost use Rattle.kbatch.specs.declared.record.Record.{Record};
 ghost use Rattle.audit.specs.Fits.{HasReplies, IsReplyOf, is_answered, sent};
 ghost use Rattle.kwire.specs.Frames.{AreFramesOf, framed, IsFrameBody};
 ghost use Rattle.audit.specs.LawfulCall.{IsClockLook, IsLawfulCall, IsLook};
 ghost use Rattle.audit.specs.IsLawful.{IsLawful};
-ghost use Rattle.kwire.specs.IsRequest.{IsRequest};
+ghost use Rattle.kwire.specs.IsRequest.{IsRequest, request_fields};
 ghost use Rattle.audit.specs.Printed.{IsPrintOf, link_line, session_text, storm_summary_of, summary_of};
+ghost use Rattle.audit.specs.RunOf.{IsRunOf};
 ghost use Rattle.kwire.specs.Spelling.{spelling};
-ghost use Rattle.audit.specs.Worked.{astray_call, cut_as_satisfied, cut_call, cut_unwon, expired_call, fetch_both, fetch_now, fetch_one, filled, lines_of, parked_call, produce_call, produce_of, produced_reply, read_call, replicated, replicated_call, reply_of, satisfied_call, swapped_print, three_waits, told_later};
+ghost use Rattle.audit.specs.Worked.{astray_call, closed_lines, closed_run, cut_as_satisfied, cut_call, cut_unwon, expired_call, fetch_both, fetch_now, fetch_one, filled, lines_of, parked_call, produce_call, produce_of, produced_reply, read_call, replicated, replicated_call, reply_of, satisfied_call, swapped_print, three_waits, told_later};
 ghost use Rattle.audit.specs.declared.account.Account.{Account as TheAccount};
 ghost use Rattle.audit.specs.declared.account.Call.{Call as TheCall};
 ghost use Rattle.audit.specs.declared.account.SessionEnd.TheVariants.{Closed, NoMemory};
@@ -106,4 +108,23 @@ pub fn worked_prints()
         ≡ lines_of (codes "link 5 calls 1 replies 0" ∷ []) }
     ensures ended { (both : List ℕ) → session_text (record { number = 2; first = 0; calls = cut_call both ∷ []; end = Some NoMemory }, [])
         ≡ lines_of (codes "end 2 no-memory" ∷ []) }
+{}
+
+/// Law: the worked requests have bodies.
+pub fn worked_requests()
+    ensures one { IsRequest (fields (request_fields fetch_one)) fetch_one }
+    ensures both { IsRequest (fields (request_fields fetch_both)) fetch_both }
+    ensures now { IsRequest (fields (request_fields fetch_now)) fetch_now }
+    ensures leader { (batch : List ℕ) → length batch < 2 ^ 31
+        → IsRequest (fields (request_fields (produce_of (pos 1) batch))) (produce_of (pos 1) batch) }
+    ensures all { (batch : List ℕ) → length batch < 2 ^ 31
+        → IsRequest (fields (request_fields (produce_of (negsuc 0) batch))) (produce_of (negsuc 0) batch) }
+{}
+
+/// Law: a worked account is that of the run of its lines, with the clock's pass and a tick of the command beside them. It
+/// is that of no run without the one or the other.
+pub fn worked_run()
+    ensures run { IsRunOf closed_lines 9092 ([] ∷ []) (1000 ∷ []) closed_run }
+    ensures pass { IsRunOf closed_lines 9092 [] (1000 ∷ []) closed_run → ⊥ }
+    ensures tick { IsRunOf closed_lines 9092 ([] ∷ []) [] closed_run → ⊥ }
 {}
