@@ -1,17 +1,17 @@
 -- A worked account is lawful: three passes waited, and one of them waits still.
-use Rattle.std.proofs.Common.{◌≡◌, ◌≢◌, ◌⊎◌, ℕ, zero, suc, ◌+◌, ◌<◌, Bool, true, false, cond, eqb, List, [], ◌∷◌, ◌++◌, map, Option, Some, None, unwrap_or, inl, inr, refl, sym, ap, subst, ◌∙◌, arith, eq-eqb}
+use Rattle.std.proofs.Common.{◌≡◌, ◌≢◌, ℕ, zero, suc, ◌<◌, Bool, cond, List, [], ◌∷◌, map, Option, Some, None, unwrap_or, inl, inr, refl, sym, ap, subst, arith}
 use Rattle.std.proofs.lemmas.Bool.{ne_eqb}
-use Rattle.std.specs.Prelude.{slice_get, count_by, slice_index}
+use Rattle.std.specs.Prelude.{slice_get, count_by}
 use Rattle.std.specs.List.{AllByRecursion, flat_map}
 use Rattle.std.specs.List.Sorted.{IsStrictlyIncreasing}
 use Rattle.kafka_room.specs.declared.audit.account.Account.{Account}
 use Rattle.kafka_room.specs.declared.audit.account.Call.{Call}
 use Rattle.kafka_room.specs.declared.audit.account.Point.{Point}
 use Rattle.kafka_room.specs.Handled.{IsLawfulCall}
-use Rattle.kafka_room.specs.Histories.{Owner, owners_of, owners_in, clock_owner_of, clock_part, calls_of, call_of, points_of, all_calls}
-use Rattle.kafka_room.specs.IsLawful.{IsLawful, is_point, is_won_by, places_in, FollowOn}
+use Rattle.kafka_room.specs.Histories.{Owner, owners_of, owners_in, clock_owner_of, calls_of, call_of, points_of, all_calls}
+use Rattle.kafka_room.specs.IsLawful.{IsLawful, is_point, is_won_by, places_in}
 use Rattle.kafka_room.specs.IsRequest.{IsRequest}
-use Rattle.kafka_room.specs.Worked.{at, fetch_one, fetch_both, expired_call, parked_call, cut_call, three_waits}
+use Rattle.kafka_room.specs.Worked.{fetch_one, fetch_both, expired_call, parked_call, cut_call, three_waits}
 use Rattle.kafka_room.proofs.Places.{same_or_not, some_is}
 use Rattle.kafka_room.proofs.WorkedCalls.{expired_lawful, parked_lawful, cut_lawful}
 
