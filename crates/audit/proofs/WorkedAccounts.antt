@@ -1,17 +1,17 @@
 -- A worked account is lawful: three passes waited, and one of them waits still.
-use Rattle.std.proofs.Common.{◌≡◌, ◌≢◌, ◌⊎◌, ℕ, zero, suc, ◌+◌, ◌<◌, Bool, true, false, cond, eqb, List, [], ◌∷◌, ◌++◌, map, Option, Some, None, unwrap_or, inl, inr, refl, sym, ap, subst, ◌∙◌, arith, eq-eqb}
+use Rattle.std.proofs.Common.{◌≡◌, ◌≢◌, ℕ, zero, suc, ◌<◌, Bool, cond, List, [], ◌∷◌, map, Option, Some, None, unwrap_or, inl, inr, refl, sym, ap, subst, arith}
 use Rattle.std.proofs.lemmas.Bool.{ne_eqb}
-use Rattle.std.specs.Prelude.{slice_get, count_by, slice_index}
+use Rattle.std.specs.Prelude.{slice_get, count_by}
 use Rattle.std.specs.List.{AllByRecursion, flat_map}
 use Rattle.std.specs.List.Sorted.{IsStrictlyIncreasing}
 use Rattle.audit.specs.declared.account.Account.{Account}
 use Rattle.audit.specs.declared.account.Call.{Call}
 use Rattle.audit.specs.declared.account.Point.{Point}
 use Rattle.audit.specs.LawfulCall.{IsLawfulCall}
-use Rattle.audit.specs.Histories.{Owner, owners_of, owners_in, clock_owner_of, clock_part, calls_of, call_of, points_of, all_calls}
-use Rattle.audit.specs.IsLawful.{IsLawful, is_point, is_won_by, places_in, FollowOn}
+use Rattle.audit.specs.Histories.{Owner, owners_of, owners_in, clock_owner_of, calls_of, call_of, points_of, all_calls}
+use Rattle.audit.specs.IsLawful.{IsLawful, is_point, is_won_by, places_in}
 use Rattle.kwire.specs.IsRequest.{IsRequest}
-use Rattle.audit.specs.Worked.{at, fetch_one, fetch_both, expired_call, parked_call, cut_call, three_waits}
+use Rattle.audit.specs.Worked.{fetch_one, fetch_both, expired_call, parked_call, cut_call, three_waits}
 use Rattle.audit.proofs.Places.{same_or_not, some_is}
 use Rattle.audit.proofs.WorkedCalls.{expired_lawful, parked_lawful, cut_lawful}
 

@@ -1,5 +1,5 @@
 -- The worked requests have bodies.
-use Rattle.std.proofs.Common.{◌≡◌, ◌≢◌, ℕ, zero, suc, ◌<◌, ◌^◌, pos, negsuc, List, [], ◌∷◌, length, Some, None, inl, refl, ap, arith}
+use Rattle.std.proofs.Common.{◌≡◌, ◌≢◌, ℕ, zero, suc, ◌<◌, ◌^◌, pos, negsuc, List, [], ◌∷◌, length, inl, refl, ap, arith}
 use Rattle.std.specs.Prelude.{AllPairs}
 use Rattle.kbytes.specs.Field.{fields}
 use Rattle.kwire.specs.IsRequest.{IsRequest, Named, request_fields}

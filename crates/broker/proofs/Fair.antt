@@ -7,9 +7,6 @@ use Rattle.std.specs.Prelude.{MatchOption, MatchBool, replicate, slice_index, â—
 use Rattle.std.specs.List.{AllByRecursion, AllZip}
 use Rattle.std.specs.Cmp.Lexicographic.{pointwise}
 use Rattle.std.specs.Bool.{nat_eq}
-use Rattle.kbatch.specs.declared.record.Record.{Record}
-use Rattle.kbatch.specs.Batch.{IsBatch}
-use Rattle.kbatch.specs.Record.{records_from}
 use Rattle.kbatch.specs.Stamp.{stamped}
 use Rattle.partlog.specs.State.{PartState}
 use Rattle.partlog.specs.History.{History}
