@@ -1,15 +1,11 @@
--- A stream is cut into frames in one way, and bytes that are sent are the frames of the replies.
-use Rattle.std.proofs.Common.{◌≡◌, ℕ, ◌+◌, List, [], ◌∷◌, ◌++◌, length, map, take, drop, pos, refl, sym, ap, ◌∙◌, append_assoc, append-nil, arith}
+-- A stream is cut into frames in one way.
+use Rattle.std.proofs.Common.{◌≡◌, ℕ, ◌+◌, List, [], ◌∷◌, ◌++◌, length, take, drop, pos, refl, sym, ap, ◌∙◌, append_assoc, arith}
 use Rattle.std.proofs.lemmas.List.{take_at, drop_at}
 use Rattle.std.specs.Int.{w32}
 use Rattle.std.specs.List.{AllByRecursion, flat_map}
 use Rattle.kbytes.specs.Field.{integer}
-use Rattle.kbytes.proofs.Integers.{wide_32}
-use Rattle.kafka_room.specs.declared.kwire.frame.Frame.TheVariants.{Whole, NotYet}
-use Rattle.kafka_room.specs.declared.kwire.reply.Reply.{Reply}
-use Rattle.kafka_room.specs.Fits.{sent}
+use Rattle.kafka_room.specs.declared.kwire.frame.Frame.TheVariants.{Whole}
 use Rattle.kafka_room.specs.Frames.{framed, IsFrameBody, BeginsWhole, next_frame_of, AreFramesOf}
-use Rattle.kafka_room.specs.Spelling.{spelling}
 use Rattle.kafka_room.proofs.FrameLaws.{whole_frame}
 
 same_front : (n : ℕ) (xs ys zs ws : List ℕ) → length xs ≡ n → length zs ≡ n → xs ++ ys ≡ zs ++ ws → xs ≡ zs
@@ -22,7 +18,7 @@ same_size : (a b : ℕ) → Whole (4 + a) ≡ Whole (4 + b) → a ≡ b
 same_size a b e = let sizes : 4 + a ≡ 4 + b = cc in omega arith
 
 head_long : (body : List ℕ) → length (integer w32 (pos (length body))) ≡ 4
-head_long body = wide_32.len (length body)
+head_long body = refl
 
 first_body : (a b rest more : List ℕ) → IsFrameBody a → IsFrameBody b → framed a ++ rest ≡ framed b ++ more → (a ≡ b) × (rest ≡ more)
 first_body a b rest more small little e =
@@ -50,29 +46,3 @@ one_cut (a ∷ bodies) (b ∷ others) rest more e small little calm still =
 
 pub frames_once : (stream : List ℕ) (bodies others : List (List ℕ)) (rest more : List ℕ) → AreFramesOf stream bodies rest → AreFramesOf stream others more → (bodies ≡ others) × (rest ≡ more)
 frames_once stream bodies others rest more a b = one_cut bodies others rest more (sym a.whole ∙ b.whole) a.each b.each a.no_more b.no_more
-
-all_spelled : (replies : List Reply) (bodies : List (List ℕ)) → map spelling replies ≡ map framed bodies → flat_map spelling replies ≡ flat_map framed bodies
-all_spelled [] [] e = refl
-all_spelled [] (b ∷ bodies) e = absurd cc
-all_spelled (r ∷ replies) [] e = absurd cc
-all_spelled (r ∷ replies) (b ∷ bodies) e =
-    let first : spelling r ≡ framed b = first_text (spelling r) (framed b) (map spelling replies) (map framed bodies) e in
-    let later : map spelling replies ≡ map framed bodies = later_texts (spelling r) (framed b) (map spelling replies) (map framed bodies) e in
-    ap (λ (text : List ℕ). text ++ flat_map spelling replies) first ∙ ap (λ (text : List ℕ). framed b ++ text) (all_spelled replies bodies later)
-  where
-    first_text : (x y : List ℕ) (xs ys : List (List ℕ)) → x ∷ xs ≡ y ∷ ys → x ≡ y
-    first_text x y xs ys same = cc
-
-    later_texts : (x y : List ℕ) (xs ys : List (List ℕ)) → x ∷ xs ≡ y ∷ ys → xs ≡ ys
-    later_texts x y xs ys same = cc
-
-nothing_begins : BeginsWhole [] → ⊥
-nothing_begins begun = let none : NotYet ≡ Whole begun.0 = begun.1 in absurd cc
-
--- what is sent is cut into the replies' frames
-pub sent_frames : (replies : List Reply) (bodies : List (List ℕ)) → map spelling replies ≡ map framed bodies → AllByRecursion IsFrameBody bodies → AreFramesOf (sent replies) bodies []
-sent_frames replies bodies spelled small = record {
-  whole = all_spelled replies bodies spelled ∙ sym (append-nil (flat_map framed bodies));
-  each = small;
-  no_more = nothing_begins;
-}

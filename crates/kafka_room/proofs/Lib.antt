@@ -57,6 +57,7 @@ pub mod Prints
 pub mod WorkedCalls
 pub mod WorkedAccounts
 pub mod FramesOnce
+pub mod SentFrames
 pub mod WorkedPrints
 pub mod WorkedProduces
 pub mod WorkedRequests

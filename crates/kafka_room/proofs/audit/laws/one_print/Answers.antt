@@ -1,6 +1,6 @@
 use Rattle.std.proofs.Common.{ap}
 use Rattle.kafka_room.specs.Fits.{sent}
-use Rattle.kafka_room.proofs.FramesOnce.{sent_frames}
+use Rattle.kafka_room.proofs.SentFrames.{sent_frames}
 use Rattle.kafka_room.proofs.Prints.{print_there, print_once}
 use Rattle.kafka_room.proofs.ReplyOnce.{replies_once}
 use Rattle.kafka_room.proofs.audit.laws.one_print.Goals as goal
