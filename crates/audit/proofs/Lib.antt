@@ -8,3 +8,15 @@ pub mod Tallies
 pub mod ReplyOnce
 -- a lawful account has one print
 pub mod Prints
+-- worked calls that waited
+pub mod WorkedCalls
+-- a worked account that is lawful
+pub mod WorkedAccounts
+-- what a worked account prints
+pub mod WorkedPrints
+-- produces of one batch to one partition
+pub mod WorkedProduces
+-- the worked requests have bodies
+pub mod WorkedRequests
+-- a worked run
+pub mod WorkedRuns

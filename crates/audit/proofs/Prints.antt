@@ -1,5 +1,5 @@
 -- A lawful account has one print: each call that is answered has a reply.
-use Rattle.std.proofs.Common.{◌≡◌, ◌⊎◌, ℕ, zero, suc, Bool, true, false, List, [], ◌∷◌, ◌++◌, Option, Some, None, unwrap_or, inl, inr, refl, sym, ap, subst, ◌∙◌}
+use Rattle.std.proofs.Common.{◌≡◌, ◌⊎◌, ℕ, zero, suc, Bool, true, false, List, [], ◌∷◌, ◌++◌, take, Some, None, unwrap_or, inl, inr, refl, sym, ap, subst, ◌∙◌}
 use Rattle.std.specs.Prelude.{slice_get}
 use Rattle.std.specs.List.{AllByRecursion, AllZip, flat_map, zip}
 use Rattle.audit.specs.declared.account.Account.{Account}
@@ -12,9 +12,9 @@ use Rattle.kwire.specs.declared.reply.Reply.{Reply}
 use Rattle.kwire.specs.declared.request.Request.{Request}
 use Rattle.kanswer.specs.Answer.{answer}
 use Rattle.kanswer.specs.Waiting.{Shown}
-use Rattle.audit.specs.Fits.{ShowsFor, IsReplyOf, is_answered, answered_of, HasReplies}
-use Rattle.audit.specs.LawfulCall.{Step, IsAccepted, IsLawfulCall, Completes, AreLooksAfterClock, shown_as_accepted, shown_as_completed}
-use Rattle.audit.specs.Histories.{calls_in, calls_of, call_of}
+use Rattle.audit.specs.Fits.{ShowsFor, IsReplyOf, is_answered, HasReplies}
+use Rattle.audit.specs.LawfulCall.{Step, IsLook, IsClockLook, IsLawfulCall, Completes, AreLooksAfterClock, AreFirstLooksAfterClock, operation_parts, shown_as_accepted, shown_as_completed}
+use Rattle.audit.specs.Histories.{calls_in}
 use Rattle.audit.specs.IsLawful.{IsLawful}
 use Rattle.audit.specs.Printed.{IsPrintOf, transcripts_of, session_text, summary_of}
 use Rattle.audit.proofs.Places.{all_append}
@@ -129,3 +129,44 @@ sent_once account (t ∷ ts) (x ∷ xs) (y ∷ ys) h k =
 pub print_once : (account : Account) (text other : List ℕ) → IsPrintOf account text → IsPrintOf account other → text ≡ other
 print_once account text other p q =
     p.spelled ∙ ap (λ (replies : List (List Reply)). flat_map session_text (zip (transcripts_of account) replies) ++ summary_of account) (sent_once account (transcripts_of account) p.replies q.replies p.sent q.sent) ∙ sym q.spelled
+
+-- ---- its last entries
+
+-- a look at a partition or at the clock that stands in the account
+abbrev pub Stands : Account → Point → Type 0
+Stands account point = IsLook account point.part point ⊎ IsClockLook account point
+
+none_stand : (account : Account) (finish : List Point) → finish ≡ [] → AllByRecursion (Stands account) finish
+none_stand account finish e = subst (AllByRecursion (Stands account)) (sym e) tt
+
+looks_on : (account : Account) (parts : List ℕ) (points : List Point) → AllZip (IsLook account) parts points → AllByRecursion (Stands account) points
+looks_on account [] [] h = tt
+looks_on account [] (point ∷ points) h = absurd h
+looks_on account (part ∷ parts) [] h = absurd h
+looks_on account (part ∷ parts) (point ∷ points) h = (inl (refl, h.0.1, h.0.2, h.0.3), looks_on account parts points h.1)
+
+behind_clock : (account : Account) (steps : List Step) (finish : List Point) → AreLooksAfterClock account steps finish → AllByRecursion (Stands account) finish
+behind_clock account steps [] h = absurd h
+behind_clock account steps (clock ∷ looks) h = (inr h.0, looks_on account (operation_parts steps) looks h.1)
+
+first_behind_clock : (account : Account) (steps : List Step) (finish : List Point) → AreFirstLooksAfterClock account steps finish → AllByRecursion (Stands account) finish
+first_behind_clock account steps [] h = absurd h
+first_behind_clock account steps (clock ∷ looks) h = (inr h.0, looks_on account (take h.1.0 (operation_parts steps)) looks h.1.1)
+
+completed_stand : (account : Account) (request : Request) (steps : List Step) (looks finish : List Point) (how : CallHow) → Completes account request steps looks finish how → AllByRecursion (Stands account) finish
+completed_stand account request steps looks finish Quiet h = none_stand account finish h.1
+completed_stand account request steps looks finish AtOnce h = none_stand account finish h.2
+completed_stand account request steps looks finish (Satisfied by) h = looks_on account (operation_parts steps) finish h.1
+completed_stand account request steps looks finish (Expired by) h = behind_clock account steps finish h.1
+completed_stand account request steps looks finish Parked h = none_stand account finish h.1
+completed_stand account request steps looks finish (Cut None) h = none_stand account finish h
+completed_stand account request steps looks finish (Cut (Some by)) h =
+    elim h.1 [
+      | inl c ↦ looks_on account (take c.first.0 (operation_parts steps)) finish c.first.1
+      | inr c ↦ first_behind_clock account steps finish c.first
+    ]
+
+-- a lawful call names no last entry that nobody left
+pub looks_stand : (account : Account) (call : Call) → IsLawfulCall account call → AllByRecursion (Stands account) call.finish
+looks_stand account call (inl w) = completed_stand account w.whole.request w.whole.steps w.whole.looks call.finish call.how w.completed
+looks_stand account call (inr c) = none_stand account call.finish c.unfinished

@@ -1,5 +1,6 @@
 -- A call was accepted in one way and has one reply at most: its points say at which states its partitions were asked.
-use Rattle.std.proofs.Common.{◌≡◌, ℕ, Bool, true, false, List, [], ◌∷◌, ◌++◌, Option, Some, None, refl, sym, ap, subst, ◌∙◌}
+use Rattle.std.proofs.Common.{◌≡◌, List, [], ◌∷◌, ◌++◌, Option, Some, None, refl, sym, ap, subst, ◌∙◌}
+use Rattle.std.proofs.lemmas.List.{append_cancel_left}
 use Rattle.std.specs.List.{AllZip}
 use Rattle.audit.specs.declared.account.Account.{Account}
 use Rattle.audit.specs.declared.account.Call.{Call}
@@ -14,9 +15,8 @@ use Rattle.kanswer.specs.Decisions.{Decision, Refuse, AskLog, Decides}
 use Rattle.kanswer.specs.Answer.{answer}
 use Rattle.kanswer.specs.Waiting.{Shown}
 use Rattle.audit.specs.Fits.{ShowsFor, IsReplyOf, answered_of, HasReplies}
-use Rattle.audit.specs.LawfulCall.{Step, IsStep, IsAccepted, step_points, shown_as_accepted, shown_as_completed}
+use Rattle.audit.specs.LawfulCall.{Step, IsStep, IsAccepted, IsWholeCall, Completes, step_points, shown_as_completed}
 use Rattle.audit.specs.Histories.{before_point}
-use Rattle.audit.proofs.Places.{some_is}
 use Rattle.kanswer.proofs.Laws.{decided_once}
 use Rattle.kwire.proofs.Laws.{request_reads, same_request}
 
@@ -96,3 +96,15 @@ all_once account (c ∷ calls) (x ∷ xs) (y ∷ ys) h k =
 
 pub replies_once : (account : Account) (calls : List Call) (xs ys : List Reply) → HasReplies account calls xs → HasReplies account calls ys → xs ≡ ys
 replies_once account calls xs ys h k = all_once account (answered_of calls) xs ys h k
+
+-- how a call came to its end, as its acceptance is known
+pub completed_at : (account : Account) (call : Call) (known : IsAccepted account call) → IsWholeCall account call → Completes account known.request known.steps known.looks call.finish call.how
+completed_at account call known w =
+    let request = request_once account call known w.whole in
+    let steps = accepted_once account call known w.whole in
+    let points : step_points known.steps ++ known.looks ≡ step_points known.steps ++ w.whole.looks =
+    sym known.entries.points ∙ w.whole.entries.points ∙ ap (λ (ss : List Step). step_points ss ++ w.whole.looks) (sym steps) in
+    let looks : known.looks ≡ w.whole.looks = append_cancel_left (step_points known.steps) known.looks w.whole.looks points in
+    subst (λ (r : Request). Completes account r known.steps known.looks call.finish call.how) (sym request)
+    (subst (λ (ss : List Step). Completes account w.whole.request ss known.looks call.finish call.how) (sym steps)
+    (subst (λ (ps : List Point). Completes account w.whole.request w.whole.steps ps call.finish call.how) (sym looks) w.completed))

@@ -12,3 +12,5 @@ pub mod Fits
 pub mod RunOf
 -- what is printed of an account
 pub mod Printed
+-- small accounts, written out
+pub mod Worked

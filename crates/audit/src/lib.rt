@@ -11,5 +11,8 @@ mod tally;
 pub use account::{
     Account, CLOCK_PART, Call, CallHow, MOST_CALLS, PartAccount, Point, SessionEnd, Transcript,
 };
-pub use promises::{one_print, one_reply};
+pub use promises::{
+    looks_stand, one_print, one_reply, worked_account, worked_calls, worked_prints, worked_replies,
+    worked_requests, worked_run,
+};
 pub use summary::put_summary;

@@ -1,11 +1,21 @@
 //! Laws of accounts. They do nothing.
-ghost use Rattle.std.specs.Prelude.{◌≡◌, true, List, ℕ};
+ghost use Rattle.std.specs.Prelude.{◌≡◌, ◌≢◌, ◌<◌, ◌^◌, ◌⊎◌, ◌∷◌, [], codes, length, map, negsuc, pos, true, List, None, Some, ℕ};
+ghost use Rattle.std.specs.List.{AllByRecursion};
+ghost use Rattle.kbytes.specs.Field.{fields};
+ghost use Rattle.kbatch.specs.Batch.{IsBatch};
+ghost use Rattle.kbatch.specs.declared.record.Record.{Record};
 ghost use Rattle.audit.specs.Fits.{HasReplies, IsReplyOf, is_answered, sent};
-ghost use Rattle.audit.specs.LawfulCall.{IsLawfulCall};
+ghost use Rattle.kwire.specs.Frames.{AreFramesOf, framed, IsFrameBody};
+ghost use Rattle.audit.specs.LawfulCall.{IsClockLook, IsLawfulCall, IsLook};
 ghost use Rattle.audit.specs.IsLawful.{IsLawful};
-ghost use Rattle.audit.specs.Printed.{IsPrintOf};
+ghost use Rattle.kwire.specs.IsRequest.{IsRequest, request_fields};
+ghost use Rattle.audit.specs.Printed.{IsPrintOf, link_line, session_text, storm_summary_of, summary_of};
+ghost use Rattle.audit.specs.RunOf.{IsRunOf};
+ghost use Rattle.kwire.specs.Spelling.{spelling};
+ghost use Rattle.audit.specs.Worked.{astray_call, closed_lines, closed_run, cut_as_satisfied, cut_call, cut_unwon, expired_call, fetch_both, fetch_now, fetch_one, filled, lines_of, parked_call, produce_call, produce_of, produced_reply, read_call, replicated, replicated_call, reply_of, satisfied_call, swapped_print, three_waits, told_later};
 ghost use Rattle.audit.specs.declared.account.Account.{Account as TheAccount};
 ghost use Rattle.audit.specs.declared.account.Call.{Call as TheCall};
+ghost use Rattle.audit.specs.declared.account.SessionEnd.TheVariants.{Closed, NoMemory};
 ghost use Rattle.kwire.specs.declared.reply.Reply.{Reply};
 
 /// Law: a call has one reply at most. It has none where it isn't answered, and one where it is and is lawful.
@@ -18,10 +28,103 @@ pub fn one_reply()
         → (reply : Reply) × IsReplyOf account call reply }
 {}
 
-/// Law: a lawful account has a print, no account has two, and what a session was sent is one sequence of bytes.
+/// Law: a lawful account has a print, no account has two. What a session was sent is one sequence of bytes: the frames
+/// of its replies, one after the other, and nothing else.
 pub fn one_print()
     ensures there { (account : TheAccount) → IsLawful account → (text : List ℕ) × IsPrintOf account text }
     ensures once { (account : TheAccount) (text other : List ℕ) → IsPrintOf account text → IsPrintOf account other → text ≡ other }
     ensures bytes { (account : TheAccount) (calls : List TheCall) (replies others : List Reply) → HasReplies account calls replies
         → HasReplies account calls others → sent replies ≡ sent others }
+    ensures frames { (replies : List Reply) (bodies : List (List ℕ)) → map spelling replies ≡ map framed bodies
+        → AllByRecursion IsFrameBody bodies → AreFramesOf (sent replies) bodies [] }
+{}
+
+/// Law: a lawful call names no last entry that nobody left: each is a look at its partition or at the clock.
+pub fn looks_stand()
+    ensures { (account : TheAccount) (call : TheCall) → IsLawfulCall account call
+        → AllByRecursion (λ point. IsLook account point.part point ⊎ IsClockLook account point) call.finish }
+{}
+
+/// Law: worked calls that waited. One expired, one is parked, two were cut off behind the first of their looks, a fetch was
+/// satisfied by a record that came, and a produce by its follower's fetch. What isn't lawful: a last entry that nobody left,
+/// looks of a call that nobody won, a parked call that is overdue, and a satisfied one whose look shows too little.
+pub fn worked_calls()
+    ensures expired { (one both : List ℕ) → IsRequest one fetch_one → IsLawfulCall (three_waits one both) (expired_call one) }
+    ensures parked { (one both : List ℕ) → IsRequest one fetch_one → IsLawfulCall (three_waits one both) (parked_call one) }
+    ensures cut { (one both : List ℕ) → IsRequest both fetch_both → IsLawfulCall (three_waits one both) (cut_call both) }
+    ensures satisfied { (one : List ℕ) → IsRequest one fetch_one → IsLawfulCall filled (satisfied_call one 3) }
+    ensures satisfied_cut { (both : List ℕ) → IsRequest both fetch_both → IsLawfulCall filled (cut_as_satisfied both) }
+    ensures replicated { (plain batch all : List ℕ) (one : Record) → IsBatch batch (one ∷ []) → IsRequest all (produce_of (negsuc 0) batch)
+        → IsLawfulCall (replicated plain batch) (replicated_call all 4) }
+    ensures astray { (one both : List ℕ) → IsLawfulCall (three_waits one both) (astray_call both) → ⊥ }
+    ensures overdue { (one both : List ℕ) → IsRequest one fetch_one → IsLawfulCall (told_later one both) (parked_call one) → ⊥ }
+    ensures unwon { (both : List ℕ) → IsLawfulCall filled (cut_unwon both) → ⊥ }
+    ensures alone { (plain batch all : List ℕ) (one : Record) → IsBatch batch (one ∷ []) → IsRequest all (produce_of (negsuc 0) batch)
+        → IsLawfulCall (replicated plain batch) (replicated_call all 2) → ⊥ }
+    ensures early { (one : List ℕ) → IsRequest one fetch_one → IsLawfulCall filled (satisfied_call one 1) → ⊥ }
+{}
+
+/// Law: the replies to worked calls. Of two reads of a partition, before a record came and behind it, neither has the
+/// other's reply, nor of two produces to one: not in a list of replies, nor in bytes that were sent, nor in a print.
+pub fn worked_replies()
+    ensures before { (now : List ℕ) → IsRequest now fetch_now → IsReplyOf filled (read_call now 0) (reply_of 0 []) }
+    ensures behind { (now : List ℕ) → IsRequest now fetch_now → IsReplyOf filled (read_call now 3) (reply_of 1 (9 ∷ [])) }
+    ensures swapped { (now : List ℕ) → IsRequest now fetch_now
+        → HasReplies filled (read_call now 0 ∷ read_call now 3 ∷ []) (reply_of 1 (9 ∷ []) ∷ reply_of 0 [] ∷ []) → ⊥ }
+    ensures first { (plain batch : List ℕ) (one : Record) → IsBatch batch (one ∷ []) → IsRequest plain (produce_of (pos 1) batch)
+        → IsReplyOf (replicated plain batch) (produce_call plain 0) (produced_reply 0) }
+    ensures second { (plain batch : List ℕ) (one : Record) → IsBatch batch (one ∷ []) → IsRequest plain (produce_of (pos 1) batch)
+        → IsReplyOf (replicated plain batch) (produce_call plain 1) (produced_reply 1) }
+    ensures waited { (plain batch all : List ℕ) (one : Record) → IsBatch batch (one ∷ []) → IsRequest all (produce_of (negsuc 0) batch)
+        → IsReplyOf (replicated plain batch) (replicated_call all 4) (produced_reply 0) }
+    ensures swapped_bytes { (plain batch : List ℕ) (one : Record) (replies : List Reply) → IsBatch batch (one ∷ [])
+        → IsRequest plain (produce_of (pos 1) batch) → HasReplies (replicated plain batch) (produce_call plain 0 ∷ produce_call plain 1 ∷ []) replies
+        → sent replies ≢ sent (produced_reply 1 ∷ produced_reply 0 ∷ []) }
+    ensures swapped_print { (plain batch : List ℕ) (one : Record) → IsBatch batch (one ∷ []) → IsRequest plain (produce_of (pos 1) batch)
+        → IsPrintOf (replicated plain batch) (swapped_print plain batch) → ⊥ }
+{}
+
+/// Law: a worked account is lawful, in which one call expired, one is parked and one was cut off. With a wrong count of a
+/// winner it isn't.
+pub fn worked_account()
+    ensures lawful { (one both : List ℕ) → IsRequest one fetch_one → IsRequest both fetch_both → IsLawful (three_waits one both) }
+    ensures miscounted { (one both : List ℕ) → IsLawful (record (three_waits one both) { wins = 1 ∷ [] }) → ⊥ }
+{}
+
+/// Law: what a worked account prints, by the thread that plays a trace and by a storm, and what is told of a link.
+pub fn worked_prints()
+    ensures summary { (one both : List ℕ) → summary_of (three_waits one both) ≡ lines_of (codes "part 0 end 0 high 0 batches 0 bytes 0"
+        ∷ codes "part 1 end 0 high 0 batches 0 bytes 0" ∷ codes "session 0 calls 1 replies 1 parked 0"
+        ∷ codes "session 1 calls 1 replies 0 parked 1" ∷ codes "session 2 calls 1 replies 0 parked 0" ∷ codes "done" ∷ []) }
+    ensures filled { summary_of filled ≡ lines_of (codes "part 0 end 1 high 1 batches 1 bytes 1"
+        ∷ codes "part 1 end 0 high 0 batches 0 bytes 0" ∷ codes "done" ∷ []) }
+    ensures storm { (one both : List ℕ) → storm_summary_of (three_waits one both) ≡ lines_of (codes "part 0 end 0 batches 0 bytes 0"
+        ∷ codes "part 1 end 0 batches 0 bytes 0" ∷ codes "sessions 3 calls 3 replies 1 parked 1" ∷ codes "done" ∷ []) }
+    ensures storm_filled { storm_summary_of filled ≡ lines_of (codes "part 0 end 1 batches 1 bytes 1"
+        ∷ codes "part 1 end 0 batches 0 bytes 0" ∷ codes "sessions 0 calls 0 replies 0 parked 0" ∷ codes "done" ∷ []) }
+    ensures link { (one : List ℕ) → link_line (record { number = 4; first = 0; calls = expired_call one ∷ []; end = Some Closed })
+        ≡ lines_of (codes "link 4 calls 1 replies 1 closed" ∷ []) }
+    ensures open_link { (one : List ℕ) → link_line (record { number = 5; first = 0; calls = parked_call one ∷ []; end = None })
+        ≡ lines_of (codes "link 5 calls 1 replies 0" ∷ []) }
+    ensures ended { (both : List ℕ) → session_text (record { number = 2; first = 0; calls = cut_call both ∷ []; end = Some NoMemory }, [])
+        ≡ lines_of (codes "end 2 no-memory" ∷ []) }
+{}
+
+/// Law: the worked requests have bodies.
+pub fn worked_requests()
+    ensures one { IsRequest (fields (request_fields fetch_one)) fetch_one }
+    ensures both { IsRequest (fields (request_fields fetch_both)) fetch_both }
+    ensures now { IsRequest (fields (request_fields fetch_now)) fetch_now }
+    ensures leader { (batch : List ℕ) → length batch < 2 ^ 31
+        → IsRequest (fields (request_fields (produce_of (pos 1) batch))) (produce_of (pos 1) batch) }
+    ensures all { (batch : List ℕ) → length batch < 2 ^ 31
+        → IsRequest (fields (request_fields (produce_of (negsuc 0) batch))) (produce_of (negsuc 0) batch) }
+{}
+
+/// Law: a worked account is that of the run of its lines, with the clock's pass and a tick of the command beside them. It
+/// is that of no run without the one or the other.
+pub fn worked_run()
+    ensures run { IsRunOf closed_lines 9092 ([] ∷ []) (1000 ∷ []) closed_run }
+    ensures pass { IsRunOf closed_lines 9092 [] (1000 ∷ []) closed_run → ⊥ }
+    ensures tick { IsRunOf closed_lines 9092 ([] ∷ []) [] closed_run → ⊥ }
 {}

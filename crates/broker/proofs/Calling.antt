@@ -37,6 +37,7 @@ use Rattle.audit.proofs.Laws.{same_or_not, get_there}
 use Rattle.broker.proofs.FedLines.{seat_set_same, seat_set_other, fed_feed, fed_topic, fed_end}
 use Rattle.broker.proofs.Serving.{calls_at, calls_in_seat, turned, nobodys_turn, rests_none}
 use Rattle.kwire.proofs.Laws.{whole_ends}
+use Rattle.trace_file.specs.declared.line.TheConstants.{MOST_TRACE_BYTES}
 
 -- ---- what is written back
 
@@ -189,7 +190,7 @@ module _ (fed later : List Line) (board : Board) (session : ℕ) (bytes : List �
       alone = way.running.alone;
       in_range = λ s e. way.running.in_range s (or_right (eqb session s) (is_named s later) e);
       streams = streams_kept;
-      few = λ s lt. subst (λ (lines : List Line). length (input_of s lines) ≤ 67108864) (sym (append_assoc fed (Feed session bytes ∷ []) later)) (way.running.few s lt);
+      few = λ s lt. subst (λ (lines : List Line). length (input_of s lines) ≤ MOST_TRACE_BYTES) (sym (append_assoc fed (Feed session bytes ∷ []) later)) (way.running.few s lt);
     };
     there = feed_there;
     others = λ s lt other. subst (λ (x : Seat). IsUnfinished x.inbox) (sym (seat_set_other board session s fed_seat other)) (way.rest s lt);
@@ -227,7 +228,7 @@ still_line fed later board (Topic name partitions followers) plain other way = (
       alone = way.running.alone;
       in_range = way.running.in_range;
       streams = way.running.streams;
-      few = λ s lt. subst (λ (lines : List Line). length (input_of s lines) ≤ 67108864) (sym (append_assoc fed (Topic name partitions followers ∷ []) later)) (way.running.few s lt);
+      few = λ s lt. subst (λ (lines : List Line). length (input_of s lines) ≤ MOST_TRACE_BYTES) (sym (append_assoc fed (Topic name partitions followers ∷ []) later)) (way.running.few s lt);
     };
     rest = way.rest;
   },
@@ -244,7 +245,7 @@ still_line fed later board End plain other way = (
       alone = way.running.alone;
       in_range = way.running.in_range;
       streams = way.running.streams;
-      few = λ s lt. subst (λ (lines : List Line). length (input_of s lines) ≤ 67108864) (sym (append_assoc fed (End ∷ []) later)) (way.running.few s lt);
+      few = λ s lt. subst (λ (lines : List Line). length (input_of s lines) ≤ MOST_TRACE_BYTES) (sym (append_assoc fed (End ∷ []) later)) (way.running.few s lt);
     };
     rest = way.rest;
   },

@@ -7,11 +7,7 @@ use Rattle.std.specs.Prelude.{MatchOption, MatchBool, replicate, slice_index, �
 use Rattle.std.specs.List.{AllByRecursion, AllZip}
 use Rattle.std.specs.Cmp.Lexicographic.{pointwise}
 use Rattle.std.specs.Bool.{nat_eq}
-use Rattle.kbatch.specs.declared.record.Record.{Record}
-use Rattle.kbatch.specs.Batch.{IsBatch}
-use Rattle.kbatch.specs.Record.{records_from}
 use Rattle.kbatch.specs.Stamp.{stamped}
-use Rattle.kbatch.proofs.Laws.{stamped_len}
 use Rattle.partlog.specs.State.{PartState}
 use Rattle.partlog.specs.History.{History}
 use Rattle.partlog.specs.Gauges.{gauges_of}
@@ -24,6 +20,7 @@ use Rattle.kwire.specs.declared.request.FetchPart.{FetchPart}
 use Rattle.kanswer.specs.declared.accepted.Accepted.TheVariants.{Refused, Appended, Seen}
 use Rattle.kwire.specs.Configuration.{Configuration, partitions_of, followers_of, part_from, part_of}
 use Rattle.kanswer.specs.Decisions.{Entry, Put, Followed, Looked, Outcome, Decision, Refuse, Decides, ProduceDecides, BatchDecides, append_outcome, fetch_decision, fetch_outcome, in_range_outcome, offset_of, look, code_of, produce_parts, fetch_parts, is_acks}
+use Rattle.kanswer.proofs.Laws.{batch_sized}
 use Rattle.audit.proofs.Laws.{some_is}
 use Rattle.broker.proofs.Growth.{IsSized}
 use Rattle.broker.proofs.Entries.{IsFair}
@@ -56,11 +53,6 @@ followers_size (topic ∷ topics) =
 
 pub parts_size : (topics : List Topic) (parts : List History) → map (λ (h : History). h.followers) parts ≡ followers_of topics → length parts ≡ partitions_of topics
 parts_size topics parts e = sym (length-map parts (λ (h : History). h.followers)) ∙ ap length e ∙ followers_size topics
-
-pub batch_sized : (bytes : List ℕ) (records : List Record) → IsBatch bytes records → (base : ℕ) → length (stamped base bytes) ≡ length bytes
-batch_sized bytes records b base =
-    let P : List ℕ → Type 0 = λ bs. length (stamped base bs) ≡ length bs in
-    subst P (sym b.parts) (stamped_len base b.head (records_from 0 records))
 
 either_sized : (b : Bool) (x y : Outcome) → IsSized x.entry → IsSized y.entry → IsSized (cond b x y).entry
 either_sized true x y a c = a

@@ -37,6 +37,7 @@ use Rattle.audit.proofs.Laws.{same_or_not, get_set_same, get_set_other, get_ther
 use Rattle.kwire.proofs.Laws.{whole_parts}
 pub use Rattle.broker.specs.Fed.{framed_calls, IsFedSeat, IsFedBy, IsAtRest}
 use Rattle.broker.proofs.LawfulAtRest.{IsPlainCall, IsTameTranscript, AreTame, passes_get, all_plain}
+use Rattle.trace_file.specs.declared.line.TheConstants.{REPLAY_PORT}
 
 -- ---- the lines
 
@@ -253,7 +254,7 @@ sessions_few fed n few = by_count (sessions_of fed) refl
     by_count (suc k) e = omega (arith, few k (last_named k fed e))
 
 -- the account of a board at rest is that of the run of the lines that it was fed
-pub fed_run : (fed : List Line) (board : Board) → IsFedBy fed board → IsAtRest board → board.config ≡ configuration_of 9092 fed → All IsPlainLine fed → IsRunOf fed 9092 [] [] (account_of board)
+pub fed_run : (fed : List Line) (board : Board) → IsFedBy fed board → IsAtRest board → board.config ≡ configuration_of REPLAY_PORT fed → All IsPlainLine fed → IsRunOf fed REPLAY_PORT [] [] (account_of board)
 fed_run fed board h rest config plain = record {
   config = config;
   passes = omega (arith, passes_count fed board h);

@@ -28,6 +28,7 @@ use Rattle.audit.proofs.Laws.{some_is}
 use Rattle.broker.proofs.Fair.{parts_size}
 use Rattle.trace_file.proofs.Laws.{few_bytes, few_sessions}
 use Rattle.broker.proofs.FedLines.{fed_opening}
+use Rattle.trace_file.specs.declared.line.TheConstants.{REPLAY_PORT}
 
 nothing_left : IsUnfinished []
 nothing_left = record { not_whole = λ w. absurd (cc w.1); not_too_long = λ w. absurd (cc w.1) }
@@ -106,9 +107,9 @@ few_behind lines front (line ∷ back) new parts few =
 few_parts : (lines : List Line) → IsInOrder lines → partitions_of (flat_map topic_in lines) ≤ 64
 few_parts lines order = few_behind lines [] lines order.topics refl (omega arith)
 
-pub before_first : (text : List ℕ) (lines : List Line) → IsPlainForm text lines → IsUnderWay [] lines (opening (configuration_of 9092 lines))
+pub before_first : (text : List ℕ) (lines : List Line) → IsPlainForm text lines → IsUnderWay [] lines (opening (configuration_of REPLAY_PORT lines))
 before_first text lines form =
-    let config = configuration_of 9092 lines in record {
+    let config = configuration_of REPLAY_PORT lines in record {
       running = record {
         given = fed_opening config;
         steady = first_steady config (λ s. (transcript_at (opening config) s).calls) (few_parts lines form.trace.0.order) (no_calls config);

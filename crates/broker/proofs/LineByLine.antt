@@ -20,6 +20,7 @@ use Rattle.kanswer.specs.Waiting.{becomes_delayed}
 use Rattle.kwire.specs.Frames.{next_frame_of}
 use Rattle.broker.specs.Turns.{Turned, answered_at_once, left_waiting, handled}
 use Rattle.broker.specs.Play.{brought, Rests, PlaysLine, Plays}
+use Rattle.audit.specs.declared.account.TheConstants.{MOST_CALLS}
 
 -- one line more is played behind the others
 pub plays_on : (board : Board) (lines : List Line) (line : Line) (last here : Turned) → Plays board lines last → PlaysLine last.board line here
@@ -109,7 +110,7 @@ whole_keeps board session body turned ended true e h = subst (Keeps board.config
 whole_keeps board session body turned ended false e h = frame_keeps board session body turned h
 
 acts_keep : (board : Board) (session : ℕ) (frame : Frame) (turned : Turned) → ActsOn board session frame turned → Keeps board.config turned
-acts_keep board session (Whole end) turned h = whole_keeps board session _ turned _ (next_call board session == 4294967295) refl h
+acts_keep board session (Whole end) turned h = whole_keeps board session _ turned _ (next_call board session == MOST_CALLS) refl h
 acts_keep board session NotYet turned h = subst (Keeps board.config) (sym h) refl
 acts_keep board session (TooLong size) turned h = subst (Keeps board.config) (sym h) refl
 

@@ -1,20 +1,16 @@
 -- Lines come to one play: what is decided of a request, what a session does as it acts, and when all are at rest, is one thing each.
-use Rattle.std.proofs.Common.{◌≡◌, ℕ, zero, suc, ℤ, pos, Bool, true, false, List, [], ◌∷◌, ◌++◌, length, take, Option, Some, None, Ok, Err, Result, MatchBool, inl, inr, refl, sym, ap, subst, ◌∙◌, append_assoc}
-use Rattle.std.specs.Prelude.{MatchOption, unwrap_or, ◌==◌}
-use Rattle.std.specs.List.{AllZip}
+use Rattle.std.proofs.Common.{◌≡◌, ℕ, zero, suc, Bool, true, false, List, [], ◌∷◌, ◌++◌, take, Option, Some, None, MatchBool, inl, inr, refl, sym, ap, subst, ◌∙◌, append_assoc}
+use Rattle.std.specs.Prelude.{◌==◌}
 use Rattle.kanswer.proofs.Laws.{decided_once}
 use Rattle.audit.specs.declared.account.Account.{Account}
 use Rattle.kwire.specs.declared.frame.Frame.{Frame}
 use Rattle.kwire.specs.declared.frame.Frame.TheVariants.{Whole, NotYet, TooLong}
 use Rattle.kwire.specs.declared.frame.WireFault.{WireFault}
 use Rattle.audit.specs.declared.account.SessionEnd.TheVariants.{Refused}
-use Rattle.kwire.specs.declared.request.Ask.{Ask}
-use Rattle.kwire.specs.declared.request.Ask.TheVariants.{Produce, Fetch, Metadata, Versions}
-use Rattle.kwire.specs.declared.request.ProducePart.{ProducePart}
 use Rattle.kwire.specs.declared.request.Request.{Request}
 use Rattle.trace_file.specs.declared.line.Line.{Line}
-use Rattle.kanswer.specs.Decisions.{Decision, Decides}
-use Rattle.kwire.specs.Configuration.{part_of, Configuration}
+use Rattle.kanswer.specs.Decisions.{Decides}
+use Rattle.kwire.specs.Configuration.{Configuration}
 use Rattle.broker.specs.Acting.{next_to_act, Acts, ActsOn, HandlesFrame}
 use Rattle.broker.specs.Board.{Board, seat_at, next_call, opening, account_of}
 use Rattle.broker.specs.Completing.{scanned}
@@ -22,9 +18,9 @@ use Rattle.kwire.specs.Frames.{next_frame_of}
 use Rattle.broker.specs.Turns.{Turned, handled, ended}
 use Rattle.broker.specs.Play.{brought, Rests, PlaysLine, Plays, IsPlay}
 use Rattle.audit.specs.Printed.{summary_of}
-use Rattle.kwire.specs.Refusal.{request_at}
 use Rattle.audit.proofs.Laws.{some_is}
 use Rattle.kwire.proofs.Laws.{request_reads, same_request, same_refusal, not_both}
+use Rattle.audit.specs.declared.account.TheConstants.{MOST_CALLS}
 
 -- ---- what is done
 
@@ -49,7 +45,7 @@ whole_once true board session body t u last p q = p ∙ sym q
 whole_once false board session body t u last p q = frame_once board session body t u p q
 
 act_once : (board : Board) (session : ℕ) (frame : Frame) (t u : Turned) → ActsOn board session frame t → ActsOn board session frame u → t ≡ u
-act_once board session (Whole end) t u p q = whole_once (next_call board session == 4294967295) board session _ t u _ p q
+act_once board session (Whole end) t u p q = whole_once (next_call board session == MOST_CALLS) board session _ t u _ p q
 act_once board session NotYet t u p q = p ∙ sym q
 act_once board session (TooLong size) t u p q = p ∙ sym q
 

@@ -35,6 +35,7 @@ use Rattle.trace_file.specs.Trace.{pieces_of, IsTrace}
 use Rattle.broker.proofs.RequestBytes.{HasBytes, CarriesBytes, request_bytes, none_are_bytes, front_bytes, back_bytes, both_bytes}
 use Rattle.kwire.proofs.Laws.{read_request_is}
 use Rattle.broker.proofs.Work.{AreSeats, work_on, seats_set, inbox_bytes, opening_seats, scanned_as_much, acts_less, its_turn}
+use Rattle.audit.specs.declared.account.TheConstants.{MOST_CALLS}
 
 -- ---- what is decided
 
@@ -89,7 +90,7 @@ whole_acts false board session body last fits = frame_acts board session body fi
 on_frame : (board : Board) (session : ℕ) (frame : Frame) → IsBytes (seat_at board session).inbox → (turned : Turned) × ActsOn board session frame turned
 on_frame board session (Whole end) fits =
     let inbox = (seat_at board session).inbox in
-    whole_acts (next_call board session == 4294967295) board session _ _ (IsBytes-take (end - 4) (drop 4 inbox) (IsBytes-drop 4 inbox fits))
+    whole_acts (next_call board session == MOST_CALLS) board session _ _ (IsBytes-take (end - 4) (drop 4 inbox) (IsBytes-drop 4 inbox fits))
 on_frame board session NotYet fits = (_, refl)
 on_frame board session (TooLong size) fits = (_, refl)
 

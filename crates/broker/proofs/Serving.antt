@@ -37,6 +37,7 @@ use Rattle.audit.proofs.Laws.{same_or_not}
 use Rattle.broker.proofs.FedLines.{seat_set_same, seat_set_other, fed_call, fed_can_act, scanned_nothing}
 use Rattle.broker.proofs.OneCallMore.{IsSteady, steady_call}
 use Rattle.kwire.proofs.Laws.{whole_within, whole_before, whole_ends, next_body, not_too_long}
+use Rattle.audit.specs.declared.account.TheConstants.{MOST_CALLS}
 
 -- ---- the frame at the front
 
@@ -77,7 +78,7 @@ module _ (fed later : List Line) (session end : ℕ) (board : Board) (serving : 
   front : IsFront (seat_at board session).inbox end (front_body board session end)
   front = front_parts (seat_at board session).inbox (input_of session later) stream.bodies end stream.whole stream.each whole
 
-  calls_few : length (transcript_at board session).calls < 4294967295
+  calls_few : length (transcript_at board session).calls < MOST_CALLS
   calls_few =
       let calls = (transcript_at board session).calls in
       let parts = (serving.running.given.seats session serving.there).parts in
@@ -181,10 +182,10 @@ module _ (fed later : List Line) (session end : ℕ) (board : Board) (serving : 
     others = λ s lt other. subst (λ (x : Seat). IsUnfinished x.inbox) (sym (seat_set_other board session s (seat_with board session (front_body board session end) the_call) other)) (serving.others s lt other);
   }
 
-  room_left : eqb (next_call board session) 4294967295 ≡ false
+  room_left : eqb (next_call board session) MOST_CALLS ≡ false
   room_left =
       let first : (transcript_at board session).first ≡ 0 = (serving.running.given.seats session serving.there).tame.first in
-      ne_eqb (next_call board session) 4294967295 (λ e. omega (arith, e, first, calls_few fed later session end board serving whole))
+      ne_eqb (next_call board session) MOST_CALLS (λ e. omega (arith, e, first, calls_few fed later session end board serving whole))
 
   acts : Acts board session (answered_at_once board session (front_body board session end) request (accept_all session (next_call board session) decisions board.parts))
   acts = rw (whole, room_left) (inl (request, decisions, asked, decided, rw undelayed refl))

@@ -24,6 +24,7 @@ use Rattle.broker.specs.Turns.{Turned, seat_with, answered_at_once, left_waiting
 use Rattle.kwire.proofs.Laws.{whole_parts}
 use Rattle.audit.proofs.Laws.{some_is}
 use Rattle.broker.proofs.RequestBytes.{none_are_bytes}
+use Rattle.audit.specs.declared.account.TheConstants.{MOST_CALLS}
 
 -- ---- the measure
 
@@ -212,7 +213,7 @@ whole_less false board session body end turned are h within handles = frame_less
 act_less : (board : Board) (session : ℕ) (frame : Frame) (turned : Turned) → AreSeats board.seats → IsOpen board session → next_frame_of (seat_at board session).inbox ≡ frame → ActsOn board session frame turned → IsLess board turned.board
 act_less board session (Whole end) turned are h is acts =
     let parts = whole_parts (seat_at board session).inbox end (inbox_bytes board session are) is in
-    whole_less (next_call board session == 4294967295) board session _ _ turned are h (omega (arith, parts.ends, parts.within)) acts
+    whole_less (next_call board session == MOST_CALLS) board session _ _ turned are h (omega (arith, parts.ends, parts.within)) acts
 act_less board session NotYet turned are h is acts = subst (λ (t : Turned). IsLess board t.board) (sym acts) (ended_less board session _ are h)
 act_less board session (TooLong size) turned are h is acts = subst (λ (t : Turned). IsLess board t.board) (sym acts) (ended_less board session _ are h)
 

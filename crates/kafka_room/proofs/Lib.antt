@@ -1,2 +1,4 @@
+-- writing a part piece by piece
 pub mod Writes
+-- what a replay comes to, from what was read and what was played
 pub mod Replays

@@ -22,6 +22,7 @@ use Rattle.trace_file.specs.Trace.{pieces_of, IsPlainTrace}
 use Rattle.broker.specs.UnderWay.{IsUnderWay}
 use Rattle.broker.proofs.Laws.{before_first, board_lawful, plays_keep, play_is_one, front_of_play, trace_plays, fed_tame, fed_run}
 use Rattle.trace_file.proofs.Laws.{words_say}
+use Rattle.trace_file.specs.declared.line.TheConstants.{REPLAY_PORT}
 
 -- ---- texts of another form
 
@@ -50,29 +51,29 @@ other_streams text lines trace none more form =
 -- ---- what was played
 
 -- the lines were played to the last
-replayed : (text : List ℕ) (lines : List Line) (last : Turned) → IsPlainForm text lines → Plays (opening (configuration_of 9092 lines)) lines last → IsUnderWay lines [] last.board
+replayed : (text : List ℕ) (lines : List Line) (last : Turned) → IsPlainForm text lines → Plays (opening (configuration_of REPLAY_PORT lines)) lines last → IsUnderWay lines [] last.board
     → IsReplayOf lines (account_of last.board) (last.text ++ summary_of (account_of last.board))
 replayed text lines last form played way =
     let given = way.running.given in
-    let config = plays_keep (opening (configuration_of 9092 lines)) lines last played in record {
+    let config = plays_keep (opening (configuration_of REPLAY_PORT lines)) lines last played in record {
       lawful = board_lawful last.board given.no_clock (fed_tame lines last.board given) way.running.steady;
       run = fed_run lines last.board given way.rest config form.trace.1;
       played = record { last = last; played = played; accounted = refl; printed = refl };
-      only = λ other more p. play_is_one (configuration_of 9092 lines) lines other (account_of last.board) more (last.text ++ summary_of (account_of last.board)) p (record { last = last; played = played; accounted = refl; printed = refl });
+      only = λ other more p. play_is_one (configuration_of REPLAY_PORT lines) lines other (account_of last.board) more (last.text ++ summary_of (account_of last.board)) p (record { last = last; played = played; accounted = refl; printed = refl });
     }
 
 -- the same, as the slice of the lines and the broker are known
-pub before_lines : (text : List ℕ) (lines slice : List Line) (config : Configuration) (lone : Board) → IsPlainForm text lines → slice ≡ lines → config ≡ configuration_of 9092 lines → lone ≡ opening config
+pub before_lines : (text : List ℕ) (lines slice : List Line) (config : Configuration) (lone : Board) → IsPlainForm text lines → slice ≡ lines → config ≡ configuration_of REPLAY_PORT lines → lone ≡ opening config
     → IsUnderWay [] slice lone
 before_lines text lines slice config lone form same configured made =
     subst (λ (ls : List Line). IsUnderWay [] ls lone) (sym same) (subst (IsUnderWay [] lines) (sym (made ∙ ap opening configured)) (before_first text lines form))
 
-pub played_from : (lines slice : List Line) (config : Configuration) (lone : Board) (last : Turned) → slice ≡ lines → config ≡ configuration_of 9092 lines → lone ≡ opening config → Plays lone slice last
-    → Plays (opening (configuration_of 9092 lines)) lines last
+pub played_from : (lines slice : List Line) (config : Configuration) (lone : Board) (last : Turned) → slice ≡ lines → config ≡ configuration_of REPLAY_PORT lines → lone ≡ opening config → Plays lone slice last
+    → Plays (opening (configuration_of REPLAY_PORT lines)) lines last
 played_from lines slice config lone last same configured made played =
-    subst (λ (ls : List Line). Plays (opening (configuration_of 9092 lines)) ls last) same (subst (λ (b : Board). Plays b slice last) (made ∙ ap opening configured) played)
+    subst (λ (ls : List Line). Plays (opening (configuration_of REPLAY_PORT lines)) ls last) same (subst (λ (b : Board). Plays b slice last) (made ∙ ap opening configured) played)
 
-pub replayed_as : (text : List ℕ) (lines : List Line) (last : Turned) (account : Account) → IsPlainForm text lines → Plays (opening (configuration_of 9092 lines)) lines last → IsUnderWay lines [] last.board
+pub replayed_as : (text : List ℕ) (lines : List Line) (last : Turned) (account : Account) → IsPlainForm text lines → Plays (opening (configuration_of REPLAY_PORT lines)) lines last → IsUnderWay lines [] last.board
     → account ≡ account_of last.board → IsReplayOf lines account (last.text ++ summary_of account)
 replayed_as text lines last account form played way is =
     subst (λ (a : Account). IsReplayOf lines a (last.text ++ summary_of a)) (sym is) (replayed text lines last form played way)
@@ -86,19 +87,19 @@ pub front_within : (start : Board) (lines done more : List Line) (last : Turned)
 front_within start lines done more last n parts played = record { done = done; more = more; parts = parts; last = last; played = played; count = n; front = refl }
 
 -- it is one of the text of the play, to which these lines come
-pub front_of_text : (text : List ℕ) (lines : List Line) (written : List ℕ) → IsPlainForm text lines → IsLinesFront (opening (configuration_of 9092 lines)) lines written → IsReplayFront (Some text) written
+pub front_of_text : (text : List ℕ) (lines : List Line) (written : List ℕ) → IsPlainForm text lines → IsLinesFront (opening (configuration_of REPLAY_PORT lines)) lines written → IsReplayFront (Some text) written
 front_of_text text lines written form f =
-    let config = configuration_of 9092 lines in
+    let config = configuration_of REPLAY_PORT lines in
     let play = trace_plays config text lines form.trace.0 in
     let k = front_of_play config lines f.done f.more f.last f.count play.0 play.1 f.parts f.played play.2 in
     record { lines = lines; form = form; account = play.0; text = play.1; played = play.2; count = k.0; front = f.front ∙ k.1 }
 
 -- the same, as the slice of the lines and the broker are known
-pub front_from : (text : List ℕ) (lines slice : List Line) (config : Configuration) (lone : Board) (written : List ℕ) → IsPlainForm text lines → slice ≡ lines → config ≡ configuration_of 9092 lines → lone ≡ opening config
+pub front_from : (text : List ℕ) (lines slice : List Line) (config : Configuration) (lone : Board) (written : List ℕ) → IsPlainForm text lines → slice ≡ lines → config ≡ configuration_of REPLAY_PORT lines → lone ≡ opening config
     → IsLinesFront lone slice written → IsReplayFront (Some text) written
 front_from text lines slice config lone written form same configured made front =
     front_of_text text lines written form
-    (subst (λ (ls : List Line). IsLinesFront (opening (configuration_of 9092 lines)) ls written) same (subst (λ (b : Board). IsLinesFront b slice written) (made ∙ ap opening configured) front))
+    (subst (λ (ls : List Line). IsLinesFront (opening (configuration_of REPLAY_PORT lines)) ls written) same (subst (λ (b : Board). IsLinesFront b slice written) (made ∙ ap opening configured) front))
 
 told_form : (left : Option (List ℕ)) (text : List ℕ) (lines : List Line) → IsPlainForm text lines → IfSome left (λ trace. trace ≡ text) → IfSome left (λ trace. IsPlainForm trace lines)
 told_form None text lines form told = tt

@@ -2,5 +2,7 @@
 
 -- what is decided of a request is one thing
 pub use Rattle.kanswer.proofs.DecidedOnce.{decided_once}
+-- a batch keeps its length where it is stamped
+pub use Rattle.kanswer.proofs.Stamped.{batch_sized}
 -- what is told from the readings is the answer over the states that were read
 pub use Rattle.kanswer.proofs.AnswersAgree.{produced_is, fetched_is}

@@ -4,5 +4,7 @@ pub mod Laws
 pub mod PartBatches
 -- what is decided of a request is one thing
 pub mod DecidedOnce
+-- a stamped batch has its length
+pub mod Stamped
 -- what is told from the readings is the answer over the states that were read
 pub mod AnswersAgree

@@ -11,6 +11,7 @@ use Rattle.kbytes.specs.Octets.{IsBytes}
 use Rattle.kbytes.proofs.Laws.{IsBytes-take, wide_32, integer_back}
 use Rattle.kwire.specs.declared.frame.Frame.TheVariants.{Whole, NotYet, TooLong}
 use Rattle.kwire.specs.Frames.{framed, IsFrameBody, frame_of_size, next_frame_of}
+use Rattle.kwire.specs.declared.framing.TheConstants.{MOST_FRAME_BYTES}
 
 -- the frame of a body stands at the front
 pub whole_frame : (body rest : List ℕ) → IsFrameBody body → next_frame_of (framed body ++ rest) ≡ Whole (4 + length body)
@@ -26,7 +27,7 @@ whole_frame body rest small =
     let front : take 4 stream ≡ head = ap (take 4) parts ∙ take_at head (body ++ rest) 4 len in
     let size : cast_signed w32 (from_be_bytes w32 (take 4 stream)) ≡ pos n =
     ap (λ (t : List ℕ). cast_signed w32 (from_be_bytes w32 t)) front ∙ ap (cast_signed w32) (wide_32.again (cast_unsigned w32 (pos n)) (Fits-of_z fits).fits) ∙ to_z-of_z w32 (pos n) fits in
-    let allowed : ltb 8388608 n ≡ false = le-ltb 8388608 n small in
+    let allowed : ltb MOST_FRAME_BYTES n ≡ false = le-ltb MOST_FRAME_BYTES n small in
     let there : ltb (length stream) (4 + n) ≡ false = le-ltb (length stream) (4 + n) (omega (arith, all)) in
     let by_size : next_frame_of stream ≡ frame_of_size (length stream) (pos n) = rw enough (ap (frame_of_size (length stream)) size) in
     by_size ∙ rw (allowed, there) refl
@@ -41,7 +42,7 @@ pub record IsParted (stream : List ℕ) (end : ℕ) : Type 0 where
 same_end : (m end : ℕ) → Whole m ≡ Whole end → m ≡ end
 same_end m end e = cc
 
-parted_at : (stream : List ℕ) (n : ℕ) → IsBytes stream → 4 + n ≤ length stream → n ≤ 8388608 → cast_signed w32 (from_be_bytes w32 (take 4 stream)) ≡ pos n → IsParted stream (4 + n)
+parted_at : (stream : List ℕ) (n : ℕ) → IsBytes stream → 4 + n ≤ length stream → n ≤ MOST_FRAME_BYTES → cast_signed w32 (from_be_bytes w32 (take 4 stream)) ≡ pos n → IsParted stream (4 + n)
 parted_at stream n fits within small size =
     let body = take n (drop 4 stream) in
     let same : 4 + n - 4 ≡ n = omega arith in
@@ -59,10 +60,10 @@ parted_at stream n fits within small size =
 
 by_bounds : (stream : List ℕ) (n end : ℕ) → IsBytes stream → cast_signed w32 (from_be_bytes w32 (take 4 stream)) ≡ pos n → frame_of_size (length stream) (pos n) ≡ Whole end → IsParted stream end
 by_bounds stream n end fits size is =
-    elim (cases_lt 8388608 n) [
-      | inl large ↦ let other : TooLong (pos n) ≡ Whole end = rw (lt-ltb 8388608 n large) at is in absurd cc
+    elim (cases_lt MOST_FRAME_BYTES n) [
+      | inl large ↦ let other : TooLong (pos n) ≡ Whole end = rw (lt-ltb MOST_FRAME_BYTES n large) at is in absurd cc
       | inr small ↦
-          let here : cond (ltb (length stream) (4 + n)) NotYet (Whole (4 + n)) ≡ Whole end = rw (le-ltb 8388608 n small) at is in
+          let here : cond (ltb (length stream) (4 + n)) NotYet (Whole (4 + n)) ≡ Whole end = rw (le-ltb MOST_FRAME_BYTES n small) at is in
           elim (cases_lt (length stream) (4 + n)) [
             | inl few ↦ let other : NotYet ≡ Whole end = rw (lt-ltb (length stream) (4 + n) few) at here in absurd cc
             | inr enough ↦

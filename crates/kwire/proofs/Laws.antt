@@ -4,6 +4,8 @@
 pub use Rattle.kwire.proofs.FrameLaws.{whole_frame, whole_parts}
 -- whole frames, one after the other
 pub use Rattle.kwire.proofs.StreamLaws.{IsNextBody, next_body, not_too_long, nothing_left, whole_ends, whole_within, whole_before}
+-- a stream is cut into whole frames in one way
+pub use Rattle.kwire.proofs.FramesOnce.{sent_frames}
 -- a request is what reading its body gives
 pub use Rattle.kwire.proofs.RequestLaws.{request_reads, read_request_is}
 -- and a body is one request, or is refused for one cause

@@ -10,19 +10,20 @@ use Rattle.kwire.specs.declared.frame.Frame.{Frame}
 use Rattle.kwire.specs.declared.frame.Frame.TheVariants.{Whole, NotYet, TooLong}
 use Rattle.kwire.specs.Frames.{framed, IsFrameBody, frame_of_size, next_frame_of}
 use Rattle.kwire.proofs.FrameLaws.{whole_frame}
+use Rattle.kwire.specs.declared.framing.TheConstants.{MOST_FRAME_BYTES}
 
 -- ---- more bytes change nothing of what shows
 
 size_kept : (few many : ℕ) (size : ℤ) (frame : Frame) → few ≤ many → frame ≢ NotYet → frame_of_size few size ≡ frame → frame_of_size many size ≡ frame
 size_kept few many (negsuc n) frame le shows e = e
 size_kept few many (pos n) frame le shows e =
-    elim (cases_lt 8388608 n) [
+    elim (cases_lt MOST_FRAME_BYTES n) [
       | inl large ↦
-          let far : ltb 8388608 n ≡ true = lt-ltb 8388608 n large in
+          let far : ltb MOST_FRAME_BYTES n ≡ true = lt-ltb MOST_FRAME_BYTES n large in
           let this : TooLong (pos n) ≡ frame = rw far at e in
           rw far this
       | inr small ↦
-          let near : ltb 8388608 n ≡ false = le-ltb 8388608 n small in
+          let near : ltb MOST_FRAME_BYTES n ≡ false = le-ltb MOST_FRAME_BYTES n small in
           let this : cond (ltb few (4 + n)) NotYet (Whole (4 + n)) ≡ frame = rw near at e in
           elim (cases_lt few (4 + n)) [
             | inl short ↦ let other : NotYet ≡ frame = rw (lt-ltb few (4 + n) short) at this in absurd (shows (sym other))
@@ -53,10 +54,10 @@ frame_kept inbox later frame shows e =
 size_within : (available : ℕ) (size : ℤ) (end : ℕ) → frame_of_size available size ≡ Whole end → end ≤ available
 size_within available (negsuc n) end e = absurd cc
 size_within available (pos n) end e =
-    elim (cases_lt 8388608 n) [
-      | inl large ↦ let other : TooLong (pos n) ≡ Whole end = rw (lt-ltb 8388608 n large) at e in absurd cc
+    elim (cases_lt MOST_FRAME_BYTES n) [
+      | inl large ↦ let other : TooLong (pos n) ≡ Whole end = rw (lt-ltb MOST_FRAME_BYTES n large) at e in absurd cc
       | inr small ↦
-          let this : cond (ltb available (4 + n)) NotYet (Whole (4 + n)) ≡ Whole end = rw (le-ltb 8388608 n small) at e in
+          let this : cond (ltb available (4 + n)) NotYet (Whole (4 + n)) ≡ Whole end = rw (le-ltb MOST_FRAME_BYTES n small) at e in
           elim (cases_lt available (4 + n)) [
             | inl short ↦ let other : NotYet ≡ Whole end = rw (lt-ltb available (4 + n) short) at this in absurd cc
             | inr enough ↦
@@ -78,10 +79,10 @@ whole_within stream end e =
 size_before : (available : ℕ) (size : ℤ) (end : ℕ) → frame_of_size available size ≡ Whole end → 4 ≤ end
 size_before available (negsuc n) end e = absurd cc
 size_before available (pos n) end e =
-    elim (cases_lt 8388608 n) [
-      | inl large ↦ let other : TooLong (pos n) ≡ Whole end = rw (lt-ltb 8388608 n large) at e in absurd cc
+    elim (cases_lt MOST_FRAME_BYTES n) [
+      | inl large ↦ let other : TooLong (pos n) ≡ Whole end = rw (lt-ltb MOST_FRAME_BYTES n large) at e in absurd cc
       | inr small ↦
-          let this : cond (ltb available (4 + n)) NotYet (Whole (4 + n)) ≡ Whole end = rw (le-ltb 8388608 n small) at e in
+          let this : cond (ltb available (4 + n)) NotYet (Whole (4 + n)) ≡ Whole end = rw (le-ltb MOST_FRAME_BYTES n small) at e in
           elim (cases_lt available (4 + n)) [
             | inl short ↦ let other : NotYet ≡ Whole end = rw (lt-ltb available (4 + n) short) at this in absurd cc
             | inr enough ↦

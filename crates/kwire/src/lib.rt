@@ -9,6 +9,7 @@ mod config;
 mod frame;
 mod framing;
 mod inbox;
+mod promises;
 mod put_fetched;
 mod put_produced;
 mod put_reply;
@@ -25,6 +26,7 @@ pub use config::{Config, ConfigFault, MOST_FOLLOWERS, MOST_NAME_BYTES, MOST_PART
 pub use frame::{Frame, WireFault};
 pub use framing::{MOST_FRAME_BYTES, next_frame};
 pub use inbox::Inbox;
+pub use promises::frames_are_one;
 pub use put_reply::reply_bytes;
 pub use reply::{FetchedPart, FetchedTopic, ProducedPart, ProducedTopic, Reply, Told, TopicInfo};
 pub use request::{Ask, FetchPart, FetchTopic, MOST_NAMED, ProducePart, ProduceTopic, Request};

@@ -11,6 +11,7 @@ use Rattle.broker.specs.UnderWay.{IsUnderWay}
 use Rattle.kafka_room.proofs.Replays.{before_lines, played_from, replayed_as, front_of_lines, front_of_text, front_from}
 use Rattle.kafka_room.proofs.Writes.{front_behind}
 use Rattle.kafka_room.proofs.replay.play.Goals as goal
+use Rattle.trace_file.specs.declared.line.TheConstants.{REPLAY_PORT}
 
 pub play_lines-requires-clause-under_way : goal.play_lines-requires-clause-under_way
 play_lines-requires-clause-under_way g c =
@@ -20,7 +21,7 @@ pub returns-in_err-lone-clause-front : goal.returns-in_err-lone-clause-front
 returns-in_err-lone-clause-front g c text form =
     let p = err_from_is_err_and c.from_residual.result c.from_residual.ensures.1 in
     let lines = c.args.trace.lines in
-    let start = opening (configuration_of 9092 lines) in
+    let start = opening (configuration_of REPLAY_PORT lines) in
     rw p.1 ([], front_of_text text lines [] form (front_of_lines start lines [] lines (record { board = start; text = [] }) refl refl), Appends-nil (g.K.Sink.written c.args.sink.now))
 
 pub returns-in_err-play_lines-clause-front : goal.returns-in_err-play_lines-clause-front
@@ -37,7 +38,7 @@ pub returns-in_err-account-clause-front : goal.returns-in_err-account-clause-fro
 returns-in_err-account-clause-front g c text form =
     let p = err_from_is_err_and c.from_residual-in_err-account.result c.from_residual-in_err-account.ensures.1 in
     let lines = c.args.trace.lines in
-    let start = opening (configuration_of 9092 lines) in
+    let start = opening (configuration_of REPLAY_PORT lines) in
     let lone = c.play_lines.new.lone in
     let here = c.in_ok-play_lines.ensures.played in
     let last : Turned = record { board = lone; text = here.0 } in
@@ -48,7 +49,7 @@ pub returns-in_err-put_summary-clause-front : goal.returns-in_err-put_summary-cl
 returns-in_err-put_summary-clause-front g c text form =
     let p = err_from_is_err_and c.from_residual-in_err-put_summary.result c.from_residual-in_err-put_summary.ensures.1 in
     let lines = c.args.trace.lines in
-    let start = opening (configuration_of 9092 lines) in
+    let start = opening (configuration_of REPLAY_PORT lines) in
     let lone = c.play_lines.new.lone in
     let here = c.in_ok-play_lines.ensures.played in
     let last : Turned = record { board = lone; text = here.0 } in
