@@ -10,16 +10,7 @@ use Rattle.partlog.specs.Added.{added_count, added_bytes, log_end_of, bytes_of}
 use Rattle.partlog.specs.Batches.{StoredBatch, batches_after, next_offset}
 use Rattle.partlog.specs.Kept.{IsDense}
 use Rattle.partlog.specs.Taken.{joined}
-
--- each has bytes
-abbrev pub IsFull : List StoredBatch → Type 0
-IsFull [] = Unit {0}
-IsFull (b ∷ bs) = (0 < length b.bytes) × IsFull bs
-
--- each has records, and begins where the one before it ends
-abbrev pub IsRising : ℕ → List StoredBatch → Type 0
-IsRising base [] = Unit {0}
-IsRising base (b ∷ bs) = (b.base ≡ base) × (0 < b.count) × IsRising (next_offset b) bs
+pub use Rattle.partlog.specs.Rows.{IsFull, IsRising}
 
 pub full-batches : (before es : List PartEvent) (log : List ℕ) → All IsDense es → bytes_of es ≤ length log → IsFull (batches_after before es log)
 full-batches before [] log dense fits = tt

@@ -5,6 +5,7 @@
 //! left it, so that a call's answer can be recomputed from the entries before it.
 #![tactic(auto)]
 
+mod batch_start;
 mod clock_event;
 mod event;
 mod fault;
@@ -12,9 +13,8 @@ mod numbers;
 mod part_log;
 mod placed;
 mod promises;
-mod reading;
 mod scan;
-mod stamp;
+mod search;
 mod who;
 
 pub use clock_event::ClockEvent;

@@ -3,8 +3,8 @@ ghost use Rattle.kbatch.specs.Stamp.{stamped};
 
 use byteorder::{BigEndian, ByteOrder};
 
-/// Writes the base offset and the leader epoch 0 into a batch that stands in a log.
-pub(crate) fn stamp(bytes: &mut [u8], base: u64)
+/// Writes a base offset and the leader epoch 0 into the bytes of a batch, where these stand in a log. It takes no memory.
+pub fn stamp(bytes: &mut [u8], base: u64)
     requires { 61 ≤ length bytes.old }
     ensures { bytes.new ≡ stamped base bytes.old }
 {
