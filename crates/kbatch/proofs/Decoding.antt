@@ -1,8 +1,8 @@
 -- What is spelled is read with its values.
-use Rattle.std.proofs.Common.{◌≡◌, ℕ, suc, ◌+◌, ◌^◌, ◌<◌, ℤ, pos, negsuc, false, ltb, List, [], ◌∷◌, ◌++◌, length, take, drop, Option, Some, None, refl, sym, ap, subst, ◌∙◌, append_assoc, arith}
+use Rattle.std.proofs.Common.{◌≡◌, ℕ, suc, ◌+◌, ◌^◌, ◌<◌, ℤ, pos, negsuc, false, ltb, List, [], ◌∷◌, ◌++◌, length, drop, Option, Some, None, refl, sym, ap, subst, ◌∙◌, append_assoc, arith}
 use Rattle.std.specs.Prelude.{FitsSigned}
 use Rattle.std.specs.List.{flat_map, AllByRecursion}
-use Rattle.std.specs.Int.{w8, w32}
+use Rattle.std.specs.Int.{w8}
 use Rattle.std.proofs.lemmas.Bool.{le-ltb}
 use Rattle.std.proofs.lemmas.List.{append-nil, take_at, drop_at, length-append}
 use Rattle.kbytes.specs.Field.{field, Int8, Varint, Varlong}
@@ -11,14 +11,14 @@ use Rattle.kbytes.proofs.RoundTrips.{integer_reads}
 use Rattle.kbatch.specs.declared.record.Record.{Record}
 use Rattle.kbatch.specs.declared.record.Header.{Header}
 use Rattle.kbatch.specs.Record.{sized, header_bytes, body_bytes, record_bytes, records_from, IsRecord}
-use Rattle.kbatch.specs.Walk.{◌>>=◌, front, behind, after_varint, after_varlong}
-use Rattle.kbatch.specs.Decode.{after_int8, part_at, part_after, part_or_null_after, key_at, value_at, header_at, list_at, RecordParts, parts_at, body_at, record_at}
+use Rattle.kbatch.specs.Walk.{front, behind}
+use Rattle.kbatch.specs.Decode.{after_int8, part_at, key_at, value_at, header_at, list_at, RecordParts, parts_at, body_at, record_at}
 use Rattle.kbatch.specs.Batch.{IsBatch}
 use Rattle.kbatch.specs.Kept.{count_of}
 use Rattle.kbatch.proofs.Batches.{batch_count}
 use Rattle.kbatch.proofs.Lengths.{sized_len}
 use Rattle.kbatch.proofs.Places.{head_len, rest_stands}
-use Rattle.kbatch.proofs.Parts.{same_some, small, sized_varint, varint_again, varlong_again, headers_len, counted, tail_below}
+use Rattle.kbatch.proofs.Parts.{same_some, small, sized_varint, varint_again, varlong_again, headers_len, tail_below}
 
 int8_reads : (z : ℤ) (rest : List ℕ) → FitsSigned w8 z → after_int8 (field (Int8 z) ++ rest) ≡ Some (z, rest)
 unfolding after_int8

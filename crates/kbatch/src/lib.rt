@@ -12,6 +12,7 @@ mod head;
 mod promises;
 mod read;
 mod record;
+mod remainders;
 mod size;
 mod stamping;
 mod walk;

@@ -1,4 +1,4 @@
-use Rattle.std.proofs.Common.{◌≡◌, ◌∙◌, ap, sym, Some}
+use Rattle.std.proofs.Common.{◌≡◌, Some}
 use Rattle.kbatch.specs.declared.record.Header.{Header}
 use Rattle.kbatch.specs.Decode.{header_at, list_at}
 use Rattle.kbatch.proofs.ListsLoop.{list_goes_on, list_fails, list_done}

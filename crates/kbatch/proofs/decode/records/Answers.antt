@@ -1,4 +1,4 @@
-use Rattle.std.proofs.Common.{◌≡◌, ◌-◌, ◌<◌, ℕ, List, Option, Some, None, Err, refl, ◌∙◌, ap, sym}
+use Rattle.std.proofs.Common.{◌≡◌, ◌-◌, ◌<◌, ℕ, List, Option, Some, None, Err, refl, ◌∙◌, ap}
 use Rattle.std.proofs.lemmas.Result.{err_from_is_err_and}
 use Rattle.kbatch.specs.declared.decode.Stop.{Stop}
 use Rattle.kbatch.specs.declared.decode.Stop.TheVariants.{Unread, NoMemory}
