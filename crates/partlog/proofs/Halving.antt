@@ -7,7 +7,7 @@ use Rattle.partlog.specs.Rows.{IsRising}
 use Rattle.partlog.specs.Starts.{AreStarts, starts_from, records_in}
 use Rattle.partlog.specs.Taken.{batches_past, fitting}
 use Rattle.partlog.proofs.Below.{below-more, below-first}
-use Rattle.partlog.proofs.Fronts.{bytes_in-cons, fitting-more, fitting-none, past-more, past-zero}
+use Rattle.partlog.proofs.Fronts.{bytes_in-cons, fitting-more, fitting-none, past-more}
 use Rattle.std.proofs.lemmas.Bool.{cases_lt}
 use Rattle.std.proofs.lemmas.List.Sums.{sum_by-cons}
 use Rattle.std.specs.List.Sorted.{IsNonDecreasingBy, IsPartitionPoint}

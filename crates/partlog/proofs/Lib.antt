@@ -22,5 +22,7 @@ pub mod Earlier
 pub mod Halving
 -- what is kept of a log as it grows
 pub mod Tracking
+-- no number falls as a history grows
+pub mod Growing
 -- what proofs of other crates may cite
 pub mod Laws

@@ -1,5 +1,5 @@
 -- Batches that follow each other in a log.
-use Rattle.std.proofs.Common.{◌≡◌, ℕ, ◌+◌, ◌≤◌, ◌<◌, List, [], ◌∷◌, ◌++◌, length, take, drop, All, arith, sym, ap, subst, ◌∙◌, refl, length-drop}
+use Rattle.std.proofs.Common.{◌≡◌, ℕ, ◌+◌, ◌≤◌, List, [], ◌∷◌, ◌++◌, length, take, drop, All, arith, sym, ap, subst, ◌∙◌, refl, length-drop}
 use Rattle.std.proofs.Math.Seq.{take-add}
 use Rattle.std.proofs.lemmas.List.{length-take-le}
 use Rattle.std.proofs.lemmas.List.Sums.{sum_by-cons, sum_by_push}
@@ -7,7 +7,7 @@ use Rattle.std.proofs.lemmas.List.Elements.{All-tail}
 use Rattle.partlog.specs.declared.event.PartEvent.{PartEvent}
 use Rattle.partlog.specs.declared.event.PartEvent.TheVariants.{Append, Follow, Look}
 use Rattle.partlog.specs.Added.{added_count, added_bytes, log_end_of, bytes_of}
-use Rattle.partlog.specs.Batches.{StoredBatch, batches_after, next_offset}
+use Rattle.partlog.specs.Batches.{batches_after}
 use Rattle.partlog.specs.Kept.{IsDense}
 use Rattle.partlog.specs.Taken.{joined}
 pub use Rattle.partlog.specs.Rows.{IsFull, IsRising}

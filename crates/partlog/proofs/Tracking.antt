@@ -1,5 +1,5 @@
 -- What is kept of a log beside its bytes and its history, as these grow.
-use Rattle.std.proofs.Common.{◌≡◌, ℕ, pos, ◌+◌, ◌-◌, ◌≤◌, ◌<◌, List, [], ◌∷◌, ◌++◌, length, take, drop, min, max, map, fold, arith, sym, ap, subst, ◌∙◌, refl, append-nil}
+use Rattle.std.proofs.Common.{◌≡◌, ℕ, pos, ◌+◌, ◌≤◌, ◌<◌, List, [], ◌∷◌, ◌++◌, length, take, drop, min, max, map, fold, arith, sym, ap, subst, ◌∙◌, refl, append-nil}
 use Rattle.std.specs.List.{filter_map, range_with_len}
 use Rattle.std.proofs.Math.Seq.{take-append_seam, drop-append_seam, take-length}
 use Rattle.std.proofs.lemmas.List.Elements.{filter_map-append}
@@ -9,13 +9,12 @@ use Rattle.partlog.specs.declared.batch_start.BatchStart.{BatchStart}
 use Rattle.partlog.specs.declared.event.PartEvent.{PartEvent}
 use Rattle.partlog.specs.declared.event.PartEvent.TheVariants.{Append, Follow, Look}
 use Rattle.partlog.specs.declared.numbers.Numbers.{Numbers}
-use Rattle.partlog.specs.Added.{added_count, added_bytes, bytes_of, log_end_of}
+use Rattle.partlog.specs.Added.{added_count, bytes_of, log_end_of}
 use Rattle.partlog.specs.Batches.{StoredBatch, batches_after, batches_of}
 use Rattle.partlog.specs.Gauges.{bytes_in, batches_below, numbers_of}
 use Rattle.partlog.specs.Kept.{IsKept}
 use Rattle.partlog.specs.Position.{offset_by, position_of, positions_of}
 use Rattle.partlog.specs.Starts.{AreStarts, starts_from, records_in}
-use Rattle.partlog.specs.State.{state_of}
 use Rattle.partlog.specs.Tracked.{IsTracked}
 use Rattle.partlog.proofs.Appending.{batches-append}
 use Rattle.partlog.proofs.Below.{batches-take}

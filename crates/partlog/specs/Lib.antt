@@ -28,6 +28,8 @@ pub mod Taken
 pub mod Boundary
 -- what the batches of a log show of a state
 pub mod Readable
+-- numbers none of which is smaller than it was
+pub mod Fallen
 -- The words of private functions.
 
 -- batches that follow each other

@@ -23,7 +23,7 @@ pub use fault::{FollowFault, LogFault};
 pub use numbers::Numbers;
 pub use part_log::PartLog;
 pub use placed::Placed;
-pub use promises::{fronts_are_kept, visible_is_readable};
+pub use promises::{fronts_are_kept, numbers_never_fall, visible_is_readable};
 pub use scan::{high_watermark, log_end};
 pub use who::Who;
 

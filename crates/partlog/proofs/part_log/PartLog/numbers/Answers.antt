@@ -1,4 +1,4 @@
-use Rattle.std.proofs.Common.{◌≡◌, length, arith, ap, ◌∙◌, subst}
+use Rattle.std.proofs.Common.{length, arith, ap, ◌∙◌, subst}
 use Rattle.partlog.specs.Boundary.{IsBoundary}
 use Rattle.partlog.specs.History.{History}
 use Rattle.partlog.specs.Position.{positions_of}

@@ -1,6 +1,5 @@
-use Rattle.std.proofs.Common.{◌≡◌, ◌≤◌, ◌-◌, ◌+◌, not, length, take, drop, arith, ap, ◌∙◌, rules}
+use Rattle.std.proofs.Common.{◌≤◌, ◌-◌, not, length, take, drop, arith, ap, ◌∙◌, rules}
 use Rattle.partlog.specs.Batches.{batches_of}
-use Rattle.partlog.specs.Gauges.{bytes_in}
 use Rattle.partlog.specs.History.{History}
 use Rattle.partlog.specs.Taken.{batches_past, batches_upto, taken, joined}
 use Rattle.partlog.specs.Starts.{AreStarts}
