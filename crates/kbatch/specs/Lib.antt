@@ -20,7 +20,7 @@ pub mod Written
 
 -- the remainder after bits that are 0
 pub mod Zeros
--- where a record ends, read from the left
+-- a record's parts, read from the left, and where it ends
 pub mod Walk
--- a record's parts, read from the left
+-- records and headers, read with all that they hold
 pub mod Decode
