@@ -1,53 +1,18 @@
 -- What is spelled is read with its values.
-use Rattle.std.proofs.Common.{◌≡◌, ℕ, suc, ◌+◌, ◌^◌, ◌<◌, ℤ, pos, negsuc, false, ltb, List, [], ◌∷◌, ◌++◌, length, take, drop, Option, Some, None, refl, sym, ap, subst, ◌∙◌, append_assoc, arith}
-use Rattle.std.specs.Prelude.{FitsSigned}
+use Rattle.std.proofs.Common.{◌≡◌, ℕ, suc, ◌+◌, ◌^◌, ◌<◌, List, [], ◌∷◌, ◌++◌, length, drop, Some, refl, sym, ap, subst, ◌∙◌, append_assoc, arith}
 use Rattle.std.specs.List.{flat_map, AllByRecursion}
-use Rattle.std.specs.Int.{w8, w32}
-use Rattle.std.proofs.lemmas.Bool.{le-ltb}
-use Rattle.std.proofs.lemmas.List.{append-nil, take_at, drop_at, length-append}
-use Rattle.kbytes.specs.Field.{field, Int8, Varint, Varlong}
-use Rattle.kbytes.proofs.Integers.{wide_8}
-use Rattle.kbytes.proofs.RoundTrips.{integer_reads}
+use Rattle.std.proofs.lemmas.List.{append-nil, length-append}
 use Rattle.kbatch.specs.declared.record.Record.{Record}
 use Rattle.kbatch.specs.declared.record.Header.{Header}
 use Rattle.kbatch.specs.Record.{sized, header_bytes, body_bytes, record_bytes, records_from, IsRecord}
-use Rattle.kbatch.specs.Walk.{◌>>=◌, front, behind, after_varint, after_varlong}
-use Rattle.kbatch.specs.Decode.{after_int8, part_at, part_after, part_or_null_after, key_at, value_at, header_at, list_at, RecordParts, parts_at, body_at, record_at}
+use Rattle.kbatch.specs.Walk.{header_at, parts_at}
+use Rattle.kbatch.specs.Decode.{list_at, body_at, record_at}
 use Rattle.kbatch.specs.Batch.{IsBatch}
 use Rattle.kbatch.specs.Kept.{count_of}
 use Rattle.kbatch.proofs.Batches.{batch_count}
 use Rattle.kbatch.proofs.Lengths.{sized_len}
 use Rattle.kbatch.proofs.Places.{head_len, rest_stands}
-use Rattle.kbatch.proofs.Parts.{same_some, small, sized_varint, varint_again, varlong_again, headers_len, counted, tail_below}
-
-int8_reads : (z : ℤ) (rest : List ℕ) → FitsSigned w8 z → after_int8 (field (Int8 z) ++ rest) ≡ Some (z, rest)
-unfolding after_int8
-int8_reads z rest is =
-    let text = field (Int8 z) in
-    ap behind (integer_reads w8 wide_8 z (front (text ++ rest)) rest is refl)
-
-part_reads : (part rest : List ℕ) → part_at (length part) (part ++ rest) ≡ Some (part, rest)
-unfolding part_at
-part_reads part rest =
-    let long : ltb (length (part ++ rest)) (length part) ≡ false = le-ltb _ _ (omega (arith, length-append part rest)) in
-    rw (long, take_at part rest (length part) refl, drop_at part rest (length part) refl) refl
-
-key_reads : (key rest : List ℕ) → length (sized (Some key) ++ rest) < 2 ^ 31 → key_at (sized (Some key) ++ rest) ≡ Some (key, rest)
-unfolding key_at
-key_reads key rest lt = rw (sized_varint key rest lt) (part_reads key rest)
-
-value_reads : (value : Option (List ℕ)) (rest : List ℕ) → length (sized value ++ rest) < 2 ^ 31 → value_at (sized value ++ rest) ≡ Some (value, rest)
-unfolding value_at
-value_reads None rest lt = rw (varint_again (negsuc 0) rest (record { sfits = omega arith })) refl
-value_reads (Some value) rest lt = rw (sized_varint value rest lt, part_reads value rest) refl
-
-header_reads : (h : Header) (rest : List ℕ) → length (header_bytes h ++ rest) < 2 ^ 31 → header_at (header_bytes h ++ rest) ≡ Some (h, rest)
-unfolding header_at header_bytes
-header_reads h rest lt =
-    let regrouped = append_assoc (sized (Some h.key)) (sized h.value) rest in
-    let lt2 : length (sized (Some h.key) ++ (sized h.value ++ rest)) < 2 ^ 31 = subst (λ (xs : List ℕ). length xs < 2 ^ 31) regrouped lt in
-    ap header_at regrouped
-    ∙ rw (key_reads h.key (sized h.value ++ rest) lt2, value_reads h.value rest (tail_below (2 ^ 31) (sized (Some h.key)) (sized h.value ++ rest) lt2)) refl
+use Rattle.kbatch.proofs.Parts.{same_some, key_reads, header_reads, parts_of, parts_read, are_short, tail_below}
 
 headers_read : (hs : List Header) (rest : List ℕ) → length (flat_map header_bytes hs ++ rest) < 2 ^ 31 → list_at header_at (length hs) (flat_map header_bytes hs ++ rest) ≡ Some hs
 unfolding list_at
@@ -58,48 +23,14 @@ headers_read (h ∷ hs) rest lt =
     ap (list_at header_at (suc (length hs))) regrouped
     ∙ rw (header_reads h (flat_map header_bytes hs ++ rest) lt2, headers_read hs rest (tail_below (2 ^ 31) (header_bytes h) (flat_map header_bytes hs ++ rest) lt2)) refl
 
-abbrev parts_of : Record → RecordParts
-parts_of r = record { attributes = r.attributes; time = r.time; key = r.key; value = r.value; count = length r.headers; headers = flat_map header_bytes r.headers }
-
-parts_read : (delta : ℕ) (r : Record) → delta < 2 ^ 31 → IsRecord r → length (body_bytes delta r) < 2 ^ 31 → parts_at (body_bytes delta r) ≡ Some (parts_of r)
-unfolding parts_at body_bytes
-parts_read delta r delta_lt is lt =
-    let at = field (Int8 r.attributes) in
-    let time = field (Varlong r.time) in
-    let number = field (Varint (pos delta)) in
-    let key = sized r.key in
-    let value = sized r.value in
-    let count = field (Varint (pos (length r.headers))) in
-    let hs = flat_map header_bytes r.headers in
-    let lt1 = tail_below (2 ^ 31) at (time ++ (number ++ (key ++ (value ++ (count ++ hs))))) lt in
-    let lt2 = tail_below (2 ^ 31) time (number ++ (key ++ (value ++ (count ++ hs)))) lt1 in
-    let lt3 = tail_below (2 ^ 31) number (key ++ (value ++ (count ++ hs))) lt2 in
-    let lt4 = tail_below (2 ^ 31) key (value ++ (count ++ hs)) lt3 in
-    let lt5 = tail_below (2 ^ 31) value (count ++ hs) lt4 in
-    let lt6 = tail_below (2 ^ 31) count hs lt5 in
-    let few = small (length r.headers) (omega (arith, headers_len r.headers, lt6)) in
-    rw (int8_reads r.attributes (time ++ (number ++ (key ++ (value ++ (count ++ hs))))) is.attributes, varlong_again r.time (number ++ (key ++ (value ++ (count ++ hs)))) is.time, varint_again (pos delta) (key ++ (value ++ (count ++ hs))) (small delta delta_lt), value_reads r.key (value ++ (count ++ hs)) lt3, value_reads r.value (count ++ hs) lt4, varint_again (pos (length r.headers)) hs few) refl
-
-headers_short : (delta : ℕ) (r : Record) → length (body_bytes delta r) < 2 ^ 31 → length (flat_map header_bytes r.headers) < 2 ^ 31
-unfolding body_bytes
-headers_short delta r lt =
-    let number = field (Varint (pos delta)) in
-    let count = field (Varint (pos (length r.headers))) in
-    let hs = flat_map header_bytes r.headers in
-    let lt1 = tail_below (2 ^ 31) (field (Int8 r.attributes)) (field (Varlong r.time) ++ (number ++ (sized r.key ++ (sized r.value ++ (count ++ hs))))) lt in
-    let lt2 = tail_below (2 ^ 31) (field (Varlong r.time)) (number ++ (sized r.key ++ (sized r.value ++ (count ++ hs)))) lt1 in
-    let lt3 = tail_below (2 ^ 31) number (sized r.key ++ (sized r.value ++ (count ++ hs))) lt2 in
-    let lt4 = tail_below (2 ^ 31) (sized r.key) (sized r.value ++ (count ++ hs)) lt3 in
-    let lt5 = tail_below (2 ^ 31) (sized r.value) (count ++ hs) lt4 in
-    tail_below (2 ^ 31) count hs lt5
-
 body_reads : (delta : ℕ) (r : Record) → delta < 2 ^ 31 → IsRecord r → length (body_bytes delta r) < 2 ^ 31 → body_at (body_bytes delta r) ≡ Some r
 unfolding body_at
 body_reads delta r delta_lt is lt =
-    let hs = flat_map header_bytes r.headers in
-    let short : length (flat_map header_bytes r.headers ++ []) < 2 ^ 31 = omega (arith, headers_short delta r lt, length-append hs []) in
-    let read : list_at header_at (length r.headers) hs ≡ Some r.headers = ap (list_at header_at (length r.headers)) (sym (append-nil hs)) ∙ headers_read r.headers [] short in
-    rw (parts_read delta r delta_lt is lt, read) refl
+    let body = body_bytes delta r in
+    let more : length (body ++ []) < 2 ^ 31 = omega (arith, length-append body []) in
+    let parts : parts_at body ≡ Some (parts_of delta r []) = ap parts_at (sym (append-nil body)) ∙ parts_read delta r [] delta_lt is more in
+    let short = (are_short delta r [] more).headers in
+    rw (parts, headers_read r.headers [] short) refl
 
 record_reads : (delta : ℕ) (r : Record) (rest : List ℕ) → delta < 2 ^ 31 → IsRecord r → length (record_bytes delta r ++ rest) < 2 ^ 31 → record_at (record_bytes delta r ++ rest) ≡ Some (r, rest)
 unfolding record_at

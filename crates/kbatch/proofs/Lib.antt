@@ -1,5 +1,7 @@
--- a message's bits, a byte at a time
-pub mod Bits
+-- what the bits of a message leave, by zeros
+pub mod Slices
+-- the table has the remainders of bytes with zeros behind them
+pub mod Table
 -- the header's fields, and its numbers by place
 pub mod Places
 -- how many bytes there are at least

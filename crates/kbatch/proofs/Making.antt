@@ -1,5 +1,5 @@
 -- The batch that is written of records is one of these records.
-use Rattle.std.proofs.Common.{◌≡◌, ℕ, ◌+◌, ◌-◌, ◌^◌, ◌<◌, ◌≤◌, ℤ, pos, negsuc, true, false, cond, List, [], ◌∷◌, ◌++◌, length, take, drop, map, fold, refl, sym, ap, subst, ◌∙◌, arith}
+use Rattle.std.proofs.Common.{◌≡◌, ℕ, ◌+◌, ◌-◌, ◌^◌, ◌<◌, ◌≤◌, ℤ, pos, true, false, cond, List, [], ◌∷◌, ◌++◌, length, take, drop, map, fold, refl, sym, ap, ◌∙◌, arith}
 use Rattle.std.specs.Prelude.{FitsSigned, int_lt}
 use Rattle.std.specs.List.{AllByRecursion}
 use Rattle.std.specs.Int.{w64, int_max}
@@ -8,7 +8,7 @@ use Rattle.kbytes.specs.Field.{field, Uint32}
 use Rattle.kbatch.specs.declared.record.Record.{Record}
 use Rattle.kbatch.specs.Batch.{IsBatch, most_bytes}
 use Rattle.kbatch.specs.Crc.{crc32c_of}
-use Rattle.kbatch.specs.Head.{Head, IsHead, head_bytes}
+use Rattle.kbatch.specs.Head.{IsHead, head_bytes}
 use Rattle.kbatch.specs.Record.{IsRecord, records_from}
 use Rattle.kbatch.specs.Written.{greatest_time, plain_head, written_with, written, written_size}
 use Rattle.kbatch.proofs.Lengths.{records_len}

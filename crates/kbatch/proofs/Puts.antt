@@ -1,16 +1,14 @@
 -- What a writer has put at the end of bytes, part by part.
-use Rattle.std.proofs.Common.{◌≡◌, ℕ, zero, suc, ◌+◌, ◌-◌, ◌^◌, ◌<◌, ◌≤◌, ℤ, pos, negsuc, List, [], ◌∷◌, ◌++◌, length, take, drop, map, fold, get_or, Some, refl, sym, ap, subst, ◌∙◌, append_assoc, append-nil, arith}
+use Rattle.std.proofs.Common.{◌≡◌, ℕ, zero, suc, ◌+◌, ◌-◌, ◌^◌, ◌<◌, ◌≤◌, ℤ, pos, negsuc, List, [], ◌∷◌, ◌++◌, length, take, drop, get_or, Some, refl, sym, ap, ◌∙◌, append_assoc, append-nil, arith}
 use Rattle.std.specs.List.{flat_map}
-use Rattle.std.specs.Int.{int_max}
-use Rattle.std.proofs.lemmas.List.{length-append, take_more}
+use Rattle.std.proofs.lemmas.List.{length-append}
 use Rattle.std.proofs.lemmas.List.Folds.{length-flat_map-take}
-use Rattle.std.proofs.lemmas.List.Sums.{fold_push}
 use Rattle.kbytes.specs.Field.{field, Int8, Int16, Int32, Uint32, Int64, Varint, Varlong}
 use Rattle.kbatch.specs.declared.record.Record.{Record}
 use Rattle.kbatch.specs.declared.record.Header.{Header}
 use Rattle.kbatch.specs.Record.{sized, header_bytes, body_bytes, record_bytes, records_from}
 use Rattle.kbatch.specs.Head.{head_bytes}
-use Rattle.kbatch.specs.Written.{greatest_time, plain_head}
+use Rattle.kbatch.specs.Written.{plain_head}
 use Rattle.kbatch.proofs.Lengths.{sized_len}
 use Rattle.kbatch.proofs.Parts.{headers_len}
 use Rattle.kbatch.proofs.Sizes.{header_length, headers_more, records_at_more, body_length}

@@ -1,3 +1,5 @@
+-- The words of public contracts.
+
 -- CRC-32C, bit by bit
 pub mod Crc
 -- a record, and records one after the other, as bytes
@@ -12,9 +14,13 @@ pub mod Kept
 pub mod Fault
 -- the base offset and the leader epoch written into a batch
 pub mod Stamp
--- where a record ends, read from the left
-pub mod Walk
--- a record's parts, read from the left
-pub mod Decode
 -- the batch that a writer makes of records
 pub mod Written
+-- The words of private functions.
+
+-- the remainder after bits that are 0
+pub mod Zeros
+-- a record's parts, read from the left, and where it ends
+pub mod Walk
+-- records and headers, read with all that they hold
+pub mod Decode

@@ -1,8 +1,10 @@
--- Where a record ends, read from the left: what stands after each of its parts, or None where the part doesn't read.
+-- A record read from the left: each part with its value and what stands after it, or None where the part doesn't read.
 use Rattle.std.specs.Prelude.{◌≡◌, ℕ, zero, suc, ℤ, pos, negsuc, List, [], ◌∷◌, length, take, drop, Option, Some, None, Result, Ok, Err, nat_lt, ◌==◌, if◌then◌else◌}
+use Rattle.std.specs.Int.{w8}
 use Rattle.kbytes.specs.declared.fault.ByteFault.{ByteFault}
 use Rattle.kbytes.specs.Cursor.{Cursor, rest_of}
-use Rattle.kbytes.specs.Reading.{varint_at, varlong_at}
+use Rattle.kbytes.specs.Reading.{integer_at, varint_at, varlong_at}
+use Rattle.kbatch.specs.declared.record.Header.{Header}
 
 infixl 10 ◌>>=◌
 abbrev pub ◌>>=◌ : {A B : Type 0} → Option A → (A → Option B) → Option B
@@ -27,56 +29,76 @@ after_varint bytes = behind (varint_at (front bytes))
 unfoldable pub after_varlong : List ℕ → Option (ℤ × List ℕ)
 after_varlong bytes = behind (varlong_at (front bytes))
 
-unfoldable pub after_bytes : ℕ → List ℕ → Option (List ℕ)
-after_bytes n bytes = if nat_lt (length bytes) n then None else Some (drop n bytes)
+unfoldable pub after_int8 : List ℕ → Option (ℤ × List ℕ)
+after_int8 bytes = behind (integer_at w8 (front bytes))
 
-abbrev pub after_length : ℤ × List ℕ → Option (List ℕ)
-after_length (pos n, rest) = after_bytes n rest
-after_length (negsuc n, rest) = None
+-- so many bytes, and what stands after them
+unfoldable pub part_at : ℕ → List ℕ → Option (List ℕ × List ℕ)
+part_at n bytes = if nat_lt (length bytes) n then None else Some (take n bytes, drop n bytes)
 
-abbrev pub after_length_or_null : ℤ × List ℕ → Option (List ℕ)
-after_length_or_null (pos n, rest) = after_bytes n rest
-after_length_or_null (negsuc zero, rest) = Some rest
-after_length_or_null (negsuc (suc n), rest) = None
+abbrev pub part_after : ℤ × List ℕ → Option (List ℕ × List ℕ)
+part_after (pos n, rest) = part_at n rest
+part_after (negsuc n, rest) = None
 
-unfoldable pub after_key : List ℕ → Option (List ℕ)
-after_key bytes = after_varint bytes >>= after_length
+abbrev pub part_or_null_after : ℤ × List ℕ → Option (Option (List ℕ) × List ℕ)
+part_or_null_after (pos n, rest) = part_at n rest >>= λ part. Some (Some part.0, part.1)
+part_or_null_after (negsuc zero, rest) = Some (None, rest)
+part_or_null_after (negsuc (suc n), rest) = None
 
-unfoldable pub after_value : List ℕ → Option (List ℕ)
-after_value bytes = after_varint bytes >>= after_length_or_null
+unfoldable pub key_at : List ℕ → Option (List ℕ × List ℕ)
+key_at bytes = after_varint bytes >>= part_after
 
+unfoldable pub value_at : List ℕ → Option (Option (List ℕ) × List ℕ)
+value_at bytes = after_varint bytes >>= part_or_null_after
+
+unfoldable pub header_at : List ℕ → Option (Header × List ℕ)
+header_at bytes = do
+  key ← key_at bytes
+  value ← value_at key.1
+  Some (record { key = key.0; value = value.0 }, value.1)
+
+-- the parts of a record, with its headers as bytes
+pub record RecordParts : Type 0 where
+  pub attributes : ℤ
+  pub time : ℤ
+  pub delta : ℤ
+  pub key : Option (List ℕ)
+  pub value : Option (List ℕ)
+  pub count : ℕ
+  pub headers : List ℕ
+
+-- the number of headers, and their bytes
+abbrev pub headers_after : ℤ × List ℕ → Option (ℕ × List ℕ)
+headers_after (pos n, rest) = Some (n, rest)
+headers_after (negsuc n, rest) = None
+
+unfoldable pub parts_at : List ℕ → Option RecordParts
+parts_at bytes = do
+  attributes ← after_int8 bytes
+  time ← after_varlong attributes.1
+  delta ← after_varint time.1
+  key ← value_at delta.1
+  value ← value_at key.1
+  counted ← after_varint value.1
+  headers ← headers_after counted
+  Some (record { attributes = attributes.0; time = time.0; delta = delta.0; key = key.0; value = value.0; count = headers.0; headers = headers.1 })
+
+-- where headers end
 unfoldable pub after_header : List ℕ → Option (List ℕ)
-after_header bytes = after_key bytes >>= after_value
+after_header bytes = header_at bytes >>= λ read. Some read.1
 
 unfoldable pub after_headers : ℕ → List ℕ → Option (List ℕ)
 after_headers zero bytes = Some bytes
 after_headers (suc n) bytes = after_header bytes >>= after_headers n
 
-abbrev pub after_count : ℤ × List ℕ → Option (List ℕ)
-after_count (pos n, rest) = after_headers n rest
-after_count (negsuc n, rest) = None
+-- what follows where the offset delta is this one
+abbrev pub for_delta : ℕ → ℤ → Option (List ℕ) → Option (List ℕ)
+for_delta delta (pos n) follows = if n == delta then follows else None
+for_delta delta (negsuc n) follows = None
 
--- a count of headers, and so many of them
-unfoldable pub after_all_headers : List ℕ → Option (List ℕ)
-after_all_headers bytes = after_varint bytes >>= after_count
-
-abbrev pub is_delta : ℕ → ℤ × List ℕ → Option (List ℕ)
-is_delta delta (pos n, rest) = if n == delta then Some rest else None
-is_delta delta (negsuc n, rest) = None
-
--- this offset delta and no other
-unfoldable pub after_delta : ℕ → List ℕ → Option (List ℕ)
-after_delta delta bytes = after_varint bytes >>= is_delta delta
-
--- what stands after a record's length
+-- where what stands behind a record's length ends
 unfoldable pub after_body : ℕ → List ℕ → Option (List ℕ)
-after_body delta bytes = do
-  time ← after_bytes 1 bytes
-  behind_time ← after_varlong time
-  key ← after_delta delta behind_time.1
-  value ← after_value key
-  headers ← after_value value
-  after_all_headers headers
+after_body delta bytes = parts_at bytes >>= λ parts. for_delta delta parts.delta (after_headers parts.count parts.headers)
 
 -- the rest, where nothing is left of the body
 abbrev pub whole : List ℕ → Option (List ℕ) → Option (List ℕ)
@@ -84,9 +106,6 @@ whole rest None = None
 whole rest (Some []) = Some rest
 whole rest (Some (b ∷ bs)) = None
 
-abbrev pub framed : ℕ → ℤ × List ℕ → Option (List ℕ)
-framed delta (pos n, rest) = if nat_lt (length rest) n then None else whole (drop n rest) (after_body delta (take n rest))
-framed delta (negsuc n, rest) = None
-
+-- where a record ends
 unfoldable pub after_record : ℕ → List ℕ → Option (List ℕ)
-after_record delta bytes = after_varint bytes >>= framed delta
+after_record delta bytes = key_at bytes >>= λ framed. whole framed.1 (after_body delta framed.0)

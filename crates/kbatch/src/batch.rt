@@ -8,7 +8,7 @@ ghost use Rattle.kbatch.specs.Stamp.{stamped};
 use crate::decode::{Stop, copied, records};
 use crate::head::{HEAD, u32_at};
 use crate::record::Record;
-use byteorder::{BigEndian, ByteOrder};
+use crate::stamping::stamp;
 use kbytes::{Bytes, List as Items, NoMemory};
 use std::alloc::Global;
 use std::marker::Model;
@@ -37,15 +37,6 @@ fn count_in(bytes: &[u8]) -> u32
     ensures { result ≡ count_of bytes.now }
 {
     u32_at(bytes, 57)
-}
-
-// Writes the base offset and the leader epoch 0.
-fn write_stamp(bytes: &mut [u8], base: u64)
-    requires { 61 ≤ length bytes.old }
-    ensures { bytes.new ≡ stamped base bytes.old }
-{
-    BigEndian::write_u64(bytes, base);
-    BigEndian::write_u32(&mut bytes[12..], 0);
 }
 
 impl Batch {
@@ -104,6 +95,6 @@ impl Batch {
         ensures bytes { self.new ≡ stamped base self.old }
         ensures records { (records : List Record) → IsBatch self.old records → IsBatch self.new records }
     {
-        write_stamp(self.bytes.as_mut_slice(), base);
+        stamp(self.bytes.as_mut_slice(), base);
     }
 }

@@ -1,34 +1,47 @@
-//! CRC-32C, bit by bit.
+//! CRC-32C, eight bytes at a time.
 
-ghost use Rattle.std.specs.Prelude.{◌≡◌, ◌<◌, fold};
-ghost use Rattle.kbatch.specs.Crc.{after_bit, bits_of, crc32c_of};
+ghost use Rattle.std.specs.Prelude.{◌≡◌, ◌<◌, ◌+◌, ◌*◌, [], ◌∷◌, length, fold};
+ghost use Rattle.kbatch.specs.Crc.{after_bit, message_bits, crc32c_of};
+ghost use Rattle.kbatch.specs.Zeros.{after_zeros};
 
-/// The reflected polynomial of Castagnoli.
-const POLYNOMIAL: u32 = 0x82F6_3B78;
+use crate::remainders::REMAINDERS;
 
-/// The remainder after one more bit.
-#[tactic(auto, unfolding(crate::specs::Crc::after_bit))]
-fn take_bit(remainder: u32, bit: u32) -> u32
-    ensures { result ≡ after_bit remainder bit }
+/// The remainder of a byte and so many bytes of zeros behind it, from nothing.
+#[inline(always)]
+fn remainder_of(byte: u8, zeros: usize) -> u32
+    requires { zeros < 8 }
+    ensures { result ≡ after_zeros (8 * (zeros + 1)) byte }
 {
-    if remainder % 2 == bit {
-        remainder / 2
-    } else {
-        (remainder / 2) ^ POLYNOMIAL
-    }
+    REMAINDERS[zeros][byte as usize]
 }
 
-/// The remainder after one more byte, its lowest bit first.
-fn take_byte(remainder: u32, byte: u8) -> u32
-    ensures { result ≡ fold after_bit remainder (bits_of 8 byte) }
+/// The remainder after one more byte.
+#[inline(always)]
+fn after_byte(remainder: u32, byte: u8) -> u32
+    ensures { result ≡ fold after_bit remainder (message_bits (byte ∷ [])) }
 {
-    let mut remainder = remainder;
-    let mut bits = u32::from(byte);
-    for _ in 0..8u32 {
-        remainder = take_bit(remainder, bits % 2);
-        bits /= 2;
-    }
-    remainder
+    let mixed = remainder ^ u32::from(byte);
+    remainder_of((mixed % 256) as u8, 0) ^ (mixed / 256)
+}
+
+/// The remainder after eight more bytes.
+#[inline(always)]
+fn after_eight(remainder: u32, part: &[u8]) -> u32
+    requires { length part.now ≡ 8 }
+    ensures { result ≡ fold after_bit remainder (message_bits part.now) }
+{
+    let word = u64::from_le_bytes([
+        part[0], part[1], part[2], part[3], part[4], part[5], part[6], part[7],
+    ]);
+    let [a, b, c, d, e, f, g, h] = (word ^ u64::from(remainder)).to_le_bytes();
+    remainder_of(a, 7)
+        ^ remainder_of(b, 6)
+        ^ remainder_of(c, 5)
+        ^ remainder_of(d, 4)
+        ^ remainder_of(e, 3)
+        ^ remainder_of(f, 2)
+        ^ remainder_of(g, 1)
+        ^ remainder_of(h, 0)
 }
 
 /// The CRC-32C of the bytes (RFC 3720, appendix B.4). It takes no memory.
@@ -36,8 +49,14 @@ pub fn crc32c(bytes: &[u8]) -> u32
     ensures { result ≡ crc32c_of bytes.now }
 {
     let mut remainder = u32::MAX;
-    for byte in bytes {
-        remainder = take_byte(remainder, *byte);
+    let mut rest = bytes;
+    while rest.len() >= 8 {
+        let (part, behind) = rest.split_at(8);
+        remainder = after_eight(remainder, part);
+        rest = behind;
+    }
+    for byte in rest {
+        remainder = after_byte(remainder, *byte);
     }
     remainder ^ u32::MAX
 }

@@ -2,12 +2,12 @@
 
 ghost use Rattle.std.specs.Prelude.{◌≡◌, IfOk};
 ghost use Rattle.std.specs.Option.{option_copied};
-ghost use Rattle.kbatch.specs.Walk.{Gives};
-ghost use Rattle.kbatch.specs.Decode.{Decodes, after_int8, part_at, key_at, value_at, header_at, list_at, parts_at, body_at, record_at};
+ghost use Rattle.kbatch.specs.Walk.{header_at};
+ghost use Rattle.kbatch.specs.Decode.{Decodes, list_at, body_at, record_at};
 
 use crate::record::{Header, Record};
-use crate::walk::{after_varint, after_varlong};
-use kbytes::{Bytes, List, NoMemory as Memory, Reader};
+use crate::walk::{header_at, key_at, parts_at};
+use kbytes::{Bytes, List, NoMemory as Memory};
 use std::alloc::Global;
 
 /// Why no record is read.
@@ -29,88 +29,6 @@ impl From<Memory> for Stop {
     }
 }
 
-// A record's parts, with its headers as bytes.
-#[derive(Clone, Copy)]
-struct Parts<'a> {
-    attributes: i8,
-    time: i64,
-    key: Option<&'a [u8]>,
-    value: Option<&'a [u8]>,
-    count: u32,
-    headers: &'a [u8],
-}
-
-#[tactic(auto, unfolding(crate::specs::Decode::after_int8))]
-fn after_int8(bytes: &[u8]) -> Option<(i8, &[u8])>
-    ensures { Gives (λ x. (x.0, x.1.now)) result (after_int8 bytes.now) }
-{
-    let mut reader = Reader::new(bytes);
-    match reader.i8() {
-        Ok(value) => Some((value, reader.rest())),
-        Err(_) => None,
-    }
-}
-
-#[tactic(auto, unfolding(crate::specs::Decode::part_at))]
-fn part_at(count: usize, bytes: &[u8]) -> Option<(&[u8], &[u8])>
-    ensures { Gives (λ x. (x.0.now, x.1.now)) result (part_at count bytes.now) }
-{
-    if bytes.len() < count {
-        return None;
-    }
-    Some(bytes.split_at(count))
-}
-
-#[tactic(auto, unfolding(crate::specs::Decode::key_at))]
-fn key_at(bytes: &[u8]) -> Option<(&[u8], &[u8])>
-    ensures { Gives (λ x. (x.0.now, x.1.now)) result (key_at bytes.now) }
-{
-    let (len, rest) = after_varint(bytes)?;
-    if len < 0 {
-        return None;
-    }
-    part_at(len as usize, rest)
-}
-
-// A value, or a record's key: null has the length -1.
-#[tactic(auto, unfolding(crate::specs::Decode::value_at))]
-fn value_at(bytes: &[u8]) -> Option<(Option<&[u8]>, &[u8])>
-    ensures { Gives (λ x. (option_copied x.0, x.1.now)) result (value_at bytes.now) }
-{
-    let (len, rest) = after_varint(bytes)?;
-    if len == -1 {
-        return Some((None, rest));
-    }
-    if len < 0 {
-        return None;
-    }
-    let (part, rest) = part_at(len as usize, rest)?;
-    Some((Some(part), rest))
-}
-
-#[tactic(auto, unfolding(crate::specs::Decode::parts_at))]
-fn parts_at(bytes: &[u8]) -> Option<Parts<'_>>
-    ensures { Gives (λ p. record { attributes = p.attributes; time = p.time; key = option_copied p.key; value = option_copied p.value; count = p.count; headers = p.headers.now }) result (parts_at bytes.now) }
-{
-    let (attributes, time) = after_int8(bytes)?;
-    let (time, delta) = after_varlong(time)?;
-    let (_, key) = after_varint(delta)?;
-    let (key, value) = value_at(key)?;
-    let (value, counted) = value_at(value)?;
-    let (count, headers) = after_varint(counted)?;
-    if count < 0 {
-        return None;
-    }
-    Some(Parts {
-        attributes,
-        time,
-        key,
-        value,
-        count: count as u32,
-        headers,
-    })
-}
-
 // A copy of these bytes.
 pub(crate) fn copied(alloc: Global, part: &[u8]) -> Result<Bytes, Memory>
     ensures { IfOk result (λ bytes. bytes ≡ part.now) }
@@ -127,16 +45,6 @@ fn copied_or_null(alloc: Global, part: Option<&[u8]>) -> Result<Option<Bytes>, M
         None => Ok(None),
         Some(part) => Ok(Some(copied(alloc, part)?)),
     }
-}
-
-// A header's key and value, and the bytes after them.
-#[tactic(auto, unfolding(crate::specs::Decode::header_at))]
-fn header_at(bytes: &[u8]) -> Option<(&[u8], Option<&[u8]>, &[u8])>
-    ensures { Gives (λ x. (record { key = x.0.now; value = option_copied x.1 }, x.2.now)) result (header_at bytes.now) }
-{
-    let (key, rest) = key_at(bytes)?;
-    let (value, rest) = value_at(rest)?;
-    Some((key, value, rest))
 }
 
 // So many headers.

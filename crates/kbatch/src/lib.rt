@@ -12,7 +12,9 @@ mod head;
 mod promises;
 mod read;
 mod record;
+mod remainders;
 mod size;
+mod stamping;
 mod walk;
 mod write;
 mod write_fault;
@@ -23,6 +25,7 @@ pub use fault::BatchFault;
 pub use promises::written_is_read;
 pub use read::read_batch;
 pub use record::{Header, Record};
+pub use stamping::stamp;
 pub use write::write_batch;
 pub use write_fault::WriteFault;
 

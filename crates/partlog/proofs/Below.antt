@@ -17,7 +17,7 @@ use Rattle.partlog.proofs.Fronts.{bytes_in-cons, fitting-more, fitting-none, fit
 use Rattle.partlog.proofs.Rows.{IsFull, IsRising}
 
 module _ (high : ℕ) (b : StoredBatch) (bs : List StoredBatch) where
-  below-more : next_offset b ≤ high → batches_below high (b ∷ bs) ≡ b ∷ batches_below high bs
+  pub below-more : next_offset b ≤ high → batches_below high (b ∷ bs) ≡ b ∷ batches_below high bs
   below-more le = grind (arith, nat_tests)
 
   below-less : high < next_offset b → batches_below high (b ∷ bs) ≡ batches_below high bs
@@ -30,7 +30,7 @@ below-none high base (b ∷ bs) rising le =
     let some = rising.1 in
     below-less high b bs (omega arith) ∙ below-none high (next_offset b) bs rising.2 (omega arith)
 
-below-first : (high base : ℕ) (b : StoredBatch) (bs : List StoredBatch) → IsRising base (b ∷ bs) → high < next_offset b → batches_below high (b ∷ bs) ≡ []
+pub below-first : (high base : ℕ) (b : StoredBatch) (bs : List StoredBatch) → IsRising base (b ∷ bs) → high < next_offset b → batches_below high (b ∷ bs) ≡ []
 below-first high base b bs rising above = below-less high b bs above ∙ below-none high (next_offset b) bs rising.2 (omega arith)
 
 -- so they are those that fit into their bytes

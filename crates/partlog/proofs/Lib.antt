@@ -10,8 +10,6 @@ pub mod Stamping
 pub mod Rows
 -- batches from a place on, up to a place, and as many as fit
 pub mod Fronts
--- going over a history, entry by entry, beside its batches
-pub mod Walking
 -- where what is taken of the batches ends
 pub mod Taking
 -- the batches wholly below an offset
@@ -20,5 +18,11 @@ pub mod Below
 pub mod Whole
 -- earlier states of a log
 pub mod Earlier
+-- what a search among the starts of batches finds
+pub mod Halving
+-- what is kept of a log as it grows
+pub mod Tracking
+-- no number falls as a history grows
+pub mod Growing
 -- what proofs of other crates may cite
 pub mod Laws

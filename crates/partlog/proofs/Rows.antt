@@ -1,5 +1,5 @@
 -- Batches that follow each other in a log.
-use Rattle.std.proofs.Common.{◌≡◌, ℕ, ◌+◌, ◌≤◌, ◌<◌, List, [], ◌∷◌, ◌++◌, length, take, drop, All, arith, sym, ap, subst, ◌∙◌, refl, length-drop}
+use Rattle.std.proofs.Common.{◌≡◌, ℕ, ◌+◌, ◌≤◌, List, [], ◌∷◌, ◌++◌, length, take, drop, All, arith, sym, ap, subst, ◌∙◌, refl, length-drop}
 use Rattle.std.proofs.Math.Seq.{take-add}
 use Rattle.std.proofs.lemmas.List.{length-take-le}
 use Rattle.std.proofs.lemmas.List.Sums.{sum_by-cons, sum_by_push}
@@ -7,19 +7,10 @@ use Rattle.std.proofs.lemmas.List.Elements.{All-tail}
 use Rattle.partlog.specs.declared.event.PartEvent.{PartEvent}
 use Rattle.partlog.specs.declared.event.PartEvent.TheVariants.{Append, Follow, Look}
 use Rattle.partlog.specs.Added.{added_count, added_bytes, log_end_of, bytes_of}
-use Rattle.partlog.specs.Batches.{StoredBatch, batches_after, next_offset}
+use Rattle.partlog.specs.Batches.{batches_after}
 use Rattle.partlog.specs.Kept.{IsDense}
 use Rattle.partlog.specs.Taken.{joined}
-
--- each has bytes
-abbrev pub IsFull : List StoredBatch → Type 0
-IsFull [] = Unit {0}
-IsFull (b ∷ bs) = (0 < length b.bytes) × IsFull bs
-
--- each has records, and begins where the one before it ends
-abbrev pub IsRising : ℕ → List StoredBatch → Type 0
-IsRising base [] = Unit {0}
-IsRising base (b ∷ bs) = (b.base ≡ base) × (0 < b.count) × IsRising (next_offset b) bs
+pub use Rattle.partlog.specs.Rows.{IsFull, IsRising}
 
 pub full-batches : (before es : List PartEvent) (log : List ℕ) → All IsDense es → bytes_of es ≤ length log → IsFull (batches_after before es log)
 full-batches before [] log dense fits = tt

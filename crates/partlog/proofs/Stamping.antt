@@ -4,7 +4,7 @@ use Rattle.std.proofs.Math.Seq.{take-append_seam, drop-append_seam, take-length}
 use Rattle.std.proofs.lemmas.List.Sums.{sum_by_push}
 use Rattle.std.proofs.lemmas.List.Elements.{All-push}
 use Rattle.partlog.specs.declared.event.PartEvent.{PartEvent}
-use Rattle.partlog.specs.declared.event.PartEvent.TheVariants.{Append}
+use Rattle.partlog.specs.declared.event.PartEvent.TheVariants.{Append, Look}
 use Rattle.partlog.specs.Added.{added_bytes, bytes_of}
 use Rattle.partlog.specs.Kept.{IsDense, IsKept}
 
@@ -32,6 +32,14 @@ kept-push log w events by seq count len kept some dense size room =
       bounded = omega (arith, long, size, room);
       dense = All-push IsDense events e kept.dense (some, dense);
     }
+
+-- a look adds nothing
+pub kept-look : (log : List ℕ) (events : List PartEvent) (by seq : ℕ) → IsKept log events → IsKept log (events ++ Look by seq ∷ [])
+kept-look log events by seq kept = record {
+  whole = sum_by_push added_bytes events (Look by seq) ∙ omega (arith, kept.whole);
+  bounded = kept.bounded;
+  dense = All-push IsDense events (Look by seq) kept.dense tt;
+}
 
 -- the part that is lent for it is what was put there
 pub lent_part : (log bytes ext all : List ℕ) (start : ℕ) → ext ≡ log ++ bytes → all ≡ ext → start ≡ length log → take (length all - start) (drop start all) ≡ bytes

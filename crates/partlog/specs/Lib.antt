@@ -1,3 +1,5 @@
+-- The words of public contracts.
+
 -- what contracts see of a partition's log: its bytes, its followers and its history
 pub mod History
 -- what an entry of the history adds to the log: records and bytes
@@ -26,3 +28,13 @@ pub mod Taken
 pub mod Boundary
 -- what the batches of a log show of a state
 pub mod Readable
+-- numbers none of which is smaller than it was
+pub mod Fallen
+-- The words of private functions.
+
+-- batches that follow each other
+pub mod Rows
+-- where each batch begins
+pub mod Starts
+-- what is kept of a log beside its bytes and its history
+pub mod Tracked

@@ -5,6 +5,7 @@
 //! left it, so that a call's answer can be recomputed from the entries before it.
 #![tactic(auto)]
 
+mod batch_start;
 mod clock_event;
 mod event;
 mod fault;
@@ -12,9 +13,8 @@ mod numbers;
 mod part_log;
 mod placed;
 mod promises;
-mod reading;
 mod scan;
-mod stamp;
+mod search;
 mod who;
 
 pub use clock_event::ClockEvent;
@@ -23,7 +23,7 @@ pub use fault::{FollowFault, LogFault};
 pub use numbers::Numbers;
 pub use part_log::PartLog;
 pub use placed::Placed;
-pub use promises::{fronts_are_kept, visible_is_readable};
+pub use promises::{fronts_are_kept, numbers_never_fall, visible_is_readable};
 pub use scan::{high_watermark, log_end};
 pub use who::Who;
 

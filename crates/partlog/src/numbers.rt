@@ -1,3 +1,7 @@
+ghost use Rattle.std.specs.Prelude.{◌≡◌};
+
+use crate::batch_start::BatchStart;
+
 /// The numbers of a partition.
 #[derive(Clone, Copy, Debug, PartialEq, Eq)]
 pub struct Numbers {
@@ -9,4 +13,16 @@ pub struct Numbers {
     pub visible: u64,
     /// The bytes of all batches.
     pub bytes: u64,
+}
+
+impl Numbers {
+    // Where the next batch will begin.
+    pub(crate) fn next_start(&self) -> BatchStart
+        ensures { result ≡ record { base = self.now.end; place = self.now.bytes } }
+    {
+        BatchStart {
+            base: self.end,
+            place: self.bytes,
+        }
+    }
 }

@@ -1,14 +1,14 @@
+ghost use Rattle.partlog.specs.Position.{positions_of};
 ghost use Rattle.std.specs.Prelude.{◌≡◌, ◌↔◌, ◌+◌, ◌<◌, ◌≤◌, [], length, not, IfOk, OnOk, OnErr, IsErrOf};
 
+use crate::batch_start::BatchStart;
 use crate::event::PartEvent;
 use crate::fault::LogFault;
 use crate::numbers::Numbers;
 use crate::placed::Placed;
-use crate::reading::{start_from, taken_end};
-use crate::scan::{high_watermark, log_end, visible_bytes};
-use crate::stamp::stamp;
+use crate::search::{numbers_at, start_from, start_of, taken_end};
 use crate::who::Who;
-use kbatch::Batch;
+use kbatch::{Batch, stamp};
 use kbytes::{Bytes, List, NoMemory};
 use std::alloc::Global;
 use std::marker::Model;
@@ -22,6 +22,11 @@ pub struct PartLog {
     log: Bytes,
     followers: u32,
     events: List<PartEvent>,
+    /// Where each batch begins.
+    starts: Vec<BatchStart>,
+    /// How far each follower has fetched, from the first on.
+    positions: List<u64>,
+    numbers: Numbers,
 }
 
 impl Model for PartLog {
@@ -29,11 +34,22 @@ impl Model for PartLog {
 
     ghost Value = { History };
 
-    ghost use Rattle.partlog.specs.Kept.{IsKept};
+    ghost use Rattle.partlog.specs.Tracked.{IsTracked};
 
     ghost view = { λ p. record { log = p.log; followers = p.followers; events = p.events } };
 
-    ghost invariant = { λ p. IsKept p.log p.events };
+    ghost invariant = { λ p. IsTracked p.log p.followers p.events p.starts.items p.positions p.numbers };
+}
+
+/// The positions of so many followers that fetched nothing.
+fn unfetched(alloc: Global, followers: u32) -> Result<List<u64>, NoMemory>
+    ensures { IfOk result (λ positions. positions ≡ positions_of followers []) }
+{
+    let mut positions = List::new(alloc);
+    for _ in 0..followers {
+        positions.push(0)?;
+    }
+    Ok(positions)
 }
 
 impl PartLog {
@@ -55,6 +71,14 @@ impl PartLog {
             log: Bytes::new(alloc),
             followers,
             events: List::new(alloc),
+            starts: Vec::new(alloc),
+            positions: unfetched(alloc, followers)?,
+            numbers: Numbers {
+                end: 0,
+                high: 0,
+                visible: 0,
+                bytes: 0,
+            },
         })
     }
 
@@ -70,23 +94,37 @@ impl PartLog {
         ensures refused { OnErr result (self.new ≡ self.old) }
     {
         let bytes = batch.bytes();
+        let count = batch.count();
         let start = self.log.len();
         if bytes.len() > LOG_LIMIT - start {
             return Err(LogFault::LogFull);
         }
-        let base = log_end(self.events.as_slice());
+        if self.starts.reserve(1).is_err() {
+            return Err(LogFault::NoMemory);
+        }
         let place = self.events.len() as u64;
         self.events.push(PartEvent::Append {
             by: who.by,
             seq: who.seq,
-            count: batch.count(),
+            count,
             len: bytes.len() as u32,
         })?;
         if self.log.extend(bytes).is_err() {
             self.events.pop();
             return Err(LogFault::NoMemory);
         }
+        let base = self.numbers.end;
         stamp(&mut self.log.as_mut_slice()[start..], base);
+        let first = BatchStart {
+            base,
+            place: start as u64,
+        };
+        self.starts.push(first).unwrap();
+        let next = BatchStart {
+            base: base + u64::from(count),
+            place: self.log.len() as u64,
+        };
+        self.numbers = numbers_at(self.starts.as_slice(), next, self.positions.as_slice());
         Ok(Placed { base, place })
     }
 
@@ -111,8 +149,7 @@ impl PartLog {
         ensures within { result ≤ length self.now.log }
         ensures boundary { IsBoundary result (state_of self.now).batches }
     {
-        let _log = &self.log;
-        visible_bytes(self.events.as_slice(), offset)
+        start_of(self.starts.as_slice(), self.numbers.next_start(), offset)
     }
 
     /// The bytes of whole batches: of those that begin at or after the byte place `from` and end at or before the byte
@@ -122,9 +159,10 @@ impl PartLog {
         ensures { result.now ≡ joined (taken limit (not force)
             (batches_past from (batches_upto upto (state_of self.now).batches))) }
     {
-        let events = self.events.as_slice();
-        let start = start_from(events, from);
-        let end = taken_end(events, start, upto, limit, force);
+        let starts = self.starts.as_slice();
+        let next = self.numbers.next_start();
+        let start = start_from(starts, next, from);
+        let end = taken_end(starts, next, start, upto, limit, force);
         &self.log.as_slice()[start as usize..end as usize]
     }
 
@@ -155,15 +193,7 @@ impl PartLog {
         ensures bytes { result.bytes ≤ 67108864 }
         ensures all { result.bytes ≡ length self.now.log }
     {
-        let events = self.events.as_slice();
-        let end = log_end(events);
-        let high = high_watermark(events, self.followers, end);
-        Numbers {
-            end,
-            high,
-            visible: visible_bytes(events, high),
-            bytes: self.log.len() as u64,
-        }
+        self.numbers
     }
 
     /// The history.

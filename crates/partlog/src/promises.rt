@@ -1,7 +1,12 @@
 //! Laws of a log and its history. They do nothing.
-ghost use Rattle.std.specs.Prelude.{ℕ};
+ghost use Rattle.std.specs.Prelude.{ℕ, ◌≤◌, List, ◌++◌};
+ghost use Rattle.partlog.specs.declared.clock_event.ClockEvent.{ClockEvent};
+ghost use Rattle.partlog.specs.declared.event.PartEvent.{PartEvent};
+ghost use Rattle.partlog.specs.Fallen.{NoneFell};
+ghost use Rattle.partlog.specs.Gauges.{numbers_of};
 ghost use Rattle.partlog.specs.History.{History};
 ghost use Rattle.partlog.specs.Kept.{IsKept};
+ghost use Rattle.partlog.specs.Moment.{moment_of};
 ghost use Rattle.partlog.specs.Readable.{IsReadable};
 ghost use Rattle.partlog.specs.State.{state_of, state_before, front_of};
 
@@ -19,4 +24,15 @@ pub fn visible_is_readable()
 pub fn fronts_are_kept()
     ensures { (history : History) (place : ℕ) → IsKept history.log history.events
         → IsKept (front_of history place).log (front_of history place).events }
+{}
+
+/// Law: along a history that only grows nothing falls: not the log end, nor the high watermark, the visible bytes or the
+/// end bytes, nor the clock's moment.
+pub fn numbers_never_fall()
+    ensures grown { (log bytes : List ℕ) (followers : ℕ) (events more : List PartEvent) → IsKept log events
+        → NoneFell (numbers_of (state_of (record { log = log; followers = followers; events = events })))
+        (numbers_of (state_of (record { log = log ++ bytes; followers = followers; events = events ++ more }))) }
+    ensures along { (history : History) (place later : ℕ) → IsKept history.log history.events → place ≤ later
+        → NoneFell (numbers_of (state_before history place)) (numbers_of (state_before history later)) }
+    ensures moment { (events more : List ClockEvent) → moment_of events ≤ moment_of (events ++ more) }
 {}

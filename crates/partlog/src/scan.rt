@@ -1,8 +1,6 @@
-//! The numbers of a history, by going over the whole of it.
-ghost use Rattle.std.specs.Prelude.{◌≡◌, ◌<◌, ◌^◌, List, ℕ, pos, min, fold, length};
-ghost use Rattle.partlog.specs.Added.{added_count, added_bytes, log_end_of, bytes_of};
-ghost use Rattle.partlog.specs.Batches.{batches_of};
-ghost use Rattle.partlog.specs.Gauges.{bytes_in, batches_below};
+//! Numbers of a history that stands without its log, by going over the whole of it.
+ghost use Rattle.std.specs.Prelude.{◌≡◌, ◌<◌, ◌^◌, pos, min, fold};
+ghost use Rattle.partlog.specs.Added.{added_count, log_end_of};
 ghost use Rattle.partlog.specs.Position.{offset_by, position_of, positions_of};
 
 use crate::event::PartEvent;
@@ -14,16 +12,6 @@ impl PartEvent {
     {
         match self {
             PartEvent::Append { count, .. } => u64::from(*count),
-            _ => 0,
-        }
-    }
-
-    /// The bytes that it added.
-    pub(crate) fn added_bytes(&self) -> u64
-        ensures { result ≡ added_bytes self.now }
-    {
-        match self {
-            PartEvent::Append { len, .. } => u64::from(*len),
             _ => 0,
         }
     }
@@ -72,22 +60,4 @@ pub fn high_watermark(events: &[PartEvent], followers: u32, end: u64) -> u64
         high = high.min(position(events, below + 1));
     }
     high
-}
-
-/// The bytes of the batches wholly below an offset.
-pub(crate) fn visible_bytes(events: &[PartEvent], high: u64) -> u64
-    requires counts { log_end_of events.now < 2 ^ 64 }
-    requires bytes { bytes_of events.now < 2 ^ 64 }
-    ensures { (log : List ℕ) → bytes_of events.now ≡ length log
-        → result ≡ bytes_in (batches_below high (batches_of events.now log)) }
-{
-    let mut next = 0;
-    let mut visible = 0;
-    for event in events {
-        next += event.added_count();
-        if next <= high {
-            visible += event.added_bytes();
-        }
-    }
-    visible
 }

@@ -1,6 +1,7 @@
-use Rattle.std.proofs.Common.{◌≡◌, ◌∙◌, ap, sym, Some}
+use Rattle.std.proofs.Common.{◌≡◌, Some}
 use Rattle.kbatch.specs.declared.record.Header.{Header}
-use Rattle.kbatch.specs.Decode.{header_at, list_at}
+use Rattle.kbatch.specs.Walk.{header_at}
+use Rattle.kbatch.specs.Decode.{list_at}
 use Rattle.kbatch.proofs.ListsLoop.{list_goes_on, list_fails, list_done}
 use Rattle.kbatch.proofs.decode.headers.Goals as goal
 

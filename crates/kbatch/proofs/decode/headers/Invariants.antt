@@ -1,5 +1,6 @@
 use Rattle.std.proofs.Common.{◌≡◌, ◌-◌}
-use Rattle.kbatch.specs.Decode.{header_at, list_at}
+use Rattle.kbatch.specs.Walk.{header_at}
+use Rattle.kbatch.specs.Decode.{list_at}
 use Rattle.kbatch.proofs.ListsLoop.{all_with}
 use Rattle.kbatch.proofs.decode.headers.Given as goal
 

@@ -1,9 +1,10 @@
-use Rattle.std.proofs.Common.{◌≡◌, ◌-◌, ◌<◌, ℕ, List, Option, Some, None, Err, refl, ◌∙◌, ap, sym}
+use Rattle.std.proofs.Common.{◌≡◌, ◌-◌, ◌<◌, ℕ, List, Option, Some, None, Err, refl, ◌∙◌, ap}
 use Rattle.std.proofs.lemmas.Result.{err_from_is_err_and}
 use Rattle.kbatch.specs.declared.decode.Stop.{Stop}
 use Rattle.kbatch.specs.declared.decode.Stop.TheVariants.{Unread, NoMemory}
 use Rattle.kbatch.specs.declared.record.Record.{Record}
-use Rattle.kbatch.specs.Decode.{Decodes, key_at, body_at, record_at, list_at}
+use Rattle.kbatch.specs.Walk.{key_at}
+use Rattle.kbatch.specs.Decode.{Decodes, body_at, record_at, list_at}
 use Rattle.kbatch.proofs.ListsLoop.{all_with, list_goes_on, list_fails, list_done}
 use Rattle.kbatch.proofs.decode.records.Goals as goal
 

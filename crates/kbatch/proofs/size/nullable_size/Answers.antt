@@ -1,6 +1,5 @@
-use Rattle.std.proofs.Common.{◌≡◌, ◌-◌, ◌^◌, min, length, arith, sym, ap, ◌∙◌, negsuc}
-use Rattle.kbytes.specs.Field.{field, groups, Varint}
-use Rattle.kbatch.specs.Record.{sized}
+use Rattle.std.proofs.Common.{◌≡◌, length, arith}
+use Rattle.kbytes.specs.Field.{groups}
 use Rattle.kbatch.proofs.Sizes.{groups_one}
 use Rattle.kbatch.proofs.size.nullable_size.Goals as goal
 

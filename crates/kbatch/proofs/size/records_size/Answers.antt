@@ -1,4 +1,4 @@
-use Rattle.std.proofs.Common.{◌+◌, length, take, get_or, ap, sym, subst, arith}
+use Rattle.std.proofs.Common.{length, take, get_or, ap, sym, subst, arith}
 use Rattle.std.proofs.lemmas.List.{length-append, take_more}
 use Rattle.kbatch.specs.Record.{IsRecord, record_bytes, records_from}
 use Rattle.std.specs.List.{AllByRecursion}

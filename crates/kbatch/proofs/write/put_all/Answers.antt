@@ -1,4 +1,4 @@
-use Rattle.std.proofs.Common.{◌<◌, ◌^◌, ◌++◌, length, get_or, sym, ap, subst, ◌∙◌, arith}
+use Rattle.std.proofs.Common.{◌<◌, ◌^◌, ◌++◌, length, sym, ap, subst, ◌∙◌, arith}
 use Rattle.kbatch.specs.declared.record.Record.{Record}
 use Rattle.kbatch.specs.Record.{record_bytes}
 use Rattle.kbatch.proofs.Lengths.{records_len}

@@ -1,4 +1,4 @@
-use Rattle.std.proofs.Common.{◌++◌, pos, length, sym, ap, ◌∙◌, rules, arith}
+use Rattle.std.proofs.Common.{◌++◌, pos, length, ap, ◌∙◌, rules, arith}
 use Rattle.std.specs.Prelude.{FitsSigned}
 use Rattle.std.specs.Int.{w8, w32, w64}
 use Rattle.std.specs.List.{flat_map}

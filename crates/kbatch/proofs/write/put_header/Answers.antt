@@ -1,4 +1,4 @@
-use Rattle.std.proofs.Common.{◌≡◌, ◌<◌, ◌^◌, ◌++◌, Some, length, ap, ◌∙◌, arith}
+use Rattle.std.proofs.Common.{◌++◌, Some, length, ap, ◌∙◌, arith}
 use Rattle.std.proofs.lemmas.Result.{on_ok_weaker}
 use Rattle.kbatch.specs.Record.{sized}
 use Rattle.kbatch.proofs.Puts.{key_short, value_short, header_put}

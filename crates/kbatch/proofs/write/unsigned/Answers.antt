@@ -4,9 +4,9 @@ use Rattle.std.specs.Int.{w64}
 use Rattle.std.proofs.lemmas.Int.{to_z-of_z}
 use Rattle.kbatch.specs.Head.{head_bytes}
 use Rattle.kbatch.specs.Record.{records_from}
-use Rattle.kbatch.specs.Written.{greatest_time, plain_head}
+use Rattle.kbatch.specs.Written.{plain_head}
 use Rattle.kbatch.proofs.Lengths.{records_len}
-use Rattle.kbatch.proofs.Puts.{put_more, head_put}
+use Rattle.kbatch.proofs.Puts.{head_put}
 use Rattle.kbatch.proofs.write.unsigned.Goals as goal
 
 pub overflow_cast-records : goal.overflow_cast-records

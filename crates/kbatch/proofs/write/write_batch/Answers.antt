@@ -1,9 +1,8 @@
-use Rattle.std.proofs.Common.{◌≡◌, ◌<◌, ◌≤◌, ◌^◌, ◌++◌, ℕ, List, length, take, drop, sym, ap, subst, ◌∙◌, rules, arith}
+use Rattle.std.proofs.Common.{◌<◌, ◌≤◌, ◌++◌, ℕ, List, length, take, drop, sym, ap, subst, ◌∙◌, rules, arith}
 use Rattle.kbytes.specs.Field.{field, Uint32}
-use Rattle.kbatch.specs.declared.record.Record.{Record}
 use Rattle.kbatch.specs.Batch.{IsBatch, most_bytes}
 use Rattle.kbatch.specs.Crc.{crc32c_of}
-use Rattle.kbatch.specs.Written.{written, written_with, written_size}
+use Rattle.kbatch.specs.Written.{written_size}
 use Rattle.kbatch.proofs.Making.{made, written_len, crc_put}
 use Rattle.kbatch.proofs.write.write_batch.Goals as goal
 

@@ -1,6 +1,5 @@
-use Rattle.std.proofs.Common.{◌≡◌, ◌≤◌, ℕ, List, length, drop, Some, None, Err, sym, ap, subst, ◌∙◌, arith}
+use Rattle.std.proofs.Common.{◌≡◌, ℕ, List, length, drop, Some, None, Err, sym, ap, subst, ◌∙◌, arith}
 use Rattle.kbatch.specs.declared.decode.Stop.{Stop}
-use Rattle.kbatch.specs.declared.decode.Stop.TheVariants.{Unread}
 use Rattle.kbatch.specs.declared.record.Record.{Record}
 use Rattle.kbatch.specs.Batch.{IsBatch}
 use Rattle.kbatch.specs.Decode.{Decodes, list_at, record_at}

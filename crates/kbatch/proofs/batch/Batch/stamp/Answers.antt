@@ -12,19 +12,19 @@ written_back base old new records lt len e is =
     let all : take (length old) (new ++ drop (length new) old) ≡ stamped base old = take_at new (drop (length new) old) (length old) len ∙ e in
     subst (λ (bytes : List ℕ). IsBatch bytes records) (sym all) (batch_stamped base old records lt is)
 
-pub write_stamp-requires : goal.write_stamp-requires
-write_stamp-requires c =
+pub stamp-requires : goal.stamp-requires
+stamp-requires c =
     let inv = c.self.invariant in
     omega (arith, ap length c.as_mut_slice.ensures.value, ap length c.self.view_is, batch_len c.self.inside.bytes inv.0 inv.1)
 
 pub invariant_of-self : goal.invariant_of-self
 invariant_of-self c =
     let inv = c.self.invariant in
-    let len : length c.write_stamp.new.bytes ≡ length c.self.inside.bytes = c.write_stamp.auto.bytes ∙ ap length c.as_mut_slice.ensures.value in
-    (inv.0, written_back c.args.base c.self.inside.bytes c.write_stamp.new.bytes inv.0 c.requires len (c.write_stamp.ensures ∙ ap (stamped c.args.base) c.as_mut_slice.ensures.value) inv.1)
+    let len : length c.stamp.new.bytes ≡ length c.self.inside.bytes = c.stamp.auto.bytes ∙ ap length c.as_mut_slice.ensures.value in
+    (inv.0, written_back c.args.base c.self.inside.bytes c.stamp.new.bytes inv.0 c.requires len (c.stamp.ensures ∙ ap (stamped c.args.base) c.as_mut_slice.ensures.value) inv.1)
 
 pub returns-clause-records : goal.returns-clause-records
 returns-clause-records c records is =
-    let len : length c.write_stamp.new.bytes ≡ length c.self.inside.bytes = c.write_stamp.auto.bytes ∙ ap length c.as_mut_slice.ensures.value in
-    written_back c.args.base c.self.inside.bytes c.write_stamp.new.bytes records c.requires len (c.write_stamp.ensures ∙ ap (stamped c.args.base) c.as_mut_slice.ensures.value)
+    let len : length c.stamp.new.bytes ≡ length c.self.inside.bytes = c.stamp.auto.bytes ∙ ap length c.as_mut_slice.ensures.value in
+    written_back c.args.base c.self.inside.bytes c.stamp.new.bytes records c.requires len (c.stamp.ensures ∙ ap (stamped c.args.base) c.as_mut_slice.ensures.value)
     (subst (λ (bytes : List ℕ). IsBatch bytes records) (sym c.self.view_is) is)

@@ -1,12 +1,42 @@
-use Rattle.std.proofs.Common.{◌≡◌, ◌-◌, ◌++◌, length, take, drop, arith, ap, ◌∙◌, rules, length-drop}
-use Rattle.partlog.specs.Added.{log_end_of}
-use Rattle.partlog.proofs.Bounds.{log_end-le-bytes}
-use Rattle.partlog.proofs.Stamping.{relaid, kept-push, lent_part}
+use Rattle.std.proofs.Common.{◌≡◌, ℕ, ◌+◌, ◌-◌, ◌<◌, ◌≤◌, [], ◌∷◌, ◌++◌, length, take, drop, min, fold, arith, ap, ◌∙◌, rules, length-drop}
+use Rattle.partlog.specs.declared.batch_start.BatchStart.{BatchStart}
+use Rattle.partlog.specs.declared.event.PartEvent.TheVariants.{Append}
+use Rattle.partlog.specs.Batches.{batches_of}
+use Rattle.partlog.proofs.Stamping.{relaid, lent_part}
+use Rattle.partlog.proofs.Tracking.{tracked-scanned, are-pushed, tracked-push}
+use Rattle.partlog.proofs.Whole.{kept-end}
 use Rattle.partlog.proofs.part_log.PartLog.append.Goals as goal
 
-pub log_end-base-requires : goal.log_end-base-requires
-log_end-base-requires c =
-    omega (arith, log_end-le-bytes c.self.inside.events c.self.invariant.dense, ap log_end_of c.as_slice.ensures)
+pub overflow_add-next : goal.overflow_add-next
+overflow_add-next c =
+    let seen = tracked-scanned c.self.inside.log c.self.inside.followers c.self.inside.events c.self.inside.starts.items c.self.inside.positions c.self.inside.numbers c.self.invariant in
+    omega (arith, seen.end, kept-end c.self.inside.log c.self.inside.events c.self.invariant.kept)
+
+pub numbers_at-self-inside-requires : goal.numbers_at-self-inside-requires
+numbers_at-self-inside-requires c =
+    let log = c.self.inside.log in
+    let bytes = c.bytes-bytes.result.now in
+    let all = c.as_mut_slice.result.now in
+    let w = c.stamp.new.bytes in
+    let start = c.len-start.result in
+    let first : BatchStart = record { base = c.self.inside.numbers.end; place = start } in
+    let ext : c.extend.new.self ≡ log ++ bytes = search (rules, c.extend.ensures.ok, c.if-is_err-2.ensures.negation) in
+    let part : take (length all - start) (drop start all) ≡ bytes = lent_part log bytes c.extend.new.self all start ext c.as_mut_slice.ensures.value c.len-start.ensures in
+    let size : length w ≡ length bytes = c.stamp.auto.bytes ∙ ap length part in
+    let post = drop (length all - start) (drop start all) in
+    let none : length post ≡ 0 = omega (arith, length-drop (length all - start) (drop start all), length-drop start all) in
+    let push = c.in_ok-push.ensures.ok in
+    let done = relaid log bytes c.extend.new.self all w post start ext c.as_mut_slice.ensures.value c.len-start.ensures size none in
+    let here : length bytes ≡ length c.args.batch.now = ap length c.bytes-bytes.ensures.bytes in
+    let items : c.push-2.new.self.items ≡ c.self.inside.starts.items ++ record { base = c.self.inside.numbers.end; place = length log } ∷ [] =
+    (rw c.unwrap.ensures at c.push-2.ensures.items) ∙ ap (λ l. l ++ first ∷ []) c.reserve.ensures.items ∙ ap (λ (n : ℕ). c.self.inside.starts.items ++ record { base = c.self.inside.numbers.end; place = n } ∷ []) c.len-start.ensures in
+    let next : BatchStart = record { base = c.self.inside.numbers.end + c.from.result; place = c.len.result } in
+    let base : next.base ≡ c.self.inside.numbers.end + c.count-count.result = ap (λ n. c.self.inside.numbers.end + n) c.from.ensures in
+    let place : next.place ≡ length (log ++ w) = c.len.ensures ∙ ap length done in
+    let some : 0 < c.count-count.result = omega (arith, c.count-count.ensures.some_record) in
+    let dense : c.count-count.result < length bytes = omega (arith, here, c.count-count.ensures.below) in
+    let room : length log + length bytes ≤ 67108864 = omega (arith, c.if-bytes-start.false, c.len-start.ensures) in
+    (batches_of (c.self.inside.events ++ Append c.args.who.by c.args.who.seq c.count-count.result (length bytes) ∷ []) (log ++ w), are-pushed c.self.inside.log c.self.inside.followers c.self.inside.events c.self.inside.starts.items c.self.inside.positions c.self.inside.numbers c.self.invariant w c.args.who.by c.args.who.seq c.count-count.result (length bytes) some dense size room c.as_slice.result.now next (c.as_slice.ensures.value ∙ items) base place)
 
 pub invariant_of-self-2 : goal.invariant_of-self-2
 invariant_of-self-2 c =
@@ -15,7 +45,8 @@ invariant_of-self-2 c =
     let all = c.as_mut_slice.result.now in
     let w = c.stamp.new.bytes in
     let start = c.len-start.result in
-    let ext : c.extend.new.self ≡ log ++ bytes = search (rules, c.extend.ensures.ok, c.if-is_err.ensures.negation) in
+    let first : BatchStart = record { base = c.self.inside.numbers.end; place = start } in
+    let ext : c.extend.new.self ≡ log ++ bytes = search (rules, c.extend.ensures.ok, c.if-is_err-2.ensures.negation) in
     let part : take (length all - start) (drop start all) ≡ bytes = lent_part log bytes c.extend.new.self all start ext c.as_mut_slice.ensures.value c.len-start.ensures in
     let size : length w ≡ length bytes = c.stamp.auto.bytes ∙ ap length part in
     let post = drop (length all - start) (drop start all) in
@@ -23,8 +54,20 @@ invariant_of-self-2 c =
     let push = c.in_ok-push.ensures.ok in
     let done = relaid log bytes c.extend.new.self all w post start ext c.as_mut_slice.ensures.value c.len-start.ensures size none in
     let here : length bytes ≡ length c.args.batch.now = ap length c.bytes-bytes.ensures.bytes in
-    rw (done, push) (kept-push log w c.self.inside.events c.args.who.by c.args.who.seq c.count.result (length bytes) c.self.invariant (omega (arith, c.count.ensures.some_record)) (omega (arith, here, c.count.ensures.below)) size (omega (arith, c.if-bytes-start.false, c.len-start.ensures)))
+    let items : c.push-2.new.self.items ≡ c.self.inside.starts.items ++ record { base = c.self.inside.numbers.end; place = length log } ∷ [] =
+    (rw c.unwrap.ensures at c.push-2.ensures.items) ∙ ap (λ l. l ++ first ∷ []) c.reserve.ensures.items ∙ ap (λ (n : ℕ). c.self.inside.starts.items ++ record { base = c.self.inside.numbers.end; place = n } ∷ []) c.len-start.ensures in
+    let next : BatchStart = record { base = c.self.inside.numbers.end + c.from.result; place = c.len.result } in
+    let base : next.base ≡ c.self.inside.numbers.end + c.count-count.result = ap (λ n. c.self.inside.numbers.end + n) c.from.ensures in
+    let place : next.place ≡ length (log ++ w) = c.len.ensures ∙ ap length done in
+    let some : 0 < c.count-count.result = omega (arith, c.count-count.ensures.some_record) in
+    let dense : c.count-count.result < length bytes = omega (arith, here, c.count-count.ensures.below) in
+    let room : length log + length bytes ≤ 67108864 = omega (arith, c.if-bytes-start.false, c.len-start.ensures) in
+    let events = c.self.inside.events ++ Append c.args.who.by c.args.who.seq c.count-count.result (length bytes) ∷ [] in
+    let are = are-pushed c.self.inside.log c.self.inside.followers c.self.inside.events c.self.inside.starts.items c.self.inside.positions c.self.inside.numbers c.self.invariant w c.args.who.by c.args.who.seq c.count-count.result (length bytes) some dense size room c.as_slice.result.now next (c.as_slice.ensures.value ∙ items) base place in
+    let counted = c.numbers_at-self-inside.ensures in
+    rw (done, push) (tracked-push c.self.inside.log c.self.inside.followers c.self.inside.events c.self.inside.starts.items c.self.inside.positions c.self.inside.numbers c.self.invariant w c.args.who.by c.args.who.seq c.count-count.result (length bytes) some dense size room c.push-2.new.self.items next c.numbers_at-self-inside.result items base place counted.end (counted.high ∙ ap (λ ps. fold min next.base ps) c.as_slice-2.ensures) (counted.visible (batches_of events (log ++ w)) are) counted.bytes)
 
 pub returns-clause-limit : goal.returns-clause-limit
 returns-clause-limit c =
-    omega (arith, log_end-le-bytes c.self.inside.events c.self.invariant.dense, ap log_end_of c.as_slice.ensures, c.log_end-base.ensures)
+    let seen = tracked-scanned c.self.inside.log c.self.inside.followers c.self.inside.events c.self.inside.starts.items c.self.inside.positions c.self.inside.numbers c.self.invariant in
+    omega (arith, seen.end, kept-end c.self.inside.log c.self.inside.events c.self.invariant.kept)
