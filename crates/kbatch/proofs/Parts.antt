@@ -11,10 +11,7 @@ use Rattle.kbytes.specs.declared.fault.ByteFault.TheVariants.{Short}
 use Rattle.kbytes.specs.Cursor.{Cursor, moved, rest_of}
 use Rattle.kbytes.specs.Field.{field, Int8, Varint, Varlong}
 use Rattle.kbytes.specs.Reading.{integer_at, varint_at, varlong_at}
-use Rattle.kbytes.proofs.Octets.{IsBytes-drop, IsBytes-take}
-use Rattle.kbytes.proofs.Integers.{wide_8}
-use Rattle.kbytes.proofs.RoundTrips.{integer_reads}
-use Rattle.kbytes.proofs.Grouped.{grouped_again, grouped_read, varint_kind, varlong_kind}
+use Rattle.kbytes.proofs.Laws.{IsBytes-drop, IsBytes-take, wide_8, integer_reads, grouped_again, grouped_read, varint_kind, varlong_kind}
 use Rattle.kbatch.specs.declared.record.Record.{Record}
 use Rattle.kbatch.specs.declared.record.Header.{Header}
 use Rattle.kbatch.specs.Kept.{kept_integer}

@@ -8,8 +8,7 @@ use Rattle.std.proofs.lemmas.Int.{to_z-of_z, of_z-to_z}
 use Rattle.std.proofs.lemmas.List.{length-take, length-drop, take-append-drop, drop-drop}
 use Rattle.kbytes.specs.Octets.{IsBytes}
 use Rattle.kbytes.specs.Field.{integer}
-use Rattle.kbytes.proofs.Octets.{IsBytes-drop, IsBytes-take}
-use Rattle.kbytes.proofs.Integers.{IsWide, wide_8, wide_16, wide_32, wide_64, integer_back}
+use Rattle.kbytes.proofs.Laws.{IsBytes-drop, IsBytes-take, IsWide, wide_8, wide_16, wide_32, wide_64, integer_back}
 use Rattle.kbatch.specs.Head.{Head, IsHead, head_bytes}
 use Rattle.kbatch.specs.Kept.{kept_number, kept_integer, kept_length, kept_magic, kept_crc, kept_attributes, kept_last, kept_count, count_of}
 

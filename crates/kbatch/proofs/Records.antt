@@ -3,7 +3,7 @@ use Rattle.std.proofs.Common.{◌≡◌, ℕ, suc, ◌+◌, ◌-◌, ◌^◌, �
 use Rattle.std.specs.List.{AllByRecursion}
 use Rattle.std.proofs.lemmas.List.{append-nil, length-append, length-drop}
 use Rattle.kbytes.specs.Octets.{IsBytes}
-use Rattle.kbytes.proofs.Octets.{IsBytes-drop}
+use Rattle.kbytes.proofs.Laws.{IsBytes-drop}
 use Rattle.kbatch.specs.declared.record.Record.{Record}
 use Rattle.kbatch.specs.Record.{body_bytes, record_bytes, records_from, IsRecord}
 use Rattle.kbatch.specs.Batch.{most_bytes}

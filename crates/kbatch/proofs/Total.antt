@@ -9,8 +9,7 @@ use Rattle.std.specs.Ordering.{int_eq}
 use Rattle.std.specs.Int.{w32, cast_unsigned, IsBitSet}
 use Rattle.std.specs.Int.Bits.{bit_and}
 use Rattle.kbytes.specs.Octets.{IsBytes}
-use Rattle.kbytes.proofs.Octets.{IsBytes-drop, IsBytes-take}
-use Rattle.kbytes.proofs.Integers.{wide_32}
+use Rattle.kbytes.proofs.Laws.{IsBytes-drop, IsBytes-take, wide_32}
 use Rattle.kbatch.specs.declared.fault.BatchFault.{BatchFault}
 use Rattle.kbatch.specs.declared.fault.BatchFault.TheVariants.{TooLarge, Short, Length, Magic, Crc, Compressed, Control, Count, Records}
 use Rattle.kbatch.specs.declared.record.Record.{Record}
