@@ -5,11 +5,11 @@ ghost use Rattle.kbatch.specs.Batch.{IsBatch, most_bytes};
 ghost use Rattle.kbatch.specs.Kept.{count_of};
 ghost use Rattle.kbatch.specs.Stamp.{stamped};
 
-use crate::decode::{Stop, copied, records};
+use crate::decode::{Stop, records};
 use crate::head::{HEAD, u32_at};
 use crate::record::Record;
 use crate::stamping::stamp;
-use kbytes::{Bytes, List as Items, NoMemory};
+use kbytes::{Bytes, List as Items, NoMemory, copied};
 use std::alloc::Global;
 use std::marker::Model;
 

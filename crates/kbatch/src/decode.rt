@@ -1,13 +1,12 @@
 //! Records, read with all that they hold.
 
 ghost use Rattle.std.specs.Prelude.{◌≡◌, IfOk};
-ghost use Rattle.std.specs.Option.{option_copied};
 ghost use Rattle.kbatch.specs.Walk.{header_at};
 ghost use Rattle.kbatch.specs.Decode.{Decodes, list_at, body_at, record_at};
 
 use crate::record::{Header, Record};
 use crate::walk::{header_at, key_at, parts_at};
-use kbytes::{Bytes, List, NoMemory as Memory};
+use kbytes::{List, NoMemory as Memory, copied, copied_or_null};
 use std::alloc::Global;
 
 /// Why no record is read.
@@ -26,24 +25,6 @@ impl From<Memory> for Stop {
 
     fn from(_refused: Memory) -> Stop {
         Stop::NoMemory
-    }
-}
-
-// A copy of these bytes.
-pub(crate) fn copied(alloc: Global, part: &[u8]) -> Result<Bytes, Memory>
-    ensures { IfOk result (λ bytes. bytes ≡ part.now) }
-{
-    let mut bytes = Bytes::new(alloc);
-    bytes.extend(part)?;
-    Ok(bytes)
-}
-
-fn copied_or_null(alloc: Global, part: Option<&[u8]>) -> Result<Option<Bytes>, Memory>
-    ensures { IfOk result (λ value. value ≡ option_copied part.entry) }
-{
-    match part {
-        None => Ok(None),
-        Some(part) => Ok(Some(copied(alloc, part)?)),
     }
 }
 
