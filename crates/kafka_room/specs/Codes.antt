@@ -3,9 +3,9 @@ use Rattle.std.specs.Prelude.{ℕ}
 use Rattle.kafka_room.specs.declared.exit.Stop.{Stop}
 use Rattle.kafka_room.specs.declared.exit.Stop.TheVariants.{Usage, ReadFault, WriteFault, NoMemory, Unbuilt}
 
-abbrev pub code_of : Stop → ℕ
-code_of Usage = 1
-code_of ReadFault = 3
-code_of WriteFault = 4
-code_of NoMemory = 6
-code_of Unbuilt = 7
+abbrev pub exit_code_of : Stop → ℕ
+exit_code_of Usage = 1
+exit_code_of ReadFault = 3
+exit_code_of WriteFault = 4
+exit_code_of NoMemory = 6
+exit_code_of Unbuilt = 7

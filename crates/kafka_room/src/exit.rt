@@ -2,7 +2,7 @@
 
 ghost use Rattle.std.specs.Prelude.{◌≡◌, Some, None};
 ghost use Rattle.kafka_room.specs.declared.exit.Stop.TheVariants.{WriteFault, NoMemory as OutOfMemory};
-ghost use Rattle.kafka_room.specs.Codes.{code_of};
+ghost use Rattle.kafka_room.specs.Codes.{exit_code_of};
 
 use audit::Account;
 use kbytes::NoMemory;
@@ -27,7 +27,7 @@ pub enum Stop {
 impl Stop {
     /// The exit code.
     pub fn code(self) -> u8
-        ensures { result ≡ code_of self }
+        ensures { result ≡ exit_code_of self }
     {
         match self {
             Stop::Usage => 1,
@@ -93,7 +93,7 @@ impl<P: Drop, C: Drop> Exit<P, C> {
 
     /// The run was stopped, with no account.
     pub fn stopped(stop: Stop, port: P, clock: C) -> Exit<P, C>
-        ensures { result ≡ record { code = code_of stop; line = None; account = None; port = Some port; clock = Some clock } }
+        ensures { result ≡ record { code = exit_code_of stop; line = None; account = None; port = Some port; clock = Some clock } }
     {
         Exit {
             code: stop.code(),
