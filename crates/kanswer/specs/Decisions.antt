@@ -2,6 +2,7 @@
 use Rattle.std.specs.Prelude.{ℕ, ◌+◌, ◌≡◌, ◌⊎◌, ℤ, pos, negsuc, Bool, ◌&&◌, ◌||◌, List, [], length, map, nat_lt, nat_le, if◌then◌else◌, Option, Some, None, unwrap_or, MatchOption, MatchBool, slice_index}
 use Rattle.std.specs.List.{flat_map, AllZip}
 use Rattle.std.specs.Ordering.{int_eq}
+use Rattle.partlog.specs.declared.part_log.TheConstants.{MOST_LOG_BYTES}
 use Rattle.partlog.specs.State.{PartState as State}
 use Rattle.partlog.specs.Gauges.{gauges_of}
 use Rattle.partlog.specs.Start.{start_of}
@@ -51,10 +52,10 @@ code_of NoMemory = pos 0
 abbrev pub look : Accepted → Outcome
 look result = record { result = result; entry = Looked }
 
--- a batch is put at the end, where the log keeps at most 67,108,864 bytes
+-- a batch is put at the end, where the log can keep it
 abbrev pub append_outcome : ℕ → ℕ → List ℕ → State → Outcome
 append_outcome part count batch state =
-    if nat_lt 67108864 ((gauges_of state).bytes + length batch) then look (Refused (pos 6))
+    if nat_lt MOST_LOG_BYTES ((gauges_of state).bytes + length batch) then look (Refused (pos 6))
     else record { result = Appended part state.log_end count; entry = Put count batch }
 
 abbrev pub is_acks : ℤ → Bool

@@ -1,5 +1,6 @@
 //! One partition read for a fetch.
 ghost use Rattle.std.specs.Prelude.{◌≡◌, ◌≤◌, ◌-◌, ◌||◌, [], min, filter, nat_lt, if◌then◌else◌, IfOk, OnOk, OnErr};
+ghost use Rattle.partlog.specs.declared.part_log.TheConstants.{MOST_LOG_BYTES};
 ghost use Rattle.partlog.specs.State.{state_of};
 ghost use Rattle.partlog.specs.Gauges.{numbers_of};
 ghost use Rattle.partlog.specs.Taken.{batches_past, joined, taken};
@@ -63,7 +64,7 @@ pub fn read_part(
 ) -> Result<Reading, NoMemory>
     ensures numbers { IfOk result (λ reading. reading.numbers ≡ numbers_of (state_of log.now)) }
     ensures records { IfOk result (λ reading. reading.records ≡ joined (read_of replica asked.now start (state_of log.now) budget.old)) }
-    ensures bounded { IfOk result (λ reading. reading.numbers.high ≤ 67108864) }
+    ensures bounded { IfOk result (λ reading. reading.numbers.high ≤ MOST_LOG_BYTES) }
     ensures lowered { OnOk result (budget.new ≡ budget_after (read_of replica asked.now start (state_of log.now) budget.old) budget.old) }
     ensures refused { OnErr result (budget.new ≡ budget.old) }
 {
@@ -81,7 +82,7 @@ pub fn read_part(
 /// The numbers of a partition that was appended to, and no records. It takes no memory.
 pub fn read_numbers(alloc: Global, log: &PartLog) -> Reading
     ensures reading { result ≡ record { numbers = numbers_of (state_of log.now); records = [] } }
-    ensures bounded { result.numbers.high ≤ 67108864 }
+    ensures bounded { result.numbers.high ≤ MOST_LOG_BYTES }
 {
     Reading {
         numbers: log.numbers(),

@@ -3,6 +3,7 @@
 use Rattle.std.specs.Prelude.{◌≡◌, ℕ, ◌<◌, ◌≤◌, List, length, All, ⊤}
 use Rattle.partlog.specs.declared.event.PartEvent.{PartEvent}
 use Rattle.partlog.specs.declared.event.PartEvent.TheVariants.{Append, Follow, Look}
+use Rattle.partlog.specs.declared.part_log.TheConstants.{MOST_LOG_BYTES}
 use Rattle.partlog.specs.Added.{bytes_of}
 
 abbrev pub IsDense : PartEvent → Type 0
@@ -12,5 +13,5 @@ IsDense (Look by seq) = ⊤
 
 pub record IsKept (log : List ℕ) (events : List PartEvent) : Type 0 where
   pub whole : bytes_of events ≡ length log
-  pub bounded : length log ≤ 67108864
+  pub bounded : length log ≤ MOST_LOG_BYTES
   pub dense : All IsDense events

@@ -7,7 +7,7 @@ use std::fmt;
 /// Why a batch isn't put into a log. The log is as it was.
 #[derive(Clone, Copy, Debug, PartialEq, Eq)]
 pub enum LogFault {
-    /// The log would have more than 67,108,864 bytes.
+    /// The log would have more than `MOST_LOG_BYTES` bytes.
     LogFull,
     /// No memory was left.
     NoMemory,

@@ -21,7 +21,7 @@ pub use clock_event::ClockEvent;
 pub use event::PartEvent;
 pub use fault::{FollowFault, LogFault};
 pub use numbers::Numbers;
-pub use part_log::PartLog;
+pub use part_log::{MOST_LOG_BYTES, PartLog};
 pub use placed::Placed;
 pub use promises::{fronts_are_kept, numbers_never_fall, visible_is_readable};
 pub use scan::{high_watermark, log_end};

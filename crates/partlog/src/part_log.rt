@@ -14,7 +14,7 @@ use std::alloc::Global;
 use std::marker::Model;
 
 /// The most bytes that a log has.
-const LOG_LIMIT: usize = 67_108_864;
+pub const MOST_LOG_BYTES: usize = 67_108_864;
 
 /// One partition's log and its history.
 #[derive(Debug, Drop)]
@@ -61,6 +61,7 @@ impl PartLog {
     ghost use Rattle.partlog.specs.Looked.{looked};
     ghost use Rattle.partlog.specs.Start.{start_of};
     ghost use Rattle.partlog.specs.State.{state_of};
+    ghost use Rattle.partlog.specs.declared.part_log.TheConstants.{MOST_LOG_BYTES};
     ghost use Rattle.partlog.specs.Taken.{batches_past, batches_upto, joined, taken};
 
     /// An empty log with so many followers.
@@ -84,19 +85,19 @@ impl PartLog {
 
     /// Puts a batch at the end of the log, with the log end as its base offset and leader epoch 0, and enters it. It
     /// answers the base offset and the place of the entry. `LogFull` comes exactly where the log would have more than
-    /// 67,108,864 bytes. After a refusal the log is as it was.
+    /// `MOST_LOG_BYTES`. After a refusal the log is as it was.
     pub fn append(&mut self, who: Who, batch: &Batch) -> Result<Placed, LogFault>
         ensures appended { OnOk result (self.new ≡ appended self.old who.by who.seq batch.now) }
         ensures base { IfOk result (λ placed. placed.base ≡ log_end_of self.old.events) }
-        ensures limit { IfOk result (λ placed. placed.base ≤ 67108864) }
+        ensures limit { IfOk result (λ placed. placed.base ≤ MOST_LOG_BYTES) }
         ensures place { IfOk result (λ placed. placed.place ≡ length self.old.events) }
-        ensures full { IsErrOf result LogFault.LogFull ↔ (67108864 < length self.old.log + length batch.now) }
+        ensures full { IsErrOf result LogFault.LogFull ↔ (MOST_LOG_BYTES < length self.old.log + length batch.now) }
         ensures refused { OnErr result (self.new ≡ self.old) }
     {
         let bytes = batch.bytes();
         let count = batch.count();
         let start = self.log.len();
-        if bytes.len() > LOG_LIMIT - start {
+        if bytes.len() > MOST_LOG_BYTES - start {
             return Err(LogFault::LogFull);
         }
         if self.starts.reserve(1).is_err() {
@@ -183,14 +184,14 @@ impl PartLog {
         self.followers
     }
 
-    /// The log end and the gauges, each at most 67,108,864. It takes no memory.
+    /// The log end and the gauges, each at most `MOST_LOG_BYTES`. It takes no memory.
     pub fn numbers(&self) -> Numbers
         ensures numbers { result ≡ numbers_of (state_of self.now) }
-        ensures end { result.end ≤ 67108864 }
+        ensures end { result.end ≤ MOST_LOG_BYTES }
         ensures high { result.high ≤ result.end }
         ensures visible { result.visible ≤ result.bytes }
         ensures boundary { IsBoundary result.visible (state_of self.now).batches }
-        ensures bytes { result.bytes ≤ 67108864 }
+        ensures bytes { result.bytes ≤ MOST_LOG_BYTES }
         ensures all { result.bytes ≡ length self.now.log }
     {
         self.numbers
