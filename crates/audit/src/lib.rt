@@ -4,6 +4,7 @@
 #![tactic(auto)]
 
 mod account;
+mod numbers;
 mod promises;
 mod summary;
 mod tally;

@@ -7,10 +7,10 @@ ghost use Rattle.partlog.specs.Added.{log_end_of};
 ghost use Rattle.audit.specs.Printed.{part_line, session_line, summary_of, numbered};
 
 use crate::account::{Account, PartAccount, Transcript};
+use crate::numbers::{high_watermark, log_end};
 use crate::tally::{batch_count, parked_count, reply_count};
 use itoa::Buffer;
 use kbytes::{Bytes, List, NoMemory};
-use partlog::{high_watermark, log_end};
 use std::alloc::Global;
 
 // Puts a word and a number at the end. After want of memory a part of them may stand there.

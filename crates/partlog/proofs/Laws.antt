@@ -3,7 +3,7 @@
 -- a history that goes on: its batches, and the bytes that they have
 pub use Rattle.partlog.proofs.Appending.{batches-append, bytes_in-batches}
 -- bounds
-pub use Rattle.partlog.proofs.Bounds.{log_end-le-bytes, sum_by-filter-le}
+pub use Rattle.partlog.proofs.Bounds.{log_end-le-bytes, sum_by-filter-le, high_more}
 -- what a state's batches show of the state
 pub use Rattle.partlog.proofs.Earlier.{readable-now}
 -- batches from a place on, and as many as fit

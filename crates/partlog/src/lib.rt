@@ -13,7 +13,6 @@ mod numbers;
 mod part_log;
 mod placed;
 mod promises;
-mod scan;
 mod search;
 mod who;
 
@@ -24,7 +23,6 @@ pub use numbers::Numbers;
 pub use part_log::{MOST_LOG_BYTES, PartLog};
 pub use placed::Placed;
 pub use promises::{fronts_are_kept, numbers_never_fall, visible_is_readable};
-pub use scan::{high_watermark, log_end};
 pub use who::Who;
 
 #[cfg(test)]

@@ -1,33 +1,32 @@
 //! Numbers of a history that stands without its log, by going over the whole of it.
+
 ghost use Rattle.std.specs.Prelude.{◌≡◌, ◌<◌, ◌^◌, pos, min, fold};
 ghost use Rattle.partlog.specs.Added.{added_count, log_end_of};
 ghost use Rattle.partlog.specs.Position.{offset_by, position_of, positions_of};
 
-use crate::event::PartEvent;
+use partlog::PartEvent;
 
-impl PartEvent {
-    /// The records that it added.
-    fn added_count(&self) -> u64
-        ensures { result ≡ added_count self.now }
-    {
-        match self {
-            PartEvent::Append { count, .. } => u64::from(*count),
-            _ => 0,
-        }
+// The records that an entry added.
+fn added_count(event: &PartEvent) -> u64
+    ensures { result ≡ added_count event.now }
+{
+    match event {
+        PartEvent::Append { count, .. } => u64::from(*count),
+        _ => 0,
     }
+}
 
-    /// The offset that the replica fetched.
-    fn offset_by(&self, replica: u32) -> Option<u64>
-        ensures { result ≡ offset_by (pos replica) self.now }
-    {
-        match self {
-            PartEvent::Follow {
-                replica: other,
-                offset,
-                ..
-            } => (i64::from(*other) == i64::from(replica)).then_some(*offset),
-            _ => None,
-        }
+// The offset that the replica fetched by it.
+fn offset_by(event: &PartEvent, replica: u32) -> Option<u64>
+    ensures { result ≡ offset_by (pos replica) event.now }
+{
+    match event {
+        PartEvent::Follow {
+            replica: other,
+            offset,
+            ..
+        } => (i64::from(*other) == i64::from(replica)).then_some(*offset),
+        _ => None,
     }
 }
 
@@ -36,22 +35,22 @@ pub fn log_end(events: &[PartEvent]) -> u64
     requires { log_end_of events.now < 2 ^ 64 }
     ensures { result ≡ log_end_of events.now }
 {
-    events.iter().map(|event| event.added_count()).sum()
+    events.iter().map(|event| added_count(event)).sum()
 }
 
-/// How far the replica has fetched.
+// How far the replica has fetched.
 fn position(events: &[PartEvent], replica: u32) -> u64
     ensures { result ≡ position_of events.now (pos replica) }
 {
     events
         .iter()
-        .filter_map(|event| event.offset_by(replica))
+        .filter_map(|event| offset_by(event, replica))
         .fold(0, |greatest, offset| greatest.max(offset))
 }
 
 /// The high watermark of a history, an offset: the least of `end`, its log end, and the offsets that the replicas 1 to
 /// `followers` have fetched.
-#[tactic(auto, using(crate::proofs::Bounds::high_more))]
+#[tactic(auto, using(partlog::proofs::Laws::high_more))]
 pub fn high_watermark(events: &[PartEvent], followers: u32, end: u64) -> u64
     ensures { result ≡ fold min end (positions_of followers events.now) }
 {
