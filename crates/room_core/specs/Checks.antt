@@ -75,11 +75,14 @@ caller_leaves shape caller gauge value =
       stage = if is_satisfied caller.description readings || is_overdue shape caller.description readings then Checking else Waiting;
     }
 
+abbrev pub OwnerMayLeave : Shape → ℕ → Caller → ℕ → Type 0
+OwnerMayLeave shape pass caller gauge =
+    IsPass shape pass × IsGauge shape gauge × (caller.stage ≡ Checking) ×
+    AreRead caller.readings gauge caller.description ×
+    IsRead caller.readings gauge (clock_of shape)
+
 abbrev pub CanLeavePass : State → ℕ → ℕ → Type 0
-CanLeavePass s pass gauge =
-    IsPass s.shape pass × IsGauge s.shape gauge × ((s.caller pass).stage ≡ Checking) ×
-    AreRead (s.caller pass).readings gauge (s.caller pass).description ×
-    IsRead (s.caller pass).readings gauge (clock_of s.shape)
+CanLeavePass s pass gauge = OwnerMayLeave s.shape pass (s.caller pass) gauge
 
 abbrev pub pass_leaving : State → ℕ → ℕ → State
 pass_leaving s pass gauge = record s { caller = put s.caller pass (caller_leaves s.shape (s.caller pass) gauge (s.value gauge)) }
@@ -115,11 +118,14 @@ abbrev pub scanner_leaves : Shape → ℕ → Scanner → ℕ → ℕ → ℕ �
 scanner_leaves shape k scanner pass gauge value =
     if scanner_answers shape k (words_of scanner) (put scanner.readings gauge (Some value)) then scanner_takes scanner gauge value else scanner_lets_go scanner pass
 
+abbrev pub ScannerMayLeave : Shape → ℕ → Scanner → ℕ → ℕ → Type 0
+ScannerMayLeave shape k scanner pass gauge =
+    IsScanner shape k × IsPass shape pass × IsGauge shape gauge × IsOnCheck scanner pass ×
+    (k ≢ 16 → AreRead scanner.readings gauge (words_of scanner)) ×
+    (k ≡ 16 → IsRead scanner.readings gauge (clock_of shape))
+
 abbrev pub CanLeaveScanner : State → ℕ → ℕ → ℕ → Type 0
-CanLeaveScanner s scanner pass gauge =
-    IsScanner s.shape scanner × IsPass s.shape pass × IsGauge s.shape gauge × IsOnCheck (s.scanner scanner) pass ×
-    (scanner ≢ 16 → AreRead (s.scanner scanner).readings gauge (words_of (s.scanner scanner))) ×
-    (scanner ≡ 16 → IsRead (s.scanner scanner).readings gauge (clock_of s.shape))
+CanLeaveScanner s scanner pass gauge = ScannerMayLeave s.shape scanner (s.scanner scanner) pass gauge
 
 abbrev pub scanner_leaving : State → ℕ → ℕ → ℕ → State
 scanner_leaving s scanner pass gauge = record s {
@@ -147,9 +153,11 @@ caller_wins caller pass how session = record caller {
   wins = with_prize session caller.generation caller.wins (record { pass = pass; generation = caller.generation; how = how });
 }
 
+abbrev pub OwnerMayWin : Shape → ℕ → Caller → How → Type 0
+OwnerMayWin shape pass caller how = IsPass shape pass × (caller.stage ≡ Checking) × IsWon shape how caller.description caller.readings
+
 abbrev pub CanWinPass : State → ℕ → How → Type 0
-CanWinPass s pass how =
-    IsPass s.shape pass × ((s.caller pass).stage ≡ Checking) × IsWon s.shape how (s.caller pass).description (s.caller pass).readings
+CanWinPass s pass how = OwnerMayWin s.shape pass (s.caller pass) how
 
 abbrev pub pass_winning : State → ℕ → How → State
 pass_winning s pass how = record s {
@@ -184,10 +192,13 @@ scanner_wins scanner pass how session =
       wins = with_prize session generation scanner.wins (record { pass = pass; generation = generation; how = how });
     }
 
+abbrev pub ScannerMayWin : Shape → ℕ → Scanner → ℕ → How → Type 0
+ScannerMayWin shape k scanner pass how =
+    IsScanner shape k × IsPass shape pass × IsOnCheck scanner pass × MayWin k how ×
+    IsWon shape how (words_of scanner) scanner.readings
+
 abbrev pub CanWinScanner : State → ℕ → ℕ → How → Type 0
-CanWinScanner s scanner pass how =
-    IsScanner s.shape scanner × IsPass s.shape pass × IsOnCheck (s.scanner scanner) pass × MayWin scanner how ×
-    IsWon s.shape how (words_of (s.scanner scanner)) (s.scanner scanner).readings
+CanWinScanner s scanner pass how = ScannerMayWin s.shape scanner (s.scanner scanner) pass how
 
 abbrev pub scanner_winning : State → ℕ → ℕ → How → State
 scanner_winning s scanner pass how = record s {

@@ -20,10 +20,16 @@ pub mod Checks
 pub mod Step
 -- who has the duty to find an operation answerable
 pub mod Duty
+-- a session word as a number
+pub mod Packing
+-- the words of the room as numbers
+pub mod Words
 -- how often an exchange stands in a winner's wins, in a word and among what was taken
 pub mod Wins
 -- the nine facts of a sound state
 pub mod Sound
+-- what lies outside the shape
+pub mod Within
 -- what is carried from event to event: soundness, and what keeps it
 pub mod Carried
 -- a state in which nothing is left to do

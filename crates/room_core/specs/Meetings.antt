@@ -63,8 +63,11 @@ generation_met (Some meeting) = meeting.generation
 abbrev pub scanner_learns : Scanner → ℕ → ℕ → Scanner
 scanner_learns scanner at word = record scanner { learned = put scanner.learned at (Some word) }
 
+abbrev pub MayLearn : Shape → ℕ → Scanner → ℕ → ℕ → Type 0
+MayLearn shape k scanner pass at = IsScanner shape k × IsPass shape pass × (at < 195) × IsMet scanner.meeting pass
+
 abbrev pub CanLearn : State → ℕ → ℕ → ℕ → Type 0
-CanLearn s scanner pass at = IsScanner s.shape scanner × IsPass s.shape pass × (at < 195) × IsMet (s.scanner scanner).meeting pass
+CanLearn s scanner pass at = MayLearn s.shape scanner (s.scanner scanner) pass at
 
 abbrev pub learning : State → ℕ → ℕ → ℕ → State
 learning s scanner pass at = record s { scanner = put s.scanner scanner (scanner_learns (s.scanner scanner) at (s.description pass at)) }
@@ -105,8 +108,11 @@ scanner_marks shape scanner pass at =
     let gauge = marked_gauge shape (words_of scanner) at in
     record scanner { listing = put scanner.listing gauge (put (scanner.listing gauge) pass (Some (entry_for scanner at))) }
 
+abbrev pub MayMark : Shape → ℕ → Scanner → ℕ → ℕ → Type 0
+MayMark shape k scanner pass at = IsScanner shape k × IsPass shape pass × IsMet scanner.meeting pass × (MayMarkNeed shape k scanner at ⊎ MayMarkClock k scanner at)
+
 abbrev pub CanMark : State → ℕ → ℕ → ℕ → Type 0
-CanMark s scanner pass at = IsScanner s.shape scanner × IsPass s.shape pass × IsMet (s.scanner scanner).meeting pass × (MayMarkNeed s.shape scanner (s.scanner scanner) at ⊎ MayMarkClock scanner (s.scanner scanner) at)
+CanMark s scanner pass at = MayMark s.shape scanner (s.scanner scanner) pass at
 
 abbrev pub marking : State → ℕ → ℕ → ℕ → State
 marking s scanner pass at = record s {

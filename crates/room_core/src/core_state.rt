@@ -11,6 +11,7 @@ ghost use Rattle.room_core.specs.Step.{IsAllowed, changed};
 ghost use Rattle.room_core.specs.Scans.{CanAsk, CanBegin, CanHear, CanHush, CanRelieve, CanStore, HasNoDuty, IsHeard, asking, beginning, hearing, hushing, relieving, source_hushes, storing};
 ghost use Rattle.room_core.specs.Sizes.{AreSized};
 ghost use Rattle.room_core.specs.WordSizes.{WordsAreSized};
+ghost use Rattle.room_core.specs.Words.{IsWord, word_at};
 
 use crate::caller_part::CallerPart;
 use crate::duties::is_free;
@@ -20,6 +21,7 @@ use crate::gauges::{is_scanner, scanner_of};
 use crate::parts::{Phase, Session, Source};
 use crate::scanner_part::ScannerPart;
 use crate::shape::Shape;
+use crate::word::Word;
 use kbytes::NoMemory;
 use std::alloc::Global;
 
@@ -151,6 +153,21 @@ impl CoreState {
             caller: idle_callers(alloc, shape)?,
             scanner: idle_scanners(alloc, shape)?,
         })
+    }
+
+    /// One of the room's words, as a number.
+    pub fn word(&self, at: Word) -> u64
+        requires { IsWord self.now.shape at }
+        ensures { result ≡ word_at (state_of self.now) at }
+    {
+        match at {
+            Word::Value { gauge } => self.value[gauge as usize],
+            Word::Asked { gauge } => self.asked[gauge as usize],
+            Word::Begun { gauge } => self.begun[gauge as usize],
+            Word::Session { pass } => self.session[pass as usize].packed(),
+            Word::Description { pass, at } => self.description[pass as usize][at as usize],
+            Word::Mark { pass, at } => u64::from(self.marks[pass as usize][at as usize]),
+        }
     }
 
     /// Makes an event. True: it is allowed, and the room is changed by it. False: it isn't, and nothing changed. Refused for want

@@ -12,7 +12,6 @@ mod duties;
 mod empty;
 mod event;
 mod gauges;
-pub mod laws;
 mod listing;
 mod operation;
 mod parts;
@@ -25,12 +24,15 @@ mod scanner_part;
 mod scanner_wins;
 mod session_word;
 mod shape;
+pub mod theorems;
+mod word;
 
 pub use core_state::CoreState;
 pub use event::{CoreEvent, How, Party};
 pub use parts::{Duty, Entry, Heard, Meeting, Phase, Prize, Session, Source, Stage, Taken};
 pub use run::run_events;
 pub use shape::Shape;
+pub use word::Word;
 
 #[cfg(test)]
 mod step_tests;

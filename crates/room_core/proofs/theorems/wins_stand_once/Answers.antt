@@ -1,5 +1,5 @@
 use Rattle.room_core.proofs.Once.{stands, nowhere_else}
-use Rattle.room_core.proofs.laws.wins_stand_once.Goals as goal
+use Rattle.room_core.proofs.theorems.wins_stand_once.Goals as goal
 
 pub returns-clause-mine : goal.returns-clause-mine
 returns-clause-mine c = stands

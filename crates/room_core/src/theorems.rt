@@ -1,12 +1,14 @@
 //! Laws of the machine. They do nothing.
-ghost use Rattle.std.specs.Prelude.{◌≡◌, ◌≢◌, ℕ, List};
+ghost use Rattle.std.specs.Prelude.{◌≡◌, ◌≢◌, ◌<◌, ℕ, List};
 ghost use Rattle.room_core.specs.declared.event.CoreEvent.{CoreEvent as Event};
 ghost use Rattle.room_core.specs.declared.event.How.{How as Way};
 ghost use Rattle.room_core.specs.declared.parts.Phase.TheVariants.{Won};
+ghost use Rattle.room_core.specs.declared.parts.Session.{Session as Word};
 ghost use Rattle.room_core.specs.declared.shape.Shape.{Shape as Size};
 ghost use Rattle.room_core.specs.Carried.{IsCarried};
 ghost use Rattle.room_core.specs.Duty.{IsOpen, IsOverdueNow, IsSatisfiedNow};
 ghost use Rattle.room_core.specs.Gauges.{IsShape};
+ghost use Rattle.room_core.specs.Packing.{packed, unpacked, winner_number};
 ghost use Rattle.room_core.specs.Quiet.{IsQuiet};
 ghost use Rattle.room_core.specs.Run.{IsRun};
 ghost use Rattle.room_core.specs.Sound.{IsSound};
@@ -43,4 +45,14 @@ pub fn wins_stand_once()
     ensures others { (s : State) → IsSound s → (pass : ℕ) (how : Way) (by : ℕ)
         → (s.session pass).phase ≡ Won how by → (other : ℕ) (way : Way) → other ≢ by
         → prizes_as (wins_of s.scanner s.caller other) pass (s.session pass).generation way ≡ 0 }
+{}
+
+/// Law: a session word whose winner has a number below 256 comes out of its number as it was.
+pub fn session_words_unpack()
+    ensures { (word : Word) → winner_number word.phase < 256 → unpacked (packed word) ≡ word }
+{}
+
+/// Law: who won a word has a number below 97: there are 17 scanners and at most 80 passes.
+pub fn winners_are_few()
+    ensures { (s : State) → IsCarried s → (pass : ℕ) → winner_number (s.session pass).phase < 97 }
 {}
