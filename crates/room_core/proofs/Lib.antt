@@ -96,5 +96,9 @@ pub mod DeadEntries
 pub mod Packings
 -- the numbers of winners
 pub mod Few
+-- how many exchanges a winner has won
+pub mod Counts
+-- the operation that words describe
+pub mod Described
 -- what the crates above may cite
 pub mod Laws

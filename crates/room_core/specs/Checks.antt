@@ -1,6 +1,7 @@
 -- The events of a check, which a pass makes of its own operation, and a scanner of one that it has met: it reads gauges, and
 -- then leaves the operation or wins it.
 use Rattle.std.specs.Prelude.{◌≡◌, ◌≢◌, ◌⊎◌, ℕ, ◌+◌, ◌*◌, ◌<◌, ◌≤◌, max, Bool, true, false, ◌||◌, ◌==◌, nat_le, if◌then◌else◌, Option, Some, None, is_some, IsSome, List, [], ◌∷◌, ◌++◌}
+use Rattle.room_core.specs.Numbers.{most_needs, clock_scanner, scanner_numbers}
 use Rattle.room_core.specs.declared.shape.Shape.{Shape}
 use Rattle.room_core.specs.declared.event.How.{How}
 use Rattle.room_core.specs.declared.event.How.TheVariants.{Satisfied, Expired}
@@ -94,7 +95,7 @@ IsDuty (Some duty) generation = duty.generation ≡ generation
 
 -- the number of needs was learned, and every word of theirs
 pub record IsAllLearned (scanner : Scanner) : Type 0 where
-  pub few : needs_of (words_of scanner) ≤ 64
+  pub few : needs_of (words_of scanner) ≤ most_needs
   pub words : (at : ℕ) → at < 3 + 3 * needs_of (words_of scanner) → IsLearned scanner at
 
 -- the scanner has met the pass, has a duty on the operation that it met, and has learned it
@@ -106,7 +107,7 @@ pub record IsOnCheck (scanner : Scanner) (pass : ℕ) : Type 0 where
 -- Leave, by a scanner: a shard's wants each need's gauge, the clock's wants the clock. Where the readings then don't make the
 -- operation answerable, it loses this duty and its meeting.
 abbrev pub scanner_answers : Shape → ℕ → (ℕ → ℕ) → (ℕ → Option ℕ) → Bool
-scanner_answers shape k words readings = if k == 16 then is_overdue shape words readings else is_satisfied words readings
+scanner_answers shape k words readings = if k == clock_scanner then is_overdue shape words readings else is_satisfied words readings
 
 abbrev pub scanner_lets_go : Scanner → ℕ → Scanner
 scanner_lets_go scanner pass = record scanner { duties = put scanner.duties pass None; meeting = None; learned = unread; readings = unread }
@@ -121,8 +122,8 @@ scanner_leaves shape k scanner pass gauge value =
 abbrev pub ScannerMayLeave : Shape → ℕ → Scanner → ℕ → ℕ → Type 0
 ScannerMayLeave shape k scanner pass gauge =
     IsScanner shape k × IsPass shape pass × IsGauge shape gauge × IsOnCheck scanner pass ×
-    (k ≢ 16 → AreRead scanner.readings gauge (words_of scanner)) ×
-    (k ≡ 16 → IsRead scanner.readings gauge (clock_of shape))
+    (k ≢ clock_scanner → AreRead scanner.readings gauge (words_of scanner)) ×
+    (k ≡ clock_scanner → IsRead scanner.readings gauge (clock_of shape))
 
 abbrev pub CanLeaveScanner : State → ℕ → ℕ → ℕ → Type 0
 CanLeaveScanner s scanner pass gauge = ScannerMayLeave s.shape scanner (s.scanner scanner) pass gauge
@@ -149,7 +150,7 @@ with_prize session generation wins prize = if is_live session generation then wi
 -- at the generation, it is won by the pass, which has one win more. In either case the pass is Over, as the word then says.
 abbrev pub caller_wins : Caller → ℕ → How → Session → Caller
 caller_wins caller pass how session = record caller {
-  stage = peeked (exchanged session caller.generation how (17 + pass)).phase caller.stage;
+  stage = peeked (exchanged session caller.generation how (scanner_numbers + pass)).phase caller.stage;
   wins = with_prize session caller.generation caller.wins (record { pass = pass; generation = caller.generation; how = how });
 }
 
@@ -161,7 +162,7 @@ CanWinPass s pass how = OwnerMayWin s.shape pass (s.caller pass) how
 
 abbrev pub pass_winning : State → ℕ → How → State
 pass_winning s pass how = record s {
-  session = put s.session pass (exchanged (s.session pass) (s.caller pass).generation how (17 + pass));
+  session = put s.session pass (exchanged (s.session pass) (s.caller pass).generation how (scanner_numbers + pass));
   caller = put s.caller pass (caller_wins (s.caller pass) pass how (s.session pass));
 }
 
@@ -176,8 +177,8 @@ other_entry None generation = None
 other_entry (Some entry) generation = if entry.generation == generation then None else Some entry
 
 abbrev pub MayWin : ℕ → How → Type 0
-MayWin scanner Satisfied = scanner ≢ 16
-MayWin scanner Expired = scanner ≡ 16
+MayWin scanner Satisfied = scanner ≢ clock_scanner
+MayWin scanner Expired = scanner ≡ clock_scanner
 
 abbrev pub scanner_wins : Scanner → ℕ → How → Session → Scanner
 scanner_wins scanner pass how session =

@@ -1,6 +1,7 @@
 -- The events of a pass as the owner of its operation: it describes and opens it, sees it listed, sees how it ended, and takes
 -- that.
 use Rattle.std.specs.Prelude.{◌≡◌, ◌≢◌, ℕ, zero, suc, ◌+◌, ◌-◌, ◌^◌, ◌<◌, ◌≤◌, Bool, true, false, ◌&&◌, ◌==◌, if◌then◌else◌, List, [], ◌∷◌, ◌++◌, ⊤}
+use Rattle.room_core.specs.Numbers.{description_words, clock_mark}
 use Rattle.room_core.specs.declared.shape.Shape.{Shape}
 use Rattle.room_core.specs.declared.parts.Phase.{Phase}
 use Rattle.room_core.specs.declared.parts.Phase.TheVariants.{Open, Won}
@@ -18,7 +19,7 @@ abbrev pub caller_describes : Caller → ℕ → ℕ → Caller
 caller_describes caller at word = record caller { description = put caller.description at word }
 
 abbrev pub MayDescribe : Shape → ℕ → Caller → ℕ → Type 0
-MayDescribe shape pass caller at = IsPass shape pass × (at < 195) × (caller.stage ≡ Stage.Idle)
+MayDescribe shape pass caller at = IsPass shape pass × (at < description_words) × (caller.stage ≡ Stage.Idle)
 
 abbrev pub CanDescribe : State → ℕ → ℕ → Type 0
 CanDescribe s pass at = MayDescribe s.shape pass (s.caller pass) at
@@ -58,7 +59,7 @@ all_below f (suc n) = all_below f n && f n
 
 -- every mark of the operation
 abbrev pub all_seen : (ℕ → ℕ) → (ℕ → Bool) → Bool
-all_seen words seen = all_below seen (needs_of words) && seen 64
+all_seen words seen = all_below seen (needs_of words) && seen clock_mark
 
 -- Marked: the pass is Listing, and the mark is one of its operation's. It is seen where it holds the generation; with the
 -- last one the pass is Checking, and has no readings.
@@ -73,7 +74,7 @@ caller_sees_mark caller at mark = record caller {
 }
 
 abbrev pub MaySeeMark : Shape → ℕ → Caller → ℕ → Type 0
-MaySeeMark shape pass caller at = IsPass shape pass × (at ≤ 64) × (caller.stage ≡ Listing) × IsMark caller.description at
+MaySeeMark shape pass caller at = IsPass shape pass × (at ≤ clock_mark) × (caller.stage ≡ Listing) × IsMark caller.description at
 
 abbrev pub CanSeeMark : State → ℕ → ℕ → Type 0
 CanSeeMark s pass at = MaySeeMark s.shape pass (s.caller pass) at

@@ -1,5 +1,6 @@
 -- What lies outside the shape is as at the start, and what names a pass names one of the shape's.
 use Rattle.std.specs.Prelude.{◌≡◌, ℕ, ◌^◌, ◌<◌, ◌≤◌, false, Option, Some}
+use Rattle.room_core.specs.Numbers.{description_words, marks_count}
 use Rattle.room_core.specs.declared.shape.Shape.{Shape}
 use Rattle.room_core.specs.declared.parts.Phase.{Phase}
 use Rattle.room_core.specs.declared.parts.Entry.{Entry}
@@ -30,7 +31,7 @@ pub record IsWithin (s : State) : Type 0 where
   pub caller : IsBeyond s.shape.passes s.caller idle_caller
   pub scanner : (k : ℕ) → (IsScanner s.shape k → ⊥) → s.scanner k ≡ idle_scanner
   -- a description has 195 words, and a pass 65 marks
-  pub described : (pass : ℕ) → IsBeyond 195 (s.description pass) 0
-  pub marked : (pass : ℕ) → IsBeyond 65 (s.marks pass) 0
+  pub described : (pass : ℕ) → IsBeyond description_words (s.description pass) 0
+  pub marked : (pass : ℕ) → IsBeyond marks_count (s.marks pass) 0
   pub generation : (pass : ℕ) → (s.session pass).generation < 2 ^ 32
   pub scanners : (k : ℕ) → ScannerIsWithin s.shape (s.scanner k)

@@ -1,5 +1,6 @@
 -- The words of the room, which all threads see, as numbers.
 use Rattle.std.specs.Prelude.{ℕ, ◌<◌}
+use Rattle.room_core.specs.Numbers.{description_words, marks_count}
 use Rattle.room_core.specs.declared.shape.Shape.{Shape}
 use Rattle.room_core.specs.declared.word.Word.{Word}
 use Rattle.room_core.specs.Gauges.{IsGauge, IsPass}
@@ -12,8 +13,8 @@ IsWord shape (Word.Value gauge) = IsGauge shape gauge
 IsWord shape (Word.Asked gauge) = IsGauge shape gauge
 IsWord shape (Word.Begun gauge) = IsGauge shape gauge
 IsWord shape (Word.Session pass) = IsPass shape pass
-IsWord shape (Word.Description pass at) = IsPass shape pass × (at < 195)
-IsWord shape (Word.Mark pass at) = IsPass shape pass × (at < 65)
+IsWord shape (Word.Description pass at) = IsPass shape pass × (at < description_words)
+IsWord shape (Word.Mark pass at) = IsPass shape pass × (at < marks_count)
 
 abbrev pub word_at : State → Word → ℕ
 word_at s (Word.Value gauge) = s.value gauge

@@ -13,6 +13,7 @@ mod empty;
 mod event;
 mod gauges;
 mod listing;
+mod numbers;
 mod operation;
 mod parts;
 mod pass_steps;
@@ -29,10 +30,15 @@ mod word;
 
 pub use core_state::CoreState;
 pub use event::{CoreEvent, How, Party};
+pub use numbers::{
+    CLOCK_MARK, CLOCK_SCANNER, DESCRIPTION_WORDS, MARKS, MOST_NEEDS, SCANNER_NUMBERS,
+};
 pub use parts::{Duty, Entry, Heard, Meeting, Phase, Prize, Session, Source, Stage, Taken};
 pub use run::run_events;
 pub use shape::Shape;
 pub use word::Word;
 
+#[cfg(test)]
+mod run_tests;
 #[cfg(test)]
 mod step_tests;

@@ -1,11 +1,17 @@
 //! Laws of the machine. They do nothing.
-ghost use Rattle.std.specs.Prelude.{◌≡◌, ◌≢◌, ◌<◌, ℕ, List};
+ghost use Rattle.std.specs.Prelude.{◌≡◌, ◌≢◌, ◌+◌, ◌<◌, ℕ, List, Some, length, slice_get};
+ghost use Rattle.opcond.specs.Operation.{IsValid};
+ghost use Rattle.opcond.specs.Tally.{tally as listed_tally};
 ghost use Rattle.room_core.specs.declared.event.CoreEvent.{CoreEvent as Event};
 ghost use Rattle.room_core.specs.declared.event.How.{How as Way};
 ghost use Rattle.room_core.specs.declared.parts.Phase.TheVariants.{Won};
 ghost use Rattle.room_core.specs.declared.parts.Session.{Session as Word};
+ghost use Rattle.room_core.specs.declared.parts.Taken.{Taken as Item};
 ghost use Rattle.room_core.specs.declared.shape.Shape.{Shape as Size};
 ghost use Rattle.room_core.specs.Carried.{IsCarried};
+ghost use Rattle.room_core.specs.Counts.{taken_by, won_by};
+ghost use Rattle.room_core.specs.Described.{operation_of, values_in};
+ghost use Rattle.room_core.specs.Description.{IsOperation, tally};
 ghost use Rattle.room_core.specs.Duty.{IsOpen, IsOverdueNow, IsSatisfiedNow};
 ghost use Rattle.room_core.specs.Gauges.{IsShape};
 ghost use Rattle.room_core.specs.Packing.{packed, unpacked, winner_number};
@@ -37,7 +43,8 @@ pub fn quiet_is_answered()
         → (pass : ℕ) → IsOpen s pass → IsOverdueNow s pass → ⊥ }
 {}
 
-/// Law: a word that is won stands once in the wins of the winner that it names, and in nobody else's.
+/// Law: a word that is won, and an item that was taken, stands once in the wins of the winner that it names, and in nobody
+/// else's.
 pub fn wins_stand_once()
     ensures mine { (s : State) → IsSound s → (pass : ℕ) (how : Way) (by : ℕ)
         → (s.session pass).phase ≡ Won how by
@@ -45,6 +52,25 @@ pub fn wins_stand_once()
     ensures others { (s : State) → IsSound s → (pass : ℕ) (how : Way) (by : ℕ)
         → (s.session pass).phase ≡ Won how by → (other : ℕ) (way : Way) → other ≢ by
         → prizes_as (wins_of s.scanner s.caller other) pass (s.session pass).generation way ≡ 0 }
+    ensures taken { (s : State) → IsSound s → (pass at : ℕ) (item : Item)
+        → slice_get (s.caller pass).taken at ≡ Some item
+        → prizes_as (wins_of s.scanner s.caller item.by) pass item.generation item.how ≡ 1 }
+    ensures taken_by_others { (s : State) → IsSound s → (pass at : ℕ) (item : Item)
+        → slice_get (s.caller pass).taken at ≡ Some item → (other : ℕ) (way : Way) → other ≢ item.by
+        → prizes_as (wins_of s.scanner s.caller other) pass item.generation way ≡ 0 }
+{}
+
+/// Law: what stands in a winner's wins is as many as the items taken that name it and the words that it has won.
+pub fn wins_are_counted()
+    ensures { (s : State) → IsCarried s → (by : ℕ)
+        → length (wins_of s.scanner s.caller by) ≡ taken_by s by + won_by s by }
+{}
+
+/// Law: the operation that a described one's words describe is valid, and its tally is that over the words.
+pub fn described_operations_are_valid()
+    ensures valid { (shape : Size) (words : ℕ → ℕ) → IsOperation shape words → IsValid (operation_of words) }
+    ensures tally { (words value : ℕ → ℕ)
+        → listed_tally (operation_of words).needs (values_in words value) ≡ tally words value }
 {}
 
 /// Law: a session word whose winner has a number below 256 comes out of its number as it was.

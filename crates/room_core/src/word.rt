@@ -4,11 +4,11 @@ ghost use Rattle.room_core.specs.Packing.{packed, phase_number, unpacked, winner
 use crate::event::How;
 use crate::parts::{Phase, Session};
 
-/// The number of phases, Satisfied and Expired being two: a session word is divided by it to give the winner's number.
-pub(crate) const PHASES: u64 = 4;
+// A session word counts this for each number before the winner's: there are four phases, Satisfied and Expired being two.
+const PHASES: u64 = 4;
 
-/// A session word is divided by it to give the generation.
-pub(crate) const WINNERS: u64 = 1024;
+// A session word counts this for each generation: there are fewer than 256 winners.
+const WINNERS: u64 = 1024;
 
 /// Which of the room's words, all of which every thread sees.
 #[derive(Clone, Copy, Debug, PartialEq, Eq)]
