@@ -1,5 +1,5 @@
 -- Every event leaves what lies outside the shape as it was.
-use Rattle.std.proofs.Common.{⊎_elim, ◌≡◌, ℕ, ◌+◌, ◌^◌, ◌<◌, ◌≤◌, cond, sym, ap, subst, ◌∙◌, arith, Option, Some, None}
+use Rattle.std.proofs.Common.{⊎_elim, ◌≡◌, ℕ, ◌+◌, ◌^◌, ◌<◌, sym, subst, arith, Option, Some, None}
 use Rattle.std.specs.Prelude.{◌==◌}
 use Rattle.room_core.specs.declared.shape.Shape.{Shape}
 use Rattle.room_core.specs.declared.event.How.{How}
@@ -11,11 +11,10 @@ use Rattle.room_core.specs.declared.parts.Entry.{Entry}
 use Rattle.room_core.specs.declared.parts.Duty.{Duty}
 use Rattle.room_core.specs.Put.{put}
 use Rattle.room_core.specs.Gauges.{IsPass}
-use Rattle.room_core.specs.Readings.{unread}
-use Rattle.room_core.specs.Meetings.{CanMark, marking, MayMarkNeed, MayMarkClock, met, live_entry, live_duty, scanner_meets, scanner_marks, entry_for, generation_met, words_of}
+use Rattle.room_core.specs.Meetings.{CanMark, MayMarkNeed, MayMarkClock, live_entry, live_duty, scanner_meets, scanner_marks, entry_for, generation_met, words_of}
 use Rattle.room_core.specs.Description.{marked_gauge}
-use Rattle.room_core.specs.Scans.{CanBegin, beginning, scanner_begins, duty_of, is_due, number_heard}
-use Rattle.room_core.specs.Checks.{exchanged, other_entry, scanner_lets_go, scanner_takes, scanner_leaves, scanner_answers, scanner_wins, gauge_of_duty, pass_winning, scanner_winning, CanWinPass, CanWinScanner}
+use Rattle.room_core.specs.Scans.{scanner_begins, duty_of, number_heard}
+use Rattle.room_core.specs.Checks.{exchanged, other_entry, scanner_lets_go, scanner_takes, scanner_leaves, scanner_answers, scanner_wins, gauge_of_duty}
 use Rattle.room_core.specs.Carried.{IsUpheld}
 use Rattle.room_core.specs.Within.{IsWithin, ScannerIsWithin}
 use Rattle.room_core.specs.State as states
@@ -24,7 +23,7 @@ use Rattle.room_core.specs.Step.{IsAllowed, changed}
 use Rattle.room_core.proofs.Puts.{at-put, at-place}
 use Rattle.room_core.proofs.Known.{of_either}
 use Rattle.room_core.proofs.Dropping.{dropped}
-use Rattle.room_core.proofs.Meetings.{met_as, entry_lives, duty_lives}
+use Rattle.room_core.proofs.Meetings.{met_as}
 use Rattle.room_core.proofs.Words.{exchange_stays}
 use Rattle.room_core.proofs.Outside.{with_value, with_asked, with_begun, with_source, with_session, with_word, with_mark, with_caller, with_scanner}
 

@@ -1,7 +1,7 @@
 -- A winner's wins are as many as the items taken that name it and the words that it has won.
-use Rattle.std.proofs.Common.{⊎_elim, ◌≡◌, ◌≢◌, ◌⊎◌, inl, inr, ℕ, zero, suc, ◌+◌, ◌<◌, ◌≤◌, List, [], ◌∷◌, length, get_or, Bool, true, false, cond, sym, ap, refl, subst, ◌∙◌, arith}
+use Rattle.std.proofs.Common.{⊎_elim, ◌≡◌, ◌≢◌, ℕ, zero, suc, ◌+◌, ◌<◌, ◌≤◌, List, [], ◌∷◌, length, get_or, Bool, true, false, cond, sym, ap, refl, ◌∙◌, arith}
 use Rattle.std.specs.Prelude.{All, sum_by, count_by, ◌&&◌, ◌==◌}
-use Rattle.std.proofs.lemmas.Bool.{cases_eq, cases_lt, cases_Bool, eq-eqb, ne_eqb, eqb-true}
+use Rattle.std.proofs.lemmas.Bool.{cases_eq, cases_lt, eq-eqb, ne_eqb}
 use Rattle.std.proofs.lemmas.List.Sums.{sum_by-cons}
 use Rattle.room_core.specs.declared.event.How.{How}
 use Rattle.room_core.specs.declared.event.How.TheVariants.{Satisfied, Expired}
@@ -12,8 +12,6 @@ use Rattle.room_core.specs.declared.parts.Prize.{Prize}
 use Rattle.room_core.specs.declared.parts.Taken.{Taken}
 use Rattle.room_core.specs.Carried.{IsCarried}
 use Rattle.room_core.specs.Counts.{sum_below, is_won_by, taken_by, won_by}
-use Rattle.room_core.specs.Gauges.{IsPass}
-use Rattle.room_core.specs.Start.{idle_caller}
 use Rattle.room_core.specs.State.{State}
 use Rattle.room_core.specs.Wins.{prizes_as, taken_as, won_as, wins_of, same_how, is_prize, is_taken_as}
 

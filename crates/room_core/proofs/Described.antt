@@ -1,6 +1,6 @@
 -- The operation that words describe: it is valid, and its tally is that over the words.
-use Rattle.std.proofs.Common.{⊎_elim, ◌≡◌, ◌≢◌, ℕ, zero, suc, ◌+◌, ◌*◌, ◌<◌, ◌≤◌, List, [], ◌∷◌, ◌++◌, length, get_or, sym, ap, refl, subst, ◌∙◌, arith}
-use Rattle.std.specs.Prelude.{map, All, AllPairs, ◌^◌}
+use Rattle.std.proofs.Common.{◌≡◌, ℕ, zero, suc, ◌+◌, ◌<◌, List, [], ◌∷◌, ◌++◌, length, sym, ap, subst, ◌∙◌, arith}
+use Rattle.std.specs.Prelude.{map, ◌^◌}
 use Rattle.std.specs.List.{range_with_len}
 use Rattle.std.proofs.lemmas.List.FromFn.{length-map-range_with_len, get_or-map-range_with_len, map-range_with_len_more}
 use Rattle.opcond.specs.declared.need.Need.{Need}
@@ -9,7 +9,7 @@ use Rattle.opcond.specs.Tally.{counted}
 use Rattle.opcond.specs.Tally as listed
 use Rattle.room_core.specs.declared.shape.Shape.{Shape}
 use Rattle.room_core.specs.Description.{IsOperation, needs_of, need_of, gauge_of, tally, tally_below}
-use Rattle.room_core.specs.Described.{needs_in, operation_of, values_in}
+use Rattle.room_core.specs.Described.{operation_of, values_in}
 use Rattle.room_core.proofs.Counting.{tally-none, tally-more}
 
 -- a need more

@@ -1,6 +1,5 @@
 -- Who won a word is a scanner or a pass of the shape.
-use Rattle.std.proofs.Common.{⊎_elim, ◌≡◌, ℕ, ◌+◌, ◌-◌, ◌<◌, ◌≤◌, [], Bool, true, false, cond, sym, ap, refl, subst, ◌∙◌, arith}
-use Rattle.std.specs.Prelude.{◌&&◌, ◌==◌, nat_lt}
+use Rattle.std.proofs.Common.{⊎_elim, ◌≡◌, ℕ, ◌+◌, ◌-◌, ◌<◌, ◌≤◌, [], true, cond, ap, refl, ◌∙◌, arith}
 use Rattle.std.proofs.lemmas.Bool.{cases_lt, eq-eqb, le-ltb}
 use Rattle.room_core.specs.declared.event.How.{How}
 use Rattle.room_core.specs.declared.event.How.TheVariants.{Satisfied, Expired}
@@ -8,7 +7,6 @@ use Rattle.room_core.specs.declared.parts.Phase.{Phase}
 use Rattle.room_core.specs.declared.parts.Phase.TheVariants.{Open, Won}
 use Rattle.room_core.specs.Packing.{winner_number}
 use Rattle.room_core.specs.Wins.{prizes_as, taken_as, won_as, wins_of, same_how}
-use Rattle.room_core.specs.Start.{idle_caller}
 use Rattle.room_core.specs.Carried.{IsCarried}
 use Rattle.room_core.specs.State.{State}
 

@@ -1,10 +1,15 @@
 -- What the crates above may cite.
-use Rattle.std.proofs.Common.{◌≡◌, ◌≢◌, ℕ, ◌<◌}
+use Rattle.std.proofs.Common.{⊎_elim, inl, inr, ◌≡◌, ◌≢◌, ◌⊎◌, ℕ, ◌<◌, true, false, ap, refl, ◌∙◌}
+use Rattle.std.proofs.lemmas.Bool.{eq-eqb}
 use Rattle.room_core.specs.declared.event.CoreEvent.{CoreEvent}
+use Rattle.room_core.specs.declared.event.How.{How}
+use Rattle.room_core.specs.declared.parts.Phase.TheVariants.{Open, Won}
 use Rattle.room_core.specs.declared.parts.Session.{Session}
 use Rattle.room_core.specs.declared.shape.Shape.{Shape}
 use Rattle.room_core.specs.Carried.{IsCarried}
+use Rattle.room_core.specs.Checks.{exchanged}
 use Rattle.room_core.specs.Gauges.{IsShape}
+use Rattle.room_core.specs.Meetings.{is_live}
 use Rattle.room_core.specs.Packing.{packed, unpacked, winner_number}
 use Rattle.room_core.specs.Put.{put}
 use Rattle.room_core.specs.Start.{start_of}
@@ -14,6 +19,8 @@ use Rattle.room_core.proofs.Few.{winners_few}
 use Rattle.room_core.proofs.Packings.{unpacked-packed}
 use Rattle.room_core.proofs.Puts as puts
 use Rattle.room_core.proofs.Steps.{keeps, begins}
+use Rattle.room_core.proofs.Tests.{live_open, live_generation}
+use Rattle.room_core.proofs.Words.{exchanged_or}
 
 -- the start meets what is carried
 pub start_carried : (shape : Shape) → IsShape shape → IsCarried (start_of shape)
@@ -37,3 +44,21 @@ put_here = puts.put-same
 
 pub put_else : {A : Type 0} (f : ℕ → A) (i : ℕ) (x : A) (j : ℕ) → j ≢ i → put f i x j ≡ f j
 put_else = puts.put-other
+
+-- a word is open at the generation, and an exchange wins it; or it isn't, and an exchange leaves it
+pub exchange_cases : (w : Session) (generation : ℕ) (how : How) (by : ℕ)
+    → ((is_live w generation ≡ true) × (w ≡ record { generation = generation; phase = Open }) × (exchanged w generation how by ≡ record { generation = generation; phase = Won how by }))
+    ⊎ ((is_live w generation ≡ false) × (exchanged w generation how by ≡ w))
+exchange_cases w generation how by =
+    ⊎_elim
+    (λ (e : (is_live w generation ≡ true) × (exchanged w generation how by ≡ record { generation = w.generation; phase = Won how by })).
+    inl (
+      e.0,
+      (λ i. record { generation = live_generation w generation e.0 i; phase = live_open w generation e.0 i }),
+      e.1 ∙ ap (λ g. record { generation = g; phase = Won how by }) (live_generation w generation e.0),
+    ))
+    (λ (e : (is_live w generation ≡ false) × (exchanged w generation how by ≡ w)). inr e)
+    (exchanged_or w generation how by)
+
+pub open_is_live : (generation : ℕ) → is_live (record { generation = generation; phase = Open }) generation ≡ true
+open_is_live generation = eq-eqb generation generation refl

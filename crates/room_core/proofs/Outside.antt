@@ -1,5 +1,5 @@
 -- A change of one table inside the shape leaves what lies outside as it was.
-use Rattle.std.proofs.Common.{◌≡◌, ◌≢◌, ℕ, ◌^◌, ◌<◌, ◌≤◌, sym, ap, subst, ◌∙◌, arith}
+use Rattle.std.proofs.Common.{ℕ, ◌^◌, ◌<◌, sym, subst, ◌∙◌, arith}
 use Rattle.room_core.specs.declared.parts.Source.{Source}
 use Rattle.room_core.specs.declared.parts.Session.{Session}
 use Rattle.room_core.specs.Put.{put}

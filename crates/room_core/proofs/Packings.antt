@@ -1,11 +1,10 @@
 -- A session word that is packed unpacks to itself.
-use Rattle.std.proofs.Common.{◌≡◌, ℕ, ◌+◌, ◌*◌, ◌/◌, ◌%◌, ◌<◌, sym, ap, refl, ◌∙◌, arith}
-use Rattle.room_core.specs.declared.event.How.{How}
+use Rattle.std.proofs.Common.{◌≡◌, ℕ, ◌+◌, ◌*◌, ◌/◌, ◌%◌, ◌<◌, ap, refl, ◌∙◌, arith}
 use Rattle.room_core.specs.declared.event.How.TheVariants.{Satisfied, Expired}
 use Rattle.room_core.specs.declared.parts.Phase.{Phase}
 use Rattle.room_core.specs.declared.parts.Phase.TheVariants.{Open, Won}
 use Rattle.room_core.specs.declared.parts.Session.{Session}
-use Rattle.room_core.specs.Packing.{how_number, phase_number, winner_number, packed, phase_of, unpacked}
+use Rattle.room_core.specs.Packing.{phase_number, winner_number, packed, phase_of, unpacked}
 
 phase_few : (phase : Phase) → phase_number phase < 4
 phase_few Phase.Idle = omega arith

@@ -1,5 +1,5 @@
 -- What lies outside the shape is as at the start, and what names a pass names one of the shape's.
-use Rattle.std.specs.Prelude.{◌≡◌, ℕ, ◌^◌, ◌<◌, ◌≤◌, false, Option, Some}
+use Rattle.std.specs.Prelude.{◌≡◌, ℕ, ◌^◌, ◌<◌, ◌≤◌, false, Some}
 use Rattle.room_core.specs.Numbers.{description_words, marks_count}
 use Rattle.room_core.specs.declared.shape.Shape.{Shape}
 use Rattle.room_core.specs.declared.parts.Phase.{Phase}
