@@ -9,7 +9,7 @@ use Rattle.room_core.specs.Duty.{IsOpen, OwnerFinds, FindsTally, FindsTime}
 use Rattle.room_core.specs.Sound.{Agree, IsListed, IsOwed, ValuesAreSound, OwnersAreSound, GenerationsAreSound, ListingsAreSound, WinsAreSound}
 use Rattle.room_core.specs.Wins.{taken_at}
 use Rattle.room_core.specs.Scans.{CanAsk, asking, caller_asks}
-use Rattle.room_core.specs.Carried.{IsCarried}
+use Rattle.room_core.specs.Carried.{IsUpheld}
 use Rattle.room_core.specs.State.{State, Caller}
 use Rattle.room_core.proofs.Puts.{at-put, at-puts, put-same}
 use Rattle.room_core.proofs.Finding.{either_too}
@@ -121,7 +121,7 @@ module _ (s : State) (p gauge value : ℕ) (k : IsKept s) (can : CanAsk s p gaug
     scanners = k.scanners;
   }
 
-pub keeps : (s : State) (pass gauge value : ℕ) → IsCarried s → CanAsk s pass gauge value → IsCarried (asking s pass gauge value)
+pub keeps : (s : State) (pass gauge value : ℕ) → IsUpheld s → CanAsk s pass gauge value → IsUpheld (asking s pass gauge value)
 keeps s pass gauge value c can =
     let w : WinsAreSound (record s { caller = put s.caller pass (caller_asks (s.caller pass) gauge value) }) = caller_wins_nothing s pass _ refl refl c.sound.wins in
     carried _ (kept s pass gauge value (kept_of s c) can) (record { counted = w.counted; once = w.once })

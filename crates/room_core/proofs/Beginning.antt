@@ -16,7 +16,7 @@ use Rattle.room_core.specs.Duty.{IsOpen, IsOnDuty, IsLate, ShardFinds, ScannerFi
 use Rattle.room_core.specs.Sound.{ValuesAreSound, IsEntry, IsListed, IsNeeded, IsRightEntry, ListingsAreSound, GenerationsAreSound, WinsAreSound}
 use Rattle.room_core.specs.Checks.{IsDuty}
 use Rattle.room_core.specs.Scans.{CanBegin, beginning, scanner_begins, number_heard, IsHeard, duty_of, is_due}
-use Rattle.room_core.specs.Carried.{IsCarried, ScannerIsKept}
+use Rattle.room_core.specs.Carried.{IsUpheld, ScannerIsKept}
 use Rattle.room_core.specs.State.{State}
 use Rattle.room_core.proofs.Puts.{at-put, put-same, put-other}
 use Rattle.room_core.proofs.Tallies.{late_or, tally_rises}
@@ -289,7 +289,7 @@ module _ (s : State) (k g : ℕ) (r : IsKept s) (can : CanBegin s k g) where
     scanners = at-put s.scanner k (scanner_begins s.shape (s.scanner k) g (s.begun g)) (λ i x. ScannerIsKept s.shape i x) begins (λ i n. r.scanners i);
   }
 
-pub keeps : (s : State) (scanner gauge : ℕ) → IsCarried s → CanBegin s scanner gauge → IsCarried (beginning s scanner gauge)
+pub keeps : (s : State) (scanner gauge : ℕ) → IsUpheld s → CanBegin s scanner gauge → IsUpheld (beginning s scanner gauge)
 keeps s scanner gauge c can =
     let w : WinsAreSound (record s { scanner = put s.scanner scanner (scanner_begins s.shape (s.scanner scanner) gauge (s.begun gauge)) }) = scanner_wins_nothing s scanner _ refl c.sound.wins in
     carried _ (kept s scanner gauge (kept_of s c) can) (record { counted = w.counted; once = w.once })

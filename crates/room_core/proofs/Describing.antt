@@ -10,7 +10,7 @@ use Rattle.room_core.specs.Duty.{IsOpen, IsLate, OwnerFinds, ShardFinds, Scanner
 use Rattle.room_core.specs.Sound.{Agree, IsListed, IsNeeded, IsOwed, GenerationsAreSound, ListingsAreSound, OwnersAreSound, WinsAreSound}
 use Rattle.room_core.specs.Wins.{taken_at}
 use Rattle.room_core.specs.Passes.{CanDescribe, describing, caller_describes}
-use Rattle.room_core.specs.Carried.{IsCarried}
+use Rattle.room_core.specs.Carried.{IsUpheld}
 use Rattle.room_core.specs.State.{State, Caller}
 use Rattle.room_core.proofs.Puts.{at-put, at-puts}
 use Rattle.room_core.proofs.Kept.{IsKept, kept_of, carried}
@@ -98,7 +98,7 @@ module _ (s : State) (p at word : ℕ) (k : IsKept s) (can : CanDescribe s p at)
     scanners = k.scanners;
   }
 
-pub keeps : (s : State) (pass at word : ℕ) → IsCarried s → CanDescribe s pass at → IsCarried (describing s pass at word)
+pub keeps : (s : State) (pass at word : ℕ) → IsUpheld s → CanDescribe s pass at → IsUpheld (describing s pass at word)
 keeps s pass at word c can =
     let w : WinsAreSound (record s { caller = put s.caller pass (caller_describes (s.caller pass) at word) }) = caller_wins_nothing s pass _ refl refl c.sound.wins in
     carried _ (kept s pass at word (kept_of s c) can) (record { counted = w.counted; once = w.once })

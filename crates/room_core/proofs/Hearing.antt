@@ -3,7 +3,7 @@ use Rattle.std.proofs.Common.{◌≡◌, ℕ, ◌≤◌, refl, subst, arith, Som
 use Rattle.room_core.specs.declared.parts.Heard.{Heard}
 use Rattle.room_core.specs.Gauges.{IsGaugeOf}
 use Rattle.room_core.specs.Scans.{CanHear, hearing, scanner_hears}
-use Rattle.room_core.specs.Carried.{IsCarried}
+use Rattle.room_core.specs.Carried.{IsUpheld}
 use Rattle.room_core.specs.State.{State}
 use Rattle.room_core.proofs.Kept.{IsKept, kept_of, carried}
 use Rattle.room_core.proofs.Scanners.{ScannerStays, kept_by_scanner}
@@ -41,6 +41,6 @@ module _ (s : State) (k gauge : ℕ) (r : IsKept s) (can : CanHear s k gauge) wh
     };
   }
 
-pub keeps : (s : State) (scanner gauge : ℕ) → IsCarried s → CanHear s scanner gauge → IsCarried (hearing s scanner gauge)
+pub keeps : (s : State) (scanner gauge : ℕ) → IsUpheld s → CanHear s scanner gauge → IsUpheld (hearing s scanner gauge)
 keeps s scanner gauge c can =
     carried _ (kept_by_scanner s scanner _ (kept_of s c) (stays s scanner gauge (kept_of s c) can)) (scanner_wins_nothing s scanner _ refl c.sound.wins)

@@ -3,12 +3,12 @@ use Rattle.std.proofs.Common.{◌≡◌, ℕ, ◌<◌, arith, true, false}
 use Rattle.std.specs.Prelude.{nat_le}
 use Rattle.std.proofs.lemmas.Bool.{leb-true}
 use Rattle.room_core.specs.Scans.{CanHush, hushing, source_hushes}
-use Rattle.room_core.specs.Carried.{IsCarried}
+use Rattle.room_core.specs.Carried.{IsUpheld}
 use Rattle.room_core.specs.State.{State}
 use Rattle.room_core.proofs.Puts.{at-put}
 use Rattle.room_core.proofs.Known.{of_either}
 
-pub keeps : (s : State) (gauge : ℕ) → IsCarried s → CanHush s gauge → IsCarried (hushing s gauge)
+pub keeps : (s : State) (gauge : ℕ) → IsUpheld s → CanHush s gauge → IsUpheld (hushing s gauge)
 keeps s gauge c can = record {
   shape = c.shape;
   sound = record {

@@ -13,7 +13,7 @@ use Rattle.room_core.specs.Duty.{IsLate, OwnerFinds, ShardFinds, ScannerFinds, F
 use Rattle.room_core.specs.Sound.{Agree, IsEntry, IsRightEntry, IsOwed, GenerationsAreSound, ListingsAreSound, OwnersAreSound, WinsAreSound}
 use Rattle.room_core.specs.Wins.{prizes_as, taken_as, won_as, taken_at, won_at}
 use Rattle.room_core.specs.Passes.{CanIdle, idling, caller_idles, IsOver, taken_of}
-use Rattle.room_core.specs.Carried.{IsCarried}
+use Rattle.room_core.specs.Carried.{IsUpheld}
 use Rattle.room_core.specs.State.{State, Caller}
 use Rattle.room_core.proofs.Puts.{at-put, at-puts}
 use Rattle.room_core.proofs.Kept.{IsKept, kept_of, carried}
@@ -152,5 +152,5 @@ module _ (s : State) (p : ℕ) (k : IsKept s) (can : CanIdle s p) where
         (λ generation. omega (arith, w.once p generation, taken_at-now generation, won_at-none (record { generation = (s.caller p).generation; phase = Phase.Idle }) generation refl)) w.once;
   }
 
-pub keeps : (s : State) (pass : ℕ) → IsCarried s → CanIdle s pass → IsCarried (idling s pass)
+pub keeps : (s : State) (pass : ℕ) → IsUpheld s → CanIdle s pass → IsUpheld (idling s pass)
 keeps s pass c can = carried _ (kept s pass (kept_of s c) can) (wins s pass (kept_of s c) can c.sound.wins)

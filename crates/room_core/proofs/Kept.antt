@@ -3,7 +3,7 @@ use Rattle.std.proofs.Common.{◌≢◌, ℕ, ◌≤◌}
 use Rattle.room_core.specs.declared.parts.Stage.{Stage}
 use Rattle.room_core.specs.Gauges.{IsShape}
 use Rattle.room_core.specs.Sound.{ValuesAreSound, DebtsAreSound, ReadingsAreSound, OwnersAreSound, GenerationsAreSound, ListingsAreSound, TallyIsSound, TimeIsSound, WinsAreSound}
-use Rattle.room_core.specs.Carried.{IsCarried, ScannerIsKept}
+use Rattle.room_core.specs.Carried.{IsUpheld, ScannerIsKept}
 use Rattle.room_core.specs.State.{State}
 
 pub record IsKept (s : State) : Type 0 where
@@ -19,7 +19,7 @@ pub record IsKept (s : State) : Type 0 where
   pub opened : (pass : ℕ) → (s.caller pass).stage ≢ Stage.Idle → 1 ≤ (s.session pass).generation
   pub scanners : (k : ℕ) → ScannerIsKept s.shape k (s.scanner k)
 
-pub kept_of : (s : State) → IsCarried s → IsKept s
+pub kept_of : (s : State) → IsUpheld s → IsKept s
 kept_of s c = record {
   shape = c.shape;
   values = c.sound.values;
@@ -34,7 +34,7 @@ kept_of s c = record {
   scanners = c.scanners;
 }
 
-pub carried : (s : State) → IsKept s → WinsAreSound s → IsCarried s
+pub carried : (s : State) → IsKept s → WinsAreSound s → IsUpheld s
 carried s k w = record {
   shape = k.shape;
   sound = record {

@@ -3,7 +3,7 @@ use Rattle.std.proofs.Common.{◌≡◌, ℕ, sym, ap, refl, ◌∙◌, Option, 
 use Rattle.room_core.specs.declared.parts.Meeting.{Meeting}
 use Rattle.room_core.specs.Duty.{IsOpen}
 use Rattle.room_core.specs.Meetings.{CanLearn, learning, scanner_learns, IsMet}
-use Rattle.room_core.specs.Carried.{IsCarried}
+use Rattle.room_core.specs.Carried.{IsUpheld}
 use Rattle.room_core.specs.State.{State}
 use Rattle.room_core.proofs.Puts.{at-put}
 use Rattle.room_core.proofs.Kept.{IsKept, kept_of, carried}
@@ -44,6 +44,6 @@ module _ (s : State) (k pass at : ℕ) (r : IsKept s) (can : CanLearn s k pass a
     };
   }
 
-pub keeps : (s : State) (scanner pass at : ℕ) → IsCarried s → CanLearn s scanner pass at → IsCarried (learning s scanner pass at)
+pub keeps : (s : State) (scanner pass at : ℕ) → IsUpheld s → CanLearn s scanner pass at → IsUpheld (learning s scanner pass at)
 keeps s scanner pass at c can =
     carried _ (kept_by_scanner s scanner _ (kept_of s c) (stays s scanner pass at (kept_of s c) can)) (scanner_wins_nothing s scanner _ refl c.sound.wins)

@@ -22,6 +22,10 @@ pub mod Winners
 pub mod Prizes
 -- a scanner that drops duties and entries
 pub mod Dropping
+-- a change of one table inside the shape
+pub mod Outside
+-- what lies outside the shape, at every event
+pub mod Bounds
 -- Store
 pub mod Storing
 -- Ask
@@ -88,3 +92,13 @@ pub mod ReadingAll
 pub mod ScanPlaces
 -- dead entries, dropped row by row
 pub mod DeadEntries
+-- a session word and its number
+pub mod Packings
+-- the numbers of winners
+pub mod Few
+-- how many exchanges a winner has won
+pub mod Counts
+-- the operation that words describe
+pub mod Described
+-- what the crates above may cite
+pub mod Laws

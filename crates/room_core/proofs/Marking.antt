@@ -9,7 +9,7 @@ use Rattle.room_core.specs.Description.{gauge_of, deadline_of, marked_gauge}
 use Rattle.room_core.specs.Duty.{IsOpen}
 use Rattle.room_core.specs.Sound.{IsEntry, IsRightEntry, IsListed, WinsAreSound}
 use Rattle.room_core.specs.Meetings.{CanMark, marking, scanner_marks, MayMarkNeed, MayMarkClock, generation_met, words_of, entry_for}
-use Rattle.room_core.specs.Carried.{IsCarried, ScannerIsKept}
+use Rattle.room_core.specs.Carried.{IsUpheld, ScannerIsKept}
 use Rattle.room_core.specs.State.{State}
 use Rattle.room_core.proofs.Puts.{put-same, at-place, place-same}
 use Rattle.room_core.proofs.Dropping.{meeting_with, learned_is}
@@ -144,7 +144,7 @@ module _ (s : State) (k pass at : ℕ) (r : IsKept s) (can : CanMark s k pass at
       kept_by_mark (with_scanner s k (scanner_marks s.shape (s.scanner k) pass at)) pass at (generation_met (s.scanner k).meeting)
       (kept_by_scanner s k (scanner_marks s.shape (s.scanner k) pass at) r stays) below listed
 
-pub keeps : (s : State) (scanner pass at : ℕ) → IsCarried s → CanMark s scanner pass at → IsCarried (marking s scanner pass at)
+pub keeps : (s : State) (scanner pass at : ℕ) → IsUpheld s → CanMark s scanner pass at → IsUpheld (marking s scanner pass at)
 keeps s scanner pass at c can =
     let w : WinsAreSound (with_scanner s scanner (scanner_marks s.shape (s.scanner scanner) pass at)) = scanner_wins_nothing s scanner _ refl c.sound.wins in
     carried _ (kept_now s scanner pass at (kept_of s c) can) (record { counted = w.counted; once = w.once })

@@ -12,7 +12,7 @@ use Rattle.room_core.specs.Duty.{IsOpen, met_readings}
 use Rattle.room_core.specs.Sound.{IsEntry}
 use Rattle.room_core.specs.Checks.{IsDuty}
 use Rattle.room_core.specs.Meetings.{CanMeet, scanner_meeting, scanner_meets, met, live_entry, live_duty, is_live, is_open}
-use Rattle.room_core.specs.Carried.{IsCarried}
+use Rattle.room_core.specs.Carried.{IsUpheld}
 use Rattle.room_core.specs.State.{State}
 use Rattle.room_core.proofs.Puts.{at-put}
 use Rattle.room_core.proofs.Tests.{open_phase, live_generation}
@@ -128,6 +128,6 @@ module _ (s : State) (k pass : ℕ) (r : IsKept s) where
     };
   }
 
-pub keeps : (s : State) (scanner pass : ℕ) → IsCarried s → CanMeet s scanner pass → IsCarried (scanner_meeting s scanner pass)
+pub keeps : (s : State) (scanner pass : ℕ) → IsUpheld s → CanMeet s scanner pass → IsUpheld (scanner_meeting s scanner pass)
 keeps s scanner pass c can =
     carried _ (kept_by_scanner s scanner _ (kept_of s c) (stays s scanner pass (kept_of s c))) (scanner_wins_nothing s scanner _ refl c.sound.wins)

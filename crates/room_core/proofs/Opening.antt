@@ -12,7 +12,7 @@ use Rattle.room_core.specs.Duty.{IsOpen, IsLate, OwnerFinds, ShardFinds, Scanner
 use Rattle.room_core.specs.Sound.{Agree, IsEntry, IsRightEntry, IsOwed, GenerationsAreSound, ListingsAreSound, OwnersAreSound, WinsAreSound}
 use Rattle.room_core.specs.Wins.{prizes_as, taken_as, won_as, taken_at, won_at, is_won}
 use Rattle.room_core.specs.Passes.{CanOpen, opening, caller_opens}
-use Rattle.room_core.specs.Carried.{IsCarried}
+use Rattle.room_core.specs.Carried.{IsUpheld}
 use Rattle.room_core.specs.State.{State, Caller}
 use Rattle.room_core.proofs.Puts.{at-put, at-puts}
 use Rattle.room_core.proofs.Tallies.{tally_rises}
@@ -148,5 +148,5 @@ module _ (s : State) (p : ℕ) (k : IsKept s) (can : CanOpen s p) where
         (λ generation. omega (arith, w.once p generation, won_at-none (record { generation = (s.caller p).generation + 1; phase = Open }) generation refl)) w.once;
   }
 
-pub keeps : (s : State) (pass : ℕ) → IsCarried s → CanOpen s pass → IsCarried (opening s pass)
+pub keeps : (s : State) (pass : ℕ) → IsUpheld s → CanOpen s pass → IsUpheld (opening s pass)
 keeps s pass c can = carried _ (kept s pass (kept_of s c) can) (wins s pass (kept_of s c) can c.sound.wins)

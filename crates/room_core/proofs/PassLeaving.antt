@@ -10,7 +10,7 @@ use Rattle.room_core.specs.Readings.{known, read_only}
 use Rattle.room_core.specs.Duty.{OwnerFinds, FindsTally, FindsTime, owner_readings}
 use Rattle.room_core.specs.Sound.{Agree}
 use Rattle.room_core.specs.Checks.{CanLeavePass, pass_leaving, caller_leaves, is_satisfied, is_overdue, AreRead, IsRead}
-use Rattle.room_core.specs.Carried.{IsCarried}
+use Rattle.room_core.specs.Carried.{IsUpheld}
 use Rattle.room_core.specs.State.{State}
 use Rattle.room_core.proofs.Puts.{at-put}
 use Rattle.room_core.proofs.Tallies.{tally_rises, tally_agrees}
@@ -87,6 +87,6 @@ module _ (s : State) (pass gauge : ℕ) (k : IsKept s) (can : CanLeavePass s pas
     taken = refl;
   }
 
-pub keeps : (s : State) (pass gauge : ℕ) → IsCarried s → CanLeavePass s pass gauge → IsCarried (pass_leaving s pass gauge)
+pub keeps : (s : State) (pass gauge : ℕ) → IsUpheld s → CanLeavePass s pass gauge → IsUpheld (pass_leaving s pass gauge)
 keeps s pass gauge c can =
     carried _ (kept_by_caller s pass _ (kept_of s c) (stays s pass gauge (kept_of s c) can)) (caller_wins_nothing s pass _ refl refl c.sound.wins)

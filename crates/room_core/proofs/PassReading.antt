@@ -4,7 +4,7 @@ use Rattle.room_core.specs.Put.{put}
 use Rattle.room_core.specs.Checks.{CanReadPass, pass_reading, caller_reads, is_checking}
 use Rattle.room_core.specs.Readings.{known}
 use Rattle.room_core.specs.Duty.{owner_readings}
-use Rattle.room_core.specs.Carried.{IsCarried}
+use Rattle.room_core.specs.Carried.{IsUpheld}
 use Rattle.room_core.specs.State.{State}
 use Rattle.room_core.proofs.Puts.{at-put}
 use Rattle.room_core.proofs.Finding.{owner_tally, owner_time}
@@ -40,6 +40,6 @@ module _ (s : State) (pass gauge : ℕ) (k : IsKept s) where
     taken = refl;
   }
 
-pub keeps : (s : State) (pass gauge : ℕ) → IsCarried s → CanReadPass s pass gauge → IsCarried (pass_reading s pass gauge)
+pub keeps : (s : State) (pass gauge : ℕ) → IsUpheld s → CanReadPass s pass gauge → IsUpheld (pass_reading s pass gauge)
 keeps s pass gauge c can =
     carried _ (kept_by_caller s pass _ (kept_of s c) (stays s pass gauge (kept_of s c))) (caller_wins_nothing s pass _ refl refl c.sound.wins)

@@ -12,7 +12,7 @@ use Rattle.room_core.specs.Meetings.{is_live}
 use Rattle.room_core.specs.Wins.{prizes_as, taken_as, won_as, taken_at, won_at, wins_of}
 use Rattle.room_core.specs.Passes.{peeked}
 use Rattle.room_core.specs.Checks.{CanWinPass, pass_winning, caller_wins, exchanged}
-use Rattle.room_core.specs.Carried.{IsCarried}
+use Rattle.room_core.specs.Carried.{IsUpheld}
 use Rattle.room_core.specs.State.{State}
 use Rattle.room_core.proofs.Puts.{at-put, put-same}
 use Rattle.room_core.proofs.Words.{kept_by_exchange, with_session}
@@ -91,5 +91,5 @@ module _ (s : State) (p : ℕ) (how : How) (k : IsKept s) (can : CanWinPass s p 
         (won_once s p (s.caller p).generation how (17 + p) k w pass generation);
   }
 
-pub keeps : (s : State) (pass : ℕ) (how : How) → IsCarried s → CanWinPass s pass how → IsCarried (pass_winning s pass how)
+pub keeps : (s : State) (pass : ℕ) (how : How) → IsUpheld s → CanWinPass s pass how → IsUpheld (pass_winning s pass how)
 keeps s pass how c can = carried _ (kept s pass how (kept_of s c) can) (wins s pass how (kept_of s c) can c.sound.wins)

@@ -7,7 +7,7 @@ use Rattle.room_core.specs.declared.parts.Stage.TheVariants.{Listing}
 use Rattle.room_core.specs.Duty.{IsOpen, OwnerFinds, FindsTally, FindsTime}
 use Rattle.room_core.specs.Sound.{Agree}
 use Rattle.room_core.specs.Passes.{CanPeek, peeking, peeked, caller_peeks}
-use Rattle.room_core.specs.Carried.{IsCarried}
+use Rattle.room_core.specs.Carried.{IsUpheld}
 use Rattle.room_core.specs.State.{State}
 use Rattle.room_core.proofs.Kept.{IsKept, kept_of, carried}
 use Rattle.room_core.proofs.Callers.{CallerStays, kept_by_caller}
@@ -47,6 +47,6 @@ module _ (s : State) (pass : ℕ) (k : IsKept s) (busy : (s.caller pass).stage �
     taken = refl;
   }
 
-pub keeps : (s : State) (pass : ℕ) → IsCarried s → CanPeek s pass → IsCarried (peeking s pass)
+pub keeps : (s : State) (pass : ℕ) → IsUpheld s → CanPeek s pass → IsUpheld (peeking s pass)
 keeps s pass c can =
     carried _ (kept_by_caller s pass _ (kept_of s c) (stays s pass (kept_of s c) can.1)) (caller_wins_nothing s pass _ refl refl c.sound.wins)

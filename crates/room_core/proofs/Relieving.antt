@@ -3,7 +3,7 @@ use Rattle.std.proofs.Common.{ℕ, ◌<◌, ◌≤◌, refl, arith}
 use Rattle.std.specs.Prelude.{nat_le, if◌then◌else◌}
 use Rattle.std.proofs.lemmas.Bool.{leb-true}
 use Rattle.room_core.specs.Scans.{CanRelieve, relieving, caller_relieves}
-use Rattle.room_core.specs.Carried.{IsCarried}
+use Rattle.room_core.specs.Carried.{IsUpheld}
 use Rattle.room_core.specs.State.{State}
 use Rattle.room_core.proofs.Puts.{at-put}
 use Rattle.room_core.proofs.Known.{of_either}
@@ -36,6 +36,6 @@ module _ (s : State) (pass gauge : ℕ) (k : IsKept s) where
     taken = refl;
   }
 
-pub keeps : (s : State) (pass gauge : ℕ) → IsCarried s → CanRelieve s pass gauge → IsCarried (relieving s pass gauge)
+pub keeps : (s : State) (pass gauge : ℕ) → IsUpheld s → CanRelieve s pass gauge → IsUpheld (relieving s pass gauge)
 keeps s pass gauge c can =
     carried _ (kept_by_caller s pass _ (kept_of s c) (stays s pass gauge (kept_of s c))) (caller_wins_nothing s pass _ refl refl c.sound.wins)

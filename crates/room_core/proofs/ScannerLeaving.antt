@@ -8,7 +8,7 @@ use Rattle.room_core.specs.Readings.{known, read_only, unread}
 use Rattle.room_core.specs.Duty.{IsOpen, ScannerFinds, FindsTally, FindsTime, met_readings}
 use Rattle.room_core.specs.Meetings.{words_of}
 use Rattle.room_core.specs.Checks.{CanLeaveScanner, scanner_leaving, scanner_leaves, scanner_answers, scanner_takes, scanner_lets_go, is_satisfied, is_overdue, IsDuty}
-use Rattle.room_core.specs.Carried.{IsCarried}
+use Rattle.room_core.specs.Carried.{IsUpheld}
 use Rattle.room_core.specs.State.{State}
 use Rattle.room_core.proofs.Puts.{at-put}
 use Rattle.room_core.proofs.Known.{of_either, unread_below, taken_below, known_taken, met_takes, met_forgets}
@@ -110,7 +110,7 @@ module _ (s : State) (k pass gauge : ℕ) (r : IsKept s) (can : CanLeaveScanner 
       of_either (ScannerStays s k) (scanner_answers s.shape k (words_of (s.scanner k)) (put (s.scanner k).readings gauge (Some (s.value gauge))))
       (scanner_takes (s.scanner k) gauge (s.value gauge)) (scanner_lets_go (s.scanner k) pass) (λ e. taking) letting_go
 
-pub keeps : (s : State) (scanner pass gauge : ℕ) → IsCarried s → CanLeaveScanner s scanner pass gauge → IsCarried (scanner_leaving s scanner pass gauge)
+pub keeps : (s : State) (scanner pass gauge : ℕ) → IsUpheld s → CanLeaveScanner s scanner pass gauge → IsUpheld (scanner_leaving s scanner pass gauge)
 keeps s scanner pass gauge c can =
     carried _ (kept_by_scanner s scanner _ (kept_of s c) (stays s scanner pass gauge (kept_of s c) can))
     (scanner_wins_nothing s scanner _

@@ -5,7 +5,7 @@ use Rattle.room_core.specs.Put.{put}
 use Rattle.room_core.specs.Readings.{known}
 use Rattle.room_core.specs.Duty.{met_readings}
 use Rattle.room_core.specs.Checks.{CanReadScanner, scanner_reading, scanner_reads}
-use Rattle.room_core.specs.Carried.{IsCarried}
+use Rattle.room_core.specs.Carried.{IsUpheld}
 use Rattle.room_core.specs.State.{State}
 use Rattle.room_core.proofs.Finding.{scanner_tally, scanner_time}
 use Rattle.room_core.proofs.Known.{AreBelow, of_either, taken_below, known_taken, met_takes}
@@ -42,6 +42,6 @@ module _ (s : State) (k gauge : ℕ) (r : IsKept s) where
     };
   }
 
-pub keeps : (s : State) (scanner gauge : ℕ) → IsCarried s → CanReadScanner s scanner gauge → IsCarried (scanner_reading s scanner gauge)
+pub keeps : (s : State) (scanner gauge : ℕ) → IsUpheld s → CanReadScanner s scanner gauge → IsUpheld (scanner_reading s scanner gauge)
 keeps s scanner gauge c can =
     carried _ (kept_by_scanner s scanner _ (kept_of s c) (stays s scanner gauge (kept_of s c))) (scanner_wins_nothing s scanner _ refl c.sound.wins)

@@ -16,7 +16,7 @@ use Rattle.room_core.specs.Sound.{IsEntry, WinsAreSound}
 use Rattle.room_core.specs.Meetings.{is_live, is_open, generation_met}
 use Rattle.room_core.specs.Wins.{prizes_as, taken_as, won_as, wins_of}
 use Rattle.room_core.specs.Checks.{CanWinScanner, scanner_winning, scanner_wins, exchanged, other_entry, gauge_of_duty, IsDuty}
-use Rattle.room_core.specs.Carried.{IsCarried}
+use Rattle.room_core.specs.Carried.{IsUpheld}
 use Rattle.room_core.specs.State.{State}
 use Rattle.room_core.proofs.Puts.{at-put, put-same, at-place}
 use Rattle.room_core.proofs.Known.{of_either, unread_below, met_forgets}
@@ -150,5 +150,5 @@ module _ (s : State) (k p : ℕ) (how : How) (r : IsKept s) (can : CanWinScanner
     once = won_once s p (generation_met (s.scanner k).meeting) how k r w;
   }
 
-pub keeps : (s : State) (scanner pass : ℕ) (how : How) → IsCarried s → CanWinScanner s scanner pass how → IsCarried (scanner_winning s scanner pass how)
+pub keeps : (s : State) (scanner pass : ℕ) (how : How) → IsUpheld s → CanWinScanner s scanner pass how → IsUpheld (scanner_winning s scanner pass how)
 keeps s scanner pass how c can = carried _ (kept s scanner pass how (kept_of s c) can) (wins s scanner pass how (kept_of s c) can c.sound.wins)

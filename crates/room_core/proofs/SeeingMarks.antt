@@ -8,7 +8,7 @@ use Rattle.room_core.specs.Description.{IsMark, needs_of, marked_gauge}
 use Rattle.room_core.specs.Duty.{IsOpen, IsOnDuty}
 use Rattle.room_core.specs.Sound.{Agree, IsListed}
 use Rattle.room_core.specs.Passes.{CanSeeMark, seeing_mark, caller_sees_mark, seen_with, all_seen, all_below}
-use Rattle.room_core.specs.Carried.{IsCarried}
+use Rattle.room_core.specs.Carried.{IsUpheld}
 use Rattle.room_core.specs.State.{State}
 use Rattle.room_core.proofs.Puts.{at-put}
 use Rattle.room_core.proofs.Tests.{and_left, and_right}
@@ -77,6 +77,6 @@ module _ (s : State) (pass at : ℕ) (k : IsKept s) (can : CanSeeMark s pass at)
     taken = refl;
   }
 
-pub keeps : (s : State) (pass at : ℕ) → IsCarried s → CanSeeMark s pass at → IsCarried (seeing_mark s pass at)
+pub keeps : (s : State) (pass at : ℕ) → IsUpheld s → CanSeeMark s pass at → IsUpheld (seeing_mark s pass at)
 keeps s pass at c can =
     carried _ (kept_by_caller s pass _ (kept_of s c) (stays s pass at (kept_of s c) can)) (caller_wins_nothing s pass _ refl refl c.sound.wins)

@@ -4,7 +4,7 @@ use Rattle.room_core.specs.Put.{put}
 use Rattle.room_core.specs.Description.{needs_of, gauge_of, tally}
 use Rattle.room_core.specs.Sound.{ValuesAreSound, ReadingsAreSound}
 use Rattle.room_core.specs.Duty.{IsLate, IsOpen, IsSatisfiedNow, IsFoundByTally}
-use Rattle.room_core.specs.Carried.{IsCarried}
+use Rattle.room_core.specs.Carried.{IsUpheld}
 use Rattle.room_core.specs.Scans.{CanStore, storing}
 use Rattle.room_core.specs.State.{State}
 use Rattle.room_core.proofs.Puts.{at-put, at-puts}
@@ -12,7 +12,7 @@ use Rattle.room_core.proofs.Tallies.{late_or, tally_rises}
 use Rattle.room_core.proofs.Finding.{known_rises, tally_knows, time_knows, owner_too, scanner_too, shard_too, either_too}
 use Rattle.room_core.proofs.Kept.{IsKept, carried}
 
-module _ (s : State) (gauge value : ℕ) (c : IsCarried s) (can : CanStore s gauge value) where
+module _ (s : State) (gauge value : ℕ) (c : IsUpheld s) (can : CanStore s gauge value) where
   rises : (g : ℕ) → s.value g ≤ put s.value gauge value g
   rises g = at-put s.value gauge value (λ h x. s.value h ≤ x) (omega (arith, c.sound.values.stored gauge, can.2)) (λ h n. omega arith) g
 
@@ -84,7 +84,7 @@ module _ (s : State) (gauge value : ℕ) (c : IsCarried s) (can : CanStore s gau
     scanners = c.scanners;
   }
 
-pub keeps : (s : State) (gauge value : ℕ) → IsCarried s → CanStore s gauge value → IsCarried (storing s gauge value)
+pub keeps : (s : State) (gauge value : ℕ) → IsUpheld s → CanStore s gauge value → IsUpheld (storing s gauge value)
 keeps s gauge value c can =
     carried (storing s gauge value) (kept s gauge value c can)
     (record { counted = c.sound.wins.counted; once = c.sound.wins.once })

@@ -1,6 +1,7 @@
 -- The events of a check, which a pass makes of its own operation, and a scanner of one that it has met: it reads gauges, and
 -- then leaves the operation or wins it.
 use Rattle.std.specs.Prelude.{◌≡◌, ◌≢◌, ◌⊎◌, ℕ, ◌+◌, ◌*◌, ◌<◌, ◌≤◌, max, Bool, true, false, ◌||◌, ◌==◌, nat_le, if◌then◌else◌, Option, Some, None, is_some, IsSome, List, [], ◌∷◌, ◌++◌}
+use Rattle.room_core.specs.Numbers.{most_needs, clock_scanner, scanner_numbers}
 use Rattle.room_core.specs.declared.shape.Shape.{Shape}
 use Rattle.room_core.specs.declared.event.How.{How}
 use Rattle.room_core.specs.declared.event.How.TheVariants.{Satisfied, Expired}
@@ -75,11 +76,14 @@ caller_leaves shape caller gauge value =
       stage = if is_satisfied caller.description readings || is_overdue shape caller.description readings then Checking else Waiting;
     }
 
+abbrev pub OwnerMayLeave : Shape → ℕ → Caller → ℕ → Type 0
+OwnerMayLeave shape pass caller gauge =
+    IsPass shape pass × IsGauge shape gauge × (caller.stage ≡ Checking) ×
+    AreRead caller.readings gauge caller.description ×
+    IsRead caller.readings gauge (clock_of shape)
+
 abbrev pub CanLeavePass : State → ℕ → ℕ → Type 0
-CanLeavePass s pass gauge =
-    IsPass s.shape pass × IsGauge s.shape gauge × ((s.caller pass).stage ≡ Checking) ×
-    AreRead (s.caller pass).readings gauge (s.caller pass).description ×
-    IsRead (s.caller pass).readings gauge (clock_of s.shape)
+CanLeavePass s pass gauge = OwnerMayLeave s.shape pass (s.caller pass) gauge
 
 abbrev pub pass_leaving : State → ℕ → ℕ → State
 pass_leaving s pass gauge = record s { caller = put s.caller pass (caller_leaves s.shape (s.caller pass) gauge (s.value gauge)) }
@@ -91,7 +95,7 @@ IsDuty (Some duty) generation = duty.generation ≡ generation
 
 -- the number of needs was learned, and every word of theirs
 pub record IsAllLearned (scanner : Scanner) : Type 0 where
-  pub few : needs_of (words_of scanner) ≤ 64
+  pub few : needs_of (words_of scanner) ≤ most_needs
   pub words : (at : ℕ) → at < 3 + 3 * needs_of (words_of scanner) → IsLearned scanner at
 
 -- the scanner has met the pass, has a duty on the operation that it met, and has learned it
@@ -103,7 +107,7 @@ pub record IsOnCheck (scanner : Scanner) (pass : ℕ) : Type 0 where
 -- Leave, by a scanner: a shard's wants each need's gauge, the clock's wants the clock. Where the readings then don't make the
 -- operation answerable, it loses this duty and its meeting.
 abbrev pub scanner_answers : Shape → ℕ → (ℕ → ℕ) → (ℕ → Option ℕ) → Bool
-scanner_answers shape k words readings = if k == 16 then is_overdue shape words readings else is_satisfied words readings
+scanner_answers shape k words readings = if k == clock_scanner then is_overdue shape words readings else is_satisfied words readings
 
 abbrev pub scanner_lets_go : Scanner → ℕ → Scanner
 scanner_lets_go scanner pass = record scanner { duties = put scanner.duties pass None; meeting = None; learned = unread; readings = unread }
@@ -115,11 +119,14 @@ abbrev pub scanner_leaves : Shape → ℕ → Scanner → ℕ → ℕ → ℕ �
 scanner_leaves shape k scanner pass gauge value =
     if scanner_answers shape k (words_of scanner) (put scanner.readings gauge (Some value)) then scanner_takes scanner gauge value else scanner_lets_go scanner pass
 
+abbrev pub ScannerMayLeave : Shape → ℕ → Scanner → ℕ → ℕ → Type 0
+ScannerMayLeave shape k scanner pass gauge =
+    IsScanner shape k × IsPass shape pass × IsGauge shape gauge × IsOnCheck scanner pass ×
+    (k ≢ clock_scanner → AreRead scanner.readings gauge (words_of scanner)) ×
+    (k ≡ clock_scanner → IsRead scanner.readings gauge (clock_of shape))
+
 abbrev pub CanLeaveScanner : State → ℕ → ℕ → ℕ → Type 0
-CanLeaveScanner s scanner pass gauge =
-    IsScanner s.shape scanner × IsPass s.shape pass × IsGauge s.shape gauge × IsOnCheck (s.scanner scanner) pass ×
-    (scanner ≢ 16 → AreRead (s.scanner scanner).readings gauge (words_of (s.scanner scanner))) ×
-    (scanner ≡ 16 → IsRead (s.scanner scanner).readings gauge (clock_of s.shape))
+CanLeaveScanner s scanner pass gauge = ScannerMayLeave s.shape scanner (s.scanner scanner) pass gauge
 
 abbrev pub scanner_leaving : State → ℕ → ℕ → ℕ → State
 scanner_leaving s scanner pass gauge = record s {
@@ -143,17 +150,19 @@ with_prize session generation wins prize = if is_live session generation then wi
 -- at the generation, it is won by the pass, which has one win more. In either case the pass is Over, as the word then says.
 abbrev pub caller_wins : Caller → ℕ → How → Session → Caller
 caller_wins caller pass how session = record caller {
-  stage = peeked (exchanged session caller.generation how (17 + pass)).phase caller.stage;
+  stage = peeked (exchanged session caller.generation how (scanner_numbers + pass)).phase caller.stage;
   wins = with_prize session caller.generation caller.wins (record { pass = pass; generation = caller.generation; how = how });
 }
 
+abbrev pub OwnerMayWin : Shape → ℕ → Caller → How → Type 0
+OwnerMayWin shape pass caller how = IsPass shape pass × (caller.stage ≡ Checking) × IsWon shape how caller.description caller.readings
+
 abbrev pub CanWinPass : State → ℕ → How → Type 0
-CanWinPass s pass how =
-    IsPass s.shape pass × ((s.caller pass).stage ≡ Checking) × IsWon s.shape how (s.caller pass).description (s.caller pass).readings
+CanWinPass s pass how = OwnerMayWin s.shape pass (s.caller pass) how
 
 abbrev pub pass_winning : State → ℕ → How → State
 pass_winning s pass how = record s {
-  session = put s.session pass (exchanged (s.session pass) (s.caller pass).generation how (17 + pass));
+  session = put s.session pass (exchanged (s.session pass) (s.caller pass).generation how (scanner_numbers + pass));
   caller = put s.caller pass (caller_wins (s.caller pass) pass how (s.session pass));
 }
 
@@ -168,8 +177,8 @@ other_entry None generation = None
 other_entry (Some entry) generation = if entry.generation == generation then None else Some entry
 
 abbrev pub MayWin : ℕ → How → Type 0
-MayWin scanner Satisfied = scanner ≢ 16
-MayWin scanner Expired = scanner ≡ 16
+MayWin scanner Satisfied = scanner ≢ clock_scanner
+MayWin scanner Expired = scanner ≡ clock_scanner
 
 abbrev pub scanner_wins : Scanner → ℕ → How → Session → Scanner
 scanner_wins scanner pass how session =
@@ -184,10 +193,13 @@ scanner_wins scanner pass how session =
       wins = with_prize session generation scanner.wins (record { pass = pass; generation = generation; how = how });
     }
 
+abbrev pub ScannerMayWin : Shape → ℕ → Scanner → ℕ → How → Type 0
+ScannerMayWin shape k scanner pass how =
+    IsScanner shape k × IsPass shape pass × IsOnCheck scanner pass × MayWin k how ×
+    IsWon shape how (words_of scanner) scanner.readings
+
 abbrev pub CanWinScanner : State → ℕ → ℕ → How → Type 0
-CanWinScanner s scanner pass how =
-    IsScanner s.shape scanner × IsPass s.shape pass × IsOnCheck (s.scanner scanner) pass × MayWin scanner how ×
-    IsWon s.shape how (words_of (s.scanner scanner)) (s.scanner scanner).readings
+CanWinScanner s scanner pass how = ScannerMayWin s.shape scanner (s.scanner scanner) pass how
 
 abbrev pub scanner_winning : State → ℕ → ℕ → How → State
 scanner_winning s scanner pass how = record s {

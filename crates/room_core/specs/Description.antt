@@ -1,6 +1,7 @@
 -- A description is a table of words: the least tally, the deadline, the number of needs, and of each need its gauge, start
 -- and cap.
 use Rattle.std.specs.Prelude.{◌≡◌, ◌≢◌, ◌⊎◌, ℕ, zero, suc, ◌+◌, ◌*◌, ◌^◌, ◌<◌, ◌≤◌, ◌==◌, if◌then◌else◌}
+use Rattle.room_core.specs.Numbers.{most_needs, clock_mark}
 use Rattle.opcond.specs.declared.need.Need.{Need}
 use Rattle.opcond.specs.Tally.{counted}
 use Rattle.room_core.specs.declared.shape.Shape.{Shape}
@@ -24,7 +25,7 @@ need_of words i = record { gauge = words (3 + 3 * i); start = words (4 + 3 * i);
 
 -- at most 64 needs, of distinct gauges, each there and not the clock; the caps and the least tally below 2^31
 pub record IsOperation (shape : Shape) (words : ℕ → ℕ) : Type 0 where
-  pub few : needs_of words ≤ 64
+  pub few : needs_of words ≤ most_needs
   pub gauges : (i : ℕ) → i < needs_of words → gauge_of words i < clock_of shape
   pub distinct : (i j : ℕ) → i < j → j < needs_of words → gauge_of words i ≢ gauge_of words j
   pub caps : (i : ℕ) → i < needs_of words → words (5 + 3 * i) < 2 ^ 31
@@ -47,8 +48,8 @@ IsOverdue words moment = deadline_of words ≤ moment
 
 -- the number of a mark: a need's, or 64 for the clock's
 abbrev pub IsMark : (ℕ → ℕ) → ℕ → Type 0
-IsMark words i = (i < needs_of words) ⊎ (i ≡ 64)
+IsMark words i = (i < needs_of words) ⊎ (i ≡ clock_mark)
 
 -- the gauge under which the operation is listed for a mark
 unfoldable pub marked_gauge : Shape → (ℕ → ℕ) → ℕ → ℕ
-marked_gauge shape words i = if i == 64 then clock_of shape else gauge_of words i
+marked_gauge shape words i = if i == clock_mark then clock_of shape else gauge_of words i

@@ -1,6 +1,7 @@
 -- Who has the duty to find an open operation answerable, and who finds it so: by what it has read, and by the present values
 -- of the gauges that it hasn't read.
 use Rattle.std.specs.Prelude.{◌≡◌, ◌⊎◌, ℕ, ◌<◌, ◌≤◌, Bool, false, ◌==◌, if◌then◌else◌, Option, Some, None, ⊤}
+use Rattle.room_core.specs.Numbers.{clock_scanner}
 use Rattle.room_core.specs.declared.shape.Shape.{Shape}
 use Rattle.room_core.specs.declared.parts.Phase.TheVariants.{Open}
 use Rattle.room_core.specs.declared.parts.Stage.{Stage}
@@ -45,7 +46,7 @@ pub record ScannerFinds (finds : (ℕ → Option ℕ) → Type 0) (scanner : Sca
 -- a shard's scanner does
 pub record ShardFinds (finds : (ℕ → Option ℕ) → Type 0) (scanner : ℕ → Scanner) (pass generation : ℕ) : Type 0 where
   pub number : ℕ
-  pub shard : number < 16
+  pub shard : number < clock_scanner
   pub here : ScannerFinds finds (scanner number) pass generation
 
 -- the tally over readings and present values is reached
@@ -69,7 +70,7 @@ IsFoundByTally s pass =
 abbrev pub IsFoundByTime : State → ℕ → Type 0
 IsFoundByTime s pass =
     OwnerFinds (FindsTime s.shape (s.description pass) s.value) (s.caller pass) ⊎
-    ScannerFinds (FindsTime s.shape (s.description pass) s.value) (s.scanner 16) pass (s.session pass).generation
+    ScannerFinds (FindsTime s.shape (s.description pass) s.value) (s.scanner clock_scanner) pass (s.session pass).generation
 
 -- a need's gauge has a value for which no scan was begun
 pub record IsLate (words value begun : ℕ → ℕ) : Type 0 where

@@ -1,5 +1,6 @@
 -- Gauges, passes and scanners of a shape.
 use Rattle.std.specs.Prelude.{◌≡◌, ◌⊎◌, ℕ, ◌-◌, ◌%◌, ◌<◌, ◌==◌, if◌then◌else◌}
+use Rattle.room_core.specs.Numbers.{clock_scanner}
 use Rattle.room_core.specs.declared.shape.Shape.{Shape}
 
 abbrev pub IsGauge : Shape → ℕ → Type 0
@@ -10,7 +11,7 @@ IsPass shape pass = pass < shape.passes
 
 -- the shards' scanners are numbered from 0; the clock's scanner always has the number 16
 abbrev pub IsScanner : Shape → ℕ → Type 0
-IsScanner shape scanner = (scanner < shape.scanners - 1) ⊎ (scanner ≡ 16)
+IsScanner shape scanner = (scanner < shape.scanners - 1) ⊎ (scanner ≡ clock_scanner)
 
 -- the last gauge is the clock
 abbrev pub clock_of : Shape → ℕ
@@ -18,7 +19,7 @@ clock_of shape = shape.gauges - 1
 
 -- the scanner that scans a gauge
 unfoldable pub scanner_of : Shape → ℕ → ℕ
-scanner_of shape gauge = if gauge == clock_of shape then 16 else gauge % (shape.scanners - 1)
+scanner_of shape gauge = if gauge == clock_of shape then clock_scanner else gauge % (shape.scanners - 1)
 
 -- the gauge is there, and it is the scanner's
 pub record IsGaugeOf (shape : Shape) (scanner gauge : ℕ) : Type 0 where

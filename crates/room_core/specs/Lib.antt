@@ -1,3 +1,5 @@
+-- the numbers that bound a room
+pub mod Numbers
 -- functions of a number, and one of their values given anew
 pub mod Put
 -- the state of the room: words by number, and a part for each source, caller and scanner
@@ -20,10 +22,20 @@ pub mod Checks
 pub mod Step
 -- who has the duty to find an operation answerable
 pub mod Duty
+-- a session word as a number
+pub mod Packing
+-- the words of the room as numbers
+pub mod Words
 -- how often an exchange stands in a winner's wins, in a word and among what was taken
 pub mod Wins
+-- how many exchanges of a winner were taken, and how many stand in words
+pub mod Counts
+-- the operation that words describe
+pub mod Described
 -- the nine facts of a sound state
 pub mod Sound
+-- what lies outside the shape
+pub mod Within
 -- what is carried from event to event: soundness, and what keeps it
 pub mod Carried
 -- a state in which nothing is left to do

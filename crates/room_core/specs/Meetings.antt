@@ -1,5 +1,6 @@
 -- The events of a scanner that meets a pass: it looks whether the operation is open, learns it, and lists it.
 use Rattle.std.specs.Prelude.{◌≡◌, ◌≢◌, ◌⊎◌, ℕ, ◌+◌, ◌*◌, ◌<◌, Bool, true, false, ◌&&◌, ◌==◌, if◌then◌else◌, Option, Some, None, IsSome}
+use Rattle.room_core.specs.Numbers.{description_words, most_needs, clock_mark, clock_scanner}
 use Rattle.room_core.specs.declared.shape.Shape.{Shape}
 use Rattle.room_core.specs.declared.parts.Phase.{Phase}
 use Rattle.room_core.specs.declared.parts.Phase.TheVariants.{Open, Won}
@@ -63,8 +64,11 @@ generation_met (Some meeting) = meeting.generation
 abbrev pub scanner_learns : Scanner → ℕ → ℕ → Scanner
 scanner_learns scanner at word = record scanner { learned = put scanner.learned at (Some word) }
 
+abbrev pub MayLearn : Shape → ℕ → Scanner → ℕ → ℕ → Type 0
+MayLearn shape k scanner pass at = IsScanner shape k × IsPass shape pass × (at < description_words) × IsMet scanner.meeting pass
+
 abbrev pub CanLearn : State → ℕ → ℕ → ℕ → Type 0
-CanLearn s scanner pass at = IsScanner s.shape scanner × IsPass s.shape pass × (at < 195) × IsMet (s.scanner scanner).meeting pass
+CanLearn s scanner pass at = MayLearn s.shape scanner (s.scanner scanner) pass at
 
 abbrev pub learning : State → ℕ → ℕ → ℕ → State
 learning s scanner pass at = record s { scanner = put s.scanner scanner (scanner_learns (s.scanner scanner) at (s.description pass at)) }
@@ -78,7 +82,7 @@ words_of scanner = read_only scanner.learned
 
 -- the number of needs was learned and is above the mark's number, and the need's gauge was learned and is the scanner's
 pub record MayMarkNeed (shape : Shape) (k : ℕ) (scanner : Scanner) (at : ℕ) : Type 0 where
-  pub need : at < 64
+  pub need : at < most_needs
   pub count : IsLearned scanner 2
   pub within : at < needs_of (words_of scanner)
   pub gauge : IsLearned scanner (3 + 3 * at)
@@ -87,15 +91,15 @@ pub record MayMarkNeed (shape : Shape) (k : ℕ) (scanner : Scanner) (at : ℕ) 
 
 -- the mark of the clock's listing: the deadline was learned, and it is the clock's scanner
 pub record MayMarkClock (k : ℕ) (scanner : Scanner) (at : ℕ) : Type 0 where
-  pub clock : at ≡ 64
+  pub clock : at ≡ clock_mark
   pub deadline : IsLearned scanner 1
-  pub own : k ≡ 16
+  pub own : k ≡ clock_scanner
 
 -- the entry of a mark
 abbrev pub entry_for : Scanner → ℕ → Entry
 entry_for scanner at = record {
   generation = generation_met scanner.meeting;
-  deadline = if at == 64 then deadline_of (words_of scanner) else 0;
+  deadline = if at == clock_mark then deadline_of (words_of scanner) else 0;
 }
 
 -- Mark: the meeting is of this pass, and its generation is marked. The entry stands in the listing in place of an older one
@@ -105,8 +109,11 @@ scanner_marks shape scanner pass at =
     let gauge = marked_gauge shape (words_of scanner) at in
     record scanner { listing = put scanner.listing gauge (put (scanner.listing gauge) pass (Some (entry_for scanner at))) }
 
+abbrev pub MayMark : Shape → ℕ → Scanner → ℕ → ℕ → Type 0
+MayMark shape k scanner pass at = IsScanner shape k × IsPass shape pass × IsMet scanner.meeting pass × (MayMarkNeed shape k scanner at ⊎ MayMarkClock k scanner at)
+
 abbrev pub CanMark : State → ℕ → ℕ → ℕ → Type 0
-CanMark s scanner pass at = IsScanner s.shape scanner × IsPass s.shape pass × IsMet (s.scanner scanner).meeting pass × (MayMarkNeed s.shape scanner (s.scanner scanner) at ⊎ MayMarkClock scanner (s.scanner scanner) at)
+CanMark s scanner pass at = MayMark s.shape scanner (s.scanner scanner) pass at
 
 abbrev pub marking : State → ℕ → ℕ → ℕ → State
 marking s scanner pass at = record s {

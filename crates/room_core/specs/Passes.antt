@@ -1,6 +1,8 @@
 -- The events of a pass as the owner of its operation: it describes and opens it, sees it listed, sees how it ended, and takes
 -- that.
 use Rattle.std.specs.Prelude.{◌≡◌, ◌≢◌, ℕ, zero, suc, ◌+◌, ◌-◌, ◌^◌, ◌<◌, ◌≤◌, Bool, true, false, ◌&&◌, ◌==◌, if◌then◌else◌, List, [], ◌∷◌, ◌++◌, ⊤}
+use Rattle.room_core.specs.Numbers.{description_words, clock_mark}
+use Rattle.room_core.specs.declared.shape.Shape.{Shape}
 use Rattle.room_core.specs.declared.parts.Phase.{Phase}
 use Rattle.room_core.specs.declared.parts.Phase.TheVariants.{Open, Won}
 use Rattle.room_core.specs.declared.parts.Stage.{Stage}
@@ -16,8 +18,11 @@ use Rattle.room_core.specs.State.{State, Caller}
 abbrev pub caller_describes : Caller → ℕ → ℕ → Caller
 caller_describes caller at word = record caller { description = put caller.description at word }
 
+abbrev pub MayDescribe : Shape → ℕ → Caller → ℕ → Type 0
+MayDescribe shape pass caller at = IsPass shape pass × (at < description_words) × (caller.stage ≡ Stage.Idle)
+
 abbrev pub CanDescribe : State → ℕ → ℕ → Type 0
-CanDescribe s pass at = IsPass s.shape pass × (at < 195) × ((s.caller pass).stage ≡ Stage.Idle)
+CanDescribe s pass at = MayDescribe s.shape pass (s.caller pass) at
 
 abbrev pub describing : State → ℕ → ℕ → ℕ → State
 describing s pass at word = record s {
@@ -35,8 +40,11 @@ caller_opens caller = record caller {
   readings = unread;
 }
 
+abbrev pub MayOpen : Shape → ℕ → Caller → Type 0
+MayOpen shape pass caller = IsPass shape pass × (caller.stage ≡ Stage.Idle) × IsOperation shape caller.description × (caller.generation < 2 ^ 32 - 1)
+
 abbrev pub CanOpen : State → ℕ → Type 0
-CanOpen s pass = IsPass s.shape pass × ((s.caller pass).stage ≡ Stage.Idle) × IsOperation s.shape (s.caller pass).description × ((s.caller pass).generation < 2 ^ 32 - 1)
+CanOpen s pass = MayOpen s.shape pass (s.caller pass)
 
 abbrev pub opening : State → ℕ → State
 opening s pass = record s {
@@ -51,7 +59,7 @@ all_below f (suc n) = all_below f n && f n
 
 -- every mark of the operation
 abbrev pub all_seen : (ℕ → ℕ) → (ℕ → Bool) → Bool
-all_seen words seen = all_below seen (needs_of words) && seen 64
+all_seen words seen = all_below seen (needs_of words) && seen clock_mark
 
 -- Marked: the pass is Listing, and the mark is one of its operation's. It is seen where it holds the generation; with the
 -- last one the pass is Checking, and has no readings.
@@ -65,8 +73,11 @@ caller_sees_mark caller at mark = record caller {
   readings = unread;
 }
 
+abbrev pub MaySeeMark : Shape → ℕ → Caller → ℕ → Type 0
+MaySeeMark shape pass caller at = IsPass shape pass × (at ≤ clock_mark) × (caller.stage ≡ Listing) × IsMark caller.description at
+
 abbrev pub CanSeeMark : State → ℕ → ℕ → Type 0
-CanSeeMark s pass at = IsPass s.shape pass × (at ≤ 64) × ((s.caller pass).stage ≡ Listing) × IsMark (s.caller pass).description at
+CanSeeMark s pass at = MaySeeMark s.shape pass (s.caller pass) at
 
 abbrev pub seeing_mark : State → ℕ → ℕ → State
 seeing_mark s pass at = record s { caller = put s.caller pass (caller_sees_mark (s.caller pass) at (s.marks pass at)) }
@@ -80,8 +91,11 @@ peeked Open stage = stage
 abbrev pub caller_peeks : Caller → Phase → Caller
 caller_peeks caller phase = record caller { stage = peeked phase caller.stage }
 
+abbrev pub MayPeek : Shape → ℕ → Caller → Type 0
+MayPeek shape pass caller = IsPass shape pass × (caller.stage ≢ Stage.Idle)
+
 abbrev pub CanPeek : State → ℕ → Type 0
-CanPeek s pass = IsPass s.shape pass × ((s.caller pass).stage ≢ Stage.Idle)
+CanPeek s pass = MayPeek s.shape pass (s.caller pass)
 
 abbrev pub peeking : State → ℕ → State
 peeking s pass = record s { caller = put s.caller pass (caller_peeks (s.caller pass) (s.session pass).phase) }
@@ -105,8 +119,11 @@ taken_of Waiting generation = []
 abbrev pub caller_idles : Caller → Caller
 caller_idles caller = record caller { stage = Stage.Idle; taken = caller.taken ++ taken_of caller.stage caller.generation }
 
+abbrev pub MayIdle : Shape → ℕ → Caller → Type 0
+MayIdle shape pass caller = IsPass shape pass × IsOver caller.stage
+
 abbrev pub CanIdle : State → ℕ → Type 0
-CanIdle s pass = IsPass s.shape pass × IsOver (s.caller pass).stage
+CanIdle s pass = MayIdle s.shape pass (s.caller pass)
 
 abbrev pub idling : State → ℕ → State
 idling s pass = record s {

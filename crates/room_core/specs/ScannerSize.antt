@@ -1,6 +1,7 @@
 -- A scanner's tables by gauge have a place for each gauge, those by pass one for each pass, and that of a description's words
 -- one for each of 195. A listing has a row for each gauge, with a place for each pass.
 use Rattle.std.specs.Prelude.{◌≡◌, ℕ, Vec, Option, All, length}
+use Rattle.room_core.specs.Numbers.{description_words}
 use Rattle.std.specs.declared.alloc.Global.{Global}
 use Rattle.room_core.specs.declared.shape.Shape.{Shape}
 use Rattle.room_core.specs.declared.parts.Entry.{Entry}
@@ -11,5 +12,5 @@ pub record ScannerIsSized (shape : Shape) (began : Vec ℕ Global) (listing : Ve
   pub listing_size : length listing.items ≡ shape.gauges
   pub listing_rows : All (λ row. length row.items ≡ shape.passes) listing.items
   pub duties_size : length duties.items ≡ shape.passes
-  pub learned_size : length learned.items ≡ 195
+  pub learned_size : length learned.items ≡ description_words
   pub readings_size : length readings.items ≡ shape.gauges

@@ -12,8 +12,11 @@ use Rattle.room_core.specs.Readings.{unread}
 use Rattle.room_core.specs.State.{State, Caller, Scanner}
 
 -- Store: the source isn't loud, and the value is at least that stored. The value is stored, and the source is loud.
+abbrev pub MayStore : Shape → ℕ → Source → ℕ → Type 0
+MayStore shape gauge source value = IsGauge shape gauge × (source.loud ≡ false) × (source.stored ≤ value)
+
 abbrev pub CanStore : State → ℕ → ℕ → Type 0
-CanStore s gauge value = IsGauge s.shape gauge × ((s.source gauge).loud ≡ false) × ((s.source gauge).stored ≤ value)
+CanStore s gauge value = MayStore s.shape gauge (s.source gauge) value
 
 abbrev pub storing : State → ℕ → ℕ → State
 storing s gauge value = record s {
@@ -25,8 +28,11 @@ storing s gauge value = record s {
 abbrev pub caller_asks : Caller → ℕ → ℕ → Caller
 caller_asks caller gauge value = record caller { owed = put caller.owed gauge (max (caller.owed gauge) value) }
 
+abbrev pub MayAsk : Shape → ℕ → Caller → ℕ → ℕ → Type 0
+MayAsk shape pass caller gauge value = IsPass shape pass × IsGauge shape gauge × (value ≤ caller.greatest gauge)
+
 abbrev pub CanAsk : State → ℕ → ℕ → ℕ → Type 0
-CanAsk s pass gauge value = IsPass s.shape pass × IsGauge s.shape gauge × (value ≤ (s.caller pass).greatest gauge)
+CanAsk s pass gauge value = MayAsk s.shape pass (s.caller pass) gauge value
 
 abbrev pub asking : State → ℕ → ℕ → ℕ → State
 asking s pass gauge value = record s {
@@ -51,8 +57,11 @@ HasNoDuty scanner = (pass : ℕ) → scanner.duties pass ≡ None
 abbrev pub scanner_hears : Scanner → ℕ → ℕ → Scanner
 scanner_hears scanner gauge asked = record scanner { heard = Some (record { gauge = gauge; number = asked }) }
 
+abbrev pub MayHear : Shape → ℕ → Scanner → ℕ → Type 0
+MayHear shape k scanner gauge = IsScanner shape k × IsGaugeOf shape k gauge × HasNoDuty scanner
+
 abbrev pub CanHear : State → ℕ → ℕ → Type 0
-CanHear s scanner gauge = IsScanner s.shape scanner × IsGaugeOf s.shape scanner gauge × HasNoDuty (s.scanner scanner)
+CanHear s scanner gauge = MayHear s.shape scanner (s.scanner scanner) gauge
 
 abbrev pub hearing : State → ℕ → ℕ → State
 hearing s scanner gauge = record s { scanner = put s.scanner scanner (scanner_hears (s.scanner scanner) gauge (s.asked gauge)) }
@@ -85,8 +94,11 @@ scanner_begins shape scanner gauge begun = record scanner {
   duties = λ pass. duty_of shape gauge begun (number_heard scanner.heard) (scanner.listing gauge pass);
 }
 
+abbrev pub MayBegin : Shape → ℕ → Scanner → ℕ → Type 0
+MayBegin shape k scanner gauge = IsScanner shape k × IsGauge shape gauge × IsHeard scanner.heard gauge × HasNoDuty scanner
+
 abbrev pub CanBegin : State → ℕ → ℕ → Type 0
-CanBegin s scanner gauge = IsScanner s.shape scanner × IsGauge s.shape gauge × IsHeard (s.scanner scanner).heard gauge × HasNoDuty (s.scanner scanner)
+CanBegin s scanner gauge = MayBegin s.shape scanner (s.scanner scanner) gauge
 
 abbrev pub beginning : State → ℕ → ℕ → State
 beginning s scanner gauge = record s {

@@ -1,5 +1,6 @@
 -- Tables by gauge have a place for each gauge, those by pass one for each pass, and that by scanner 17; the room has a shape.
 use Rattle.std.specs.Prelude.{◌≡◌, ℕ, Vec, All, length}
+use Rattle.room_core.specs.Numbers.{scanner_numbers}
 use Rattle.std.specs.declared.alloc.Global.{Global}
 use Rattle.room_core.specs.declared.shape.Shape.{Shape}
 use Rattle.room_core.specs.declared.parts.Source.{Source}
@@ -15,5 +16,5 @@ pub record AreSized (shape : Shape) (value asked begun : Vec ℕ Global) (source
   pub source_size : length source.items ≡ shape.gauges
   pub caller_size : length caller.items ≡ shape.passes
   pub caller_shape : All (λ c. c.shape ≡ shape) caller.items
-  pub scanner_size : length scanner.items ≡ 17
+  pub scanner_size : length scanner.items ≡ scanner_numbers
   pub scanner_shape : All (λ c. c.shape ≡ shape) scanner.items

@@ -1,5 +1,6 @@
 -- The nine facts of a sound state.
 use Rattle.std.specs.Prelude.{◌≡◌, ◌≢◌, ◌⊎◌, ℕ, ◌+◌, ◌<◌, ◌≤◌, true, Option, Some, None}
+use Rattle.room_core.specs.Numbers.{clock_mark}
 use Rattle.room_core.specs.declared.event.How.{How}
 use Rattle.room_core.specs.declared.parts.Phase.{Phase}
 use Rattle.room_core.specs.declared.parts.Phase.TheVariants.{Won}
@@ -97,9 +98,9 @@ IsRightEntry s gauge pass entry =
 -- by an owner whose generation is open. An open operation whose owner isn't Listing has all its entries. An entry of an open
 -- generation has a gauge of the operation, and the clock's entry its deadline.
 pub record ListingsAreSound (s : State) : Type 0 where
-  pub marked : (pass i : ℕ) → IsOpen s pass → i ≤ 64 → s.marks pass i ≡ (s.session pass).generation
+  pub marked : (pass i : ℕ) → IsOpen s pass → i ≤ clock_mark → s.marks pass i ≡ (s.session pass).generation
       → IsListed s (marked_gauge s.shape (s.description pass) i) pass
-  pub seen : (pass i : ℕ) → IsOpen s pass → i ≤ 64 → (s.caller pass).seen i ≡ true
+  pub seen : (pass i : ℕ) → IsOpen s pass → i ≤ clock_mark → (s.caller pass).seen i ≡ true
       → IsListed s (marked_gauge s.shape (s.description pass) i) pass
   pub complete : (pass i : ℕ) → IsOpen s pass → (s.caller pass).stage ≢ Listing → IsMark (s.description pass) i
       → IsListed s (marked_gauge s.shape (s.description pass) i) pass

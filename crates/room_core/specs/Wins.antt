@@ -1,5 +1,6 @@
 -- How often an exchange stands in a winner's wins, among what its pass has taken, and in the pass's word.
 use Rattle.std.specs.Prelude.{ℕ, ◌-◌, Bool, true, false, ◌&&◌, ◌==◌, nat_lt, if◌then◌else◌, List, count_by}
+use Rattle.room_core.specs.Numbers.{scanner_numbers}
 use Rattle.room_core.specs.declared.event.How.{How}
 use Rattle.room_core.specs.declared.event.How.TheVariants.{Satisfied, Expired}
 use Rattle.room_core.specs.declared.parts.Phase.{Phase}
@@ -52,4 +53,4 @@ won_at session generation = if (session.generation == generation) && is_won sess
 
 -- winners are numbered: the scanners by their own numbers, and pass p is 17 + p
 unfoldable pub wins_of : (ℕ → Scanner) → (ℕ → Caller) → ℕ → List Prize
-wins_of scanner caller by = if nat_lt by 17 then (scanner by).wins else (caller (by - 17)).wins
+wins_of scanner caller by = if nat_lt by scanner_numbers then (scanner by).wins else (caller (by - scanner_numbers)).wins

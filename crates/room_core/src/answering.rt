@@ -7,6 +7,7 @@ ghost use Rattle.room_core.specs.Readings.{read_only};
 
 use crate::event::How;
 use crate::gauges::clock;
+use crate::numbers::{DESCRIPTION_WORDS, MOST_NEEDS};
 use crate::shape::Shape;
 
 /// What was read of a gauge, and 0 where nothing was.
@@ -31,8 +32,8 @@ pub(crate) fn has_read(readings: &[Option<u64>], gauge: u64) -> bool
 
 /// What counts of a need.
 fn part_of(words: &[u64], i: usize, readings: &[Option<u64>]) -> u64
-    requires words { length words.now ≡ 195 }
-    requires need { i < 64 }
+    requires words { length words.now ≡ DESCRIPTION_WORDS }
+    requires need { i < MOST_NEEDS }
     ensures { result ≡ counted (need_of (table words.now 0) i) (read_only (table readings.now Nothing) (gauge_of (table words.now 0) i)) }
 {
     let value = read_of(readings, words[3 + 3 * i]);
@@ -42,10 +43,10 @@ fn part_of(words: &[u64], i: usize, readings: &[Option<u64>]) -> u64
 
 /// Whether the readings satisfy the operation. Words past the 64th need count nothing.
 pub(crate) fn is_satisfied(words: &[u64], readings: &[Option<u64>]) -> bool
-    requires { length words.now ≡ 195 }
+    requires { length words.now ≡ DESCRIPTION_WORDS }
     ensures { result ≡ is_satisfied (table words.now 0) (table readings.now Nothing) }
 {
-    let needs = words[2].min(64);
+    let needs = words[2].min(MOST_NEEDS);
     let mut left = words[0];
     for i in 0..needs as usize {
         left = left.saturating_sub(part_of(words, i, readings));
@@ -55,7 +56,7 @@ pub(crate) fn is_satisfied(words: &[u64], readings: &[Option<u64>]) -> bool
 
 /// Whether the clock was read at the deadline or past it.
 pub(crate) fn is_overdue(shape: Shape, words: &[u64], readings: &[Option<u64>]) -> bool
-    requires { length words.now ≡ 195 }
+    requires { length words.now ≡ DESCRIPTION_WORDS }
     ensures { result ≡ is_overdue shape (table words.now 0) (table readings.now Nothing) }
 {
     words[1] <= read_of(readings, u64::from(clock(shape)))
@@ -63,7 +64,7 @@ pub(crate) fn is_overdue(shape: Shape, words: &[u64], readings: &[Option<u64>]) 
 
 /// Whether the readings show that the operation is won in this way.
 pub(crate) fn is_won(shape: Shape, how: How, words: &[u64], readings: &[Option<u64>]) -> bool
-    requires { length words.now ≡ 195 }
+    requires { length words.now ≡ DESCRIPTION_WORDS }
     ensures { IsTrue result ↔ IsWon shape how (table words.now 0) (table readings.now Nothing) }
 {
     match how {
@@ -76,11 +77,11 @@ pub(crate) fn is_won(shape: Shape, how: How, words: &[u64], readings: &[Option<u
 
 /// The gauge of a need, and 0 past the description's end.
 fn gauge_of(words: &[u64], i: usize) -> u64
-    requires words { length words.now ≡ 195 }
-    requires need { i ≤ 64 }
+    requires words { length words.now ≡ DESCRIPTION_WORDS }
+    requires need { i ≤ MOST_NEEDS }
     ensures { result ≡ gauge_of (table words.now 0) i }
 {
-    if i == 64 {
+    if i as u64 == MOST_NEEDS {
         return 0;
     }
     words[3 + 3 * i]
@@ -95,10 +96,10 @@ pub(crate) fn is_read(readings: &[Option<u64>], last: u32, gauge: u64) -> bool
 
 /// Whether each need's gauge was read, or is the one that is read last. All needs past the 64th read the same words.
 pub(crate) fn are_read(words: &[u64], readings: &[Option<u64>], last: u32) -> bool
-    requires { length words.now ≡ 195 }
+    requires { length words.now ≡ DESCRIPTION_WORDS }
     ensures { IsTrue result ↔ AreRead (table readings.now Nothing) last (table words.now 0) }
 {
-    let needs = words[2].min(65);
+    let needs = words[2].min(MOST_NEEDS + 1);
     for i in 0..needs as usize {
         if !is_read(readings, last, gauge_of(words, i)) {
             return false;
@@ -109,7 +110,7 @@ pub(crate) fn are_read(words: &[u64], readings: &[Option<u64>], last: u32) -> bo
 
 /// Whether the readings make the operation answerable.
 pub(crate) fn is_answerable(shape: Shape, words: &[u64], readings: &[Option<u64>]) -> bool
-    requires { length words.now ≡ 195 }
+    requires { length words.now ≡ DESCRIPTION_WORDS }
     ensures { result ≡ (is_satisfied (table words.now 0) (table readings.now Nothing)
         || is_overdue shape (table words.now 0) (table readings.now Nothing)) }
 {

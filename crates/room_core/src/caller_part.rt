@@ -4,7 +4,8 @@ ghost use Rattle.room_core.specs.Scans.{caller_asks, caller_relieves};
 ghost use Rattle.room_core.specs.CallerSize.{CallerIsSized};
 ghost use Rattle.room_core.specs.CallerWhole.{CallerIsWhole};
 
-use crate::empty::{MARKS, WORDS, nothing_read};
+use crate::empty::nothing_read;
+use crate::numbers::{DESCRIPTION_WORDS, MARKS};
 use crate::parts::{Phase, Prize, Stage, Taken};
 use crate::shape::Shape;
 use kbytes::NoMemory;
@@ -29,9 +30,9 @@ pub(crate) struct CallerPart {
 
 /// No mark was seen.
 fn nothing_seen(alloc: Global) -> Result<Vec<bool>, NoMemory>
-    ensures { IfOk result (λ v. v.items ≡ replicate 65 false) }
+    ensures { IfOk result (λ v. v.items ≡ replicate MARKS false) }
 {
-    Ok(vec![in alloc; false; MARKS]?)
+    Ok(vec![in alloc; false; MARKS as usize]?)
 }
 
 impl CallerPart {
@@ -46,7 +47,7 @@ impl CallerPart {
         Ok(CallerPart {
             shape,
             generation: 0,
-            description: vec![in alloc; 0; WORDS]?,
+            description: vec![in alloc; 0; DESCRIPTION_WORDS as usize]?,
             stage: Stage::Idle,
             seen: nothing_seen(alloc)?,
             readings: nothing_read(alloc, gauges)?,

@@ -12,6 +12,7 @@ use crate::caller_part::{CallerPart, peeked_stage};
 use crate::empty::forget;
 use crate::event::How;
 use crate::gauges::clock;
+use crate::numbers::{CLOCK_MARK, DESCRIPTION_WORDS, LAST_GENERATION, MARKS, SCANNER_NUMBERS};
 use crate::operation::is_operation;
 use crate::parts::{Prize, Session, Stage, Taken};
 use crate::session_word::{exchanged, keep_prize};
@@ -29,7 +30,7 @@ impl CallerPart {
     }
 
     pub(crate) fn describes(&mut self, at: u32, word: u64)
-        requires { at < 195 }
+        requires { at < DESCRIPTION_WORDS }
         ensures part { caller_of self.new ≡ caller_describes (caller_of self.old) at word }
         ensures shape { self.new.shape ≡ self.old.shape }
     {
@@ -86,7 +87,7 @@ impl CallerPart {
     {
         self.stage == Stage::Idle
             && is_operation(shape, &self.description)
-            && self.generation < u32::MAX
+            && self.generation < LAST_GENERATION
     }
 
     pub(crate) fn opens(&mut self)
@@ -107,7 +108,7 @@ impl CallerPart {
         ensures shape { self.new.shape ≡ self.old.shape }
     {
         let generation = self.generation;
-        let word = exchanged(session, generation, how, 17 + pass);
+        let word = exchanged(session, generation, how, SCANNER_NUMBERS + pass);
         keep_prize(
             &mut self.wins,
             session,
@@ -139,7 +140,7 @@ impl CallerPart {
     }
 
     pub(crate) fn sees_mark(&mut self, at: u32, mark: u32)
-        requires { at ≤ 64 }
+        requires { at ≤ CLOCK_MARK }
         ensures part { caller_of self.new ≡ caller_sees_mark (caller_of self.old) at mark }
         ensures shape { self.new.shape ≡ self.old.shape }
     {
@@ -210,9 +211,9 @@ fn is_all_below(seen: &[bool], n: u64) -> bool
 
 /// Whether every mark of the operation was seen.
 fn is_all_seen(description: &[u64], seen: &[bool]) -> bool
-    requires words { length description.now ≡ 195 }
-    requires marks { length seen.now ≡ 65 }
+    requires words { length description.now ≡ DESCRIPTION_WORDS }
+    requires marks { length seen.now ≡ MARKS }
     ensures { result ≡ all_seen (table description.now 0) (table seen.now false) }
 {
-    is_all_below(seen, description[2]) && seen[64]
+    is_all_below(seen, description[2]) && seen[CLOCK_MARK as usize]
 }

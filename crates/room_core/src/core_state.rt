@@ -11,15 +11,17 @@ ghost use Rattle.room_core.specs.Step.{IsAllowed, changed};
 ghost use Rattle.room_core.specs.Scans.{CanAsk, CanBegin, CanHear, CanHush, CanRelieve, CanStore, HasNoDuty, IsHeard, asking, beginning, hearing, hushing, relieving, source_hushes, storing};
 ghost use Rattle.room_core.specs.Sizes.{AreSized};
 ghost use Rattle.room_core.specs.WordSizes.{WordsAreSized};
+ghost use Rattle.room_core.specs.Words.{IsWord, word_at};
 
 use crate::caller_part::CallerPart;
 use crate::duties::is_free;
-use crate::empty::{MARKS, WORDS};
 use crate::event::{CoreEvent, How, Party};
 use crate::gauges::{is_scanner, scanner_of};
+use crate::numbers::{DESCRIPTION_WORDS, MARKS, SCANNER_NUMBERS};
 use crate::parts::{Phase, Session, Source};
 use crate::scanner_part::ScannerPart;
 use crate::shape::Shape;
+use crate::word::Word;
 use kbytes::NoMemory;
 use std::alloc::Global;
 
@@ -61,21 +63,21 @@ fn idle_sessions(alloc: Global, shape: Shape) -> Result<Vec<Session>, NoMemory>
 }
 
 fn no_words(alloc: Global) -> Result<Vec<u64>, NoMemory>
-    ensures { IfOk result (λ v. v.items ≡ replicate 195 0) }
+    ensures { IfOk result (λ v. v.items ≡ replicate DESCRIPTION_WORDS 0) }
 {
-    Ok(vec![in alloc; 0; WORDS]?)
+    Ok(vec![in alloc; 0; DESCRIPTION_WORDS as usize]?)
 }
 
 fn no_marks(alloc: Global) -> Result<Vec<u32>, NoMemory>
-    ensures { IfOk result (λ v. v.items ≡ replicate 65 0) }
+    ensures { IfOk result (λ v. v.items ≡ replicate MARKS 0) }
 {
-    Ok(vec![in alloc; 0; MARKS]?)
+    Ok(vec![in alloc; 0; MARKS as usize]?)
 }
 
 /// The words of each pass's description, all zero.
 fn word_rows(alloc: Global, shape: Shape) -> Result<Vec<Vec<u64>>, NoMemory>
     ensures size { IfOk result (λ v. length v.items ≡ shape.passes) }
-    ensures rows { IfOk result (λ v. All (λ row. row.items ≡ replicate 195 0) v.items) }
+    ensures rows { IfOk result (λ v. All (λ row. row.items ≡ replicate DESCRIPTION_WORDS 0) v.items) }
 {
     let mut rows = Vec::new(alloc);
     for _pass in 0..shape.passes {
@@ -87,7 +89,7 @@ fn word_rows(alloc: Global, shape: Shape) -> Result<Vec<Vec<u64>>, NoMemory>
 /// The marks of each pass, all zero.
 fn mark_rows(alloc: Global, shape: Shape) -> Result<Vec<Vec<u32>>, NoMemory>
     ensures size { IfOk result (λ v. length v.items ≡ shape.passes) }
-    ensures rows { IfOk result (λ v. All (λ row. row.items ≡ replicate 65 0) v.items) }
+    ensures rows { IfOk result (λ v. All (λ row. row.items ≡ replicate MARKS 0) v.items) }
 {
     let mut rows = Vec::new(alloc);
     for _pass in 0..shape.passes {
@@ -119,12 +121,12 @@ fn idle_callers(alloc: Global, shape: Shape) -> Result<Vec<CallerPart>, NoMemory
 }
 
 fn idle_scanners(alloc: Global, shape: Shape) -> Result<Vec<ScannerPart>, NoMemory>
-    ensures size { IfOk result (λ v. length v.items ≡ 17) }
+    ensures size { IfOk result (λ v. length v.items ≡ SCANNER_NUMBERS) }
     ensures shape { IfOk result (λ v. All (λ c. c.shape ≡ shape) v.items) }
     ensures idle { IfOk result (λ v. All (λ c. shown_by c ≡ idle_scanner) v.items) }
 {
     let mut scanners = Vec::new(alloc);
-    for _scanner in 0..17u32 {
+    for _scanner in 0..SCANNER_NUMBERS {
         scanners.push(ScannerPart::idle(alloc, shape)?)?;
     }
     Ok(scanners)
@@ -151,6 +153,21 @@ impl CoreState {
             caller: idle_callers(alloc, shape)?,
             scanner: idle_scanners(alloc, shape)?,
         })
+    }
+
+    /// One of the room's words, as a number.
+    pub fn word(&self, at: Word) -> u64
+        requires { IsWord self.now.shape at }
+        ensures { result ≡ word_at (state_of self.now) at }
+    {
+        match at {
+            Word::Value { gauge } => self.value[gauge as usize],
+            Word::Asked { gauge } => self.asked[gauge as usize],
+            Word::Begun { gauge } => self.begun[gauge as usize],
+            Word::Session { pass } => self.session[pass as usize].packed(),
+            Word::Description { pass, at } => self.description[pass as usize][at as usize],
+            Word::Mark { pass, at } => u64::from(self.marks[pass as usize][at as usize]),
+        }
     }
 
     /// Makes an event. True: it is allowed, and the room is changed by it. False: it isn't, and nothing changed. Refused for want

@@ -5,12 +5,6 @@ ghost use Rattle.room_core.specs.Readings.{unread};
 use kbytes::NoMemory;
 use std::alloc::Global;
 
-/// The words of a description: 3, and 3 for each of 64 needs.
-pub(crate) const WORDS: usize = 195;
-
-/// A mark for each of 64 needs, and the clock's.
-pub(crate) const MARKS: usize = 65;
-
 /// A table of readings, none of which was taken.
 pub(crate) fn nothing_read(alloc: Global, count: usize) -> Result<Vec<Option<u64>>, NoMemory>
     ensures { IfOk result (λ v. v.items ≡ replicate count None) }

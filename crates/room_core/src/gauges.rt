@@ -1,13 +1,14 @@
 ghost use Rattle.std.specs.Prelude.{◌≡◌, ◌↔◌, ◌<◌, IsTrue};
 ghost use Rattle.room_core.specs.Gauges.{IsGaugeOf, IsScanner, IsShape, clock_of, scanner_of};
 
+use crate::numbers::CLOCK_SCANNER;
 use crate::shape::Shape;
 
 /// Whether a scanner has this number.
 pub(crate) fn is_scanner(shape: Shape, scanner: u32) -> bool
     ensures { IsTrue result ↔ IsScanner shape scanner }
 {
-    scanner == 16 || scanner < shape.scanners.saturating_sub(1)
+    scanner == CLOCK_SCANNER || scanner < shape.scanners.saturating_sub(1)
 }
 
 /// The clock, the last gauge.
@@ -24,7 +25,7 @@ pub(crate) fn scanner_of(shape: Shape, gauge: u32) -> u32
     ensures { result ≡ scanner_of shape gauge }
 {
     if gauge == shape.gauges - 1 {
-        16
+        CLOCK_SCANNER
     } else {
         gauge % (shape.scanners - 1)
     }
@@ -40,7 +41,7 @@ pub(crate) fn is_gauge_of(shape: Shape, scanner: u32, gauge: u64) -> bool
         return false;
     }
     if gauge == u64::from(clock(shape)) {
-        scanner == 16
+        scanner == CLOCK_SCANNER
     } else {
         gauge % u64::from(shape.scanners - 1) == u64::from(scanner)
     }

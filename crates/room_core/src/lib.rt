@@ -12,8 +12,8 @@ mod duties;
 mod empty;
 mod event;
 mod gauges;
-pub mod laws;
 mod listing;
+mod numbers;
 mod operation;
 mod parts;
 mod pass_steps;
@@ -25,12 +25,20 @@ mod scanner_part;
 mod scanner_wins;
 mod session_word;
 mod shape;
+pub mod theorems;
+mod word;
 
 pub use core_state::CoreState;
 pub use event::{CoreEvent, How, Party};
+pub use numbers::{
+    CLOCK_MARK, CLOCK_SCANNER, DESCRIPTION_WORDS, MARKS, MOST_NEEDS, SCANNER_NUMBERS,
+};
 pub use parts::{Duty, Entry, Heard, Meeting, Phase, Prize, Session, Source, Stage, Taken};
 pub use run::run_events;
 pub use shape::Shape;
+pub use word::Word;
 
+#[cfg(test)]
+mod run_tests;
 #[cfg(test)]
 mod step_tests;

@@ -4,22 +4,23 @@ ghost use Rattle.room_core.specs.Description.{IsOperation, gauge_of};
 ghost use Rattle.room_core.specs.Gauges.{clock_of};
 
 use crate::gauges::clock;
+use crate::numbers::{CAP_LIMIT, DESCRIPTION_WORDS, MOST_NEEDS};
 use crate::shape::Shape;
 
 /// Whether a need's gauge is there and isn't the clock, and its cap is below 2^31.
 fn is_need(shape: Shape, words: &[u64], i: usize) -> bool
-    requires words { length words.now ≡ 195 }
-    requires need { i < 64 }
+    requires words { length words.now ≡ DESCRIPTION_WORDS }
+    requires need { i < MOST_NEEDS }
     ensures { IsTrue result
         ↔ ((gauge_of (table words.now 0) i < clock_of shape) × (table words.now 0 (5 + 3 * i) < 2 ^ 31)) }
 {
-    words[3 + 3 * i] < u64::from(clock(shape)) && words[5 + 3 * i] < 2147483648
+    words[3 + 3 * i] < u64::from(clock(shape)) && words[5 + 3 * i] < CAP_LIMIT
 }
 
 /// Whether no earlier need has a need's gauge.
 fn is_new(words: &[u64], i: usize) -> bool
-    requires words { length words.now ≡ 195 }
-    requires need { i < 64 }
+    requires words { length words.now ≡ DESCRIPTION_WORDS }
+    requires need { i < MOST_NEEDS }
     ensures { IsTrue result
         ↔ ((j : ℕ) → j < i → gauge_of (table words.now 0) j ≢ gauge_of (table words.now 0) i) }
 {
@@ -33,11 +34,11 @@ fn is_new(words: &[u64], i: usize) -> bool
 
 /// Whether the words describe an operation.
 pub(crate) fn is_operation(shape: Shape, words: &[u64]) -> bool
-    requires { length words.now ≡ 195 }
+    requires { length words.now ≡ DESCRIPTION_WORDS }
     ensures { IsTrue result ↔ IsOperation shape (table words.now 0) }
 {
     let needs = words[2];
-    if needs > 64 || words[0] >= 2147483648 {
+    if needs > MOST_NEEDS || words[0] >= CAP_LIMIT {
         return false;
     }
     for i in 0..needs as usize {

@@ -5,6 +5,7 @@ ghost use Rattle.room_core.specs.Passes.{CanDescribe, CanIdle, CanOpen, CanPeek,
 
 use crate::core_state::CoreState;
 use crate::event::How;
+use crate::numbers::{CLOCK_MARK, DESCRIPTION_WORDS, SCANNER_NUMBERS};
 use crate::parts::{Phase, Session, Stage};
 use crate::session_word::exchanged;
 use kbytes::NoMemory;
@@ -35,7 +36,7 @@ impl CoreState {
         ensures yes { OnTrue result (state_of self.new ≡ seeing_mark (state_of self.old) pass at) }
         ensures no { OnFalse result (self.new ≡ self.old) }
     {
-        if pass >= self.shape.passes || at > 64 {
+        if pass >= self.shape.passes || at > CLOCK_MARK {
             return false;
         }
         if !self.caller[pass as usize].awaits_mark(at) {
@@ -74,7 +75,7 @@ impl CoreState {
         ensures yes { OnTrue result (state_of self.new ≡ describing (state_of self.old) pass at word) }
         ensures no { OnFalse result (self.new ≡ self.old) }
     {
-        if pass >= self.shape.passes || at >= 195 {
+        if pass >= self.shape.passes || at >= DESCRIPTION_WORDS {
             return false;
         }
         if self.caller[pass as usize].stage != Stage::Idle {
@@ -117,7 +118,7 @@ impl CoreState {
         let session = self.session[pass as usize];
         let caller = &mut self.caller[pass as usize];
         caller.wins_by(pass, how, session)?;
-        self.session[pass as usize] = exchanged(session, generation, how, 17 + pass);
+        self.session[pass as usize] = exchanged(session, generation, how, SCANNER_NUMBERS + pass);
         Ok(true)
     }
 

@@ -7,6 +7,7 @@ use crate::core_state::CoreState;
 use crate::event::How;
 use crate::gauges::is_scanner;
 use crate::listing::is_met;
+use crate::numbers::DESCRIPTION_WORDS;
 use crate::session_word::exchanged;
 use kbytes::NoMemory;
 
@@ -32,7 +33,10 @@ impl CoreState {
         ensures yes { OnTrue result (state_of self.new ≡ learning (state_of self.old) scanner pass at) }
         ensures no { OnFalse result (self.new ≡ self.old) }
     {
-        if !is_scanner(self.shape, scanner) || pass >= self.shape.passes || at >= 195 {
+        if !is_scanner(self.shape, scanner)
+            || pass >= self.shape.passes
+            || at >= DESCRIPTION_WORDS
+        {
             return false;
         }
         if !is_met(self.scanner[scanner as usize].meeting, pass) {

@@ -9,6 +9,7 @@ ghost use Rattle.room_core.specs.State.{Scanner};
 use crate::empty::forget;
 use crate::gauges::{clock, is_gauge_of};
 use crate::listing::{drop_dead, meeting_with, still_due};
+use crate::numbers::{CLOCK_MARK, CLOCK_SCANNER, DESCRIPTION_WORDS};
 use crate::parts::{Entry, Session};
 use crate::scanner_part::ScannerPart;
 
@@ -26,7 +27,7 @@ impl ScannerPart {
     }
 
     pub(crate) fn learns(&mut self, at: u32, word: u64)
-        requires { at < 195 }
+        requires { at < DESCRIPTION_WORDS }
         ensures part { scanner_of self.new ≡ scanner_learns (scanner_of self.old) at word }
         ensures shape { self.new.shape ≡ self.old.shape }
     {
@@ -57,7 +58,7 @@ impl ScannerPart {
     }
 
     pub(crate) fn has_learned(&self, at: u32) -> bool
-        requires { at < 195 }
+        requires { at < DESCRIPTION_WORDS }
         ensures { IsTrue result ↔ IsLearned (scanner_of self.now) at }
     {
         self.learned[at as usize].is_some()
@@ -65,7 +66,7 @@ impl ScannerPart {
 
     /// A word of the description, 0 where it wasn't learned.
     pub(crate) fn word(&self, at: u32) -> u64
-        requires { at < 195 }
+        requires { at < DESCRIPTION_WORDS }
         ensures { result ≡ words_of (scanner_of self.now) at }
     {
         self.learned[at as usize].unwrap_or(0)
@@ -75,7 +76,7 @@ impl ScannerPart {
         requires { IsShape self.now.shape }
         ensures { IsTrue result ↔ MayMarkNeed self.now.shape scanner (scanner_of self.now) at }
     {
-        if at >= 64 {
+        if at >= CLOCK_MARK {
             return false;
         }
         let gauge = self.word(3 + 3 * at);
@@ -91,8 +92,8 @@ impl ScannerPart {
         requires { IsShape self.now.shape }
         ensures { IsTrue result ↔ (MayMarkNeed self.now.shape scanner (scanner_of self.now) at ⊎ MayMarkClock scanner (scanner_of self.now) at) }
     {
-        if at == 64 {
-            scanner == 16 && self.has_learned(1)
+        if at == CLOCK_MARK {
+            scanner == CLOCK_SCANNER && self.has_learned(1)
         } else {
             self.may_mark_need(scanner, at)
         }
@@ -101,11 +102,11 @@ impl ScannerPart {
     /// The gauge under which the operation that was met is listed for a mark.
     #[tactic(auto, unfolding(crate::specs::Description::marked_gauge))]
     fn gauge_marked(&self, at: u32) -> u64
-        requires at_in { at ≤ 64 }
+        requires at_in { at ≤ CLOCK_MARK }
         requires shape { IsShape self.now.shape }
         ensures { result ≡ marked_gauge self.now.shape (words_of (scanner_of self.now)) at }
     {
-        if at == 64 {
+        if at == CLOCK_MARK {
             u64::from(clock(self.shape))
         } else {
             self.word(3 + 3 * at)
@@ -118,7 +119,7 @@ impl ScannerPart {
     {
         Entry {
             generation: self.generation(),
-            deadline: if at == 64 { self.word(1) } else { 0 },
+            deadline: if at == CLOCK_MARK { self.word(1) } else { 0 },
         }
     }
 
@@ -134,7 +135,7 @@ impl ScannerPart {
 
     pub(crate) fn marks(&mut self, pass: u32, at: u32)
         requires pass_in { pass < self.old.shape.passes }
-        requires at_in { at ≤ 64 }
+        requires at_in { at ≤ CLOCK_MARK }
         requires shape { IsShape self.old.shape }
         requires gauge_in { marked_gauge self.old.shape (words_of (scanner_of self.old)) at < self.old.shape.gauges }
         ensures part { scanner_of self.new ≡ scanner_marks self.old.shape (scanner_of self.old) pass at }

@@ -10,6 +10,7 @@ use crate::answering::{has_read, read_of};
 use crate::empty::forget;
 use crate::gauges::clock;
 use crate::listing::is_met;
+use crate::numbers::{CLOCK_SCANNER, MOST_NEEDS};
 use crate::scanner_part::ScannerPart;
 
 impl ScannerPart {
@@ -30,7 +31,7 @@ impl ScannerPart {
 
     /// What counts of a need's gauge.
     fn counts(&self, need: u32) -> u64
-        requires { need < 64 }
+        requires { need < MOST_NEEDS }
         ensures { result ≡ counted (need_of (words_of (scanner_of self.now)) need) (read_only (scanner_of self.now).readings (gauge_of (words_of (scanner_of self.now)) need)) }
     {
         let gauge = self.word(3 + 3 * need);
@@ -41,7 +42,7 @@ impl ScannerPart {
     }
 
     fn tally(&self) -> u128
-        requires { needs_of (words_of (scanner_of self.now)) ≤ 64 }
+        requires { needs_of (words_of (scanner_of self.now)) ≤ MOST_NEEDS }
         ensures { result ≡ tally (words_of (scanner_of self.now)) (read_only (scanner_of self.now).readings) }
     {
         let needs = self.word(2) as u32;
@@ -53,7 +54,7 @@ impl ScannerPart {
     }
 
     pub(crate) fn is_satisfied(&self) -> bool
-        requires { needs_of (words_of (scanner_of self.now)) ≤ 64 }
+        requires { needs_of (words_of (scanner_of self.now)) ≤ MOST_NEEDS }
         ensures { result ≡ is_satisfied (words_of (scanner_of self.now)) (scanner_of self.now).readings }
     {
         u128::from(self.word(0)) <= self.tally()
@@ -68,7 +69,7 @@ impl ScannerPart {
 
     /// Whether each need's gauge was read, or is the one that is read last.
     pub(crate) fn are_read(&self, last: u32) -> bool
-        requires { needs_of (words_of (scanner_of self.now)) ≤ 64 }
+        requires { needs_of (words_of (scanner_of self.now)) ≤ MOST_NEEDS }
         ensures { IsTrue result ↔ AreRead (scanner_of self.now).readings last (words_of (scanner_of self.now)) }
     {
         let needs = self.word(2) as u32;
@@ -85,7 +86,7 @@ impl ScannerPart {
         ensures { IsTrue result ↔ IsAllLearned (scanner_of self.now) }
     {
         let needs = self.word(2);
-        if needs > 64 {
+        if needs > MOST_NEEDS {
             return false;
         }
         for at in 0..3 + 3 * needs as u32 {
@@ -119,12 +120,12 @@ impl ScannerPart {
     pub(crate) fn may_leave(&self, scanner: u32, pass: u32, gauge: u32) -> bool
         requires pass_in { pass < self.now.shape.passes }
         requires shape { IsShape self.now.shape }
-        ensures { IsTrue result ↔ (IsOnCheck (scanner_of self.now) pass × (scanner ≢ 16 → AreRead (scanner_of self.now).readings gauge (words_of (scanner_of self.now))) × (scanner ≡ 16 → IsRead (scanner_of self.now).readings gauge (clock_of self.now.shape))) }
+        ensures { IsTrue result ↔ (IsOnCheck (scanner_of self.now) pass × (scanner ≢ CLOCK_SCANNER → AreRead (scanner_of self.now).readings gauge (words_of (scanner_of self.now))) × (scanner ≡ CLOCK_SCANNER → IsRead (scanner_of self.now).readings gauge (clock_of self.now.shape))) }
     {
         if !self.is_on_check(pass) {
             return false;
         }
-        if scanner != 16 {
+        if scanner != CLOCK_SCANNER {
             return self.are_read(gauge);
         }
         let clock = clock(self.shape);
@@ -133,11 +134,11 @@ impl ScannerPart {
 
     /// Whether the readings make the operation answerable, by what the scanner of this number wants.
     fn answers(&self, scanner: u32) -> bool
-        requires few { needs_of (words_of (scanner_of self.now)) ≤ 64 }
+        requires few { needs_of (words_of (scanner_of self.now)) ≤ MOST_NEEDS }
         requires shape { IsShape self.now.shape }
         ensures { result ≡ scanner_answers self.now.shape scanner (words_of (scanner_of self.now)) (scanner_of self.now).readings }
     {
-        if scanner == 16 {
+        if scanner == CLOCK_SCANNER {
             self.is_overdue()
         } else {
             self.is_satisfied()
@@ -166,7 +167,7 @@ impl ScannerPart {
     pub(crate) fn leaves(&mut self, scanner: u32, pass: u32, gauge: u32, value: u64)
         requires pass_in { pass < self.old.shape.passes }
         requires gauge_in { gauge < self.old.shape.gauges }
-        requires few { needs_of (words_of (scanner_of self.old)) ≤ 64 }
+        requires few { needs_of (words_of (scanner_of self.old)) ≤ MOST_NEEDS }
         requires shape { IsShape self.old.shape }
         ensures part { scanner_of self.new ≡ scanner_leaves self.old.shape scanner (scanner_of self.old) pass gauge value }
         ensures shape { self.new.shape ≡ self.old.shape }

@@ -3,7 +3,8 @@ ghost use Rattle.room_core.specs.Scans.{IsHeard, number_heard, scanner_begins, s
 ghost use Rattle.room_core.specs.ScannerSize.{ScannerIsSized};
 
 use crate::duties::make_duties;
-use crate::empty::{WORDS, forget, nothing_read};
+use crate::empty::{forget, nothing_read};
+use crate::numbers::DESCRIPTION_WORDS;
 use crate::parts::{Duty, Entry, Heard, Meeting, Prize};
 use crate::shape::Shape;
 use kbytes::NoMemory;
@@ -59,7 +60,7 @@ impl ScannerPart {
             listing: empty_rows(alloc, shape)?,
             duties: no_duties(alloc, shape)?,
             meeting: None,
-            learned: nothing_read(alloc, WORDS)?,
+            learned: nothing_read(alloc, DESCRIPTION_WORDS as usize)?,
             readings: nothing_read(alloc, gauges)?,
             wins: Vec::new(alloc),
         })

@@ -6,6 +6,7 @@ ghost use Rattle.room_core.specs.Put.{put};
 
 use crate::event::How;
 use crate::gauges::clock;
+use crate::numbers::CLOCK_SCANNER;
 use crate::parts::{Entry, Prize, Session};
 use crate::scanner_part::ScannerPart;
 use crate::session_word::keep_prize;
@@ -41,7 +42,7 @@ impl ScannerPart {
             return false;
         }
         match how {
-            How::Satisfied => scanner != 16 && self.is_satisfied(),
+            How::Satisfied => scanner != CLOCK_SCANNER && self.is_satisfied(),
             How::Expired => {
                 scanner == 16 && self.has_read(u64::from(clock(self.shape))) && self.is_overdue()
             }

@@ -8,8 +8,6 @@ use std::test::*;
 
 const CLOCK: u32 = 3;
 
-const CLOCK_SCANNER: u32 = 16;
-
 // Three gauges of a partition and the clock.
 const PARTITION: Shape = Shape {
     gauges: 4,
@@ -159,18 +157,6 @@ fn rises(room: &mut CoreState, pass: u32, gauge: u32, value: u64) -> Result<bool
     )
 }
 
-// The scanner scans the gauge, and the pass owes no scan of it any more.
-fn scans(room: &mut CoreState, pass: u32, scanner: u32, gauge: u32) -> Result<bool, Fail> {
-    makes_all(
-        room,
-        &[
-            Hear { scanner, gauge },
-            Begin { scanner, gauge },
-            Relieve { pass, gauge },
-        ],
-    )
-}
-
 fn describes(room: &mut CoreState, pass: u32, words: &[u64]) -> Result<bool, Fail> {
     for (place, word) in words.iter().enumerate() {
         let word = *word;
@@ -218,22 +204,6 @@ fn is_listed(room: &mut CoreState, pass: u32) -> Result<bool, Fail> {
                 at: 64,
             },
             Marked { pass, at: 64 },
-        ],
-    )
-}
-
-// The pass checks the one need, and leaves its operation to the scanners.
-fn parks(room: &mut CoreState, pass: u32, gauge: u32) -> Result<bool, Fail> {
-    let who = Party::Pass(pass);
-    makes_all(
-        room,
-        &[
-            Read { who, gauge },
-            Leave {
-                who,
-                pass,
-                gauge: CLOCK,
-            },
         ],
     )
 }
@@ -292,89 +262,10 @@ fn stage_of(room: &CoreState, pass: usize) -> Option<Stage> {
     Some(room.caller.get(pass)?.stage)
 }
 
-fn first_taken(room: &CoreState, pass: usize) -> Option<Taken> {
-    room.caller.get(pass)?.taken.get(0).copied()
-}
-
 fn count_won(room: &CoreState, pass: usize, scanner: usize) -> Option<(usize, usize)> {
     let by_pass = room.caller.get(pass)?.wins.len();
     let by_scanner = room.scanner.get(scanner)?.wins.len();
     Some((by_pass, by_scanner))
-}
-
-// A produce waits for a follower.
-fn parked_produce(alloc: Global) -> Result<CoreState, Fail> {
-    let mut room = start(alloc)?;
-    let parked = rises(&mut room, 0, 0, 0)?
-        && rises(&mut room, 0, 1, 0)?
-        && rises(&mut room, 0, 2, 69)?
-        && scans(&mut room, 0, 0, 2)?
-        && describes(&mut room, 0, &[1, 1000, 1, 0, 0, 1])?
-        && is_listed(&mut room, 0)?
-        && parks(&mut room, 0, 0)?;
-    if !parked {
-        return Err("the produce is parked")?;
-    }
-    Ok(room)
-}
-
-// A follower's fetch reaches the produce's offset, and is parked itself.
-fn followed_produce(alloc: Global) -> Result<CoreState, Fail> {
-    let mut room = parked_produce(alloc)?;
-    let followed = rises(&mut room, 1, 0, 0)?
-        && rises(&mut room, 1, 1, 0)?
-        && rises(&mut room, 1, 2, 69)?
-        && scans(&mut room, 1, 0, 2)?
-        && rises(&mut room, 1, 0, 1)?
-        && rises(&mut room, 1, 1, 69)?
-        && rises(&mut room, 1, 2, 69)?
-        && wins(&mut room, 0, 0, 0, How::Satisfied)?
-        && makes(&mut room, Relieve { pass: 1, gauge: 0 })?
-        && scans(&mut room, 1, 0, 1)?
-        && scans(&mut room, 1, 0, 2)?;
-    if !followed {
-        return Err("the produce is followed")?;
-    }
-    Ok(room)
-}
-
-#[test]
-fn a_produce_is_parked_and_followed_and_the_fetch_expires(rt: HostRuntime) -> Result<(), Fail> {
-    let mut room = followed_produce(rt.alloc())?;
-    assert!(rt; describes(&mut room, 1, &[1, 500, 1, 2, 69, 1048576])?);
-    assert!(rt; is_listed(&mut room, 1)?);
-    assert!(rt; parks(&mut room, 1, 2)?);
-    let looks = [Peek { pass: 0 }, Idle { pass: 0 }, Peek { pass: 1 }];
-    assert!(rt; makes_all(&mut room, &looks)?);
-    assert!(rt; rises(&mut room, 2, CLOCK, 499)?);
-    assert!(rt; scans(&mut room, 2, CLOCK_SCANNER, CLOCK)?);
-    assert!(rt; makes(&mut room, Peek { pass: 1 })?);
-    assert_eq!(rt; stage_of(&room, 1), Some(Stage::Waiting));
-    assert!(rt; rises(&mut room, 2, CLOCK, 500)?);
-    assert!(rt; wins(&mut room, CLOCK_SCANNER, 1, CLOCK, How::Expired)?);
-    assert!(rt;
-        makes(
-            &mut room,
-            Relieve {
-                pass: 2,
-                gauge: CLOCK
-            }
-        )?
-    );
-    assert!(rt; makes_all(&mut room, &[Peek { pass: 1 }, Idle { pass: 1 }])?);
-    let followed = Taken {
-        generation: 1,
-        how: How::Satisfied,
-        by: 0,
-    };
-    let expired = Taken {
-        generation: 1,
-        how: How::Expired,
-        by: CLOCK_SCANNER,
-    };
-    assert_eq!(rt; first_taken(&room, 0), Some(followed));
-    assert_eq!(rt; first_taken(&room, 1), Some(expired));
-    Ok(())
 }
 
 // The pass's operation of two needs is listed under both, and its check has read the first one's gauge alone.

@@ -1,5 +1,5 @@
 use Rattle.room_core.proofs.Steps.{keeps}
-use Rattle.room_core.proofs.laws.event_keeps.Goals as goal
+use Rattle.room_core.proofs.theorems.event_keeps.Goals as goal
 
 pub returns : goal.returns
 returns c = keeps
