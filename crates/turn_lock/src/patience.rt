@@ -1,4 +1,6 @@
-//! How a pass waits: at first it looks again and again, then it yields its processor, and then it sleeps on a bench.
+//! How a pass waits: at first it looks again and again, for some microseconds, and then it sleeps on a bench. It doesn't
+//! yield its processor in between: where others want it, a yield gives away a whole slice of time, and the pass isn't
+//! there when its turn comes.
 //!
 //! There are a few benches, and a ticket's number tells its own. Who passes the turn on wakes the bench of the ticket
 //! that is served next, and only where somebody sleeps there. A sleeper first counts itself, then looks at the ticket
@@ -8,16 +10,13 @@ ghost use Rattle.std.specs.Prelude.{◌<◌};
 
 use crate::kept::Kept;
 use crate::line::{SERVING, TICKET, Top};
+use std::hint;
 use std::sync::Wait;
 use std::sync::atomic::{AtomicU64, Ordering};
 use std::time::Duration;
-use std::{hint, thread};
 
-// The rounds in which the pass looks again at once. Each is twice as long as the one before.
-const SPINS: u32 = 6;
-
-// The rounds before it sleeps.
-const ROUNDS: u32 = 10;
+// The rounds in which the pass stays awake. Each is twice as long as the one before.
+const ROUNDS: u32 = 7;
 
 // A sleep, in milliseconds.
 const SLEEP: u64 = 20;
@@ -43,15 +42,11 @@ impl Patience {
 
     /// Waits a little, awake. False where no patience is left for that.
     pub(crate) fn rest(&mut self) -> bool {
-        if self.rounds == ROUNDS {
+        if self.rounds >= ROUNDS {
             return false;
         }
-        if self.rounds < SPINS {
-            spin(self.rounds);
-        } else {
-            thread::yield_now();
-        }
-        self.rounds = self.rounds.saturating_add(1);
+        spin(self.rounds);
+        self.rounds += 1;
         true
     }
 }
