@@ -23,9 +23,10 @@ endif
 fmt:
 	for crate in crates/*/; do (cd $$crate && rt fmt) || exit 1; done
 
-# Times the program that `make build` leaves. bench/README.md says on what.
+# Times the program that `make build` leaves, and then the parts. bench/README.md and crates/bench_parts/README.md say on what.
 bench:
 	python3 bench/run.py
+	cd crates/bench_parts && rt run -- measure
 
 # Plays random traces by the model and by the program that `make build` leaves.
 compare:

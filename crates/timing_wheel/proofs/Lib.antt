@@ -12,3 +12,5 @@ pub mod Passes
 pub mod Waiting
 -- the due ids: who is among them, and their order
 pub mod DueIds
+-- for each level a moment before which no bucket that holds an entry starts
+pub mod Starts

@@ -17,7 +17,7 @@ quotient_grows : (u m t : ℕ) → 0 < u → m ≤ t → m / u ≤ t / u
 quotient_grows u m t pos h = let a = div-add-mod' m u in le-div (m / u) t u pos (omega arith)
 
 -- the bucket of a waiting entry is one of the next 19
-waits_within : (now : ℕ) (e : Timer) → Waits now e → e.deadline / span_of e < now / span_of e + 20
+pub waits_within : (now : ℕ) (e : Timer) → Waits now e → e.deadline / span_of e < now / span_of e + 20
 waits_within now e w =
     let u = span_of e in
     let pos = tick_positive (level_of e) in

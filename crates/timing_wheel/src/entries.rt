@@ -1,5 +1,7 @@
-ghost use Rattle.std.specs.Prelude.{◌≡◌, ◌≢◌, ◌<◌, ◌≤◌, ℕ, List, Option, length, replicate, IfOk, IfSome, IfNone, slice_index_or, slice_set};
+ghost use Rattle.std.specs.Prelude.{◌≡◌, ◌≢◌, ◌+◌, ◌<◌, ◌≤◌, ℕ, List, Option, length, replicate, IfOk, IfSome, IfNone, slice_index_or, slice_set};
+ghost use Rattle.std.specs.Bool.{OnFalse};
 ghost use Rattle.timing_wheel.specs.Timers.{listed};
+ghost use Rattle.timing_wheel.specs.Filed.{StartFrom};
 ghost use Rattle.timing_wheel.specs.Wait.{IsNear, bucket_of};
 
 use crate::buckets::Buckets;
@@ -8,12 +10,18 @@ use kbytes::NoMemory;
 use std::alloc::Global;
 use std::marker::Model;
 
+/// How many wheels there are.
+const LEVELS: usize = 8;
+
 /// The entries by id, each in the bucket of its place. A contract sees the entries.
 #[derive(Debug, Drop)]
 pub(crate) struct Entries {
     timers: Vec<Option<Timer>>,
     buckets: Buckets,
     count: u32,
+    /// For each level a moment before which no bucket that holds an entry starts: it rises to the
+    /// first such bucket when the level turns, and falls when an earlier one is filled.
+    starts: [u64; LEVELS],
 }
 
 impl Model for Entries {
@@ -25,7 +33,7 @@ impl Model for Entries {
 
     ghost view = { λ e. e.timers.items };
 
-    ghost invariant = { λ e. IsFiled e.timers.items e.buckets e.count };
+    ghost invariant = { λ e. IsFiled e.timers.items e.buckets e.count e.starts };
 }
 
 impl Entries {
@@ -38,6 +46,7 @@ impl Entries {
             timers,
             buckets,
             count: 0,
+            starts: [u64::MAX; LEVELS],
         })
     }
 
@@ -74,9 +83,29 @@ impl Entries {
         requires near { IsNear timer }
         ensures { self.new ≡ slice_set self.old id (Some timer) }
     {
-        self.buckets.put(id, timer.place().number());
+        let spot = timer.spot();
+        let level = spot.place.level as usize;
+        self.starts[level] = self.starts[level].min(spot.start);
+        self.buckets.put(id, spot.place.number());
         self.timers[id as usize] = Some(timer);
         self.count += 1;
+    }
+
+    /// False only where no bucket of this level that holds an entry starts by t.
+    pub(crate) fn may_start(&self, level: u32, t: u64) -> bool
+        requires { level < 8 }
+        ensures { OnFalse result (StartFrom level (t + 1) self.now) }
+    {
+        self.starts[level as usize] <= t
+    }
+
+    /// Keeps a moment before which no bucket of this level that holds an entry starts.
+    pub(crate) fn start_from(&mut self, level: u32, start: u64)
+        requires level { level < 8 }
+        requires start { StartFrom level start self.old }
+        ensures { self.new ≡ self.old }
+    {
+        self.starts[level as usize] = start;
     }
 
     /// Takes the entry of an id out of its bucket, where it has one.

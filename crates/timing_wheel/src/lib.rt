@@ -19,7 +19,9 @@
 //!
 //! The wheels don't tick. `Wheels::pop_due` turns them to any later moment at once and empties the
 //! buckets that start on the way, at most 20 of each level, the lowest level first: what is put
-//! again goes to a lower level, where the turn has been.
+//! again goes to a lower level, where the turn has been. Each level has a moment before which no
+//! bucket that holds an entry starts. A turn that stays before it has nothing to do there, so a step
+//! over empty buckets reads eight moments and moves on.
 //!
 //! The layer above may use `Wheels` and `Due`: `insert`, `remove` and `where_is` in constant time,
 //! and `pop_due` in the time of the entries that it moves and the buckets that it passes. Nothing

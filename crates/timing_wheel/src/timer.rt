@@ -1,5 +1,6 @@
-ghost use Rattle.std.specs.Prelude.{◌≡◌, ◌<◌};
+ghost use Rattle.std.specs.Prelude.{◌≡◌, ◌+◌, ◌/◌, ◌<◌, ◌≤◌, ◌↔◌, IsTrue};
 ghost use Rattle.timing_wheel.specs.Place.{place_of};
+ghost use Rattle.timing_wheel.specs.Turn.{bucket_start};
 ghost use Rattle.timing_wheel.specs.Wait.{IsNear};
 
 use crate::place::Place;
@@ -12,24 +13,55 @@ pub struct Timer {
     pub put: u64,
 }
 
+/// Where an entry stands, and the first moment of its bucket.
+#[derive(Clone, Copy)]
+pub(crate) struct Spot {
+    pub(crate) place: Place,
+    pub(crate) start: u64,
+}
+
+/// Whether a wheel with buckets of `tick` milliseconds ends past the deadline. It divides only where
+/// the answer hangs on how much of the present bucket is over.
+fn reaches(put: u64, deadline: u64, tick: u64) -> bool
+    requires past { put < deadline }
+    requires tick { 0 < tick }
+    requires fits { tick ≤ 1280000000 }
+    ensures { IsTrue result ↔ (deadline / tick < put / tick + 20) }
+{
+    let ahead = deadline - put;
+    ahead <= 19 * tick || (ahead < 20 * tick && deadline / tick - put / tick < 20)
+}
+
 impl Timer {
     /// The least level whose wheel, at the moment of putting, ends past the deadline, and in it the
     /// bucket of the deadline.
-    pub(crate) fn place(self) -> Place
+    pub(crate) fn spot(self) -> Spot
         requires { IsNear self }
-        ensures place { result ≡ place_of self }
-        ensures level { result.level < 8 }
-        ensures bucket { result.bucket < 20 }
+        ensures place { result.place ≡ place_of self }
+        ensures start { result.start ≡ bucket_start self }
+        ensures level { result.place.level < 8 }
+        ensures bucket { result.place.bucket < 20 }
     {
         let mut tick: u64 = 1;
         let mut level: u32 = 0;
-        while self.deadline / tick - self.put / tick >= 20 {
+        while !reaches(self.put, self.deadline, tick) {
             tick *= 20;
             level += 1;
         }
-        Place {
-            level,
-            bucket: (self.deadline / tick % 20) as u32,
+        let ticks = self.deadline / tick;
+        Spot {
+            place: Place {
+                level,
+                bucket: (ticks % 20) as u32,
+            },
+            start: ticks * tick,
         }
+    }
+
+    pub(crate) fn place(self) -> Place
+        requires { IsNear self }
+        ensures { result ≡ place_of self }
+    {
+        self.spot().place
     }
 }

@@ -4,6 +4,7 @@ ghost use Rattle.timing_wheel.specs.declared.timer.Timer.{Timer as Entry};
 ghost use Rattle.timing_wheel.specs.Place.{level_of, place_of, tick_of};
 ghost use Rattle.timing_wheel.specs.Timers.{listed};
 ghost use Rattle.timing_wheel.specs.Turn.{turned};
+ghost use Rattle.timing_wheel.specs.Filed.{StartFrom};
 ghost use Rattle.timing_wheel.specs.Handover.{IsPartOfTurn, handed};
 ghost use Rattle.timing_wheel.specs.Wait.{AllTurnedBelow, AllWait, HasCome, Waits, number_of};
 
@@ -56,7 +57,7 @@ fn turn_bucket(entries: &mut Entries, place: Place, t: u64, due: &mut Due)
 
 /// Empties the buckets of a level that start after `now` and by `t`. A wheel has 20: a longer way
 /// passes each of them once.
-fn turn_level(entries: &mut Entries, level: u32, tick: u64, now: u64, t: u64, due: &mut Due)
+fn pass_buckets(entries: &mut Entries, level: u32, tick: u64, now: u64, t: u64, due: &mut Due)
     requires level { level < 8 }
     requires tick { tick ≡ tick_of level }
     requires later { now ≤ t }
@@ -70,6 +71,41 @@ fn turn_level(entries: &mut Entries, level: u32, tick: u64, now: u64, t: u64, du
     for step in 0..passed {
         let bucket = ((start + 1 + step) % 20) as u32;
         turn_bucket(entries, Place { level, bucket }, t, due);
+    }
+}
+
+/// Where the first bucket of a level starts that holds an entry; where none does, the last moment.
+fn first_start(entries: &Entries, level: u32, tick: u64, t: u64) -> u64
+    requires level { level < 8 }
+    requires tick { tick ≡ tick_of level }
+    requires wait { (id : ℕ) (e : Entry) → slice_index_or entries.now id None ≡ Some e
+        → level_of e ≡ level → Waits t e }
+    ensures { StartFrom level result entries.now }
+{
+    let ticks = t / tick;
+    for step in 1..20 {
+        let bucket = ((ticks % 20 + step) % 20) as u32;
+        if entries.first(Place { level, bucket }.number()).is_some() {
+            return ticks.saturating_add(step).saturating_mul(tick);
+        }
+    }
+    u64::MAX
+}
+
+/// Turns a level, if a bucket that holds an entry may start by `t`.
+fn turn_level(entries: &mut Entries, level: u32, tick: u64, now: u64, t: u64, due: &mut Due)
+    requires level { level < 8 }
+    requires tick { tick ≡ tick_of level }
+    requires later { now ≤ t }
+    requires below { AllTurnedBelow level now t entries.old }
+    requires room { length due.old.ids + listed entries.old ≤ due.old.room }
+    ensures part { IsPartOfTurn t entries.old entries.new due.old due.new }
+    ensures below { AllTurnedBelow (level + 1) now t entries.new }
+{
+    if entries.may_start(level, t) {
+        pass_buckets(entries, level, tick, now, t, due);
+        let start = first_start(entries, level, tick, t);
+        entries.start_from(level, start);
     }
 }
 

@@ -20,7 +20,7 @@ use Rattle.turn_lock.specs.Locks.{known, IsReady}
 use Rattle.turn_lock.specs.Passes.{at_stage, fresh, fresh_from}
 use Rattle.turn_lock.specs.InLine.{is_out, one_if, has_turn, Fits, AtHome, InLine}
 use Rattle.turn_lock.proofs.Steps.{Pass, Same, known_is}
-use Rattle.turn_lock.proofs.Totals.{sum_by_only, sum_by_le, one_at_most}
+use Rattle.turn_lock.proofs.Totals.{sum_by_only, sum_by_le, one_at_most, one_le, each_once}
 
 module _ (E : Type 0) (name : List ℕ) where
   -- so many fresh passes are that many, of each number one at most, and none has a turn or is late
@@ -100,6 +100,7 @@ module _ {T E : Type 0} (entries : T → List E) (by : E → ℕ) (name_of : T �
     pub named : name_of x ≡ name
     pub whose : All (λ e. by e < passes) (entries x)
     pub each : All (λ k. StartsWith (entries x) k.seen × (of_pass by k.number (entries x) ≡ k.mine)) v
+    pub once : (number : ℕ) → number < passes → sum_by (λ k. one_if (eqb k.number number)) v ≡ 1
 
   module _ (passes : ℕ) (name : List ℕ) where
     abbrev Rule : State (Option T) (List (Known E)) → Type 0
@@ -127,12 +128,19 @@ module _ {T E : Type 0} (entries : T → List E) (by : E → ℕ) (name_of : T �
         let all = r.all in
         omega (arith, idle_sum v idle, counted v)
 
-    closes_at : (s : State (Option T) (List (Known E))) (r : Rule s) (id : ℕ) (v : List (Known E)) → get_elem? s.views id ≡ some v → one_if (is_out r.home) ≤ 0
+    -- no two passes of a view have the same number, so where it has all of them it has each number once
+    once_each : (s : State (Option T) (List (Known E))) (r : Rule s) (id : ℕ) (v : List (Known E)) → get_elem? s.views id ≡ some v → length v ≡ passes → (number : ℕ) → number < passes → sum_by (λ k. one_if (eqb k.number number)) v ≡ 1
+    once_each s r id v at whole =
+        each_once (λ (k : Known E). k.number) passes v whole
+        (All-weaker (Fits r.next r.serving (is_out r.home) r.holder r.log by passes name) (λ (k : Known E). k.number < passes) (λ k fit. fit.numbered) v (r.fits id v at))
+        (λ number. omega (arith, one_le (sum_by (λ (k : Known E). one_if (eqb k.number number))) s.views id v at, r.once number))
+
+    closes_at : (s : State (Option T) (List (Known E))) (r : Rule s) (id : ℕ) (v : List (Known E)) → get_elem? s.views id ≡ some v → length v ≡ passes → one_if (is_out r.home) ≤ 0
         → (home : maybe.Option (Option T)) → r.home ≡ home → AtHome entries by name_of r.log name home
         → (found : Option T) → ((y : Option T) → get_elem? s.homes 0 ≡ some (some y) → found ≡ y) → (x : T) × (found ≡ Some x) × Closes passes name v x
-    closes_at s r id v at home_is none is h found gets = let one : one_if (is_out r.home) ≡ 1 = ap (λ z. one_if (is_out z)) is in absurd (omega arith)
-    closes_at s r id v at home_is (some None) is h found gets = absurd h
-    closes_at s r id v at home_is (some (Some x)) is h found gets = (
+    closes_at s r id v at whole home_is none is h found gets = let one : one_if (is_out r.home) ≡ 1 = ap (λ z. one_if (is_out z)) is in absurd (omega arith)
+    closes_at s r id v at whole home_is (some None) is h found gets = absurd h
+    closes_at s r id v at whole home_is (some (Some x)) is h found gets = (
       x,
       gets (Some x) (ap (λ hs. get_elem? hs 0) r.homes ∙ ap some is),
       record {
@@ -140,6 +148,7 @@ module _ {T E : Type 0} (entries : T → List E) (by : E → ℕ) (name_of : T �
         whose = subst (All (λ e. by e < passes)) (sym h.0) r.whose;
         each = All-weaker (Fits r.next r.serving (is_out r.home) r.holder r.log by passes name) (λ k. StartsWith (entries x) k.seen × (of_pass by k.number (entries x) ≡ k.mine))
             (λ k fit. (subst (λ log. StartsWith log k.seen) (sym h.0) fit.seen, ap (of_pass by k.number) h.0 ∙ fit.mine)) v (r.fits id v at);
+        once = once_each s r id v at whole;
       },
     )
 
@@ -148,7 +157,7 @@ module _ {T E : Type 0} (entries : T → List E) (by : E → ℕ) (name_of : T �
     closes id v words slots found whole idle final at =
         let s = final.0 in
         let r = final.1.0 in
-        closes_at s r id v final.1.1 (is_home s r id v final.1.1 whole idle) r.home refl r.at_home found
+        closes_at s r id v final.1.1 whole (is_home s r id v final.1.1 whole idle) r.home refl r.at_home found
         (λ y home. some-injective found y (sym at ∙ final.4 0 y home))
 
     abbrev value_or : T → Option T → T
@@ -187,3 +196,10 @@ module _ {T E : Type 0} (entries : T → List E) (by : E → ℕ) (name_of : T �
     pub closed_each : (ps : List (TurnPass T E)) (x : T) → Closes passes name (map known ps) x
         → All (λ p. StartsWith (entries x) (known p).seen × (of_pass by (known p).number (entries x) ≡ (known p).mine)) ps
     closed_each ps x h = unmapped (λ k. StartsWith (entries x) k.seen × (of_pass by k.number (entries x) ≡ k.mine)) ps h.each
+
+    known_sum : (f : Known E → ℕ) (ps : List (TurnPass T E)) → sum_by f (map known ps) ≡ sum_by (λ p. f (known p)) ps
+    known_sum f [] = refl
+    known_sum f (p ∷ ps) = omega (arith, sum_by-cons f (known p) (map known ps), sum_by-cons (λ (q : TurnPass T E). f (known q)) p ps, known_sum f ps)
+
+    pub closed_once : (ps : List (TurnPass T E)) (x : T) → Closes passes name (map known ps) x → (number : ℕ) → number < passes → sum_by (λ p. one_if (eqb (known p).number number)) ps ≡ 1
+    closed_once ps x h number l = sym (known_sum (λ k. one_if (eqb k.number number)) ps) ∙ h.once number l

@@ -36,7 +36,7 @@
 //! }
 //! ```
 //!
-//! `src/examples.rt` has both whole, with a turn of the first.
+//! `src/tests/examples.rt` has both whole, with a turn of the first.
 //!
 //! # How the proof goes
 //!
@@ -72,7 +72,6 @@
 #![tactic(auto)]
 
 mod crossing;
-mod examples;
 mod kept;
 mod known;
 mod line;

@@ -3,7 +3,7 @@ ghost use Rattle.std.specs.Prelude.{◌≡◌, ◌≤◌};
 use crate::kept::Kept;
 use crate::line::{About, Board, Place, SERVING, TICKET};
 use crate::pass::TurnPass;
-use crate::patience::{Patience, sleep_on};
+use crate::patience::{Benches, Patience, sleep_on};
 use crate::plays::{Draw, HandOut, Look, PassOn, TakeBack};
 use crate::turn::Turn;
 use atomic_table::Table;
@@ -20,13 +20,14 @@ const LATE: u64 = 1 << 62;
 pub struct TurnLock<T: Kept> {
     board: Board<T>,
     passes: u32,
+    benches: Benches,
     ghost sized: { (board.shared.table_id.words ≡ 2) × (board.shared.table_id.slots ≡ 1) },
     ghost some: { 1 ≤ passes },
     ghost counted: { passes ≡ board.shared.key.passes },
 }
 
 impl<T: Kept> TurnLock<T> {
-    ghost use Rattle.std.specs.Prelude.{ℕ, ◌<◌, ◌^◌, List as Items, [], ◌∷◌, ◌++◌, map, length, drop, All, IfOk};
+    ghost use Rattle.std.specs.Prelude.{ℕ, ◌==◌, ◌<◌, ◌^◌, List as Items, [], ◌∷◌, ◌++◌, map, length, drop, count_by, All, IfOk};
     ghost use mathlib.Core.Option.{none};
     ghost use Rattle.turn_lock.specs.declared.known.Stage.TheVariants.{Idle, Has};
     ghost use Rattle.turn_lock.specs.StartsWith.{StartsWith};
@@ -60,7 +61,11 @@ impl<T: Kept> TurnLock<T> {
         let Ok((board, seat)) = Table::new(alloc, &[0, 0], slots, &about) else {
             return Err(NoMemory);
         };
-        let lock = TurnLock { board, passes };
+        let lock = TurnLock {
+            board,
+            passes,
+            benches: Benches::new(),
+        };
         let all = lock.hand_out(alloc, seat)?;
         Ok((lock, all))
     }
@@ -86,6 +91,13 @@ impl<T: Kept> TurnLock<T> {
         self.board.shared.fetch_add::<Draw>(seat, TICKET, 1)
     }
 
+    // Waits a little for the turn of the ticket.
+    fn pause<R: Wait>(&self, rt: &R, patience: &mut Patience, ticket: u64) {
+        if !patience.rest() {
+            self.benches.sleep::<T>(rt, &self.board.shared, ticket);
+        }
+    }
+
     // Waits for the turn of the ticket.
     fn wait<R: Wait>(&self, rt: &R, seat: &mut Place<T>, ticket: u64)
         requires { (seat.old.table_id ≡ lock_id self.now) × (seat.old.me ≡ (at_stage (stage_of ticket) (known_of seat.old.me.0) ∷ [], [])) }
@@ -102,7 +114,7 @@ impl<T: Kept> TurnLock<T> {
             if serving == ticket {
                 return;
             }
-            patience.rest::<T>(rt, top, serving);
+            self.pause(rt, &mut patience, ticket);
         }
         unreachable!()
     }
@@ -127,15 +139,6 @@ impl<T: Kept> TurnLock<T> {
         }
     }
 
-    // Wakes a sleeper, if another ticket is drawn.
-    fn wake_next(&self, ticket: u64)
-        requires { ticket < 2 ^ 62 }
-    {
-        if self.board.shared.peek(TICKET) != ticket + 1 {
-            self.board.shared.wake_one(SERVING);
-        }
-    }
-
     /// Puts the value back and passes the turn on. The pass has seen the value's history.
     pub fn end(&self, pass: &mut TurnPass<T>, turn: Turn<T>)
         requires pass { IsPassOf T.name self.now pass.old × HasTurn pass.old turn }
@@ -154,7 +157,7 @@ impl<T: Kept> TurnLock<T> {
         self.board
             .shared
             .store::<PassOn>(&mut pass.seat, SERVING, ticket + 1);
-        self.wake_next(ticket);
+        self.benches.wake(ticket + 1);
     }
 
     // Takes all passes back into one seat.
@@ -175,17 +178,23 @@ impl<T: Kept> TurnLock<T> {
         all
     }
 
-    /// Takes all passes back, and gives the value out. Its history begins with what each pass had seen, and has each
-    /// pass's own entries once, in its order, and no other entries.
+    /// Takes all passes back, and gives the value out. They are different passes, and all that the lock has. The
+    /// history begins with what each pass had seen, and has each pass's own entries once, in its order, and no other
+    /// entries.
     pub fn close(self, passes: List<TurnPass<T>>) -> T
         requires all { length passes ≡ lock_passes self }
         requires each { All (λ p. IsPassOf T.name self p × IsReady p) passes }
         ensures name { T.name result ≡ lock_name T.name self }
         ensures each { All (λ p. StartsWith (T.entries result) (known p).seen × (of_pass T.by (known p).number (T.entries result) ≡ (known p).mine)) passes }
         ensures whose { All (λ e. T.by e < lock_passes self) (T.entries result) }
+        ensures once { (number : ℕ) → number < lock_passes self → count_by (λ p. (known p).number == number) passes ≡ 1 }
     {
         let seat = self.gather(passes);
-        let TurnLock { board, passes: _ } = self;
+        let TurnLock {
+            board,
+            passes: _,
+            benches: _,
+        } = self;
         let mut closed = board.close_with(seat);
         let found = closed.take(0);
         closed.free();

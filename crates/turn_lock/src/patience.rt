@@ -1,30 +1,30 @@
-//! How a pass waits: at first it looks again and again, then it yields its processor, and then it sleeps.
+//! How a pass waits: at first it looks again and again, for some microseconds, and then it sleeps on a bench. It doesn't
+//! yield its processor in between: where others want it, a yield gives away a whole slice of time, and the pass isn't
+//! there when its turn comes.
 //!
-//! The pass that passes the turn on wakes one sleeper, mostly the one that has slept longest and whose turn it is. A
-//! sleeper that is woken for another's turn wakes the next one, once for each turn. So a wake reaches the pass that it
-//! is meant for, wherever that one sleeps. No proof says so: therefore each sleep is short too.
+//! There are a few benches, and a ticket's number tells its own. Who passes the turn on wakes the bench of the ticket
+//! that is served next, and only where somebody sleeps there. A sleeper first counts itself, then looks at the ticket
+//! that is served, and then sleeps; who passes the turn on first shows the next ticket, and then looks whether anybody
+//! is counted. So one of the two sees the other. No proof says so: therefore each sleep is short too.
 ghost use Rattle.std.specs.Prelude.{◌<◌};
 
 use crate::kept::Kept;
 use crate::line::{SERVING, TICKET, Top};
+use std::hint;
 use std::sync::Wait;
+use std::sync::atomic::{AtomicU64, Ordering};
 use std::time::Duration;
-use std::{hint, thread};
 
-// The rounds in which the pass looks again at once. Each is twice as long as the one before.
-const SPINS: u32 = 6;
-
-// The rounds before it first sleeps.
-const ROUNDS: u32 = 10;
+// The rounds in which the pass stays awake. Each is twice as long as the one before.
+const ROUNDS: u32 = 7;
 
 // A sleep, in milliseconds.
 const SLEEP: u64 = 20;
 
+/// The patience of one pass in one turn.
 #[derive(Drop)]
 pub(crate) struct Patience {
     rounds: u32,
-    // The turn for which it last woke another sleeper.
-    told: Option<u64>,
 }
 
 fn spin(round: u32)
@@ -37,38 +37,88 @@ fn spin(round: u32)
 
 impl Patience {
     pub(crate) fn new() -> Patience {
-        Patience {
-            rounds: 0,
-            told: None,
+        Patience { rounds: 0 }
+    }
+
+    /// Waits a little, awake. False where no patience is left for that.
+    pub(crate) fn rest(&mut self) -> bool {
+        if self.rounds >= ROUNDS {
+            return false;
+        }
+        spin(self.rounds);
+        self.rounds += 1;
+        true
+    }
+}
+
+// Where the passes of some tickets sleep.
+#[derive(Drop)]
+struct Bench {
+    asleep: AtomicU64,
+    calls: AtomicU64,
+}
+
+impl Bench {
+    fn new() -> Bench {
+        Bench {
+            asleep: AtomicU64::new(0),
+            calls: AtomicU64::new(0),
         }
     }
 
-    /// Waits a little, where `serving` was found to be another's ticket.
-    pub(crate) fn rest<T: Kept>(&mut self, rt: &impl Wait, top: &Top<T>, serving: u64)
+    fn sleep<T: Kept>(&self, rt: &impl Wait, top: &Top<T>, ticket: u64)
         requires { 1 < top.now.table_id.words }
     {
-        if self.rounds <= ROUNDS {
-            if self.rounds < SPINS {
-                spin(self.rounds);
-            } else {
-                thread::yield_now();
-            }
-            self.rounds += 1;
-        } else if self.told != Some(serving) {
-            self.told = Some(serving);
-            top.wake_one(SERVING);
+        let calls = (self.calls.load(Ordering::SeqCst) & 0xffff_ffff) as u32;
+        self.asleep.fetch_add(1, Ordering::SeqCst);
+        if top.peek(SERVING) != ticket {
+            self.calls
+                .park_timeout(rt, calls, Duration::from_millis(SLEEP));
         }
-        if self.rounds > ROUNDS {
-            sleep(rt, top, serving);
+        self.asleep.fetch_sub(1, Ordering::SeqCst);
+    }
+
+    fn wake(&self) {
+        if self.asleep.load(Ordering::SeqCst) != 0 {
+            self.calls.fetch_add(1, Ordering::SeqCst);
+            self.calls.wake_all();
         }
     }
 }
 
-fn sleep<T: Kept>(rt: &impl Wait, top: &Top<T>, serving: u64)
-    requires { 1 < top.now.table_id.words }
-{
-    let low = (serving & 0xffff_ffff) as u32;
-    top.park_timeout(rt, SERVING, low, Duration::from_millis(SLEEP));
+/// The benches of a lock.
+#[derive(Drop)]
+pub(crate) struct Benches {
+    benches: [Bench; 8],
+}
+
+impl Benches {
+    pub(crate) fn new() -> Benches {
+        Benches {
+            benches: [
+                Bench::new(),
+                Bench::new(),
+                Bench::new(),
+                Bench::new(),
+                Bench::new(),
+                Bench::new(),
+                Bench::new(),
+                Bench::new(),
+            ],
+        }
+    }
+
+    /// Sleeps a while, where the ticket isn't served yet.
+    pub(crate) fn sleep<T: Kept>(&self, rt: &impl Wait, top: &Top<T>, ticket: u64)
+        requires { 1 < top.now.table_id.words }
+    {
+        self.benches[(ticket % 8) as usize].sleep(rt, top, ticket);
+    }
+
+    /// Wakes who sleeps until this ticket is served.
+    pub(crate) fn wake(&self, ticket: u64) {
+        self.benches[(ticket % 8) as usize].wake();
+    }
 }
 
 /// Waits a little, where the ticket is never served.

@@ -1,8 +1,10 @@
 ghost use Rattle.std.specs.Prelude.{◌≡◌, ℕ, ◌+◌, ◌*◌, ◌/◌, ◌^◌, ◌<◌, ◌≤◌, [], ◌∷◌, ◌++◌, length, All, IfOk, vec_len};
 ghost use Rattle.turn_lock.specs.Locks.{known, lock_id, lock_name, lock_passes, AreFresh, IsPassOf, IsReady};
 
+mod examples;
+
 use super::*;
-use crate::examples::{Lane, Numbers, Shelf, add_one, lanes};
+use examples::{Lane, Numbers, Shelf, add_one, lanes};
 use kbytes::{List, NoMemory};
 use std::alloc::Global;
 use std::sync::Wait;

@@ -2,3 +2,5 @@
 pub mod Rows
 -- the rows of a shard, one changed
 pub mod Shards
+-- who is listed, after a change
+pub mod Listed

@@ -1,6 +1,6 @@
 -- The rows of a shard, one changed.
 use Rattle.std.proofs.Common.{⊎_elim, ◌≡◌, ◌≢◌, ℕ, ◌+◌, ◌*◌, ◌^◌, ◌<◌, ◌≤◌, ◌↔◌, List, [], ◌∷◌, ◌++◌, Vec, Global, Any, Contains, All, filter, length, get_or, set, take, drop, map, replicate, sum_by, vec_capacity, suc, sym, ap, ◌∙◌, refl, subst, arith, length-set, get_or-set_same, get_or-set_other}
-use Rattle.std.proofs.lemmas.List.{get_or-map, get_or_default, length-map, map-set}
+use Rattle.std.proofs.lemmas.List.{append-nil, take_all, drop_all, get_or-map, get_or_default, length-map, map-set}
 use Rattle.std.proofs.lemmas.List.Sums.{sum_by-le, sum_by-set, sum_by-cons}
 use Rattle.std.proofs.lemmas.List.Edits.{map_over_more}
 use Rattle.std.proofs.lemmas.Bool.{cases_eq}
@@ -52,7 +52,7 @@ AreRows-set ids rows key new are l ok room =
 
 -- a watcher of an id and a generation is one with the row's key
 
-same_watch : (a b : Watch) → a.key ≡ b.key → a.id ≡ b.id → a.generation ≡ b.generation → a ≡ b
+pub same_watch : (a b : Watch) → a.key ≡ b.key → a.id ≡ b.id → a.generation ≡ b.generation → a ≡ b
 same_watch a b e f g = λ i. record { key = e i; id = f i; generation = g i }
 
 pub any_contains : (key ids id generation : ℕ) (row : List Watch) → IsRow key ids row → Any (λ w. (w.id ≡ id) × (w.generation ≡ generation)) row ↔ Contains row (record { key = key; id = id; generation = generation })
@@ -91,6 +91,14 @@ filtered_so_far live rows old key row new l so_far is long e =
     let at : row.items ≡ get_or (lists_of rows) key row.items = ap (λ (v : Vec Watch Global). v.items) is ∙ sym (get_or-map (λ (v : Vec Watch Global). v.items) rows key row row.items (omega arith)) in
     map-set (λ (v : Vec Watch Global). v.items) rows key new ∙ ap (set (lists_of rows) key) e
     ∙ map_over_more (filter (is_live live)) (lists_of old) (lists_of rows) key row.items (omega arith) so_far at
+
+-- a whole purge
+pub filtered_all : (live : List ℕ) (rows old : List (Vec Watch Global)) (key : ℕ) → length old ≤ key → lists_of rows ≡ map (filter (is_live live)) (take key (lists_of old)) ++ drop key (lists_of old) → lists_of rows ≡ map (filter (is_live live)) (lists_of old)
+filtered_all live rows old key l so_far =
+    let long : length (lists_of old) ≡ length old = length-map _ _ in
+    so_far ∙ ap (λ (ys : List (List Watch)). map (filter (is_live live)) ys ++ drop key (lists_of old)) (take_all key (lists_of old) (omega arith))
+    ∙ ap (λ (ys : List (List Watch)). map (filter (is_live live)) (lists_of old) ++ ys) (drop_all key (lists_of old) (omega arith))
+    ∙ append-nil (map (filter (is_live live)) (lists_of old))
 
 -- how the sizes of the rows change with one
 pub sizes-set : (rows : List (Vec Watch Global)) (key : ℕ) (row new : Vec Watch Global) (removed : ℕ) → key < length rows → row ≡ get_or rows key row → removed + length new.items ≡ length row.items → removed + sum_by (λ row. length row.items) (set rows key new) ≡ sum_by (λ row. length row.items) rows

@@ -1,5 +1,5 @@
 -- A shard of Kafka's purgatory keeps, for each key, who watches it.
-use Rattle.std.specs.Prelude.{ℕ, List, [], ◌∷◌, ◌++◌, Bool, ◌==◌, ◌&&◌, nat_lt, filter, length, slice_index_or, slice_set, sum_by}
+use Rattle.std.specs.Prelude.{ℕ, List, [], ◌∷◌, ◌++◌, Bool, ◌==◌, ◌&&◌, nat_lt, Contains, filter, length, slice_index_or, slice_set, sum_by}
 use Rattle.watch_lists.specs.declared.watch.Watch.{Watch}
 
 pub record Watches : Type 0 where
@@ -19,6 +19,10 @@ row_of watches key = slice_index_or watches.rows key []
 -- with these watchers of a key
 abbrev pub with_row : Watches → ℕ → List Watch → Watches
 with_row watches key row = record watches { rows = slice_set watches.rows key row }
+
+-- the id is listed under the key with this generation
+abbrev pub IsListed : Watches → ℕ → ℕ → ℕ → Type 0
+IsListed watches key id generation = Contains (row_of watches key) (record { key = key; id = id; generation = generation })
 
 -- how many watchers there are
 abbrev pub size_of : Watches → ℕ

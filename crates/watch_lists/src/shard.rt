@@ -1,6 +1,6 @@
-ghost use Rattle.std.specs.Prelude.{◌≡◌, ◌+◌, ◌*◌, ◌^◌, ◌<◌, ◌≤◌, ◌↔◌, ℕ, [], Contains, IfOk, IsTrue, filter, length, map, not, replicate, slice_get};
+ghost use Rattle.std.specs.Prelude.{◌≡◌, ◌≢◌, ◌+◌, ◌*◌, ◌^◌, ◌<◌, ◌≤◌, ◌↔◌, ℕ, [], Contains, IfNone, IfOk, IfSome, IsTrue, Some, filter, length, map, not, replicate, slice_get, slice_index};
 ghost use Rattle.watch_lists.specs.Row.{IsRow};
-ghost use Rattle.watch_lists.specs.Watches.{is_live, is_of, keys_of, listing, row_of, size_of, with_row};
+ghost use Rattle.watch_lists.specs.Watches.{IsListed, is_live, is_of, keys_of, listing, row_of, size_of, with_row};
 
 use crate::row::{keep_live, put, take};
 use crate::watch::Watch;
@@ -32,7 +32,9 @@ impl Shard {
     /// takes memory after this.
     pub fn new(alloc: Global, keys: u32, ids: u32) -> Result<Shard, NoMemory>
         requires { keys * ids ≤ 2 ^ 20 }
-        ensures { IfOk result (λ shard. shard ≡ record { ids = ids; rows = replicate keys [] }) }
+        ensures rows { IfOk result (λ shard. shard ≡ record { ids = ids; rows = replicate keys [] }) }
+        ensures none { IfOk result
+            (λ shard. (key : ℕ) (id : ℕ) (generation : ℕ) → ¬ IsListed shard key id generation) }
     {
         let mut rows = Vec::with_capacity(alloc, keys as usize)?;
         for _key in 0..keys {
@@ -48,8 +50,11 @@ impl Shard {
         requires key { key < keys_of self.old }
         requires id { id < self.old.ids }
         requires generation { 1 ≤ generation }
-        ensures { self.new ≡ with_row self.old key
+        ensures rest { self.new ≡ with_row self.old key
             (listing (record { key = key; id = id; generation = generation }) (row_of self.old key)) }
+        ensures listed { (g : ℕ) → IsListed self.new key id g ↔ (g ≡ generation) }
+        ensures others { (k : ℕ) (i : ℕ) (g : ℕ) → (k ≡ key → i ≢ id)
+            → IsListed self.new k i g ↔ IsListed self.old k i g }
     {
         let watch = Watch {
             key,
@@ -64,7 +69,12 @@ impl Shard {
     /// more.
     pub fn each(&self, key: u32, at: u32) -> Option<Watch>
         requires { key < keys_of self.now }
-        ensures { result ≡ slice_get (row_of self.now key) at }
+        ensures place { result ≡ slice_get (row_of self.now key) at }
+        ensures listed { IfSome result
+            (λ w. (w.key ≡ key) × IsListed self.now key w.id w.generation) }
+        ensures all { IfNone result ((id : ℕ) (generation : ℕ) → IsListed self.now key id generation
+            → (earlier : ℕ) × (earlier < at) × (slice_get (row_of self.now key) earlier
+            ≡ Some (record { key = key; id = id; generation = generation }))) }
     {
         self.rows[key as usize].get(at as usize).copied()
     }
@@ -77,6 +87,9 @@ impl Shard {
             (record { key = key; id = id; generation = generation }) }
         ensures rest { self.new ≡ with_row self.old key
             (filter (λ w. not (is_of id generation w)) (row_of self.old key)) }
+        ensures was { IsTrue result ↔ IsListed self.old key id generation }
+        ensures others { (k : ℕ) (i : ℕ) (g : ℕ) → IsListed self.new k i g
+            ↔ (IsListed self.old k i g × (k ≡ key → i ≡ id → g ≢ generation)) }
     {
         take(&mut self.rows[key as usize], id, generation)
     }
@@ -87,6 +100,8 @@ impl Shard {
         requires { length live.now ≡ self.old.ids }
         ensures live { self.new
             ≡ record self.old { rows = map (filter (is_live live.now)) self.old.rows } }
+        ensures listed { (k : ℕ) (i : ℕ) (g : ℕ) → IsListed self.new k i g
+            ↔ (IsListed self.old k i g × (g ≡ slice_index live.now i)) }
         ensures count { result + size_of self.new ≡ size_of self.old }
     {
         let mut removed = 0;
@@ -108,9 +123,14 @@ impl Shard {
     }
 
     /// Law: the watchers of a key are in rising order of id, each with the key, an id below the
-    /// limit and a generation of 1 or more.
+    /// limit and a generation of 1 or more. So an id is listed under a key once at most.
     pub fn watchers_rise(&self)
-        ensures { (key : ℕ) → key < keys_of self.now → IsRow key self.now.ids (row_of self.now key) }
+        ensures rows { (key : ℕ) → key < keys_of self.now
+            → IsRow key self.now.ids (row_of self.now key) }
+        ensures within { (key : ℕ) (id : ℕ) (generation : ℕ) → IsListed self.now key id generation
+            → (key < keys_of self.now) × (id < self.now.ids) × (1 ≤ generation) }
+        ensures once { (key : ℕ) (id : ℕ) (one : ℕ) (other : ℕ) → IsListed self.now key id one
+            → IsListed self.now key id other → one ≡ other }
     {
         let _ids = self.ids;
     }

@@ -1,6 +1,7 @@
 use Rattle.std.proofs.Common.{rules, ◌≡◌, ap, sym, ◌∙◌, replicate, None, map, length, arith}
 use Rattle.timing_wheel.specs.Timers.{listed}
 use Rattle.timing_wheel.specs.Wait.{bucket_of}
+use Rattle.timing_wheel.proofs.Starts.{StartFrom-none}
 use Rattle.timing_wheel.proofs.Slots.{map_none, listed-none}
 use Rattle.timing_wheel.proofs.entries.Entries.new.Goals as goal
 
@@ -12,4 +13,6 @@ invariant_of-result c =
       filed = c.in_ok-buckets.ensures ∙ map_none c.args.ids ∙ ap (map bucket_of) (sym timers);
       counted = sym (ap listed timers ∙ listed-none c.args.ids);
       fits = omega arith;
+      levels = search rules;
+      start = λ level low. rw timers (StartFrom-none level _ c.args.ids);
     }

@@ -1,6 +1,7 @@
 use Rattle.std.proofs.Common.{◌≡◌, ap, sym, ◌∙◌, None, map, length, get_or, set, is_some, arith, true, length-set}
 use Rattle.std.proofs.lemmas.List.{get_or_read, map-set}
 use Rattle.timing_wheel.specs.Wait.{bucket_of}
+use Rattle.timing_wheel.proofs.Starts.{StartFrom-take}
 use Rattle.timing_wheel.proofs.Slots.{bucket_at, bucket_of-none, bucket_listed, listed-take}
 use Rattle.timing_wheel.proofs.entries.Entries.take.Goals as goal
 
@@ -27,4 +28,6 @@ invariant_of-self c =
       filed = c.take.ensures ∙ ap (λ xs. set xs c.args.id None) c.self.invariant.filed ∙ ap (set (map bucket_of timers) c.args.id) (sym bucket_of-none) ∙ sym (map-set bucket_of timers c.args.id None);
       counted = omega arith;
       fits = rw length-set c.self.invariant.fits;
+      levels = c.self.invariant.levels;
+      start = λ level low. StartFrom-take level _ timers c.args.id (c.self.invariant.start level low);
     }

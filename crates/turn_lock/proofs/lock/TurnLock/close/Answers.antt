@@ -1,8 +1,8 @@
-use Rattle.std.proofs.Common.{◌<◌, sym, ◌∙◌, subst}
+use Rattle.std.proofs.Common.{arith, ◌<◌, sym, ◌∙◌, subst}
 use Rattle.std.specs.Prelude.{All}
 use Rattle.std.proofs.lemmas.List.Elements.{All-weaker}
 use Rattle.turn_lock.specs.Locks.{IsPassOf, IsReady}
-use Rattle.turn_lock.proofs.Ends.{closed, not_none, closed_at, closed_each}
+use Rattle.turn_lock.proofs.Ends.{closed, not_none, closed_at, closed_each, closed_once}
 use Rattle.turn_lock.proofs.lock.TurnLock.close.Goals as goal
 
 pub unreachable-requires : goal.unreachable-requires
@@ -27,5 +27,6 @@ returns g c =
     record {
       name = closes.named;
       each = closed_each g.T.Kept.entries g.T.Kept.by g.T.Kept.name key.passes name all c.in-Some.value closes;
+      once = λ number l. closed_once g.T.Kept.entries g.T.Kept.by g.T.Kept.name key.passes name all c.in-Some.value closes number (let counted = c.args.self.counted in omega arith);
       whose = subst (λ n. All (λ e. g.T.Kept.by e < n) (g.T.Kept.entries c.in-Some.value)) (sym c.args.self.counted) closes.whose;
     }

@@ -1,8 +1,9 @@
-use Rattle.std.proofs.Common.{◌∙◌, List, filter, not, ap, sym, subst, arith, Contains}
+use Rattle.std.proofs.Common.{◌≡◌, ◌≢◌, ◌↔◌, ◌∙◌, List, filter, not, ap, sym, subst, arith, Contains}
 use Rattle.watch_lists.specs.declared.watch.Watch.{Watch}
-use Rattle.watch_lists.specs.Watches.{Watches, is_of, row_of, with_row}
+use Rattle.watch_lists.specs.Watches.{Watches, IsListed, is_of, row_of, with_row}
 use Rattle.watch_lists.proofs.Rows.{IsRow-filter}
 use Rattle.watch_lists.proofs.Shards.{row_is, row_ok, row_room, changed, key_within, AreRows-set, any_contains}
+use Rattle.watch_lists.proofs.Listed.{drop_others}
 use Rattle.watch_lists.proofs.shard.Shard.drop_stale.Goals as goal
 
 pub take-requires : goal.take-requires
@@ -41,3 +42,11 @@ returns-clause-rest c =
     let change = λ (r : List Watch). filter (λ w. not (is_of c.args.id c.args.generation w)) r in
     changed s.ids s.rows.items c.self.invariant c.args.key l c.index_mut.result.now c.index_mut.ensures.value c.take.new.row change c.take.ensures.items
     ∙ ap (λ (w : Watches). with_row w c.args.key (change (row_of w c.args.key))) c.self.view_is
+
+pub returns-clause-was : goal.returns-clause-was
+returns-clause-was c = returns-clause-listed c
+
+pub returns-clause-others : goal.returns-clause-others
+returns-clause-others c = λ k i g.
+    subst (λ (w : Watches). IsListed w k i g ↔ (IsListed c.args.self.now k i g × (k ≡ c.args.key → i ≡ c.args.id → g ≢ c.args.generation))) (sym (returns-clause-rest c))
+    (drop_others c.args.self.now c.args.key c.args.id c.args.generation c.requires.key k i g)

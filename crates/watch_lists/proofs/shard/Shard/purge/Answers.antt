@@ -1,7 +1,8 @@
-use Rattle.std.proofs.Common.{◌∙◌, arith, length-set}
-use Rattle.watch_lists.specs.Watches.{is_live}
+use Rattle.std.proofs.Common.{◌≡◌, ◌↔◌, ◌∙◌, ap, sym, subst, arith, get_or, length-set}
+use Rattle.watch_lists.specs.Watches.{Watches, IsListed, is_live}
 use Rattle.watch_lists.proofs.Rows.{IsRow-filter}
-use Rattle.watch_lists.proofs.Shards.{row_ok, row_room, AreRows-set, filtered_so_far, sizes-set, size_small}
+use Rattle.watch_lists.proofs.Shards.{row_ok, row_room, AreRows-set, filtered_so_far, filtered_all, shard_of, sizes-set, size_small}
+use Rattle.watch_lists.proofs.Listed.{purged, purge_listed}
 use Rattle.watch_lists.proofs.shard.Shard.purge.Goals as goal
 
 -- the count so far is at most the size at the start
@@ -41,3 +42,20 @@ overflow_cast-result c =
     let count = c.loop-key.invariant.count in
     let small = size_small c.self.inside.ids c.self.inside.rows.items c.self.invariant in
     omega arith
+
+pub returns-clause-live : goal.returns-clause-live
+returns-clause-live c =
+    let i = c.loop-key.invariant in
+    let old = c.self.inside in
+    let end = c.loop-key-test.false in
+    let many = c.len-key-end.ensures in
+    let live = c.args.live.now in
+    let rows = filtered_all live c.loop-key.self-inside.rows.items old.rows.items c.loop-key.key (omega arith) i.live in
+    let now : shard_of c.loop-key.self-inside.ids c.loop-key.self-inside.rows.items ≡ purged live (shard_of old.ids old.rows.items) =
+    λ j. record { ids = i.ids j; rows = rows j } in
+    now ∙ ap (purged live) c.self.view_is
+
+pub returns-clause-listed : goal.returns-clause-listed
+returns-clause-listed c = λ k i g.
+    subst (λ (w : Watches). IsListed w k i g ↔ (IsListed c.args.self.now k i g × (g ≡ get_or c.args.live.now i 0))) (sym (returns-clause-live c))
+    (purge_listed c.args.live.now c.args.self.now k i g)

@@ -1,13 +1,13 @@
 use Rattle.std.proofs.Common.{rules, arith, ◌≡◌, ◌^◌, ◌<◌, [], ◌∷◌, ◌++◌, length, length-append, ℕ, ◌+◌, ◌∙◌, sym, ap, subst}
 use Rattle.std.specs.Prelude.{All}
 use Rattle.std.proofs.lemmas.List.Elements.{All-push}
-use Rattle.turn_lock.specs.declared.examples.Lane.{Lane}
-use Rattle.turn_lock.specs.declared.examples.Numbers.{Numbers}
+use Rattle.turn_lock.specs.declared.tests.examples.Lane.{Lane}
+use Rattle.turn_lock.specs.declared.tests.examples.Numbers.{Numbers}
 use Rattle.turn_lock.specs.Locks.{known, lock_id, lock_name, IsPassOf, IsReady}
 use Rattle.turn_lock.specs.Passes.{fresh}
 use Rattle.turn_lock.proofs.Steps.{ready, known_is}
 use Rattle.turn_lock.proofs.Rows.{fresh_popped}
-use Rattle.turn_lock.proofs.examples.lanes.Goals as goal
+use Rattle.turn_lock.proofs.tests.examples.lanes.Goals as goal
 
 pub loop-pass-preserved : goal.loop-pass-preserved
 loop-pass-preserved c =

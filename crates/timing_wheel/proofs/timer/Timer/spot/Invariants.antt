@@ -1,6 +1,6 @@
 use Rattle.std.proofs.Common.{◌≡◌, ◌-◌, ◌<◌}
 use Rattle.timing_wheel.specs.Place.{tick_of, least_from, level_of}
-use Rattle.timing_wheel.proofs.timer.Timer.place.Given as goal
+use Rattle.timing_wheel.proofs.timer.Timer.spot.Given as goal
 
 abbrev pub invariant-loop-tick : goal.invariant-loop-tick
 invariant-loop-tick l =

@@ -1,7 +1,7 @@
 use Rattle.std.proofs.Common.{◌≡◌, ◌+◌, ◌^◌, ◌<◌, [], ◌∷◌, length}
 use Rattle.std.specs.Prelude.{All}
 use Rattle.turn_lock.specs.Locks.{known, lock_id, lock_name, AreFresh, IsPassOf, IsReady}
-use Rattle.turn_lock.proofs.examples.lanes.Given as goal
+use Rattle.turn_lock.proofs.tests.examples.lanes.Given as goal
 
 abbrev pub invariant-loop-pass : goal.invariant-loop-pass
 invariant-loop-pass l =

@@ -3,7 +3,7 @@ use Rattle.timing_wheel.specs.declared.timer.Timer.{Timer}
 use Rattle.timing_wheel.specs.Place.{level_of, span_of}
 use Rattle.timing_wheel.specs.Wait.{Waits}
 use Rattle.timing_wheel.specs.Handover.{IsPartOfTurn}
-use Rattle.timing_wheel.proofs.turn.turn_level.Given as goal
+use Rattle.timing_wheel.proofs.turn.pass_buckets.Given as goal
 
 abbrev pub invariant-loop-step : goal.invariant-loop-step
 invariant-loop-step l = record {

@@ -1,0 +1,2 @@
+-- the passes of a lock, as they are made
+pub mod Passes
