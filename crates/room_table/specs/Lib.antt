@@ -1,0 +1,12 @@
+-- what a part has come to by its steps
+pub mod Parts
+-- where each word stands
+pub mod Layout
+-- the rule of the table
+pub mod Shown
+-- all parts of a shape, as they are handed out
+pub mod Fresh
+-- what each step tells
+pub mod Tells
+-- what a clause sees of the table and of its seats
+pub mod Seats

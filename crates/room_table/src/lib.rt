@@ -1,0 +1,16 @@
+//! The room as words that threads share.
+#![tactic(auto)]
+
+mod layout;
+mod meetings;
+mod part;
+mod passes;
+mod plays;
+mod rule;
+mod scans;
+mod seats;
+mod table;
+
+pub use part::{CallerStep, Part, ScannerStep, SourceStep};
+pub use seats::{CallerSeat, ScanSeat, SourceSeat};
+pub use table::RoomTable;
