@@ -1,7 +1,7 @@
 -- Session words as numbers, and the exchange of one.
 use Rattle.std.proofs.Common.{⊎_elim, ◌≡◌, ◌≢◌, ℕ, ◌+◌, ◌*◌, ◌%◌, ◌^◌, ◌<◌, ◌≤◌, true, false, sym, refl, ap, ◌∙◌, subst, arith}
-use Rattle.std.specs.Prelude.{◌==◌}
-use Rattle.std.proofs.lemmas.Bool.{cases_eq, eq-eqb, ne_eqb, false≢true}
+use Rattle.std.specs.Prelude.{◌==◌, ◌↔◌, IsTrue}
+use Rattle.std.proofs.lemmas.Bool.{eq-eqb, eqb-true, ne_eqb, false≢true}
 use prog.Atomic.{either}
 use Rattle.room_core.specs.declared.event.How.{How}
 use Rattle.room_core.specs.declared.event.How.TheVariants.{Satisfied, Expired}
@@ -90,3 +90,19 @@ packed_small w few less = let rest = by_few w.phase less in omega arith
 -- the number of a session word is below 2^42
 pub session_small : (word : ℕ) → IsSessionWord word → word < 2 ^ 42
 session_small word is = subst (λ n. n < 2 ^ 42) is.again (packed_small (unpacked word) is.generation is.winner)
+
+live_word : (w : Session) (g : ℕ) → is_live w g ≡ true → w ≡ record { generation = g; phase = Open }
+live_word w g live = ⊎_elim
+    (λ (t : (is_live w g ≡ true) × (w ≡ record { generation = g; phase = Open }) × (exchanged w g Satisfied 0 ≡ record { generation = g; phase = Won Satisfied 0 })). t.1)
+    (λ (t : (is_live w g ≡ false) × (exchanged w g Satisfied 0 ≡ w)). absurd (false≢true (sym t.0 ∙ live)))
+    (exchange_cases w g Satisfied 0)
+
+-- an exchange found the word that it wanted exactly where that was open at the generation
+pub won_where : (found wanted g : ℕ) → IsSessionWord found → wanted ≡ packed (record { generation = g; phase = Open }) → IsTrue (found == wanted) ↔ (is_live (unpacked found) g ≡ true)
+won_where found wanted g is same =
+    let open_word : Session = record { generation = g; phase = Open } in (
+      (λ e.
+          let equal : found ≡ wanted = eqb-true found wanted e in
+          ap (λ w. is_live w g) (ap unpacked (equal ∙ same) ∙ unpacks open_word (omega arith)) ∙ open_is_live g),
+      (λ live. eq-eqb found wanted (sym is.again ∙ ap packed (live_word (unpacked found) g live) ∙ sym same)),
+    )

@@ -1,6 +1,8 @@
 //! The room as words that threads share.
 #![tactic(auto)]
 
+mod checker;
+mod checks;
 mod layout;
 mod meetings;
 mod part;
@@ -11,6 +13,7 @@ mod scans;
 mod seats;
 mod table;
 
+pub use checker::Checker;
 pub use part::{CallerStep, Part, ScannerStep, SourceStep};
 pub use seats::{CallerSeat, ScanSeat, SourceSeat};
 pub use table::RoomTable;
