@@ -20,3 +20,9 @@ pub mod Scanners
 pub mod Seatings
 -- what each call requires
 pub mod Ready
+-- seats that are split off and joined
+pub mod Handing
+-- the table at its start
+pub mod Starts
+-- the seats that come back
+pub mod Ends

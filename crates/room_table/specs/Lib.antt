@@ -10,3 +10,5 @@ pub mod Fresh
 pub mod Tells
 -- what a clause sees of the table and of its seats
 pub mod Seats
+-- the seats as they are handed out, and as they come back
+pub mod Handed

@@ -3,6 +3,7 @@
 
 mod checker;
 mod checks;
+mod hand;
 mod layout;
 mod meetings;
 mod part;
@@ -11,9 +12,10 @@ mod plays;
 mod rule;
 mod scans;
 mod seats;
+mod sleep;
 mod table;
 
 pub use checker::Checker;
 pub use part::{CallerStep, Part, ScannerStep, SourceStep};
 pub use seats::{CallerSeat, ScanSeat, SourceSeat};
-pub use table::RoomTable;
+pub use table::{RoomTable, TableParts, TableWords};

@@ -138,7 +138,7 @@ impl Split<Parts> for HandOut {
 pub(crate) struct TakeBack;
 
 impl Join<Parts> for TakeBack {
-    ghost both = { λ view other. view ++ other };
+    ghost both = { λ view other. other ++ view };
 
     ghost spent = { [] };
 }
