@@ -26,3 +26,5 @@ pub mod Handing
 pub mod Starts
 -- the seats that come back
 pub mod Ends
+-- the last of the seats
+pub mod Popped
