@@ -1,5 +1,5 @@
 -- What an event of the room's machine changes: one word, and one part.
-use Rattle.std.proofs.Common.{⊎_elim, ◌≡◌, ◌≢◌, ℕ, ◌+◌, sym, ap, refl, subst, ◌∙◌}
+use Rattle.std.proofs.Common.{⊎_elim, ◌≡◌, ◌≢◌, ℕ, ◌+◌, sym, ap, subst, ◌∙◌}
 use Rattle.std.proofs.lemmas.Bool.{cases_eq}
 use Rattle.room_core.specs.declared.parts.Source.{Source}
 use Rattle.room_core.specs.declared.shape.Shape.{Shape}

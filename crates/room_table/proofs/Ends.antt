@@ -1,5 +1,5 @@
 -- The seats that come back, and what they show.
-use Rattle.std.proofs.Common.{◌≡◌, ℕ, zero, suc, ◌<◌, List, [], ◌∷◌, ◌++◌, length, sym, refl, ap, ◌∙◌, subst, arith}
+use Rattle.std.proofs.Common.{◌≡◌, ℕ, zero, suc, List, [], ◌∷◌, ◌++◌, sym, ap, ◌∙◌, subst}
 use Rattle.std.specs.Prelude.{All, map, slice_index_or}
 use Rattle.std.proofs.lemmas.List.Elements.{All-nil, All-cons, All-head, All-tail}
 use mathlib.Core.List.{append_assoc}
@@ -11,7 +11,7 @@ use Rattle.room_core.specs.declared.shape.Shape.{Shape}
 use Rattle.room_core.specs.State.{State}
 use Rattle.room_table.specs.declared.part.Part.{Part}
 use Rattle.room_table.specs.Handed.{AreShown, source_part, caller_part, scanner_part}
-use Rattle.room_table.specs.Seats.{TableView, table_view, SourceView, CallerView, ScanView, source_view, caller_view, scan_view, source_now, caller_now, scanner_now, HasSource, HasCaller, HasScanner}
+use Rattle.room_table.specs.Seats.{table_view, SourceView, CallerView, ScanView, source_view, caller_view, scan_view, source_now, caller_now, scanner_now, HasSource, HasCaller, HasScanner}
 use Rattle.room_table.specs.Shown.{Shows, AreWords, IsShown}
 use Rattle.room_table.specs.Tells.{Sat}
 

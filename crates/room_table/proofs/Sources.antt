@@ -1,5 +1,5 @@
 -- The steps of a source.
-use Rattle.std.proofs.Common.{◌≡◌, ℕ, ◌≤◌, List, [], ◌∷◌, false, sym, refl, ap, ◌∙◌, subst, arith}
+use Rattle.std.proofs.Common.{◌≡◌, ℕ, ◌≤◌, List, [], ◌∷◌, sym, refl, ap, ◌∙◌, subst, arith}
 use mathlib.Core.Option.{none}
 use Rattle.atomic_table.specs.Table.{step, Allows}
 use Rattle.room_core.specs.declared.event.CoreEvent.TheVariants.{Store, Hush}

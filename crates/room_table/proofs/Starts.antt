@@ -1,5 +1,5 @@
 -- The table at its start keeps the rule.
-use Rattle.std.proofs.Common.{◌≡◌, ◌≢◌, ℕ, zero, suc, ◌+◌, ◌-◌, ◌*◌, ◌<◌, ◌≤◌, List, [], ◌∷◌, ◌++◌, length, get_or, eqb, sym, refl, ap, ◌∙◌, subst, inl, inr, ⊎_elim, arith}
+use Rattle.std.proofs.Common.{◌≡◌, ◌≢◌, ℕ, zero, suc, ◌+◌, ◌-◌, ◌<◌, ◌≤◌, List, [], ◌∷◌, ◌++◌, length, get_or, eqb, sym, refl, ap, ◌∙◌, subst, inl, inr, ⊎_elim, arith}
 use Rattle.std.specs.Prelude.{All, sum_by, replicate}
 use Rattle.std.proofs.lemmas.Bool.{cases_eq, eq-eqb, ne_eqb}
 use Rattle.std.proofs.lemmas.List.{get_or-replicate, length-replicate}
@@ -20,7 +20,7 @@ use Rattle.room_table.specs.declared.part.Part.{Part}
 use Rattle.room_table.specs.Fresh.{sources_from, callers_from, scanners_from, last_part, all_scanners, all_callers, all_parts}
 use Rattle.room_table.specs.Layout.{place_of, size_of}
 use Rattle.room_table.proofs.Places.{place_small}
-use Rattle.room_table.specs.Shown.{Shows, number_of, one_if, times, AreWords, IsShown}
+use Rattle.room_table.specs.Shown.{Shows, number_of, one_if, AreWords, IsShown}
 
 small : (shape : Shape) (w : Word) (i : ℕ) → i ≡ place_of shape w → IsWord shape w → i < size_of shape
 small shape w i e is = omega (arith, e, place_small shape w is)

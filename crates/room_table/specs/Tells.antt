@@ -1,5 +1,5 @@
 -- What each step on the table tells: a seat of one part has made one step more, and what it found.
-use Rattle.std.specs.Prelude.{◌≡◌, ◌≢◌, ℕ, ◌+◌, ◌%◌, ◌^◌, ◌<◌, ◌≤◌, List, [], ◌∷◌, Option, Some, None}
+use Rattle.std.specs.Prelude.{◌≡◌, ◌≢◌, ℕ, ◌%◌, ◌^◌, ◌<◌, ◌≤◌, List, [], ◌∷◌, Option, Some, None}
 use Rattle.atomic_table.specs.Table.{Me, Step}
 use Rattle.room_core.specs.declared.event.How.{How}
 use Rattle.room_core.specs.declared.parts.Entry.{Entry}

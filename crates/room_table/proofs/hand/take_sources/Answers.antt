@@ -1,4 +1,4 @@
-use Rattle.std.proofs.Common.{rules, ◌≡◌, [], ◌∷◌, ◌++◌, ap, subst, ◌∙◌}
+use Rattle.std.proofs.Common.{rules, ◌≡◌, ◌∷◌, ◌++◌, ap, subst, ◌∙◌}
 use Rattle.std.specs.Prelude.{All, map}
 use Rattle.room_table.specs.Handed.{source_part}
 use Rattle.room_table.specs.Seats.{SourceView}

@@ -1,10 +1,10 @@
-use Rattle.std.proofs.Common.{◌≡◌, ◌<◌, ◌≤◌, max, sym, refl, ap, ◌∙◌, subst, inr, arith}
+use Rattle.std.proofs.Common.{◌≡◌, ◌<◌, max, sym, refl, ap, ◌∙◌, subst, inr, arith}
 use Rattle.room_core.specs.declared.shape.Shape.{Shape}
 use Rattle.room_core.specs.Gauges.{IsGaugeOf, scanner_of}
 use Rattle.room_core.specs.Scans.{MayAsk, MayHear}
 use Rattle.room_core.proofs.Laws.{put_here}
 use Rattle.room_table.specs.declared.part.CallerStep.{CallerStep}
-use Rattle.room_table.specs.Handed.{fresh_caller, fresh_scanner}
+use Rattle.room_table.specs.Handed.{fresh_caller}
 use Rattle.room_table.specs.Seats.{CallerView, ScanView, caller_did, caller_now, scanner_now}
 use Rattle.room_table.proofs.tests.a_scan.Goals as goal
 

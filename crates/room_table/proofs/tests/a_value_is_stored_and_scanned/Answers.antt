@@ -33,4 +33,4 @@ a_scan-requires-clause-scan g c =
     let shape : parts.table.shape ≡ partition = search rules in
     let fresh : parts.scanners ≡ fresh_scanners parts.table = search rules in
     let got : c.pop-3.result ≡ Some x = search rules in
-    last_scanner parts.table  parts.scanners c.pop-3.new.self x fresh (c.pop-3.ensures.items ∙ ap (λ o. c.pop-3.new.self ++ option_to_list o) got)
+    last_scanner parts.table parts.scanners c.pop-3.new.self x fresh (c.pop-3.ensures.items ∙ ap (λ o. c.pop-3.new.self ++ option_to_list o) got)

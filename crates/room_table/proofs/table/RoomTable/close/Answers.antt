@@ -1,7 +1,7 @@
-use Rattle.std.proofs.Common.{rules, ◌≡◌, ◌∙◌, ap, subst}
+use Rattle.std.proofs.Common.{◌∙◌, ap, subst}
 use Rattle.std.specs.Prelude.{map, ◌++◌, []}
 use Rattle.std.specs.Slots.{slots_items}
-use Rattle.room_table.specs.Handed.{AreShown, caller_part, scanner_part, source_part}
+use Rattle.room_table.specs.Handed.{AreShown, caller_part, source_part}
 use Rattle.room_table.proofs.Ends.{closes}
 use Rattle.room_table.proofs.table.RoomTable.close.Goals as goal
 

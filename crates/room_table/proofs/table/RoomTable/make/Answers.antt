@@ -1,4 +1,4 @@
-use Rattle.std.proofs.Common.{◌∙◌, rules}
+use Rattle.std.proofs.Common.{rules}
 use Rattle.room_table.proofs.Starts.{starts}
 use Rattle.room_table.proofs.table.RoomTable.make.Goals as goal
 
