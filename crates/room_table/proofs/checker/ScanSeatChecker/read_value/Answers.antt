@@ -1,0 +1,36 @@
+use Rattle.std.proofs.Common.{ap, subst, ◌∙◌}
+use Rattle.room_core.specs.declared.word.Word.{Word}
+use Rattle.room_table.specs.declared.part.ScannerStep.{ScannerStep}
+use Rattle.room_table.specs.Seats.{ScanView, scanner_did}
+use Rattle.room_table.proofs.Seatings.{ScannerStands, scanner_on, scanner_is_after, scanner_seen}
+use Rattle.room_table.proofs.Ready.{scanner_read_ready}
+use Rattle.room_table.specs.Seats.{TableView}
+use Rattle.room_core.specs.Gauges.{IsGauge}
+use Rattle.room_core.specs.Gauges.{IsScanner}
+use Rattle.room_table.proofs.checker.ScanSeatChecker.read_value.Goals as goal
+
+pub load-requires : goal.load-requires
+load-requires c =
+    let board = c.table.inside.board.shared in
+    let seat = c.self.inside.seat in
+    let stands : ScannerStands board.key c.table.inside.shape board.table_id seat.table_id c.self.inside.scanner seat.me c.args.table.now c.args.self.now =
+    record { rule = c.table.invariant.1; words = c.table.invariant.2; self_is = c.table.view_is; seat_is = c.self.view_is; of_table = c.requires.table; has = c.self.invariant.has } in
+    scanner_read_ready board.key c.table.inside.shape board.table_id seat.table_id board.table_id.slots seat.id c.self.inside.scanner seat.me c.args.table.now c.args.self.now c.args.gauge c.place-at.result stands c.place-at.ensures (subst (λ (t : TableView). IsScanner t.shape c.args.self.now.scanner × IsGauge t.shape c.args.gauge) c.requires.table c.requires.may)
+
+pub invariant_of-self : goal.invariant_of-self
+invariant_of-self c =
+    let board = c.table.inside.board.shared in
+    let seat = c.self.inside.seat in
+    let stands : ScannerStands board.key c.table.inside.shape board.table_id seat.table_id c.self.inside.scanner seat.me c.args.table.now c.args.self.now =
+    record { rule = c.table.invariant.1; words = c.table.invariant.2; self_is = c.table.view_is; seat_is = c.self.view_is; of_table = c.requires.table; has = c.self.invariant.has } in
+    let told = (c.load.ensures.2 c.args.gauge (scanner_on stands (Word.Value c.args.gauge) c.place-at.result c.place-at.ensures)).0 in
+    scanner_is_after c.self.inside.scanner c.self.inside.heard c.self.inside.heard c.self.inside.met c.self.inside.met seat.me c.load.new.seat.me (ScannerStep.Read c.args.gauge c.load.result) c.self.invariant told (λ e. e) (λ h. h)
+
+pub returns-clause-step : goal.returns-clause-step
+returns-clause-step c =
+    let board = c.table.inside.board.shared in
+    let seat = c.self.inside.seat in
+    let stands : ScannerStands board.key c.table.inside.shape board.table_id seat.table_id c.self.inside.scanner seat.me c.args.table.now c.args.self.now =
+    record { rule = c.table.invariant.1; words = c.table.invariant.2; self_is = c.table.view_is; seat_is = c.self.view_is; of_table = c.requires.table; has = c.self.invariant.has } in
+    let told = (c.load.ensures.2 c.args.gauge (scanner_on stands (Word.Value c.args.gauge) c.place-at.result c.place-at.ensures)).0 in
+    scanner_seen seat.table_id c.load.new.seat.table_id c.self.inside.scanner seat.me c.load.new.seat.me (ScannerStep.Read c.args.gauge c.load.result) stands.has c.load.ensures.0 told ∙ ap (λ (v : ScanView). scanner_did v (ScannerStep.Read c.args.gauge c.load.result)) c.self.view_is

@@ -1,0 +1,44 @@
+//! Where each word of the room stands in the table.
+ghost use Rattle.std.specs.Prelude.{◌≡◌};
+ghost use Rattle.room_core.specs.Gauges.{IsShape};
+ghost use Rattle.room_core.specs.Words.{IsWord};
+ghost use Rattle.room_table.specs.Layout.{place_of, size_of};
+
+use room_core::{DESCRIPTION_WORDS, MARKS, Shape, Word};
+
+// The words of one pass: its session word, its description and its marks.
+const PASS_WORDS: usize = 1 + DESCRIPTION_WORDS as usize + MARKS as usize;
+
+fn pass_place(shape: Shape, pass: u32) -> usize
+    requires shape { IsShape shape }
+    requires pass { IsWord shape (Word.Session pass) }
+    ensures { result ≡ place_of shape (Word.Session pass) }
+{
+    3 * shape.gauges as usize + PASS_WORDS * pass as usize
+}
+
+pub(crate) fn place(shape: Shape, word: Word) -> usize
+    requires shape { IsShape shape }
+    requires word { IsWord shape word }
+    ensures { result ≡ place_of shape word }
+{
+    let gauges = shape.gauges as usize;
+    match word {
+        Word::Value { gauge } => gauge as usize,
+        Word::Asked { gauge } => gauges + gauge as usize,
+        Word::Begun { gauge } => 2 * gauges + gauge as usize,
+        Word::Session { pass } => pass_place(shape, pass),
+        Word::Description { pass, at } => pass_place(shape, pass) + 1 + at as usize,
+        Word::Mark { pass, at } => {
+            pass_place(shape, pass) + 1 + DESCRIPTION_WORDS as usize + at as usize
+        }
+    }
+}
+
+/// The number of words.
+pub(crate) fn size(shape: Shape) -> usize
+    requires { IsShape shape }
+    ensures { result ≡ size_of shape }
+{
+    3 * shape.gauges as usize + PASS_WORDS * shape.passes as usize
+}

@@ -1,0 +1,46 @@
+//! The room as words that threads share: each call of `RoomTable` is one atomic step on one word, and one event of the room's
+//! machine.
+//!
+//! The layer above may use the table, its seats and their calls, and cite what a seat knows by its steps (`specs/Seats.antt`).
+//! How a gauge is raised and scanned, with a seat of its source, one of a pass and one of its scanner:
+//!
+//! ```text
+//! table.store(&mut source, value);
+//! let read = table.read(&mut caller, gauge);
+//! table.ask(&mut caller, gauge, read);
+//! table.hush(&mut source);                  // again from the read on, where it is above what this finds
+//! table.hear(&mut scan, gauge);
+//! table.begin(&mut scan, gauge);            // now every watcher of the gauge is a duty of the scanner
+//! table.relieve(&mut caller, gauge);
+//! ```
+//!
+//! # How the proof goes
+//!
+//! The table is an `atomic_table` without slots. A seat's view is a list of parts, each with the steps that it made; the rule
+//! (`specs/Shown.antt`) says that the words and the parts of all views show one state that the machine carries. A step has one
+//! lemma for its kind (`proofs/Sources.antt`, `Callers`, `Scanners`): which word and which part the event changes, and that the
+//! rest is as it was. One lemma for all kinds (`proofs/Stepping.antt`) makes the rule of it: the machine's events keep what is
+//! carried, no two words have one place, and no two seats one part.
+#![tactic(auto)]
+
+mod checker;
+mod checks;
+mod hand;
+mod layout;
+mod meetings;
+mod part;
+mod passes;
+mod plays;
+mod rule;
+mod scans;
+mod seats;
+mod sleep;
+mod table;
+
+pub use checker::Checker;
+pub use part::{CallerStep, Part, ScannerStep, SourceStep};
+pub use seats::{CallerSeat, ScanSeat, SourceSeat};
+pub use table::{RoomTable, TableParts, TableWords};
+
+#[cfg(test)]
+mod tests;

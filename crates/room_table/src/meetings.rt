@@ -1,0 +1,55 @@
+//! The steps of a scanner that meets a pass: it looks whether the operation is open, learns it, and lists it.
+ghost use Rattle.std.specs.Prelude.{◌≡◌, ◌≤◌};
+ghost use Rattle.room_core.specs.Gauges.{IsPass, IsScanner};
+ghost use Rattle.room_core.specs.Meetings.{MayLearn, MayMark, generation_met};
+ghost use Rattle.room_core.specs.Packing.{unpacked};
+ghost use Rattle.room_table.specs.declared.part.ScannerStep.TheVariants.{Learned, Listed, Met};
+ghost use Rattle.room_table.specs.Seats.{scanner_did, scanner_now};
+ghost use Rattle.room_table.specs.Tells.{IsNewest, IsSessionWord};
+
+use crate::layout::place;
+use crate::plays::{Learns, Lists, Meets};
+use crate::seats::ScanSeat;
+use crate::table::RoomTable;
+use room_core::{Session, Word};
+
+impl RoomTable {
+    /// The scanner looks at the session word of a pass. It has a meeting where that is open, and no meeting where it isn't, and
+    /// loses the entries and duties of the pass at generations that aren't open.
+    pub fn meet(&self, scan: &mut ScanSeat, pass: u32) -> u64
+        requires table { scan.old.table ≡ self.now }
+        requires may { IsScanner self.now.shape scan.old.scanner × IsPass self.now.shape pass }
+        ensures step { scan.new ≡ scanner_did scan.old (Met pass (unpacked result)) }
+        ensures word { IsSessionWord result }
+        ensures newest { IsNewest (scanner_now scan.old) pass result }
+    {
+        let at = place(self.shape, Word::Session { pass });
+        let found = self.board.shared.load::<Meets>(&mut scan.seat, at);
+        scan.met = Session::unpacked(found).generation;
+        found
+    }
+
+    /// The scanner reads a word of the description of the pass that it has met.
+    pub fn learn(&self, scan: &mut ScanSeat, pass: u32, at: u32) -> u64
+        requires table { scan.old.table ≡ self.now }
+        requires may { MayLearn self.now.shape scan.old.scanner (scanner_now scan.old) pass at }
+        ensures { scan.new ≡ scanner_did scan.old (Learned at result) }
+    {
+        let place = place(self.shape, Word::Description { pass, at });
+        self.board.shared.load::<Learns>(&mut scan.seat, place)
+    }
+
+    /// The scanner lists the operation that it has met under a need's gauge, or, at 64, under the clock, and marks that for the
+    /// generation met.
+    pub fn mark(&self, scan: &mut ScanSeat, pass: u32, at: u32, generation: u32)
+        requires table { scan.old.table ≡ self.now }
+        requires may { MayMark self.now.shape scan.old.scanner (scanner_now scan.old) pass at }
+        requires generation { generation ≡ generation_met (scanner_now scan.old).meeting }
+        ensures { scan.new ≡ scanner_did scan.old (Listed pass at) }
+    {
+        let place = place(self.shape, Word::Mark { pass, at });
+        self.board
+            .shared
+            .store::<Lists>(&mut scan.seat, place, u64::from(generation));
+    }
+}

@@ -1,0 +1,88 @@
+//! The steps of a pass as the owner of its operation.
+ghost use Rattle.std.specs.Prelude.{◌≡◌, ◌≤◌};
+ghost use Rattle.room_core.specs.Packing.{unpacked};
+ghost use Rattle.room_core.specs.Passes.{MayDescribe, MayIdle, MayOpen, MayPeek, MaySeeMark};
+ghost use Rattle.room_table.specs.declared.part.CallerStep.TheVariants.{Described, Idled, Opened, Peeked, SawMark};
+ghost use Rattle.room_table.specs.Seats.{caller_did, caller_now};
+ghost use Rattle.room_table.specs.Tells.{IsOwnWord};
+
+use crate::layout::place;
+use crate::plays::{Describes, Idles, Opens, Peeks, SeesMark};
+use crate::seats::CallerSeat;
+use crate::table::RoomTable;
+use room_core::{Phase, Session, Word};
+
+impl RoomTable {
+    /// The pass writes a word of its operation's description: 0 the least tally, 1 the deadline, 2 the number of needs, from 3
+    /// on of each need its gauge, start and cap.
+    pub fn describe(&self, caller: &mut CallerSeat, at: u32, word: u64)
+        requires table { caller.old.table ≡ self.now }
+        requires may { MayDescribe self.now.shape caller.old.pass (caller_now caller.old) at }
+        ensures { caller.new ≡ caller_did caller.old (Described at word) }
+    {
+        let pass = caller.pass;
+        let at = place(self.shape, Word::Description { pass, at });
+        self.board
+            .shared
+            .store::<Describes>(&mut caller.seat, at, word);
+    }
+
+    /// The pass opens the operation that it has described, at the next generation.
+    pub fn open(&self, caller: &mut CallerSeat)
+        requires table { caller.old.table ≡ self.now }
+        requires may { MayOpen self.now.shape caller.old.pass (caller_now caller.old) }
+        ensures { caller.new ≡ caller_did caller.old Opened }
+    {
+        let pass = caller.pass;
+        let at = place(self.shape, Word::Session { pass });
+        let generation = caller.generation + 1;
+        let word = Session {
+            generation,
+            phase: Phase::Open,
+        }
+        .packed();
+        self.board.shared.store::<Opens>(&mut caller.seat, at, word);
+        caller.generation = generation;
+    }
+
+    /// The pass looks at a mark of its operation: the generation for which its listing was made last, which is no later than its
+    /// own.
+    pub fn marked(&self, caller: &mut CallerSeat, at: u32) -> u64
+        requires table { caller.old.table ≡ self.now }
+        requires may { MaySeeMark self.now.shape caller.old.pass (caller_now caller.old) at }
+        ensures step { caller.new ≡ caller_did caller.old (SawMark at result) }
+        ensures generation { result ≤ (caller_now caller.old).generation }
+    {
+        let pass = caller.pass;
+        let place = place(self.shape, Word::Mark { pass, at });
+        self.board.shared.load::<SeesMark>(&mut caller.seat, place)
+    }
+
+    /// The pass looks at its own session word, which has its generation and is open or won.
+    pub fn peek_own(&self, caller: &mut CallerSeat) -> u64
+        requires table { caller.old.table ≡ self.now }
+        requires may { MayPeek self.now.shape caller.old.pass (caller_now caller.old) }
+        ensures step { caller.new ≡ caller_did caller.old (Peeked (unpacked result)) }
+        ensures word { IsOwnWord (caller_now caller.old) result }
+    {
+        let pass = caller.pass;
+        let at = place(self.shape, Word::Session { pass });
+        self.board.shared.load::<Peeks>(&mut caller.seat, at)
+    }
+
+    /// The pass takes how its operation was won and by whom, and is idle at its generation.
+    pub fn idle(&self, caller: &mut CallerSeat)
+        requires table { caller.old.table ≡ self.now }
+        requires may { MayIdle self.now.shape caller.old.pass (caller_now caller.old) }
+        ensures { caller.new ≡ caller_did caller.old Idled }
+    {
+        let pass = caller.pass;
+        let at = place(self.shape, Word::Session { pass });
+        let word = Session {
+            generation: caller.generation,
+            phase: Phase::Idle,
+        }
+        .packed();
+        self.board.shared.store::<Idles>(&mut caller.seat, at, word);
+    }
+}

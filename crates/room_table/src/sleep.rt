@@ -1,0 +1,38 @@
+//! Sleeping and waking, which are no steps and of which no clause speaks: whether a sleeper wakes and when can't be proved, so
+//! nothing may come to depend on it. A pass that has nothing to do can sleep on its own session word while that is open, so that
+//! it neither polls nor burns a processor. Each sleep is bounded, so that a wake that is lost costs no more than that.
+ghost use Rattle.std.specs.Prelude.{◌≡◌};
+ghost use Rattle.room_core.specs.Gauges.{IsPass};
+
+use crate::layout::place;
+use crate::seats::CallerSeat;
+use crate::table::RoomTable;
+use room_core::Word;
+use std::sync::Wait;
+use std::time::Duration;
+
+// The phase of an open word.
+const OPEN: u64 = 1;
+
+// There are four phases.
+const PHASES: u64 = 4;
+
+// The kernel compares the low 32 bits of a word, where the phase lies.
+const LOW: u64 = 0xffff_ffff;
+
+impl RoomTable {
+    /// Sleeps while the pass's session word is open, for no longer than `most`. A scanner that wins it wakes the sleeper. It may
+    /// also return for no reason, and returns at once where the word isn't open.
+    pub fn sleep(&self, rt: &impl Wait, caller: &CallerSeat, most: Duration)
+        requires table { caller.now.table ≡ self.now }
+        requires there { IsPass self.now.shape caller.now.pass }
+    {
+        let pass = caller.pass;
+        let at = place(self.shape, Word::Session { pass });
+        let top = &self.board.shared;
+        let word = top.peek(at);
+        if word % PHASES == OPEN {
+            top.park_timeout(rt, at, (word & LOW) as u32, most);
+        }
+    }
+}

@@ -1,0 +1,127 @@
+//! The table: made with its seats, and closed with them.
+ghost use Rattle.std.specs.Prelude.{◌≡◌, ◌<◌, IfOk, length, slice_index};
+ghost use Rattle.room_core.specs.Gauges.{IsShape};
+ghost use Rattle.room_table.specs.Handed.{AreCallers, AreScanners, AreShown, AreSources, fresh_callers, fresh_scanners, fresh_sources};
+
+use crate::hand::{
+    hand_callers, hand_scanners, hand_sources, take_callers, take_scanners, take_sources,
+};
+use crate::layout::size;
+use crate::rule::{Board, Top};
+use crate::seats::{CallerSeat, ScanSeat, SourceSeat};
+use atomic_table::{Closed, Table};
+use kbytes::{List, NoMemory};
+use room_core::Shape;
+use std::alloc::Global;
+use std::marker::Model;
+
+/// The words of the room, which threads share.
+#[derive(Drop)]
+pub struct RoomTable {
+    pub(crate) board: Board,
+    pub(crate) shape: Shape,
+}
+
+impl Model for RoomTable {
+    ghost use Rattle.std.specs.Prelude.{◌≡◌};
+    ghost use Rattle.room_core.specs.Gauges.{IsShape};
+    ghost use Rattle.room_table.specs.Layout.{size_of};
+    ghost use Rattle.room_table.specs.Seats.{TableView, table_view};
+
+    ghost Value = { TableView };
+
+    ghost view = { λ t. table_view t.board.shared.table_id t.shape };
+
+    ghost invariant = { λ t. IsShape t.shape × (t.board.shared.key ≡ t.shape) × (t.board.shared.table_id.words ≡ size_of t.shape) × (t.board.shared.table_id.slots ≡ 0) };
+}
+
+/// A table and its seats, as they are made.
+#[derive(Drop)]
+pub struct TableParts {
+    pub table: RoomTable,
+    /// By gauge.
+    pub sources: List<SourceSeat>,
+    /// By pass.
+    pub callers: List<CallerSeat>,
+    /// By number; the clock's scanner is the last.
+    pub scanners: List<ScanSeat>,
+}
+
+/// The words of a table that is closed. A contract sees the list of them.
+pub struct TableWords {
+    closed: Closed<u64, Global>,
+}
+
+impl Model for TableWords {
+    ghost use Rattle.std.specs.Prelude.{◌≡◌, ℕ, List as Items};
+    ghost use Rattle.std.specs.Slots.{slots_items, slots_len, IsFull};
+
+    ghost Value = { Items ℕ };
+
+    ghost view = { λ w. slots_items w.closed.words };
+
+    ghost invariant = { λ w. IsFull w.closed.words × (slots_len w.closed.slots ≡ 0) };
+}
+
+impl Drop for TableWords {
+    fn drop(self) {
+        let Self { closed } = self;
+        closed.free();
+    }
+}
+
+impl TableWords {
+    /// The word of this number.
+    pub fn word(&self, at: u32) -> u64
+        requires { at < length self.now }
+        ensures { result ≡ slice_index self.now at }
+    {
+        self.closed.word(at as usize)
+    }
+}
+
+impl RoomTable {
+    /// A table of this shape, whose words are all 0, and its seats. It is refused where no memory is left.
+    pub fn make(alloc: Global, shape: Shape) -> Result<TableParts, NoMemory>
+        requires { IsShape shape }
+        ensures shape { IfOk result (λ p. p.table.shape ≡ shape) }
+        ensures sources { IfOk result (λ p. p.sources ≡ fresh_sources p.table) }
+        ensures callers { IfOk result (λ p. p.callers ≡ fresh_callers p.table) }
+        ensures scanners { IfOk result (λ p. p.scanners ≡ fresh_scanners p.table) }
+    {
+        let words = vec![in alloc; 0; size(shape)]?;
+        let (board, mut seat) = Table::of_words(alloc, words.as_slice(), &shape)?;
+        let top: &Top = &board.shared;
+        let sources = hand_sources(alloc, top, shape, &mut seat)?;
+        let callers = hand_callers(alloc, top, shape, &mut seat)?;
+        let scanners = hand_scanners(alloc, top, shape, seat)?;
+        Ok(TableParts {
+            table: RoomTable { board, shape },
+            sources,
+            callers,
+            scanners,
+        })
+    }
+
+    /// Takes all seats back, and gives the words out. They and what the seats know show a state that the room's machine carries.
+    pub fn close(
+        self,
+        sources: List<SourceSeat>,
+        callers: List<CallerSeat>,
+        scanners: List<ScanSeat>,
+    ) -> TableWords
+        requires sources { AreSources self sources }
+        requires callers { AreCallers self callers }
+        requires scanners { AreScanners self scanners }
+        ensures { AreShown self sources callers scanners result }
+    {
+        let RoomTable { board, shape: _ } = self;
+        let top: &Top = &board.shared;
+        let mut seat = take_scanners(top, scanners);
+        take_callers(top, callers, &mut seat);
+        take_sources(top, sources, &mut seat);
+        TableWords {
+            closed: board.close_with(seat),
+        }
+    }
+}
