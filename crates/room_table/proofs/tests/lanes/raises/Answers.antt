@@ -1,4 +1,4 @@
-use Rattle.std.proofs.Common.{◌≡◌, ◌<◌, ◌∙◌, max, sym, refl, ap, subst, arith}
+use Rattle.std.proofs.Common.{◌≡◌, ◌<◌, max, sym, subst, arith}
 use Rattle.room_core.specs.declared.shape.Shape.{Shape}
 use Rattle.room_core.specs.Scans.{MayAsk}
 use Rattle.room_core.proofs.Laws.{put_here}
