@@ -1,6 +1,9 @@
 ghost use Rattle.std.specs.Prelude.{◌≡◌};
 ghost use Rattle.room_table.specs.Handed.{fresh_caller, fresh_scanner, fresh_source};
 
+mod lanes;
+mod sleepers;
+
 use super::*;
 use crate::layout::{place, size};
 use room_core::{CLOCK_SCANNER, Session, Shape, Word};
