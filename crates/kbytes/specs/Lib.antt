@@ -1,5 +1,5 @@
--- what a list ends as, where a `&mut` to its items was lent
-pub mod Lends
+-- ==== the words of public contracts
+
 -- numbers that are bytes
 pub mod Octets
 -- the fields, from values to bytes
@@ -14,3 +14,5 @@ pub mod Reading
 pub mod Fronts
 -- what is written is read again
 pub mod Again
+-- what a list ends as, where a `&mut` to its items was lent
+pub mod Lends

@@ -104,3 +104,12 @@ impl Bytes {
         self.bytes.as_mut_slice()
     }
 }
+
+/// The bytes as they are, without a copy. It takes no memory.
+impl From<Vec<u8>> for Bytes {
+    ghost from_gives = { λ bytes taken. taken ≡ bytes.items };
+
+    fn from(bytes: Vec<u8>) -> Bytes {
+        Bytes { bytes }
+    }
+}

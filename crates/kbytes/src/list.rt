@@ -83,4 +83,11 @@ impl<T> List<T> {
     {
         self.items.as_mut_slice()
     }
+
+    /// The items, to be taken one after the other. It takes no memory.
+    pub fn into_vec(self) -> Vec<T>
+        ensures { result.items ≡ self }
+    {
+        self.items
+    }
 }

@@ -167,3 +167,15 @@ fn messages(rt: HostRuntime) -> Result<(), Fail> {
     assert_eq!(rt; text.as_str(), "no memory was left");
     Ok(())
 }
+
+#[test]
+fn takes_over_and_hands_over(rt: HostRuntime) -> Result<(), Fail> {
+    let mut kept = Vec::new(rt.alloc());
+    kept.push(7u8)?;
+    let bytes = Bytes::from(kept);
+    assert_eq!(rt; bytes.as_slice(), [7].as_slice());
+    let mut list = List::new(rt.alloc());
+    list.push(bytes)?;
+    assert_eq!(rt; list.into_vec().len(), 1);
+    Ok(())
+}
