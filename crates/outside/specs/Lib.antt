@@ -1,3 +1,5 @@
+-- ==== the words of public contracts
+
 -- counts that stand still at the end of 64 bits
 pub mod Count
 -- a count of faults, and what rose in it
@@ -14,5 +16,7 @@ pub mod Plan
 pub mod Supply
 -- a sink in memory
 pub mod Store
+-- ==== the words of private functions
+
 -- a reader or writer with a count of its faults
 pub mod Counted

@@ -1,3 +1,5 @@
+-- ==== the words of public contracts
+
 -- ticks, levels and buckets, and the place of an entry
 pub mod Place
 -- the entries by id, and the moment of the wheels
@@ -6,6 +8,8 @@ pub mod Timers
 pub mod Turn
 -- the list of due ids, with its room
 pub mod DueList
+-- ==== the words of private functions
+
 -- an entry that waits at a moment, and its bucket's number
 pub mod Wait
 -- the buckets of the entries, and their count
