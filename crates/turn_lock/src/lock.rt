@@ -91,9 +91,9 @@ impl<T: Kept> TurnLock<T> {
         self.board.shared.fetch_add::<Draw>(seat, TICKET, 1)
     }
 
-    // Waits a little for the turn of the ticket.
-    fn pause<R: Wait>(&self, rt: &R, patience: &mut Patience, ticket: u64) {
-        if !patience.rest() {
+    // Waits a little for the turn of the ticket, while this one is served.
+    fn pause<R: Wait>(&self, rt: &R, patience: &mut Patience, ticket: u64, serving: u64) {
+        if !patience.rest(ticket.saturating_sub(serving)) {
             self.benches.sleep::<T>(rt, &self.board.shared, ticket);
         }
     }
@@ -114,7 +114,7 @@ impl<T: Kept> TurnLock<T> {
             if serving == ticket {
                 return;
             }
-            self.pause(rt, &mut patience, ticket);
+            self.pause(rt, &mut patience, ticket, serving);
         }
         unreachable!()
     }

@@ -1,12 +1,14 @@
-//! How a pass waits: at first it looks again and again, for some microseconds, and then it sleeps on a bench. It doesn't
-//! yield its processor in between: where others want it, a yield gives away a whole slice of time, and the pass isn't
-//! there when its turn comes.
+//! How a pass waits: at first it stays awake, and looks again and again at the ticket that is served; the more passes come
+//! before it, the longer it pauses between two looks. After some hundred microseconds it sleeps on a bench. That is longer
+//! than it takes to wake a sleeper, so that one pass that came late doesn't send those after it to sleep as well, each of
+//! whom would have to be woken in turn. It doesn't yield its processor in between: where others want it, a yield gives
+//! away a whole slice of time, and the pass isn't there when its turn comes.
 //!
 //! There are a few benches, and a ticket's number tells its own. Who passes the turn on wakes the bench of the ticket
 //! that is served next, and only where somebody sleeps there. A sleeper first counts itself, then looks at the ticket
 //! that is served, and then sleeps; who passes the turn on first shows the next ticket, and then looks whether anybody
 //! is counted. So one of the two sees the other. No proof says so: therefore each sleep is short too.
-ghost use Rattle.std.specs.Prelude.{◌<◌};
+ghost use Rattle.std.specs.Prelude.{◌<◌, ◌≤◌};
 
 use crate::kept::Kept;
 use crate::line::{SERVING, TICKET, Top};
@@ -15,8 +17,13 @@ use std::sync::Wait;
 use std::sync::atomic::{AtomicU64, Ordering};
 use std::time::Duration;
 
-// The rounds in which the pass stays awake. Each is twice as long as the one before.
-const ROUNDS: u32 = 7;
+// The pauses in which a pass stays awake. A pause is the processor's own, of some 10 to 50 nanoseconds.
+const AWAKE: u32 = 4_000;
+
+// The pauses between two looks for each pass that comes first, and the most passes that count.
+const PAUSES: u32 = 2;
+
+const MOST_AHEAD: u64 = 16;
 
 // A sleep, in milliseconds.
 const SLEEP: u64 = 20;
@@ -24,29 +31,30 @@ const SLEEP: u64 = 20;
 /// The patience of one pass in one turn.
 #[derive(Drop)]
 pub(crate) struct Patience {
-    rounds: u32,
+    pauses: u32,
 }
 
-fn spin(round: u32)
-    requires { round < 32 }
-{
-    for _ in 0..1u32 << round {
+fn spin(pauses: u32) {
+    for _ in 0..pauses {
         hint::spin_loop();
     }
 }
 
 impl Patience {
     pub(crate) fn new() -> Patience {
-        Patience { rounds: 0 }
+        Patience { pauses: 0 }
     }
 
-    /// Waits a little, awake. False where no patience is left for that.
-    pub(crate) fn rest(&mut self) -> bool {
-        if self.rounds >= ROUNDS {
+    /// Waits a little, awake, where so many passes come first. False where no patience is left for that; the next time
+    /// there is some again.
+    pub(crate) fn rest(&mut self, ahead: u64) -> bool {
+        if self.pauses >= AWAKE {
+            self.pauses = 0;
             return false;
         }
-        spin(self.rounds);
-        self.rounds += 1;
+        let pauses = PAUSES * ahead.min(MOST_AHEAD) as u32;
+        spin(pauses);
+        self.pauses = self.pauses.saturating_add(pauses.max(1));
         true
     }
 }
