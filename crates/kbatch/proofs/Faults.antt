@@ -131,9 +131,6 @@ refuses bytes r e f first is =
 pub takes : {T : Type 0} (bytes : List ℕ) (records : List Record) (r : Result T BatchFault) (f : BatchFault) → IsBatch bytes records → (IsErrOf r f → ⊥) → IsErrOf r f ↔ IsFirstFault bytes f
 takes bytes records r f is other = (λ e. absurd (other e), λ first. absurd (batch_none bytes records is f first.0))
 
-pub no_other : {T : Type 0} (r : Result T BatchFault) (e f : BatchFault) → r ≡ Err e → e ≡ NoMemory → f ≢ NoMemory → IsErrOf r f → ⊥
-no_other r e f is memory other p = other (sym (same_refused r e f is p) ∙ memory)
-
 pub none_of_ok : {T : Type 0} (x : T) (r : Result T BatchFault) (f : BatchFault) → r ≡ Ok x → IsErrOf r f → ⊥
 none_of_ok x (Ok y) f is e = absurd cc
 none_of_ok x (Err d) f is e = absurd cc

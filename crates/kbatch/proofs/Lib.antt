@@ -1,6 +1,6 @@
 -- what the bits of a message leave, by zeros
 pub mod Slices
--- the table has the remainders of bytes with zeros behind them
+-- the table has the remainders of bytes with zeros after them
 pub mod Table
 -- the header's fields, and its numbers by place
 pub mod Places

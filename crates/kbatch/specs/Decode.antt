@@ -22,7 +22,7 @@ body_at bytes = do
   headers ← list_at header_at parts.count parts.headers
   Some (record { attributes = parts.attributes; time = parts.time; key = parts.key; value = parts.value; headers = headers })
 
--- a record behind its length
+-- a record after its length
 unfoldable pub record_at : List ℕ → Option (Record × List ℕ)
 record_at bytes = do
   framed ← key_at bytes

@@ -1,4 +1,4 @@
--- The words of public contracts.
+-- ==== the words of public contracts
 
 -- CRC-32C, bit by bit
 pub mod Crc
@@ -16,7 +16,7 @@ pub mod Fault
 pub mod Stamp
 -- the batch that a writer makes of records
 pub mod Written
--- The words of private functions.
+-- ==== the words of private functions
 
 -- the remainder after bits that are 0
 pub mod Zeros

@@ -96,7 +96,7 @@ abbrev pub for_delta : ℕ → ℤ → Option (List ℕ) → Option (List ℕ)
 for_delta delta (pos n) follows = if n == delta then follows else None
 for_delta delta (negsuc n) follows = None
 
--- where what stands behind a record's length ends
+-- where what stands after a record's length ends
 unfoldable pub after_body : ℕ → List ℕ → Option (List ℕ)
 after_body delta bytes = parts_at bytes >>= λ parts. for_delta delta parts.delta (after_headers parts.count parts.headers)
 

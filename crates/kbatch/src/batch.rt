@@ -6,10 +6,11 @@ ghost use Rattle.kbatch.specs.Kept.{count_of};
 ghost use Rattle.kbatch.specs.Stamp.{stamped};
 
 use crate::decode::{Stop, records};
-use crate::head::{HEAD, u32_at};
+use crate::head::HEAD;
 use crate::record::Record;
 use crate::stamping::stamp;
-use kbytes::{Bytes, List as Items, NoMemory, copied};
+use crate::view::BatchView;
+use kbytes::{Bytes, List as Items, NoMemory};
 use std::alloc::Global;
 use std::marker::Model;
 
@@ -31,14 +32,6 @@ impl Model for Batch {
     ghost invariant = { λ b. (records : List Record) × IsBatch b.bytes records };
 }
 
-#[tactic(auto, unfolding(crate::specs::Kept::count_of))]
-fn count_in(bytes: &[u8]) -> u32
-    requires { 61 ≤ length bytes.now }
-    ensures { result ≡ count_of bytes.now }
-{
-    u32_at(bytes, 57)
-}
-
 impl Batch {
     // The batch with these bytes.
     pub(crate) fn whole(bytes: Bytes) -> Batch
@@ -55,7 +48,14 @@ impl Batch {
         ensures some_record { 1 ≤ result }
         ensures below { result < length self.now }
     {
-        count_in(self.bytes.as_slice())
+        self.view().count()
+    }
+
+    /// The same batch where its bytes stand here.
+    pub fn view(&self) -> BatchView<'_>
+        ensures { result ≡ self.now }
+    {
+        BatchView::whole(self.bytes.as_slice())
     }
 
     /// The bytes of the batch.
@@ -65,7 +65,7 @@ impl Batch {
         ensures least { head_size < length self.now }
         ensures most { length self.now ≤ most_bytes }
     {
-        self.bytes.as_slice()
+        self.view().bytes()
     }
 
     /// The records, each copied with all that it holds. After `NoMemory` nothing is handed out.
@@ -86,7 +86,7 @@ impl Batch {
     pub fn copy(&self, alloc: Global) -> Result<Batch, NoMemory>
         ensures { IfOk result (λ batch. batch ≡ self.now) }
     {
-        Ok(Batch::whole(copied(alloc, self.bytes.as_slice())?))
+        self.view().copy(alloc)
     }
 
     /// Writes the base offset, and the leader epoch 0. The crc doesn't cover them. It takes no memory.

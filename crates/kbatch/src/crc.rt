@@ -6,7 +6,7 @@ ghost use Rattle.kbatch.specs.Zeros.{after_zeros};
 
 use crate::remainders::REMAINDERS;
 
-/// The remainder of a byte and so many bytes of zeros behind it, from nothing.
+/// The remainder of a byte and so many bytes of zeros after it, from nothing.
 #[inline(always)]
 fn remainder_of(byte: u8, zeros: usize) -> u32
     requires { zeros < 8 }

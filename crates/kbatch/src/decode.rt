@@ -47,7 +47,7 @@ fn headers(alloc: Global, count: u32, bytes: &[u8]) -> Result<List<Header>, Stop
     Ok(headers)
 }
 
-// What stands behind a record's length.
+// What stands after a record's length.
 #[tactic(auto, unfolding(crate::specs::Decode::body_at))]
 fn record(alloc: Global, bytes: &[u8]) -> Result<Record, Stop>
     ensures { Decodes result (body_at bytes.now) }

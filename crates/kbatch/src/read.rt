@@ -1,4 +1,4 @@
-ghost use Rattle.std.specs.Prelude.{◌≡◌, ◌≢◌, ◌<◌, ◌≤◌, ◌^◌, ◌↔◌, List, length, drop, OnOk, IfOk, IfErr, IsErrOf};
+ghost use Rattle.std.specs.Prelude.{◌≡◌, ◌≢◌, ◌<◌, ◌≤◌, ◌^◌, ◌↔◌, List, length, drop, OnOk, IfOk, IfErr, IsOk, IsErrOf};
 ghost use Rattle.std.specs.List.{AllByRecursion};
 ghost use Rattle.kbatch.specs.declared.fault.BatchFault.{BatchFault};
 ghost use Rattle.kbatch.specs.declared.fault.BatchFault.TheVariants.{NoMemory};
@@ -13,8 +13,8 @@ use crate::fault::BatchFault;
 use crate::head::{
     HEAD, check_attributes, check_count, check_crc, check_length, check_magic, check_size,
 };
+use crate::view::BatchView;
 use crate::walk::after_record;
-use kbytes::Bytes;
 use std::alloc::Global;
 
 // The bytes after the header are this many records and nothing more.
@@ -59,6 +59,22 @@ fn check(bytes: &[u8]) -> Result<(), BatchFault>
     check_records(bytes, count)
 }
 
+/// The batch that these bytes are, where they stand. The faults come in the order of `BatchFault`. It takes no memory, so
+/// `NoMemory` never comes.
+pub fn view_batch(bytes: &[u8]) -> Result<BatchView<'_>, BatchFault>
+    ensures bytes { IfOk result (λ batch. batch ≡ bytes.now) }
+    // Whatever is read is a batch.
+    ensures batch { OnOk result ((records : List Record) × IsBatch bytes.now records) }
+    // A batch is never refused.
+    ensures only { (records : List Record) → IsBatch bytes.now records → IsOk result }
+    // Each fault comes exactly where it is the first.
+    ensures fault { (f : BatchFault) → (IsErrOf result f ↔ IsFirstFault bytes.now f) }
+    ensures memory { ¬ IsErrOf result NoMemory }
+{
+    check(bytes)?;
+    Ok(BatchView::whole(bytes))
+}
+
 /// The batch with exactly these bytes, which are copied once. The faults come in the order of `BatchFault`, and want of
 /// memory after all of them.
 pub fn read_batch(alloc: Global, bytes: &[u8]) -> Result<Batch, BatchFault>
@@ -72,8 +88,6 @@ pub fn read_batch(alloc: Global, bytes: &[u8]) -> Result<Batch, BatchFault>
     // Want of memory comes after all faults.
     ensures memory { IsErrOf result NoMemory → (records : List Record) × IsBatch bytes.now records }
 {
-    check(bytes)?;
-    let mut kept = Bytes::new(alloc);
-    kept.extend(bytes)?;
-    Ok(Batch::whole(kept))
+    let batch = view_batch(bytes)?;
+    Ok(batch.copy(alloc)?)
 }

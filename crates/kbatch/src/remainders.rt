@@ -1,6 +1,6 @@
-//! The remainders of the 256 bytes, with zeros behind them.
+//! The remainders of the 256 bytes, with zeros after them.
 
-/// Row k tells of each byte what its bits and k bytes of zeros behind it leave, from no remainder.
+/// Row k tells of each byte what its bits and k bytes of zeros after it leave, from no remainder.
 pub(crate) static REMAINDERS: [[u32; 256]; 8] = [
     [
         0x00000000, 0xF26B8303, 0xE13B70F7, 0x1350F3F4, 0xC79A971F, 0x35F1141C, 0x26A1E7E8,

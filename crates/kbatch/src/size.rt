@@ -90,7 +90,7 @@ fn headers_size(headers: &[Header]) -> u64
     size
 }
 
-// What stands behind a record's length.
+// What stands after a record's length.
 pub(crate) fn body_size(delta: u64, record: &Record) -> u64
     ensures size { result ≡ min (length (body_bytes delta record.now)) (2 ^ 64 - 1) }
     ensures record { IsRecord record.now }

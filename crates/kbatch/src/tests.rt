@@ -186,6 +186,22 @@ fn reads_batches(rt: HostRuntime) -> Result<(), Fail> {
 }
 
 #[test]
+fn views_batches(rt: HostRuntime) -> Result<(), Fail> {
+    let Ok(view) = view_batch(&THREE) else {
+        return Err("the bytes are a batch".into());
+    };
+    assert_eq!(rt; view.count(), 3);
+    assert_eq!(rt; view.bytes(), THREE.as_slice());
+    let copy = view.copy(rt.alloc())?;
+    assert_eq!(rt; copy.view().bytes(), THREE.as_slice());
+    assert_eq!(rt;
+        view_batch(&WRONG_MAGIC).err(),
+        Some(BatchFault::Magic { found: 1 })
+    );
+    Ok(())
+}
+
+#[test]
 fn stamps_base_offset_and_epoch(rt: HostRuntime) -> Result<(), Fail> {
     let mut batch = read_batch(rt.alloc(), &FULL)
         .ok()

@@ -58,7 +58,7 @@ fn put_headers(out: &mut Bytes, headers: &[Header]) -> Result<(), Memory>
     Ok(())
 }
 
-// What stands behind a record's length.
+// What stands after a record's length.
 fn put_body(out: &mut Bytes, delta: u32, record: &Record) -> Result<(), Memory>
     requires delta { delta < 2 ^ 31 }
     requires size { length (body_bytes delta record.now) < 2 ^ 31 }
@@ -104,7 +104,7 @@ fn put_front(out: &mut Bytes, size: u32) -> Result<(), Memory>
     put_u32(out, 0)
 }
 
-// The fields behind the crc.
+// The fields after the crc.
 fn put_back(out: &mut Bytes, count: u32, latest: i64) -> Result<(), Memory>
     requires some { 0 < count }
     requires fits { count < 2 ^ 31 }

@@ -1,23 +1,15 @@
 use Rattle.std.proofs.Common.{Err, refl, ap, ◌∙◌}
 use Rattle.std.proofs.lemmas.Result.{err_from_is_err_and}
-use Rattle.kbatch.proofs.Faults.{batch_none, refuses, takes, no_other, none_of_ok}
+use Rattle.kbatch.proofs.Faults.{batch_none, refuses}
 use Rattle.kbatch.proofs.read.read_batch.Goals as goal
 
-pub returns-in_err-check-clause-only : goal.returns-in_err-check-clause-only
-returns-in_err-check-clause-only c records is = absurd (batch_none c.args.bytes.now records is c.in_err-check.field-0.0 c.in_err-check.ensures.fault.0)
+pub returns-in_err-batch-clause-only : goal.returns-in_err-batch-clause-only
+returns-in_err-batch-clause-only c records is =
+    let first = (c.in_err-batch.ensures.fault c.in_err-batch.field-0.0).0 refl in
+    absurd (batch_none c.args.bytes.now records is c.in_err-batch.field-0.0 first.0)
 
-pub returns-in_err-check-clause-fault : goal.returns-in_err-check-clause-fault
-returns-in_err-check-clause-fault c f not_memory =
+pub returns-in_err-batch-clause-fault : goal.returns-in_err-batch-clause-fault
+returns-in_err-batch-clause-fault c f not_memory =
     let p = err_from_is_err_and c.from_residual.result c.from_residual.ensures.1 in
-    refuses c.args.bytes.now c.from_residual.result c.in_err-check.field-0.0 f c.in_err-check.ensures.fault (p.1 ∙ ap (λ e. Err e) p.2)
-
-pub returns-in_err-extend-clause-fault : goal.returns-in_err-extend-clause-fault
-returns-in_err-extend-clause-fault c f not_memory =
-    let p = err_from_is_err_and c.from_residual-in_err-extend.result c.from_residual-in_err-extend.ensures.1 in
-    let b = c.in_ok-check.ensures.batch in
-    takes c.args.bytes.now b.0 c.from_residual-in_err-extend.result f b.1 (no_other c.from_residual-in_err-extend.result p.0 f p.1 p.2 not_memory)
-
-pub returns-clause-fault : goal.returns-clause-fault
-returns-clause-fault c f not_memory =
-    let b = c.in_ok-check.ensures.batch in
-    takes c.args.bytes.now b.0 _ f b.1 (none_of_ok c.whole.result _ f refl)
+    let first = (c.in_err-batch.ensures.fault c.in_err-batch.field-0.0).0 refl in
+    refuses c.args.bytes.now c.from_residual.result c.in_err-batch.field-0.0 f first (p.1 ∙ ap (λ e. Err e) p.2)
