@@ -1,4 +1,4 @@
--- The words of public contracts.
+-- ==== the words of public contracts
 
 -- what contracts see of a partition's log: its bytes, its followers and its history
 pub mod History
@@ -30,7 +30,7 @@ pub mod Boundary
 pub mod Readable
 -- numbers none of which is smaller than it was
 pub mod Fallen
--- The words of private functions.
+-- ==== the words of private functions
 
 -- batches that follow each other
 pub mod Rows

@@ -1,5 +1,7 @@
+ghost use Rattle.std.specs.Prelude.{◌≡◌, ◌↔◌, ◌+◌, ◌<◌, ◌≤◌, [], ◌++◌, length, not, IfOk, OnOk, OnErr, IsErrOf};
+ghost use Rattle.kbatch.specs.Head.{head_size};
+ghost use Rattle.kbatch.specs.Stamp.{stamped};
 ghost use Rattle.partlog.specs.Position.{positions_of};
-ghost use Rattle.std.specs.Prelude.{◌≡◌, ◌↔◌, ◌+◌, ◌<◌, ◌≤◌, [], length, not, IfOk, OnOk, OnErr, IsErrOf};
 
 use crate::batch_start::BatchStart;
 use crate::event::PartEvent;
@@ -8,7 +10,7 @@ use crate::numbers::Numbers;
 use crate::placed::Placed;
 use crate::search::{numbers_at, start_from, start_of, taken_end};
 use crate::who::Who;
-use kbatch::{Batch, stamp};
+use kbatch::{Batch, BatchView, stamp};
 use kbytes::{Bytes, List, NoMemory};
 use std::alloc::Global;
 use std::marker::Model;
@@ -52,6 +54,19 @@ fn unfetched(alloc: Global, followers: u32) -> Result<List<u64>, NoMemory>
     Ok(positions)
 }
 
+/// Puts a batch's bytes at the end of a log, stamped with this base offset. They are copied once.
+fn put_stamped(log: &mut Bytes, bytes: &[u8], base: u64) -> Result<(), NoMemory>
+    requires { head_size ≤ length bytes.now }
+    ensures put { OnOk result (log.new ≡ log.old ++ stamped base bytes.now) }
+    ensures size { OnOk result (length log.new ≡ length log.old + length bytes.now) }
+    ensures refused { OnErr result (log.new ≡ log.old) }
+{
+    let start = log.len();
+    log.extend(bytes)?;
+    stamp(&mut log.as_mut_slice()[start..], base);
+    Ok(())
+}
+
 impl PartLog {
     ghost use Rattle.partlog.specs.Added.{log_end_of, bytes_of};
     ghost use Rattle.partlog.specs.Appended.{appended};
@@ -66,7 +81,8 @@ impl PartLog {
 
     /// An empty log with so many followers.
     pub fn new(alloc: Global, followers: u32) -> Result<PartLog, NoMemory>
-        ensures { IfOk result (λ part. part ≡ record { log = []; followers = followers; events = [] }) }
+        ensures empty { IfOk result (λ part. part ≡ record { log = []; followers = followers; events = [] }) }
+        ensures kept { IfOk result (λ part. IsKept part.log part.events) }
     {
         Ok(PartLog {
             log: Bytes::new(alloc),
@@ -83,16 +99,18 @@ impl PartLog {
         })
     }
 
-    /// Puts a batch at the end of the log, with the log end as its base offset and leader epoch 0, and enters it. It
-    /// answers the base offset and the place of the entry. `LogFull` comes exactly where the log would have more than
-    /// `MOST_LOG_BYTES`. After a refusal the log is as it was.
-    pub fn append(&mut self, who: Who, batch: &Batch) -> Result<Placed, LogFault>
+    /// Puts a batch at the end of the log, with the log end as its base offset and leader epoch 0, and enters it. Its bytes
+    /// are copied once, from where they stand into the log. It answers the base offset and the place of the entry. `LogFull`
+    /// comes exactly where the log would have more than `MOST_LOG_BYTES`. After a refusal the log is as it was.
+    pub fn append_view(&mut self, who: Who, batch: &BatchView<'_>) -> Result<Placed, LogFault>
         ensures appended { OnOk result (self.new ≡ appended self.old who.by who.seq batch.now) }
         ensures base { IfOk result (λ placed. placed.base ≡ log_end_of self.old.events) }
         ensures limit { IfOk result (λ placed. placed.base ≤ MOST_LOG_BYTES) }
         ensures place { IfOk result (λ placed. placed.place ≡ length self.old.events) }
         ensures full { IsErrOf result LogFault.LogFull ↔ (MOST_LOG_BYTES < length self.old.log + length batch.now) }
         ensures refused { OnErr result (self.new ≡ self.old) }
+        ensures was_kept { IsKept self.old.log self.old.events }
+        ensures kept { IsKept self.new.log self.new.events }
     {
         let bytes = batch.bytes();
         let count = batch.count();
@@ -110,12 +128,11 @@ impl PartLog {
             count,
             len: bytes.len() as u32,
         })?;
-        if self.log.extend(bytes).is_err() {
+        let base = self.numbers.end;
+        if put_stamped(&mut self.log, bytes, base).is_err() {
             self.events.pop();
             return Err(LogFault::NoMemory);
         }
-        let base = self.numbers.end;
-        stamp(&mut self.log.as_mut_slice()[start..], base);
         let first = BatchStart {
             base,
             place: start as u64,
@@ -129,11 +146,27 @@ impl PartLog {
         Ok(Placed { base, place })
     }
 
+    /// The same with a batch that is owned.
+    pub fn append(&mut self, who: Who, batch: &Batch) -> Result<Placed, LogFault>
+        ensures appended { OnOk result (self.new ≡ appended self.old who.by who.seq batch.now) }
+        ensures base { IfOk result (λ placed. placed.base ≡ log_end_of self.old.events) }
+        ensures limit { IfOk result (λ placed. placed.base ≤ MOST_LOG_BYTES) }
+        ensures place { IfOk result (λ placed. placed.place ≡ length self.old.events) }
+        ensures full { IsErrOf result LogFault.LogFull ↔ (MOST_LOG_BYTES < length self.old.log + length batch.now) }
+        ensures refused { OnErr result (self.new ≡ self.old) }
+        ensures was_kept { IsKept self.old.log self.old.events }
+        ensures kept { IsKept self.new.log self.new.events }
+    {
+        self.append_view(who, &batch.view())
+    }
+
     /// Enters a look, and answers the place of the entry. After a refusal the log is as it was.
     pub fn look(&mut self, who: Who) -> Result<u64, NoMemory>
         ensures looked { OnOk result (self.new ≡ looked self.old who.by who.seq) }
         ensures place { IfOk result (λ place. place ≡ length self.old.events) }
         ensures refused { OnErr result (self.new ≡ self.old) }
+        ensures was_kept { IsKept self.old.log self.old.events }
+        ensures kept { IsKept self.new.log self.new.events }
     {
         let place = self.events.len() as u64;
         self.events.push(PartEvent::Look {
@@ -149,6 +182,7 @@ impl PartLog {
         ensures start { result ≡ start_of offset (state_of self.now) }
         ensures within { result ≤ length self.now.log }
         ensures boundary { IsBoundary result (state_of self.now).batches }
+        ensures kept { IsKept self.now.log self.now.events }
     {
         start_of(self.starts.as_slice(), self.numbers.next_start(), offset)
     }
@@ -157,8 +191,9 @@ impl PartLog {
     /// place `upto`, as many from the first on as have `limit` bytes together. Where not even the first fits, `force` gives
     /// that one. It takes no memory.
     pub fn read(&self, from: u64, upto: u64, limit: u64, force: bool) -> &[u8]
-        ensures { result.now ≡ joined (taken limit (not force)
+        ensures bytes { result.now ≡ joined (taken limit (not force)
             (batches_past from (batches_upto upto (state_of self.now).batches))) }
+        ensures kept { IsKept self.now.log self.now.events }
     {
         let starts = self.starts.as_slice();
         let next = self.numbers.next_start();
@@ -193,6 +228,7 @@ impl PartLog {
         ensures boundary { IsBoundary result.visible (state_of self.now).batches }
         ensures bytes { result.bytes ≤ MOST_LOG_BYTES }
         ensures all { result.bytes ≡ length self.now.log }
+        ensures kept { IsKept self.now.log self.now.events }
     {
         self.numbers
     }
@@ -202,5 +238,14 @@ impl PartLog {
         ensures { result.now ≡ self.now.events }
     {
         self.events.as_slice()
+    }
+
+    /// The log's bytes and the history, handed over as they stand. Nothing is copied, and it takes no memory.
+    pub fn into_parts(self) -> (Bytes, List<PartEvent>)
+        ensures log { result.0 ≡ self.log }
+        ensures events { result.1 ≡ self.events }
+        ensures kept { IsKept self.log self.events }
+    {
+        (self.log, self.events)
     }
 }

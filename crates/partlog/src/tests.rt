@@ -1,5 +1,5 @@
 use super::*;
-use kbatch::{Batch, read_batch};
+use kbatch::{Batch, read_batch, view_batch};
 use std::alloc::{AllocError, Global};
 use std::test::*;
 
@@ -175,5 +175,29 @@ fn a_look_is_entered(rt: HostRuntime) -> Result<(), Fail> {
     assert_eq!(rt; part.look(WHO), Ok(3));
     let entry = PartEvent::Look { by: 3, seq: 7 };
     assert_eq!(rt; part.events().get(3), Some(&entry));
+    Ok(())
+}
+
+#[test]
+fn a_log_and_its_history_are_handed_over(rt: HostRuntime) -> Result<(), Fail> {
+    let mut part = PartLog::new(rt.alloc(), 0)?;
+    let view = view_batch(&THREE_RECORDS)
+        .ok()
+        .ok_or("the bytes are a batch")?;
+    assert_eq!(rt;
+        part.append_view(WHO, &view),
+        Ok(Placed { base: 0, place: 0 })
+    );
+    part.look(WHO)?;
+    let (log, events) = part.into_parts();
+    assert_eq!(rt; log.as_slice(), THREE_RECORDS.as_slice());
+    let append = PartEvent::Append {
+        by: 3,
+        seq: 7,
+        count: 3,
+        len: 85,
+    };
+    let look = PartEvent::Look { by: 3, seq: 7 };
+    assert_eq!(rt; events.as_slice(), [append, look].as_slice());
     Ok(())
 }

@@ -57,8 +57,8 @@ slice_bounds-result-end c =
     let high : c.taken_end-end.result ≤ length c.as_slice.result.now = omega (arith, within.1, ap length c.as_slice.ensures) in
     search rules
 
-pub returns : goal.returns
-returns c =
+pub returns-clause-bytes : goal.returns-clause-bytes
+returns-clause-bytes c =
     let log = c.self.inside.log in
     let all = kept-bytes log c.self.inside.events c.self.invariant.kept in
     let at = c.start_from-start.ensures (batches_of c.self.inside.events c.self.inside.log) (rw (c.as_slice-starts.ensures.value, c.next_start-next.ensures) (tracked-starts c.self.inside.log c.self.inside.followers c.self.inside.events c.self.inside.starts.items c.self.inside.positions c.self.inside.numbers c.self.invariant)) in

@@ -1,11 +1,12 @@
-use Rattle.std.proofs.Common.{◌≡◌, ℕ, ◌+◌, ◌-◌, ◌<◌, ◌≤◌, [], ◌∷◌, ◌++◌, length, take, drop, min, fold, arith, ap, ◌∙◌, rules, length-drop}
+use Rattle.std.proofs.Common.{◌≡◌, ℕ, ◌+◌, ◌<◌, ◌≤◌, [], ◌∷◌, ◌++◌, length, min, fold, arith, ap, ◌∙◌, rules, length-append}
+use Rattle.kbatch.specs.Stamp.{stamped}
 use Rattle.partlog.specs.declared.batch_start.BatchStart.{BatchStart}
 use Rattle.partlog.specs.declared.event.PartEvent.TheVariants.{Append}
 use Rattle.partlog.specs.Batches.{batches_of}
-use Rattle.partlog.proofs.Stamping.{relaid, lent_part}
+use Rattle.partlog.proofs.Stamping.{kept-push}
 use Rattle.partlog.proofs.Tracking.{tracked-scanned, are-pushed, tracked-push}
 use Rattle.partlog.proofs.Whole.{kept-end}
-use Rattle.partlog.proofs.part_log.PartLog.append.Goals as goal
+use Rattle.partlog.proofs.part_log.PartLog.append_view.Goals as goal
 
 pub overflow_add-next : goal.overflow_add-next
 overflow_add-next c =
@@ -16,17 +17,11 @@ pub numbers_at-self-inside-requires : goal.numbers_at-self-inside-requires
 numbers_at-self-inside-requires c =
     let log = c.self.inside.log in
     let bytes = c.bytes-bytes.result.now in
-    let all = c.as_mut_slice.result.now in
-    let w = c.stamp.new.bytes in
-    let start = c.len-start.result in
-    let first : BatchStart = record { base = c.self.inside.numbers.end; place = start } in
-    let ext : c.extend.new.self ≡ log ++ bytes = search (rules, c.extend.ensures.ok, c.if-is_err-2.ensures.negation) in
-    let part : take (length all - start) (drop start all) ≡ bytes = lent_part log bytes c.extend.new.self all start ext c.as_mut_slice.ensures.value c.len-start.ensures in
-    let size : length w ≡ length bytes = c.stamp.auto.bytes ∙ ap length part in
-    let post = drop (length all - start) (drop start all) in
-    let none : length post ≡ 0 = omega (arith, length-drop (length all - start) (drop start all), length-drop start all) in
-    let push = c.in_ok-push.ensures.ok in
-    let done = relaid log bytes c.extend.new.self all w post start ext c.as_mut_slice.ensures.value c.len-start.ensures size none in
+    let w = stamped c.self.inside.numbers.end bytes in
+    let first : BatchStart = record { base = c.self.inside.numbers.end; place = c.len-start.result } in
+    let done : c.put_stamped.new.log ≡ log ++ w = search (rules, c.put_stamped.ensures.put, c.if-is_err-2.ensures.negation) in
+    let long : length c.put_stamped.new.log ≡ length log + length bytes = search (rules, c.put_stamped.ensures.size, c.if-is_err-2.ensures.negation) in
+    let size : length w ≡ length bytes = omega (arith, long, ap length done, length-append log w) in
     let here : length bytes ≡ length c.args.batch.now = ap length c.bytes-bytes.ensures.bytes in
     let items : c.push-2.new.self.items ≡ c.self.inside.starts.items ++ record { base = c.self.inside.numbers.end; place = length log } ∷ [] =
     (rw c.unwrap.ensures at c.push-2.ensures.items) ∙ ap (λ l. l ++ first ∷ []) c.reserve.ensures.items ∙ ap (λ (n : ℕ). c.self.inside.starts.items ++ record { base = c.self.inside.numbers.end; place = n } ∷ []) c.len-start.ensures in
@@ -42,17 +37,12 @@ pub invariant_of-self-2 : goal.invariant_of-self-2
 invariant_of-self-2 c =
     let log = c.self.inside.log in
     let bytes = c.bytes-bytes.result.now in
-    let all = c.as_mut_slice.result.now in
-    let w = c.stamp.new.bytes in
-    let start = c.len-start.result in
-    let first : BatchStart = record { base = c.self.inside.numbers.end; place = start } in
-    let ext : c.extend.new.self ≡ log ++ bytes = search (rules, c.extend.ensures.ok, c.if-is_err-2.ensures.negation) in
-    let part : take (length all - start) (drop start all) ≡ bytes = lent_part log bytes c.extend.new.self all start ext c.as_mut_slice.ensures.value c.len-start.ensures in
-    let size : length w ≡ length bytes = c.stamp.auto.bytes ∙ ap length part in
-    let post = drop (length all - start) (drop start all) in
-    let none : length post ≡ 0 = omega (arith, length-drop (length all - start) (drop start all), length-drop start all) in
+    let w = stamped c.self.inside.numbers.end bytes in
+    let first : BatchStart = record { base = c.self.inside.numbers.end; place = c.len-start.result } in
+    let done : c.put_stamped.new.log ≡ log ++ w = search (rules, c.put_stamped.ensures.put, c.if-is_err-2.ensures.negation) in
+    let long : length c.put_stamped.new.log ≡ length log + length bytes = search (rules, c.put_stamped.ensures.size, c.if-is_err-2.ensures.negation) in
+    let size : length w ≡ length bytes = omega (arith, long, ap length done, length-append log w) in
     let push = c.in_ok-push.ensures.ok in
-    let done = relaid log bytes c.extend.new.self all w post start ext c.as_mut_slice.ensures.value c.len-start.ensures size none in
     let here : length bytes ≡ length c.args.batch.now = ap length c.bytes-bytes.ensures.bytes in
     let items : c.push-2.new.self.items ≡ c.self.inside.starts.items ++ record { base = c.self.inside.numbers.end; place = length log } ∷ [] =
     (rw c.unwrap.ensures at c.push-2.ensures.items) ∙ ap (λ l. l ++ first ∷ []) c.reserve.ensures.items ∙ ap (λ (n : ℕ). c.self.inside.starts.items ++ record { base = c.self.inside.numbers.end; place = n } ∷ []) c.len-start.ensures in
@@ -71,3 +61,17 @@ pub returns-clause-limit : goal.returns-clause-limit
 returns-clause-limit c =
     let seen = tracked-scanned c.self.inside.log c.self.inside.followers c.self.inside.events c.self.inside.starts.items c.self.inside.positions c.self.inside.numbers c.self.invariant in
     omega (arith, seen.end, kept-end c.self.inside.log c.self.inside.events c.self.invariant.kept)
+
+pub returns-clause-kept : goal.returns-clause-kept
+returns-clause-kept c =
+    let log = c.self.inside.log in
+    let bytes = c.bytes-bytes.result.now in
+    let w = stamped c.self.inside.numbers.end bytes in
+    let done : c.put_stamped.new.log ≡ log ++ w = search (rules, c.put_stamped.ensures.put, c.if-is_err-2.ensures.negation) in
+    let long : length c.put_stamped.new.log ≡ length log + length bytes = search (rules, c.put_stamped.ensures.size, c.if-is_err-2.ensures.negation) in
+    let size : length w ≡ length bytes = omega (arith, long, ap length done, length-append log w) in
+    let here : length bytes ≡ length c.args.batch.now = ap length c.bytes-bytes.ensures.bytes in
+    let some : 0 < c.count-count.result = omega (arith, c.count-count.ensures.some_record) in
+    let dense : c.count-count.result < length bytes = omega (arith, here, c.count-count.ensures.below) in
+    let room : length log + length bytes ≤ 67108864 = omega (arith, c.if-bytes-start.false, c.len-start.ensures) in
+    rw (done, c.in_ok-push.ensures.ok) (kept-push log w c.self.inside.events c.args.who.by c.args.who.seq c.count-count.result (length bytes) c.self.invariant.kept some dense size room)
