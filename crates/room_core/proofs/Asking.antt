@@ -6,11 +6,12 @@ use Rattle.room_core.specs.declared.parts.Stage.TheVariants.{Listing}
 use Rattle.room_core.specs.Put.{put}
 use Rattle.room_core.specs.Description.{IsMark, IsOperation, marked_gauge}
 use Rattle.room_core.specs.Duty.{IsOpen, OwnerFinds, FindsTally, FindsTime}
-use Rattle.room_core.specs.Sound.{Agree, IsListed, IsOwed, ValuesAreSound, OwnersAreSound, GenerationsAreSound, ListingsAreSound, WinsAreSound}
+use Rattle.room_core.specs.Sound.{Agree, IsOwed}
 use Rattle.room_core.specs.Wins.{taken_at}
 use Rattle.room_core.specs.Scans.{CanAsk, asking, caller_asks}
 use Rattle.room_core.specs.Carried.{IsUpheld}
 use Rattle.room_core.specs.State.{State, Caller}
+use Rattle.room_core.proofs.Facts.{IsListed, ValuesAreSound, OwnersAreSound, GenerationsAreSound, ListingsAreSound, WinsAreSound}
 use Rattle.room_core.proofs.Puts.{at-put, at-puts, put-same}
 use Rattle.room_core.proofs.Finding.{either_too}
 use Rattle.room_core.proofs.Kept.{IsKept, kept_of, carried}

@@ -13,11 +13,12 @@ use Rattle.room_core.specs.Gauges.{IsGauge, IsGaugeOf, IsShape, clock_of, scanne
 use Rattle.room_core.specs.Description.{IsOperation, needs_of, gauge_of, deadline_of, tally, marked_gauge}
 use Rattle.room_core.specs.Readings.{known, unread}
 use Rattle.room_core.specs.Duty.{IsOpen, IsOnDuty, IsLate, ShardFinds, ScannerFinds, FindsTally, FindsTime, IsSatisfiedNow, IsFoundByTally, IsFoundByTime, owner_readings, met_readings}
-use Rattle.room_core.specs.Sound.{ValuesAreSound, IsEntry, IsListed, IsNeeded, IsRightEntry, ListingsAreSound, GenerationsAreSound, WinsAreSound}
+use Rattle.room_core.specs.Sound.{IsEntry, IsNeeded}
 use Rattle.room_core.specs.Checks.{IsDuty}
 use Rattle.room_core.specs.Scans.{CanBegin, beginning, scanner_begins, number_heard, IsHeard, duty_of, is_due}
 use Rattle.room_core.specs.Carried.{IsUpheld, ScannerIsKept}
 use Rattle.room_core.specs.State.{State}
+use Rattle.room_core.proofs.Facts.{ValuesAreSound, IsListed, IsRightEntry, ListingsAreSound, GenerationsAreSound, WinsAreSound}
 use Rattle.room_core.proofs.Puts.{at-put, put-same, put-other}
 use Rattle.room_core.proofs.Tallies.{late_or, tally_rises}
 use Rattle.room_core.proofs.Known.{of_either, unread_below}
@@ -275,12 +276,7 @@ module _ (s : State) (k g : ℕ) (r : IsKept s) (can : CanBegin s k g) where
       owner = r.readings.owner;
       scanner = at-put s.scanner k (scanner_begins s.shape (s.scanner k) g (s.begun g)) (λ i x. (gauge value : ℕ) → x.readings gauge ≡ Some value → value ≤ s.value gauge) (unread_below s.value) (λ i n. r.readings.scanner i);
     };
-    owners = record {
-      generation = r.owners.generation;
-      description = r.owners.description;
-      stage = r.owners.stage;
-      operation = r.owners.operation;
-    };
+    owners = r.owners;
     generations = generations;
     listings = listings;
     tally = λ pass o sat. late_or _ _ _ (tallied pass o sat);

@@ -109,31 +109,31 @@ stays_within s (Store gauge value) c w can = with_source _ (with_value s w gauge
 stays_within s (Ask pass gauge value) c w can = with_caller _ (with_asked s w gauge _ can.1) pass _ can.0
 stays_within s (Hush gauge) c w can = with_source s w gauge _ can
 stays_within s (Hear k gauge) c w can =
-    with_scanner s w k _ can.0 (record { entry = (w.scanners k).entry; duty = (w.scanners k).duty; meeting = (w.scanners k).meeting })
-stays_within s (Begin k gauge) c w can = with_scanner _ (with_begun s w gauge _ can.1) k _ can.0 (begins s.shape (s.scanner k) (w.scanners k) gauge (s.begun gauge))
+    with_scanner s w k _ can.0 (record { entry = (w.scanners.each k).entry; duty = (w.scanners.each k).duty; meeting = (w.scanners.each k).meeting })
+stays_within s (Begin k gauge) c w can = with_scanner _ (with_begun s w gauge _ can.1) k _ can.0 (begins s.shape (s.scanner k) (w.scanners.each k) gauge (s.begun gauge))
 stays_within s (Relieve pass gauge) c w can = with_caller s w pass _ can.0
 stays_within s (Describe pass at word) c w can = with_caller _ (with_word s w pass at word can.0 can.1) pass _ can.0
 stays_within s (Open pass) c w can =
     let same : (s.session pass).generation ≡ (s.caller pass).generation = c.sound.owners.generation pass in
     with_caller _ (with_session s w pass _ can.0 (omega (arith, can.3))) pass _ can.0
-stays_within s (Meet k pass) c w can = with_scanner s w k _ can.0 (meets s.shape (s.scanner k) (w.scanners k) pass (s.session pass) can.1)
+stays_within s (Meet k pass) c w can = with_scanner s w k _ can.0 (meets s.shape (s.scanner k) (w.scanners.each k) pass (s.session pass) can.1)
 stays_within s (Learn k pass at) c w can =
-    with_scanner s w k _ can.0 (record { entry = (w.scanners k).entry; duty = (w.scanners k).duty; meeting = (w.scanners k).meeting })
+    with_scanner s w k _ can.0 (record { entry = (w.scanners.each k).entry; duty = (w.scanners.each k).duty; meeting = (w.scanners.each k).meeting })
 stays_within s (Mark k pass at) c w can =
-    with_scanner _ (with_mark s w pass at _ can.1 (marked_few s k pass at can)) k _ can.0 (marks s.shape (s.scanner k) (w.scanners k) pass at can.1)
+    with_scanner _ (with_mark s w pass at _ can.1 (marked_few s k pass at can)) k _ can.0 (marks s.shape (s.scanner k) (w.scanners.each k) pass at can.1)
 stays_within s (Marked pass at) c w can = with_caller s w pass _ can.0
 stays_within s (Read (Pass pass) gauge) c w can = with_caller s w pass _ can.0
 stays_within s (Read (Scanner k) gauge) c w can =
-    with_scanner s w k _ can.0 (record { entry = (w.scanners k).entry; duty = (w.scanners k).duty; meeting = (w.scanners k).meeting })
+    with_scanner s w k _ can.0 (record { entry = (w.scanners.each k).entry; duty = (w.scanners.each k).duty; meeting = (w.scanners.each k).meeting })
 stays_within s (Leave (Pass own) pass gauge) c w can = with_caller s w pass _ can.1.0
-stays_within s (Leave (Scanner k) pass gauge) c w can = with_scanner s w k _ can.0 (leaves s.shape (s.scanner k) (w.scanners k) k pass gauge (s.value gauge))
+stays_within s (Leave (Scanner k) pass gauge) c w can = with_scanner s w k _ can.0 (leaves s.shape (s.scanner k) (w.scanners.each k) k pass gauge (s.value gauge))
 stays_within s (Win (Pass own) pass how) c w can =
-    with_caller _ (with_session s w pass _ can.1.0 (exchanged_few (s.session pass) (s.caller pass).generation how (17 + pass) (w.generation pass))) pass _ can.1.0
+    with_caller _ (with_session s w pass _ can.1.0 (exchanged_few (s.session pass) (s.caller pass).generation how (17 + pass) (w.passes.generation pass))) pass _ can.1.0
 stays_within s (Win (Scanner k) pass how) c w can =
-    with_scanner _ (with_session s w pass _ can.1 (exchanged_few (s.session pass) (generation_met (s.scanner k).meeting) how k (w.generation pass))) k _ can.0
-    (wins s.shape (s.scanner k) (w.scanners k) pass how (s.session pass))
+    with_scanner _ (with_session s w pass _ can.1 (exchanged_few (s.session pass) (generation_met (s.scanner k).meeting) how k (w.passes.generation pass))) k _ can.0
+    (wins s.shape (s.scanner k) (w.scanners.each k) pass how (s.session pass))
 stays_within s (Peek pass) c w can = with_caller s w pass _ can.0
 stays_within s (Idle pass) c w can =
     let same : (s.session pass).generation ≡ (s.caller pass).generation = c.sound.owners.generation pass in
-    with_caller _ (with_session s w pass _ can.0 (omega (arith, w.generation pass))) pass _ can.0
+    with_caller _ (with_session s w pass _ can.0 (omega (arith, w.passes.generation pass))) pass _ can.0
 stays_within s Part c w can = w

@@ -5,9 +5,10 @@ use Rattle.room_core.specs.declared.parts.Stage.TheVariants.{Listing}
 use Rattle.room_core.specs.Put.{put}
 use Rattle.room_core.specs.Description.{IsMark, IsOperation, marked_gauge}
 use Rattle.room_core.specs.Duty.{IsOpen, OwnerFinds, FindsTally, FindsTime}
-use Rattle.room_core.specs.Sound.{Agree, DebtsAreSound, ReadingsAreSound, OwnersAreSound, GenerationsAreSound, IsListed, IsOwed, ListingsAreSound}
+use Rattle.room_core.specs.Sound.{Agree, IsOwed}
 use Rattle.room_core.specs.Wins.{taken_at}
 use Rattle.room_core.specs.State.{State, Caller}
+use Rattle.room_core.proofs.Facts.{DebtsAreSound, ReadingsAreSound, OwnersAreSound, GenerationsAreSound, IsListed, ListingsAreSound}
 use Rattle.room_core.proofs.Puts.{at-put}
 use Rattle.room_core.proofs.Finding.{either_too}
 use Rattle.room_core.proofs.Kept.{IsKept}
@@ -95,7 +96,7 @@ module _ (s : State) (p : ℕ) (new : Caller) (k : IsKept s) (c : CallerStays s 
   pub kept_by_caller : IsKept (with_caller s p new)
   kept_by_caller = record {
     shape = k.shape;
-    values = record { begun = k.values.begun; asked = k.values.asked; stored = k.values.stored; loud = k.values.loud; own = k.values.own };
+    values = k.values;
     debts = debts;
     readings = readings;
     owners = owners;

@@ -172,8 +172,8 @@ module _ (s : State) (c : IsCarried s) (by : ℕ) where
       let x : Prize = get_or (wins_of s.scanner s.caller by) a d in
       ⊎_elim (λ (few : x.pass < s.shape.passes). few)
       (λ (many : s.shape.passes ≤ x.pass).
-      let taken : taken_as (s.caller x.pass).taken x.generation x.how by ≡ 0 = ap (λ y. taken_as y.taken x.generation x.how by) (c.within.caller x.pass many) ∙ none_taken x.generation x.how by in
-      let won : won_as (s.session x.pass) x.generation x.how by ≡ 0 = ap (λ y. won_as y x.generation x.how by) (c.within.session x.pass many) ∙ none_won x.generation x.how by in
+      let taken : taken_as (s.caller x.pass).taken x.generation x.how by ≡ 0 = ap (λ y. taken_as y.taken x.generation x.how by) (c.within.passes.caller x.pass many) ∙ none_taken x.generation x.how by in
+      let won : won_as (s.session x.pass) x.generation x.how by ≡ 0 = ap (λ y. won_as y x.generation x.how by) (c.within.passes.session x.pass many) ∙ none_won x.generation x.how by in
       absurd (omega (arith, taken, won, c.sound.wins.counted by x.pass x.generation x.how, one_of (wins_of s.scanner s.caller by) a d l)))
       (cases_lt x.pass s.shape.passes)
 

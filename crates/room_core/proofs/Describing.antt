@@ -7,11 +7,12 @@ use Rattle.room_core.specs.Put.{put}
 use Rattle.room_core.specs.Gauges.{clock_of}
 use Rattle.room_core.specs.Description.{IsMark, IsOperation, IsSatisfied, deadline_of, marked_gauge}
 use Rattle.room_core.specs.Duty.{IsOpen, IsLate, OwnerFinds, ShardFinds, ScannerFinds, FindsTally, FindsTime}
-use Rattle.room_core.specs.Sound.{Agree, IsListed, IsNeeded, IsOwed, GenerationsAreSound, ListingsAreSound, OwnersAreSound, WinsAreSound}
+use Rattle.room_core.specs.Sound.{Agree, IsNeeded, IsOwed}
 use Rattle.room_core.specs.Wins.{taken_at}
 use Rattle.room_core.specs.Passes.{CanDescribe, describing, caller_describes}
 use Rattle.room_core.specs.Carried.{IsUpheld}
 use Rattle.room_core.specs.State.{State, Caller}
+use Rattle.room_core.proofs.Facts.{IsListed, GenerationsAreSound, ListingsAreSound, OwnersAreSound, WinsAreSound}
 use Rattle.room_core.proofs.Puts.{at-put, at-puts}
 use Rattle.room_core.proofs.Kept.{IsKept, kept_of, carried}
 use Rattle.room_core.proofs.Winners.{caller_wins_nothing}
@@ -70,7 +71,7 @@ module _ (s : State) (p at word : ℕ) (k : IsKept s) (can : CanDescribe s p at)
   pub kept : IsKept (describing s p at word)
   kept = record {
     shape = k.shape;
-    values = record { begun = k.values.begun; asked = k.values.asked; stored = k.values.stored; loud = k.values.loud; own = k.values.own };
+    values = k.values;
     debts = record {
       owed = as_before (λ q c. (g : ℕ) → c.owed g ≤ s.asked g) (k.debts.owed p) k.debts.owed;
       heard = k.debts.heard;

@@ -27,7 +27,7 @@ no_wins : (s : State) → IsCarried s → (by : ℕ) → 97 ≤ by → wins_of s
 unfolding wins_of
 no_wins s c by l =
     ap (λ b. cond b (s.scanner by).wins (s.caller (by - 17)).wins) (le-ltb by 17 (omega arith))
-    ∙ ap (λ x. x.wins) (c.within.caller (by - 17) (omega (arith, c.shape.few_passes)))
+    ∙ ap (λ x. x.wins) (c.within.passes.caller (by - 17) (omega (arith, c.shape.few_passes)))
 
 winner_few : (s : State) → IsCarried s → (pass : ℕ) (how : How) (by : ℕ) → (s.session pass).phase ≡ Won how by → by < 97
 winner_few s c pass how by e =

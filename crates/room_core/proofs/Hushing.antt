@@ -23,32 +23,14 @@ keeps s gauge c can = record {
           (λ g n. c.sound.values.loud g);
       own = c.sound.values.own;
     };
-    debts = record { owed = c.sound.debts.owed; heard = c.sound.debts.heard; someone = c.sound.debts.someone };
-    readings = record { greatest = c.sound.readings.greatest; owner = c.sound.readings.owner; scanner = c.sound.readings.scanner };
-    owners = record {
-      generation = c.sound.owners.generation;
-      description = c.sound.owners.description;
-      stage = c.sound.owners.stage;
-      operation = c.sound.owners.operation;
-    };
-    generations = record {
-      learned = c.sound.generations.learned;
-      meeting = c.sound.generations.meeting;
-      entry = c.sound.generations.entry;
-      mark = c.sound.generations.mark;
-      taken = c.sound.generations.taken;
-      untaken = c.sound.generations.untaken;
-      newest = c.sound.generations.newest;
-    };
-    listings = record {
-      marked = c.sound.listings.marked;
-      seen = c.sound.listings.seen;
-      complete = c.sound.listings.complete;
-      right = c.sound.listings.right;
-    };
+    debts = c.sound.debts;
+    readings = c.sound.readings;
+    owners = c.sound.owners;
+    generations = c.sound.generations;
+    listings = c.sound.listings;
     tally = c.sound.tally;
     time = c.sound.time;
-    wins = record { counted = c.sound.wins.counted; once = c.sound.wins.once };
+    wins = c.sound.wins;
   };
   opened = c.opened;
   scanners = c.scanners;

@@ -10,11 +10,12 @@ use Rattle.room_core.specs.Put.{put}
 use Rattle.room_core.specs.Gauges.{clock_of, scanner_of}
 use Rattle.room_core.specs.Description.{IsMark, IsOperation, deadline_of, marked_gauge}
 use Rattle.room_core.specs.Duty.{IsLate, OwnerFinds, ShardFinds, ScannerFinds, FindsTally, FindsTime, IsSatisfiedNow}
-use Rattle.room_core.specs.Sound.{Agree, IsEntry, IsRightEntry, IsOwed, GenerationsAreSound, ListingsAreSound, OwnersAreSound, WinsAreSound}
+use Rattle.room_core.specs.Sound.{Agree, IsEntry, IsOwed}
 use Rattle.room_core.specs.Wins.{prizes_as, taken_as, won_as, taken_at, won_at}
 use Rattle.room_core.specs.Passes.{CanIdle, idling, caller_idles, IsOver, taken_of}
 use Rattle.room_core.specs.Carried.{IsUpheld}
 use Rattle.room_core.specs.State.{State, Caller}
+use Rattle.room_core.proofs.Facts.{IsRightEntry, GenerationsAreSound, ListingsAreSound, OwnersAreSound, WinsAreSound}
 use Rattle.room_core.proofs.Puts.{at-put, at-puts}
 use Rattle.room_core.proofs.Kept.{IsKept, kept_of, carried}
 use Rattle.room_core.proofs.Winners.{wins_of-same, won_as-none, won_at-none, won_at-other, taken_as-more, taken_at-more, over_as, over_at}
@@ -110,7 +111,7 @@ module _ (s : State) (p : ℕ) (k : IsKept s) (can : CanIdle s p) where
   pub kept : IsKept (idling s p)
   kept = record {
     shape = k.shape;
-    values = record { begun = k.values.begun; asked = k.values.asked; stored = k.values.stored; loud = k.values.loud; own = k.values.own };
+    values = k.values;
     debts = record {
       owed = as_before (λ q c. (g : ℕ) → c.owed g ≤ s.asked g) (k.debts.owed p) k.debts.owed;
       heard = k.debts.heard;

@@ -2,9 +2,10 @@
 use Rattle.std.proofs.Common.{◌≢◌, ℕ, ◌≤◌}
 use Rattle.room_core.specs.declared.parts.Stage.{Stage}
 use Rattle.room_core.specs.Gauges.{IsShape}
-use Rattle.room_core.specs.Sound.{ValuesAreSound, DebtsAreSound, ReadingsAreSound, OwnersAreSound, GenerationsAreSound, ListingsAreSound, TallyIsSound, TimeIsSound, WinsAreSound}
+use Rattle.room_core.specs.Sound.{TallyIsSound, TimeIsSound}
 use Rattle.room_core.specs.Carried.{IsUpheld, ScannerIsKept}
 use Rattle.room_core.specs.State.{State}
+use Rattle.room_core.proofs.Facts.{ValuesAreSound, DebtsAreSound, ReadingsAreSound, OwnersAreSound, GenerationsAreSound, ListingsAreSound, WinsAreSound}
 
 pub record IsKept (s : State) : Type 0 where
   pub shape : IsShape s.shape

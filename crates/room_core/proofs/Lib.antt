@@ -8,6 +8,8 @@ pub mod Tests
 pub mod Finding
 -- what is known by readings that were taken, or lost
 pub mod Known
+-- the facts of a sound state, of a state
+pub mod Facts
 -- what is carried, without the wins
 pub mod Kept
 -- an event that changes one caller alone

@@ -7,10 +7,11 @@ use Rattle.room_core.specs.Put.{put}
 use Rattle.room_core.specs.Gauges.{IsShape, IsGaugeOf, clock_of, scanner_of}
 use Rattle.room_core.specs.Description.{gauge_of, deadline_of, marked_gauge}
 use Rattle.room_core.specs.Duty.{IsOpen}
-use Rattle.room_core.specs.Sound.{IsEntry, IsRightEntry, IsListed, WinsAreSound}
+use Rattle.room_core.specs.Sound.{IsEntry}
 use Rattle.room_core.specs.Meetings.{CanMark, marking, scanner_marks, MayMarkNeed, MayMarkClock, generation_met, words_of, entry_for}
 use Rattle.room_core.specs.Carried.{IsUpheld, ScannerIsKept}
 use Rattle.room_core.specs.State.{State}
+use Rattle.room_core.proofs.Facts.{IsRightEntry, IsListed, WinsAreSound}
 use Rattle.room_core.proofs.Puts.{put-same, at-place, place-same}
 use Rattle.room_core.proofs.Dropping.{meeting_with, learned_is}
 use Rattle.room_core.proofs.Kept.{IsKept, kept_of, carried}

@@ -9,11 +9,12 @@ use Rattle.room_core.specs.Gauges.{clock_of, scanner_of}
 use Rattle.room_core.specs.Description.{IsMark, IsOperation, deadline_of, marked_gauge, tally}
 use Rattle.room_core.specs.Readings.{known, unread}
 use Rattle.room_core.specs.Duty.{IsOpen, IsLate, OwnerFinds, ShardFinds, ScannerFinds, FindsTally, FindsTime, IsSatisfiedNow, owner_readings}
-use Rattle.room_core.specs.Sound.{Agree, IsEntry, IsRightEntry, IsOwed, GenerationsAreSound, ListingsAreSound, OwnersAreSound, WinsAreSound}
+use Rattle.room_core.specs.Sound.{Agree, IsEntry, IsOwed}
 use Rattle.room_core.specs.Wins.{prizes_as, taken_as, won_as, taken_at, won_at, is_won}
 use Rattle.room_core.specs.Passes.{CanOpen, opening, caller_opens}
 use Rattle.room_core.specs.Carried.{IsUpheld}
 use Rattle.room_core.specs.State.{State, Caller}
+use Rattle.room_core.proofs.Facts.{IsRightEntry, GenerationsAreSound, ListingsAreSound, OwnersAreSound, WinsAreSound}
 use Rattle.room_core.proofs.Puts.{at-put, at-puts}
 use Rattle.room_core.proofs.Tallies.{tally_rises}
 use Rattle.room_core.proofs.Known.{unread_below, owner_forgets}
@@ -96,7 +97,7 @@ module _ (s : State) (p : ℕ) (k : IsKept s) (can : CanOpen s p) where
   pub kept : IsKept (opening s p)
   kept = record {
     shape = k.shape;
-    values = record { begun = k.values.begun; asked = k.values.asked; stored = k.values.stored; loud = k.values.loud; own = k.values.own };
+    values = k.values;
     debts = record {
       owed = as_before (λ q c. (g : ℕ) → c.owed g ≤ s.asked g) (k.debts.owed p) k.debts.owed;
       heard = k.debts.heard;

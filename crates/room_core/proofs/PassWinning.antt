@@ -7,13 +7,14 @@ use Rattle.room_core.specs.declared.parts.Stage.{Stage}
 use Rattle.room_core.specs.declared.parts.Stage.TheVariants.{Checking}
 use Rattle.room_core.specs.Put.{put}
 use Rattle.room_core.specs.Duty.{IsOpen, OwnerFinds, FindsTally, FindsTime}
-use Rattle.room_core.specs.Sound.{Agree, WinsAreSound}
+use Rattle.room_core.specs.Sound.{Agree}
 use Rattle.room_core.specs.Meetings.{is_live}
 use Rattle.room_core.specs.Wins.{prizes_as, taken_as, won_as, taken_at, won_at, wins_of}
 use Rattle.room_core.specs.Passes.{peeked}
 use Rattle.room_core.specs.Checks.{CanWinPass, pass_winning, caller_wins, exchanged}
 use Rattle.room_core.specs.Carried.{IsUpheld}
 use Rattle.room_core.specs.State.{State}
+use Rattle.room_core.proofs.Facts.{WinsAreSound}
 use Rattle.room_core.proofs.Puts.{at-put, put-same}
 use Rattle.room_core.proofs.Words.{kept_by_exchange, with_session}
 use Rattle.room_core.proofs.Kept.{IsKept, kept_of, carried}

@@ -11,11 +11,12 @@ use Rattle.room_core.specs.declared.parts.Taken.{Taken}
 use Rattle.room_core.specs.declared.parts.Stage.{Stage}
 use Rattle.room_core.specs.Put.{put}
 use Rattle.room_core.specs.Duty.{IsOpen}
-use Rattle.room_core.specs.Sound.{Agree, WinsAreSound}
+use Rattle.room_core.specs.Sound.{Agree}
 use Rattle.room_core.specs.Meetings.{is_live}
 use Rattle.room_core.specs.Wins.{prizes_as, taken_as, won_as, taken_at, won_at, wins_of, same_how, is_won}
 use Rattle.room_core.specs.Checks.{exchanged, with_prize}
 use Rattle.room_core.specs.State.{State, Caller, Scanner}
+use Rattle.room_core.proofs.Facts.{WinsAreSound}
 use Rattle.room_core.proofs.Puts.{at-put, put-other}
 use Rattle.room_core.proofs.Tests.{live_open, live_generation}
 use Rattle.room_core.proofs.Words.{exchanged_or}

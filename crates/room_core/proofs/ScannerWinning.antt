@@ -12,12 +12,13 @@ use Rattle.room_core.specs.Put.{put}
 use Rattle.room_core.specs.Gauges.{IsScanner, IsShape}
 use Rattle.room_core.specs.Readings.{unread}
 use Rattle.room_core.specs.Duty.{IsOpen, met_readings}
-use Rattle.room_core.specs.Sound.{IsEntry, WinsAreSound}
+use Rattle.room_core.specs.Sound.{IsEntry}
 use Rattle.room_core.specs.Meetings.{is_live, is_open, generation_met}
 use Rattle.room_core.specs.Wins.{prizes_as, taken_as, won_as, wins_of}
 use Rattle.room_core.specs.Checks.{CanWinScanner, scanner_winning, scanner_wins, exchanged, other_entry, gauge_of_duty, IsDuty}
 use Rattle.room_core.specs.Carried.{IsUpheld}
 use Rattle.room_core.specs.State.{State}
+use Rattle.room_core.proofs.Facts.{WinsAreSound}
 use Rattle.room_core.proofs.Puts.{at-put, put-same, at-place}
 use Rattle.room_core.proofs.Known.{of_either, unread_below, met_forgets}
 use Rattle.room_core.proofs.Finding.{tally_knows, time_knows}

@@ -5,9 +5,10 @@ use Rattle.room_core.specs.declared.parts.Entry.{Entry}
 use Rattle.room_core.specs.declared.parts.Meeting.{Meeting}
 use Rattle.room_core.specs.Put.{put}
 use Rattle.room_core.specs.Duty.{IsOpen, ScannerFinds, ShardFinds, FindsTally, FindsTime}
-use Rattle.room_core.specs.Sound.{GenerationsAreSound, IsEntry, IsRightEntry, ListingsAreSound}
+use Rattle.room_core.specs.Sound.{IsEntry}
 use Rattle.room_core.specs.Carried.{ScannerIsKept}
 use Rattle.room_core.specs.State.{State, Scanner}
+use Rattle.room_core.proofs.Facts.{GenerationsAreSound, IsRightEntry, ListingsAreSound}
 use Rattle.room_core.proofs.Puts.{at-put}
 use Rattle.room_core.proofs.Finding.{either_too}
 use Rattle.room_core.proofs.Kept.{IsKept}
@@ -95,12 +96,7 @@ module _ (s : State) (k : ℕ) (new : Scanner) (r : IsKept s) (c : ScannerStays 
       scanner = λ j gauge value.
           at-put s.scanner k new (λ i x. x.readings gauge ≡ Some value → value ≤ s.value gauge) (c.readings gauge value) (λ i n. r.readings.scanner i gauge value) j;
     };
-    owners = record {
-      generation = r.owners.generation;
-      description = r.owners.description;
-      stage = r.owners.stage;
-      operation = r.owners.operation;
-    };
+    owners = r.owners;
     generations = generations;
     listings = listings;
     tally = λ pass o sat.

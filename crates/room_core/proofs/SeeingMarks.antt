@@ -6,10 +6,11 @@ use Rattle.room_core.specs.declared.parts.Stage.{Stage}
 use Rattle.room_core.specs.declared.parts.Stage.TheVariants.{Listing, Checking}
 use Rattle.room_core.specs.Description.{IsMark, needs_of, marked_gauge}
 use Rattle.room_core.specs.Duty.{IsOpen, IsOnDuty}
-use Rattle.room_core.specs.Sound.{Agree, IsListed}
+use Rattle.room_core.specs.Sound.{Agree}
 use Rattle.room_core.specs.Passes.{CanSeeMark, seeing_mark, caller_sees_mark, seen_with, all_seen, all_below}
 use Rattle.room_core.specs.Carried.{IsUpheld}
 use Rattle.room_core.specs.State.{State}
+use Rattle.room_core.proofs.Facts.{IsListed}
 use Rattle.room_core.proofs.Puts.{at-put}
 use Rattle.room_core.proofs.Tests.{and_left, and_right}
 use Rattle.room_core.proofs.Known.{of_either, unread_below, owner_forgets}

@@ -6,10 +6,10 @@ use Rattle.room_core.specs.declared.parts.Phase.{Phase}
 use Rattle.room_core.specs.declared.shape.Shape.{Shape}
 use Rattle.room_core.specs.Gauges.{IsShape}
 use Rattle.room_core.specs.Start.{start_of, idle_caller, idle_scanner}
-use Rattle.room_core.specs.Sound.{WinsAreSound}
 use Rattle.room_core.specs.Wins.{prizes_as, taken_as, taken_at, wins_of}
 use Rattle.room_core.specs.Carried.{IsUpheld}
 use Rattle.room_core.specs.Within.{IsWithin}
+use Rattle.room_core.proofs.Facts.{WinsAreSound}
 use Rattle.room_core.proofs.Kept.{IsKept, carried}
 use Rattle.room_core.proofs.Known.{of_either}
 use Rattle.room_core.proofs.Winners.{won_as-none, won_at-none}
@@ -77,17 +77,18 @@ starts shape h = carried (start_of shape) (kept shape h) (wins shape)
 
 pub starts_within : (shape : Shape) → IsWithin (start_of shape)
 starts_within shape = record {
-  value = λ g m. refl;
-  asked = λ g m. refl;
-  begun = λ g m. refl;
-  source = λ g m. refl;
-  session = λ p m. refl;
-  description = λ p m. refl;
-  marks = λ p m. refl;
-  caller = λ p m. refl;
-  scanner = λ k n. refl;
-  described = λ p at m. refl;
-  marked = λ p i m. refl;
-  generation = λ p. omega arith;
-  scanners = λ k. record { entry = λ g p entry e. absurd (cc); duty = λ p duty e. absurd (cc); meeting = λ meeting e. absurd (cc) };
+  gauges = record { value = λ g m. refl; asked = λ g m. refl; begun = λ g m. refl; source = λ g m. refl };
+  passes = record {
+    session = λ p m. refl;
+    description = λ p m. refl;
+    marks = λ p m. refl;
+    caller = λ p m. refl;
+    described = λ p at m. refl;
+    marked = λ p i m. refl;
+    generation = λ p. omega arith;
+  };
+  scanners = record {
+    scanner = λ k n. refl;
+    each = λ k. record { entry = λ g p entry e. absurd (cc); duty = λ p duty e. absurd (cc); meeting = λ meeting e. absurd (cc) };
+  };
 }

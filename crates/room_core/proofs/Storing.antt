@@ -2,11 +2,11 @@
 use Rattle.std.proofs.Common.{⊎_elim, ◌≡◌, ℕ, ◌<◌, ◌≤◌, refl, arith, true}
 use Rattle.room_core.specs.Put.{put}
 use Rattle.room_core.specs.Description.{needs_of, gauge_of, tally}
-use Rattle.room_core.specs.Sound.{ValuesAreSound, ReadingsAreSound}
 use Rattle.room_core.specs.Duty.{IsLate, IsOpen, IsSatisfiedNow, IsFoundByTally}
 use Rattle.room_core.specs.Carried.{IsUpheld}
 use Rattle.room_core.specs.Scans.{CanStore, storing}
 use Rattle.room_core.specs.State.{State}
+use Rattle.room_core.proofs.Facts.{ValuesAreSound, ReadingsAreSound}
 use Rattle.room_core.proofs.Puts.{at-put, at-puts}
 use Rattle.room_core.proofs.Tallies.{late_or, tally_rises}
 use Rattle.room_core.proofs.Finding.{known_rises, tally_knows, time_knows, owner_too, scanner_too, shard_too, either_too}
@@ -51,29 +51,11 @@ module _ (s : State) (gauge value : ℕ) (c : IsUpheld s) (can : CanStore s gaug
   kept = record {
     shape = c.shape;
     values = values;
-    debts = record { owed = c.sound.debts.owed; heard = c.sound.debts.heard; someone = c.sound.debts.someone };
+    debts = c.sound.debts;
     readings = readings;
-    owners = record {
-      generation = c.sound.owners.generation;
-      description = c.sound.owners.description;
-      stage = c.sound.owners.stage;
-      operation = c.sound.owners.operation;
-    };
-    generations = record {
-      learned = c.sound.generations.learned;
-      meeting = c.sound.generations.meeting;
-      entry = c.sound.generations.entry;
-      mark = c.sound.generations.mark;
-      taken = c.sound.generations.taken;
-      untaken = c.sound.generations.untaken;
-      newest = c.sound.generations.newest;
-    };
-    listings = record {
-      marked = c.sound.listings.marked;
-      seen = c.sound.listings.seen;
-      complete = c.sound.listings.complete;
-      right = c.sound.listings.right;
-    };
+    owners = c.sound.owners;
+    generations = c.sound.generations;
+    listings = c.sound.listings;
     tally = λ pass o sat. late_or _ _ _ (tallied pass o sat);
     time = λ pass o d.
         either_too

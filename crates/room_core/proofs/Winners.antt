@@ -11,9 +11,9 @@ use Rattle.room_core.specs.declared.event.How.{How}
 use Rattle.room_core.specs.declared.parts.Session.{Session}
 use Rattle.room_core.specs.declared.parts.Prize.{Prize}
 use Rattle.room_core.specs.Put.{put}
-use Rattle.room_core.specs.Sound.{WinsAreSound}
 use Rattle.room_core.specs.Wins.{prizes_as, taken_as, won_as, taken_at, won_at, wins_of, is_prize, is_taken_as, is_won_as, is_won}
 use Rattle.room_core.specs.State.{State, Caller, Scanner}
+use Rattle.room_core.proofs.Facts.{WinsAreSound}
 use Rattle.room_core.proofs.Puts.{at-put}
 
 -- the same wins of each part are the same wins by each number

@@ -11,11 +11,12 @@ use Rattle.room_core.specs.Put.{put}
 use Rattle.room_core.specs.Checks.{exchanged}
 use Rattle.room_core.specs.Description.{marked_gauge}
 use Rattle.room_core.specs.Duty.{IsOpen, ShardFinds, ScannerFinds, FindsTally, FindsTime}
-use Rattle.room_core.specs.Sound.{Agree, GenerationsAreSound, IsEntry, IsListed}
+use Rattle.room_core.specs.Sound.{Agree, IsEntry}
 use Rattle.room_core.specs.Gauges.{scanner_of}
 use Rattle.room_core.specs.Meetings.{is_live}
 use Rattle.room_core.specs.Wins.{taken_at}
 use Rattle.room_core.specs.State.{State}
+use Rattle.room_core.proofs.Facts.{GenerationsAreSound, IsListed}
 use Rattle.room_core.proofs.Puts.{at-put}
 use Rattle.room_core.proofs.Finding.{either_too}
 use Rattle.room_core.proofs.Tests.{live_open}
@@ -57,9 +58,9 @@ module _ (s : State) (p : ℕ) (new : Session) (k : IsKept s) (c : WordStays (s.
   pub kept_by_word : IsKept (with_session s p new)
   kept_by_word = record {
     shape = k.shape;
-    values = record { begun = k.values.begun; asked = k.values.asked; stored = k.values.stored; loud = k.values.loud; own = k.values.own };
-    debts = record { owed = k.debts.owed; heard = k.debts.heard; someone = k.debts.someone };
-    readings = record { greatest = k.readings.greatest; owner = k.readings.owner; scanner = k.readings.scanner };
+    values = k.values;
+    debts = k.debts;
+    readings = k.readings;
     owners = record {
       generation = λ q. same q ∙ k.owners.generation q;
       description = k.owners.description;
@@ -133,15 +134,10 @@ pub kept_by_mark : (s : State) (p i generation : ℕ) → IsKept s → generatio
     → IsKept (with_mark s p i generation)
 kept_by_mark s p i generation k below listed = record {
   shape = k.shape;
-  values = record { begun = k.values.begun; asked = k.values.asked; stored = k.values.stored; loud = k.values.loud; own = k.values.own };
-  debts = record { owed = k.debts.owed; heard = k.debts.heard; someone = k.debts.someone };
-  readings = record { greatest = k.readings.greatest; owner = k.readings.owner; scanner = k.readings.scanner };
-  owners = record {
-    generation = k.owners.generation;
-    description = k.owners.description;
-    stage = k.owners.stage;
-    operation = k.owners.operation;
-  };
+  values = k.values;
+  debts = k.debts;
+  readings = k.readings;
+  owners = k.owners;
   generations = record {
     learned = k.generations.learned;
     meeting = k.generations.meeting;

@@ -7,6 +7,7 @@ use Rattle.room_core.specs.declared.parts.Phase.TheVariants.{Open}
 use Rattle.room_core.specs.declared.parts.Stage.{Stage}
 use Rattle.room_core.specs.declared.parts.Stage.TheVariants.{Listing, Checking, Waiting, Over}
 use Rattle.room_core.specs.declared.parts.Meeting.{Meeting}
+use Rattle.room_core.specs.declared.parts.Session.{Session}
 use Rattle.room_core.specs.Gauges.{clock_of}
 use Rattle.room_core.specs.Description.{least_of, deadline_of, needs_of, gauge_of, tally, IsSatisfied, IsOverdue}
 use Rattle.room_core.specs.Readings.{unread, known}
@@ -57,8 +58,12 @@ FindsTally words value readings = least_of words ≤ tally words (known readings
 abbrev pub FindsTime : Shape → (ℕ → ℕ) → (ℕ → ℕ) → (ℕ → Option ℕ) → Type 0
 FindsTime shape words value readings = deadline_of words ≤ known readings value (clock_of shape)
 
+-- the word of a pass is open
+abbrev pub IsOpenIn : (ℕ → Session) → ℕ → Type 0
+IsOpenIn session_at pass = (session_at pass).phase ≡ Open
+
 abbrev pub IsOpen : State → ℕ → Type 0
-IsOpen s pass = (s.session pass).phase ≡ Open
+IsOpen s pass = IsOpenIn s.session pass
 
 -- a tally duty finds the operation
 abbrev pub IsFoundByTally : State → ℕ → Type 0

@@ -1,3 +1,5 @@
+-- ==== the words of public contracts
+
 -- the numbers that bound a room
 pub mod Numbers
 -- functions of a number, and one of their values given anew
@@ -44,19 +46,21 @@ pub mod Quiet
 pub mod Start
 -- a whole run
 pub mod Run
+-- the part that a caller's tables show
+pub mod CallerTables
+-- the part that a scanner's tables show
+pub mod ScannerTables
+-- the state that the code's tables show
+pub mod Tables
+-- ==== the words of private functions
+
 -- the sizes of a caller's tables
 pub mod CallerSize
 -- the sizes of the tables of a caller's operation
 pub mod CallerWhole
--- the part that a caller's tables show
-pub mod CallerTables
 -- the sizes of a scanner's tables
 pub mod ScannerSize
--- the part that a scanner's tables show
-pub mod ScannerTables
 -- the sizes of the code's tables
 pub mod Sizes
 -- the sizes of the tables of a pass's words
 pub mod WordSizes
--- the state that the code's tables show
-pub mod Tables

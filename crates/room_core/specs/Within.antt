@@ -3,12 +3,14 @@ use Rattle.std.specs.Prelude.{◌≡◌, ℕ, ◌^◌, ◌<◌, ◌≤◌, false
 use Rattle.room_core.specs.Numbers.{description_words, marks_count}
 use Rattle.room_core.specs.declared.shape.Shape.{Shape}
 use Rattle.room_core.specs.declared.parts.Phase.{Phase}
+use Rattle.room_core.specs.declared.parts.Session.{Session}
+use Rattle.room_core.specs.declared.parts.Source.{Source}
 use Rattle.room_core.specs.declared.parts.Entry.{Entry}
 use Rattle.room_core.specs.declared.parts.Duty.{Duty}
 use Rattle.room_core.specs.declared.parts.Meeting.{Meeting}
 use Rattle.room_core.specs.Gauges.{IsPass, IsScanner}
 use Rattle.room_core.specs.Start.{idle_caller, idle_scanner}
-use Rattle.room_core.specs.State.{State, Scanner}
+use Rattle.room_core.specs.State.{State, Caller, Scanner}
 
 -- from the n-th place on a table is as at the start
 abbrev pub IsBeyond : {A : Type 0} → ℕ → (ℕ → A) → A → Type 0
@@ -20,18 +22,29 @@ pub record ScannerIsWithin (shape : Shape) (scanner : Scanner) : Type 0 where
   pub duty : (pass : ℕ) (duty : Duty) → scanner.duties pass ≡ Some duty → IsPass shape pass
   pub meeting : (meeting : Meeting) → scanner.meeting ≡ Some meeting → IsPass shape meeting.pass
 
+-- by gauge
+pub record GaugesAreWithin (shape : Shape) (value_at asked_at begun_at : ℕ → ℕ) (source_at : ℕ → Source) : Type 0 where
+  pub value : IsBeyond shape.gauges value_at 0
+  pub asked : IsBeyond shape.gauges asked_at 0
+  pub begun : IsBeyond shape.gauges begun_at 0
+  pub source : IsBeyond shape.gauges source_at (record { stored = 0; loud = false })
+
+-- by pass; a description has 195 words, a pass 65 marks, and a generation 32 bits
+pub record PassesAreWithin (shape : Shape) (session_at : ℕ → Session) (description_at marks_at : ℕ → ℕ → ℕ) (caller_at : ℕ → Caller) : Type 0 where
+  pub session : IsBeyond shape.passes session_at (record { generation = 0; phase = Phase.Idle })
+  pub description : IsBeyond shape.passes description_at (λ at. 0)
+  pub marks : IsBeyond shape.passes marks_at (λ i. 0)
+  pub caller : IsBeyond shape.passes caller_at idle_caller
+  pub described : (pass : ℕ) → IsBeyond description_words (description_at pass) 0
+  pub marked : (pass : ℕ) → IsBeyond marks_count (marks_at pass) 0
+  pub generation : (pass : ℕ) → (session_at pass).generation < 2 ^ 32
+
+-- by a scanner's number
+pub record ScannersAreWithin (shape : Shape) (scanner_at : ℕ → Scanner) : Type 0 where
+  pub scanner : (k : ℕ) → (IsScanner shape k → ⊥) → scanner_at k ≡ idle_scanner
+  pub each : (k : ℕ) → ScannerIsWithin shape (scanner_at k)
+
 pub record IsWithin (s : State) : Type 0 where
-  pub value : IsBeyond s.shape.gauges s.value 0
-  pub asked : IsBeyond s.shape.gauges s.asked 0
-  pub begun : IsBeyond s.shape.gauges s.begun 0
-  pub source : IsBeyond s.shape.gauges s.source (record { stored = 0; loud = false })
-  pub session : IsBeyond s.shape.passes s.session (record { generation = 0; phase = Phase.Idle })
-  pub description : IsBeyond s.shape.passes s.description (λ at. 0)
-  pub marks : IsBeyond s.shape.passes s.marks (λ i. 0)
-  pub caller : IsBeyond s.shape.passes s.caller idle_caller
-  pub scanner : (k : ℕ) → (IsScanner s.shape k → ⊥) → s.scanner k ≡ idle_scanner
-  -- a description has 195 words, and a pass 65 marks
-  pub described : (pass : ℕ) → IsBeyond description_words (s.description pass) 0
-  pub marked : (pass : ℕ) → IsBeyond marks_count (s.marks pass) 0
-  pub generation : (pass : ℕ) → (s.session pass).generation < 2 ^ 32
-  pub scanners : (k : ℕ) → ScannerIsWithin s.shape (s.scanner k)
+  pub gauges : GaugesAreWithin s.shape s.value s.asked s.begun s.source
+  pub passes : PassesAreWithin s.shape s.session s.description s.marks s.caller
+  pub scanners : ScannersAreWithin s.shape s.scanner
