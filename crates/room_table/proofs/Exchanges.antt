@@ -28,7 +28,7 @@ session_word s c pass =
     let back : unpacked (packed (s.session pass)) ≡ s.session pass = unpacks (s.session pass) (below_256 s c pass) in
     record {
       again = ap packed back;
-      generation = subst (λ w. w.generation < 2 ^ 32) (sym back) (c.within.generation pass);
+      generation = subst (λ w. w.generation < 2 ^ 32) (sym back) (c.within.passes.generation pass);
       winner = subst (λ w. winner_number w.phase < 97) (sym back) (winner_below s c pass);
     }
 

@@ -28,3 +28,7 @@ pub mod Starts
 pub mod Ends
 -- the last of the seats
 pub mod Popped
+-- a table and its seats beside the machine, in a test of a whole run
+pub mod Besides
+-- operations that threads open and win, in a test
+pub mod Winners

@@ -21,3 +21,10 @@ last_caller table n all before x size is e = last_of (fresh_caller table) table.
 pub last_scanner : (table : TableView) (all before : List ScanView) (x : ScanView) → all ≡ fresh_scanners table → all ≡ before ++ x ∷ [] → x ≡ fresh_scanner table 16
 last_scanner table all before x is e =
     sym (same_from_push (map (fresh_scanner table) (range_with_len 0 (table.shape.scanners - 1))) before (fresh_scanner table 16) x (sym is ∙ e)).1
+
+-- the last scanner of a shard, where the clock's is gone
+pub last_shard : (table : TableView) (n : ℕ) (all rest before : List ScanView) (x y : ScanView) → table.shape.scanners ≡ n + 2 → all ≡ fresh_scanners table → all ≡ rest ++ y ∷ [] → rest ≡ before ++ x ∷ [] → x ≡ fresh_scanner table n
+last_shard table n all rest before x y size is e is_rest =
+    let shards = map (fresh_scanner table) (range_with_len 0 (table.shape.scanners - 1)) in
+    let left : shards ≡ rest = (same_from_push shards rest (fresh_scanner table 16) y (sym is ∙ e)).0 in
+    last_of (fresh_scanner table) (table.shape.scanners - 1) n before x (omega (arith, size)) (left ∙ is_rest)

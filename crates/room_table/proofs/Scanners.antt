@@ -43,7 +43,7 @@ heard_is None gauge h = absurd h
 heard_is (Some x) gauge h = ap (λ g. Some (record { gauge = g; number = x.number })) h
 
 -- what was heard is of the scanner's own gauge
-heard_own : (s : State) → IsCarried s → (k gauge : ℕ) → IsHeard (s.scanner k).heard gauge → IsGaugeOf s.shape k gauge
+pub heard_own : (s : State) → IsCarried s → (k gauge : ℕ) → IsHeard (s.scanner k).heard gauge → IsGaugeOf s.shape k gauge
 heard_own s c k gauge h = (c.scanners k).heard (record { gauge = gauge; number = number_heard (s.scanner k).heard }) (heard_is (s.scanner k).heard gauge h)
 
 pub mark_few : (shape : Shape) (k : ℕ) (scanner : Scanner) (pass at : ℕ) → MayMark shape k scanner pass at → at < 65

@@ -1,4 +1,4 @@
--- The words of public contracts, in reading order.
+-- ==== the words of public contracts
 
 -- what a clause sees of the table and of its seats
 pub mod Seats
@@ -12,7 +12,11 @@ pub mod Handed
 pub mod Shown
 -- where each word stands
 pub mod Layout
--- The words of private functions.
+-- ==== the words of private functions
 
 -- all parts of a shape, as they are handed out
 pub mod Fresh
+-- a table and its seats beside a state of the machine
+pub mod Beside
+-- how far a scanner and a pass are with an operation, in a test
+pub mod Winners

@@ -1,8 +1,11 @@
 ghost use Rattle.std.specs.Prelude.{◌≡◌};
 ghost use Rattle.room_table.specs.Handed.{fresh_caller, fresh_scanner, fresh_source};
 
+mod beside;
 mod lanes;
 mod sleepers;
+mod winners;
+mod worked;
 
 use super::*;
 use crate::layout::{place, size};

@@ -1,7 +1,7 @@
 //! Four threads on one table, each of which raises a gauge of its own and scans it by hand.
 ghost use Rattle.std.specs.Prelude.{◌≡◌, ◌<◌, ◌≤◌, [], All, None, length, IfOk, IfSome, IsTrue, false, true};
 ghost use Rattle.room_core.specs.Scans.{HasNoDuty};
-ghost use Rattle.room_table.specs.Seats.{scanner_now, source_now};
+ghost use Rattle.room_table.specs.Seats.{caller_now, scanner_now, source_now};
 
 use crate::seats::{CallerSeat, ScanSeat, SourceSeat};
 use crate::table::{RoomTable, TableParts, TableWords};
@@ -12,53 +12,61 @@ use std::test::*;
 use std::thread::{Threads, map_vec};
 
 // A gauge, a pass and a shard for each thread, and the clock.
-const LANES: Shape = Shape {
+pub(super) const LANES: Shape = Shape {
     gauges: 5,
     passes: 4,
     scanners: 5,
 };
 
-const THREADS: u32 = 4;
+pub(super) const THREADS: u32 = 4;
 
 const ROUNDS: u64 = 10_000;
 
 // What a thread steps by.
 #[derive(Drop)]
-struct Lane {
-    source: SourceSeat,
-    caller: CallerSeat,
-    scan: ScanSeat,
+pub(super) struct Lane {
+    pub(super) source: SourceSeat,
+    pub(super) caller: CallerSeat,
+    pub(super) scan: ScanSeat,
     // the last round that went as it should
-    rounds: u64,
+    pub(super) rounds: u64,
+    // the operations that its scanner won, and those of its own that its pass took
+    pub(super) won: u64,
+    pub(super) taken: u64,
 }
 
 #[derive(Drop)]
-struct Seats {
+pub(super) struct Seats {
     sources: List<SourceSeat>,
     callers: List<CallerSeat>,
     scanners: List<ScanSeat>,
 }
 
-fn gauge_of(source: &SourceSeat) -> u32
+pub(super) fn gauge_of(source: &SourceSeat) -> u32
     ensures { result ≡ source.now.gauge }
 {
     source.gauge
 }
 
-fn pass_of(caller: &CallerSeat) -> u32
+pub(super) fn pass_of(caller: &CallerSeat) -> u32
     ensures { result ≡ caller.now.pass }
 {
     caller.pass
 }
 
-fn number_of(scan: &ScanSeat) -> u32
+pub(super) fn number_of(scan: &ScanSeat) -> u32
     ensures { result ≡ scan.now.scanner }
 {
     scan.scanner
 }
 
 // The source stores a value, and the pass reads it and asks for a scan. Whether the source is quiet then.
-fn raises(table: &RoomTable, source: &mut SourceSeat, caller: &mut CallerSeat, value: u64) -> bool
+pub(super) fn raises(
+    table: &RoomTable,
+    source: &mut SourceSeat,
+    caller: &mut CallerSeat,
+    value: u64,
+) -> bool
     requires shape { table.now.shape ≡ LANES }
     requires source { (source.old.table ≡ table.now) × (source.old.gauge < 4) }
     requires quiet { ((source_now source.old).loud ≡ false) × ((source_now source.old).stored ≤ value) }
@@ -67,6 +75,8 @@ fn raises(table: &RoomTable, source: &mut SourceSeat, caller: &mut CallerSeat, v
     ensures stored { (source_now source.new).stored ≡ value }
     ensures quiet { IsTrue result → (source_now source.new).loud ≡ false }
     ensures caller { (caller.new.table ≡ table.now) × (caller.new.pass ≡ caller.old.pass) }
+    ensures stage { (caller_now caller.new).stage ≡ (caller_now caller.old).stage }
+    ensures generation { (caller_now caller.new).generation ≡ (caller_now caller.old).generation }
 {
     let gauge = gauge_of(source);
     table.store(source, value);
@@ -125,9 +135,9 @@ fn lanes(
 ) -> Result<Vec<Lane>, NoMemory>
     requires shape { table.now.shape ≡ LANES }
     requires sources { All (λ s. (s.table ≡ table.now) × (s.steps ≡ [])) sources }
-    requires callers { All (λ s. s.table ≡ table.now) callers }
+    requires callers { All (λ s. (s.table ≡ table.now) × (s.steps ≡ [])) callers }
     requires scanners { All (λ s. (s.table ≡ table.now) × (s.steps ≡ [])) scanners }
-    ensures { IfOk result (λ v. All (λ l. (table.now.shape ≡ LANES) × (l.source.table ≡ table.now) × (l.caller.table ≡ table.now) × (l.scan.table ≡ table.now) × (l.source.steps ≡ []) × (l.scan.steps ≡ [])) v.items) }
+    ensures { IfOk result (λ v. All (λ l. (table.now.shape ≡ LANES) × (l.source.table ≡ table.now) × (l.caller.table ≡ table.now) × (l.scan.table ≡ table.now) × (l.source.steps ≡ []) × (l.caller.steps ≡ []) × (l.scan.steps ≡ [])) v.items) }
 {
     let mut lanes = Vec::new(alloc);
     while let Some(source) = sources.pop() {
@@ -138,13 +148,15 @@ fn lanes(
             caller,
             scan,
             rounds: 0,
+            won: 0,
+            taken: 0,
         })?;
     }
     Ok(lanes)
 }
 
 // The seats of the lanes, and the clock's.
-fn given_back(
+pub(super) fn given_back(
     alloc: Global,
     table: &RoomTable,
     mut lanes: Vec<Lane>,
@@ -166,6 +178,8 @@ fn given_back(
             caller,
             scan,
             rounds: _,
+            won: _,
+            taken: _,
         } = lane;
         sources.push(source)?;
         callers.push(caller)?;
@@ -181,12 +195,12 @@ fn given_back(
 }
 
 // The words, where all seats came back.
-fn closed(table: RoomTable, seats: Seats) -> Option<TableWords>
+pub(super) fn closed(table: RoomTable, seats: Seats) -> Option<TableWords>
     requires shape { table.shape ≡ LANES }
     requires sources { All (λ s. s.table ≡ table) seats.sources }
     requires callers { All (λ s. s.table ≡ table) seats.callers }
     requires scanners { All (λ s. s.table ≡ table) seats.scanners }
-    ensures { IfSome result (λ w. 14 < length w) }
+    ensures { IfSome result (λ w. 1058 < length w) }
 {
     let Seats {
         sources,
@@ -208,16 +222,16 @@ fn closed(table: RoomTable, seats: Seats) -> Option<TableWords>
 
 // A table, its lanes, and the clock's seats.
 #[derive(Drop)]
-struct Started {
-    table: RoomTable,
-    lanes: Vec<Lane>,
-    clock: SourceSeat,
-    last: ScanSeat,
+pub(super) struct Started {
+    pub(super) table: RoomTable,
+    pub(super) lanes: Vec<Lane>,
+    pub(super) clock: SourceSeat,
+    pub(super) last: ScanSeat,
 }
 
-fn laid_out(alloc: Global) -> Result<Started, NoMemory>
+pub(super) fn laid_out(alloc: Global) -> Result<Started, NoMemory>
     ensures shape { IfOk result (λ s. s.table.shape ≡ LANES) }
-    ensures lanes { IfOk result (λ s. All (λ l. (s.table.shape ≡ LANES) × (l.source.table ≡ s.table) × (l.caller.table ≡ s.table) × (l.scan.table ≡ s.table) × (l.source.steps ≡ []) × (l.scan.steps ≡ [])) s.lanes.items) }
+    ensures lanes { IfOk result (λ s. All (λ l. (s.table.shape ≡ LANES) × (l.source.table ≡ s.table) × (l.caller.table ≡ s.table) × (l.scan.table ≡ s.table) × (l.source.steps ≡ []) × (l.caller.steps ≡ []) × (l.scan.steps ≡ [])) s.lanes.items) }
     ensures clock { IfOk result (λ s. s.clock.table ≡ s.table) }
     ensures last { IfOk result (λ s. s.last.table ≡ s.table) }
 {
@@ -244,7 +258,7 @@ fn all_went(lanes: &Vec<Lane>) -> bool {
 
 // The words, where every round of every thread went as it should.
 fn run_in_threads<R: Threads + Sync>(rt: &R, alloc: Global) -> Option<TableWords>
-    ensures { IfSome result (λ w. 14 < length w) }
+    ensures { IfSome result (λ w. 1058 < length w) }
 {
     let Ok(
         Started {
@@ -261,7 +275,7 @@ fn run_in_threads<R: Threads + Sync>(rt: &R, alloc: Global) -> Option<TableWords
         rt,
         lanes,
         &|lane: Lane| -> Lane
-            requires { (table.shape ≡ LANES) × (lane.source.table ≡ table) × (lane.caller.table ≡ table) × (lane.scan.table ≡ table) × (lane.source.steps ≡ []) × (lane.scan.steps ≡ []) }
+            requires { (table.shape ≡ LANES) × (lane.source.table ≡ table) × (lane.caller.table ≡ table) × (lane.scan.table ≡ table) × (lane.source.steps ≡ []) × (lane.caller.steps ≡ []) × (lane.scan.steps ≡ []) }
             ensures { (result.source.table ≡ table) × (result.caller.table ≡ table) × (result.scan.table ≡ table) }
         { runs(&table, lane) },
     ) else {

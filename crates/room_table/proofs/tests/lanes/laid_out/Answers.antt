@@ -19,9 +19,9 @@ pub lanes-requires-clause-callers : goal.lanes-requires-clause-callers
 lanes-requires-clause-callers c =
     let parts = c.in_ok-table.field-0 in
     let table = parts.table in
-    let C : CallerView → Type 0 = λ s. s.table ≡ table in
+    let C : CallerView → Type 0 = λ s. (s.table ≡ table) × (s.steps ≡ []) in
     let fresh : parts.callers ≡ fresh_callers table = search rules in
-    subst (All C) (sym fresh) (All-map C (fresh_caller table) (range_with_len 0 table.shape.passes) (λ k d h. refl))
+    subst (All C) (sym fresh) (All-map C (fresh_caller table) (range_with_len 0 table.shape.passes) (λ k d h. (refl, refl)))
 
 pub lanes-requires-clause-scanners : goal.lanes-requires-clause-scanners
 lanes-requires-clause-scanners c =
