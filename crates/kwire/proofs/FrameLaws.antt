@@ -76,7 +76,7 @@ by_size : (stream : List ℕ) (z : ℤ) (end : ℕ) → IsBytes stream → cast_
 by_size stream (pos n) end fits size is = by_bounds stream n end fits size is
 by_size stream (negsuc n) end fits size is = let other : TooLong (negsuc n) ≡ Whole end = is in absurd cc
 
--- a whole frame at the front is the frame of the bytes behind its size
+-- a whole frame at the front is the frame of the bytes after its size
 pub whole_parts : (stream : List ℕ) (end : ℕ) → IsBytes stream → next_frame_of stream ≡ Whole end → IsParted stream end
 whole_parts stream end fits is =
     elim (cases_lt (length stream) 4) [

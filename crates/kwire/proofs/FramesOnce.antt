@@ -1,6 +1,7 @@
 -- A stream is cut into frames in one way, and bytes that are sent are the frames of the replies.
 use Rattle.std.proofs.Common.{◌≡◌, ℕ, ◌+◌, List, [], ◌∷◌, ◌++◌, length, map, take, drop, pos, refl, sym, ap, ◌∙◌, append_assoc, append-nil, arith}
 use Rattle.std.proofs.lemmas.List.{take_at, drop_at}
+use Rattle.std.proofs.lemmas.Grind.{flat_map-append}
 use Rattle.std.specs.Int.{w32}
 use Rattle.std.specs.List.{AllByRecursion, flat_map}
 use Rattle.kbytes.specs.Field.{integer}
@@ -74,4 +75,18 @@ sent_frames replies bodies spelled small = record {
   whole = all_spelled replies bodies spelled ∙ sym (append-nil (flat_map framed bodies));
   each = small;
   no_more = nothing_begins;
+}
+
+-- ---- a stream that comes in pieces
+
+all_bodies : (bodies more : List (List ℕ)) → AllByRecursion IsFrameBody bodies → AllByRecursion IsFrameBody more → AllByRecursion IsFrameBody (bodies ++ more)
+all_bodies [] more h k = k
+all_bodies (body ∷ bodies) more h k = (h.0, all_bodies bodies more h.1 k)
+
+pub in_pieces : (stream piece : List ℕ) (bodies more : List (List ℕ)) (rest last : List ℕ) → AreFramesOf stream bodies rest → AreFramesOf (rest ++ piece) more last → AreFramesOf (stream ++ piece) (bodies ++ more) last
+in_pieces stream piece bodies more rest last h k = record {
+  whole = ap (λ (t : List ℕ). t ++ piece) h.whole ∙ append_assoc (flat_map framed bodies) rest piece ∙ ap (λ (t : List ℕ). flat_map framed bodies ++ t) k.whole
+      ∙ sym (append_assoc (flat_map framed bodies) (flat_map framed more) last) ∙ ap (λ (t : List ℕ). t ++ last) (sym (flat_map-append framed bodies more));
+  each = all_bodies bodies more h.each k.each;
+  no_more = k.no_more;
 }

@@ -2,24 +2,28 @@
 pub mod Names
 -- a whole frame at the front of a stream, both ways
 pub mod FrameLaws
--- readings that give back what was spelled, and only that
-pub mod Codecs
+-- places after fields
+pub mod Places
 -- each field of a request alone
 pub mod FieldLaws
--- the parts of requests
-pub mod RequestCodecs
--- the topics of a produce and of a fetch, of which some were named before
-pub mod TopicCodecs
--- what is asked
-pub mod AskCodecs
--- a partition is named twice exactly where one of the mentions was mentioned before
-pub mod TwiceNamed
--- a body is a request exactly where reading it gives that request
-pub mod RequestLaws
--- a body is one request, or is refused for one cause, and not both
+-- a field of each kind, both ways
+pub mod KindLaws
+-- reading by a layout gives its fields, or the first fault
+pub mod LayoutLaws
+-- no bytes spell two values, or have two first faults
 pub mod OneReading
+-- types whose values are the fields of a layout
+pub mod Typed
+-- a body is one request, or is refused for one cause
+pub mod RequestLaws
+-- a request that is spelled out names few topics and partitions
+pub mod FewNamed
+-- what the code reads of a body is a request, or why there is none
+pub mod BodyLaws
 -- items that are read one after the other
 pub mod ItemLoops
+-- a partition is named twice exactly where one of the mentions was mentioned before
+pub mod TwiceNamed
 -- mentions that are put one after the other, and looked for among those before them
 pub mod MentionLoops
 -- streams that are whole frames, one after the other
@@ -30,6 +34,8 @@ pub mod Lookups
 pub mod FramesOnce
 -- fields that are written one after the other
 pub mod Spelled
+-- fields of the numbers from 0 on
+pub mod Ranges
 -- replies to produces and fetches whose lengths and counts are in range
 pub mod SpellableLaws
 -- what the crates above may cite

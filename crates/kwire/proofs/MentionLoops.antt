@@ -1,19 +1,15 @@
 -- Mentions that are put one after the other, and looked for among those before them.
-use Rattle.std.proofs.Common.{◌≡◌, ℕ, ◌+◌, ◌<◌, ◌≤◌, Bool, true, false, cond, List, [], ◌∷◌, ◌++◌, ◌||◌, length, get_or, take, drop, map, Some, None, option_map, refl, sym, ap, ◌∙◌, append_assoc, add-one, drop-cons, arith}
+use Rattle.std.proofs.Common.{◌≡◌, ℕ, ℤ, ◌+◌, ◌<◌, ◌≤◌, Bool, true, false, cond, List, [], ◌∷◌, ◌++◌, ◌||◌, length, get_or, take, drop, map, Option, Some, None, option_map, refl, sym, ap, ◌∙◌, append_assoc, add-one, drop-cons, arith}
 use Rattle.std.specs.List.{list_any}
 use Rattle.std.proofs.lemmas.List.{append-nil, map-append, take_more, drop_all, length-take}
 use Rattle.std.proofs.lemmas.List.Folds.{list_any-append}
 use Rattle.kwire.specs.declared.repeats.Mention.{Mention as Kept}
-use Rattle.kwire.specs.declared.request.ProducePart.{ProducePart}
-use Rattle.kwire.specs.declared.request.ProduceTopic.{ProduceTopic}
-use Rattle.kwire.specs.declared.request.FetchPart.{FetchPart}
-use Rattle.kwire.specs.declared.request.FetchTopic.{FetchTopic}
-use Rattle.kwire.specs.Mentions.{view, place_of}
-use Rattle.kwire.specs.Refusal.{Mention, produce_mentions, produce_mentions_from, fetch_mentions, fetch_mentions_from, is_same, repeat_after}
+use Rattle.kwire.specs.Mentions.{view, place_of, parts_mentions, is_same, repeat_after}
+use Rattle.kwire.specs.Refusal.{Mention, mentions_from}
 
 -- ---- put one after the other
 
--- these were put behind the first ones
+-- these were put after the first ones
 abbrev pub PutBehind : List Kept → List Kept → List Mention → Type 0
 PutBehind before now named = map view now ≡ map view before ++ named
 
@@ -24,52 +20,27 @@ put_one before now after named m put is =
 pub put_nothing : (before : List Kept) → PutBehind before before []
 put_nothing before = sym (append-nil (map view before))
 
-produce_more : (entry : ℕ) (topic : List ℕ) (xs : List ProducePart) (x : ProducePart) → produce_mentions entry topic (xs ++ x ∷ []) ≡ produce_mentions entry topic xs ++ record { entry = entry; topic = topic; index = x.index } ∷ []
-produce_more entry topic [] x = refl
-produce_more entry topic (y ∷ xs) x = ap (λ (ms : List Mention). record { entry = entry; topic = topic; index = y.index } ∷ ms) (produce_more entry topic xs x)
-
-pub produce_next : (entry : ℕ) (topic : List ℕ) (parts : List ProducePart) (i : ℕ) (part : ProducePart) → i < length parts → part ≡ get_or parts i part
-    → produce_mentions entry topic (take (i + 1) parts) ≡ produce_mentions entry topic (take i parts) ++ record { entry = entry; topic = topic; index = part.index } ∷ []
-produce_next entry topic parts i part lt is =
-    ap (produce_mentions entry topic) (take_more parts i part lt ∙ ap (λ (p : ProducePart). take i parts ++ p ∷ []) (sym is)) ∙ produce_more entry topic (take i parts) part
-
-fetch_more : (entry : ℕ) (topic : List ℕ) (xs : List FetchPart) (x : FetchPart) → fetch_mentions entry topic (xs ++ x ∷ []) ≡ fetch_mentions entry topic xs ++ record { entry = entry; topic = topic; index = x.index } ∷ []
-fetch_more entry topic [] x = refl
-fetch_more entry topic (y ∷ xs) x = ap (λ (ms : List Mention). record { entry = entry; topic = topic; index = y.index } ∷ ms) (fetch_more entry topic xs x)
-
-pub fetch_next : (entry : ℕ) (topic : List ℕ) (parts : List FetchPart) (i : ℕ) (d : FetchPart) → i < length parts
-    → fetch_mentions entry topic (take (i + 1) parts) ≡ fetch_mentions entry topic (take i parts) ++ record { entry = entry; topic = topic; index = (get_or parts i d).index } ∷ []
-fetch_next entry topic parts i d lt = ap (fetch_mentions entry topic) (take_more parts i d lt) ∙ fetch_more entry topic (take i parts) (get_or parts i d)
+pub parts_next : {X : Type 0} (index : X → ℤ) (entry : ℕ) (topic : List ℕ) (parts : List X) (i : ℕ) (d : X) → i < length parts
+    → parts_mentions index entry topic (take (i + 1) parts) ≡ parts_mentions index entry topic (take i parts) ++ record { entry = entry; topic = topic; index = index (get_or parts i d) } ∷ []
+parts_next index entry topic parts i d lt =
+    let one : _ → Mention = λ part. record { entry = entry; topic = topic; index = index part } in
+    ap (map one) (take_more parts i d lt) ∙ map-append one (take i parts) (get_or parts i d ∷ [])
 
 -- ---- the topics
 
-produce_topic_more : (entry : ℕ) (xs : List ProduceTopic) (x : ProduceTopic) → produce_mentions_from entry (xs ++ x ∷ []) ≡ produce_mentions_from entry xs ++ produce_mentions (entry + length xs) x.name x.parts
-produce_topic_more entry [] x = append-nil (produce_mentions entry x.name x.parts) ∙ ap (λ (k : ℕ). produce_mentions k x.name x.parts) (omega arith)
-produce_topic_more entry (y ∷ xs) x =
-    ap (λ (ms : List Mention). produce_mentions entry y.name y.parts ++ ms) (produce_topic_more (entry + 1) xs x)
-    ∙ sym (append_assoc (produce_mentions entry y.name y.parts) (produce_mentions_from (entry + 1) xs) (produce_mentions (entry + 1 + length xs) x.name x.parts))
-    ∙ ap (λ (k : ℕ). (produce_mentions entry y.name y.parts ++ produce_mentions_from (entry + 1) xs) ++ produce_mentions k x.name x.parts) (omega arith)
+module _ {X : Type 0} (each : ℕ → X → List Mention) where
+  topic_more : (entry : ℕ) (xs : List X) (x : X) → mentions_from each entry (xs ++ x ∷ []) ≡ mentions_from each entry xs ++ each (entry + length xs) x
+  topic_more entry [] x = append-nil (each entry x) ∙ ap (λ (k : ℕ). each k x) (omega arith)
+  topic_more entry (y ∷ xs) x =
+      ap (λ (ms : List Mention). each entry y ++ ms) (topic_more (entry + 1) xs x)
+      ∙ sym (append_assoc (each entry y) (mentions_from each (entry + 1) xs) (each (entry + 1 + length xs) x))
+      ∙ ap (λ (k : ℕ). (each entry y ++ mentions_from each (entry + 1) xs) ++ each k x) (omega arith)
 
-pub produce_topic_next : (topics : List ProduceTopic) (i : ℕ) (topic : ProduceTopic) → i < length topics → topic ≡ get_or topics i topic
-    → produce_mentions_from 0 (take (i + 1) topics) ≡ produce_mentions_from 0 (take i topics) ++ produce_mentions i topic.name topic.parts
-produce_topic_next topics i topic lt is =
-    let len : 0 + length (take i topics) ≡ i = omega (arith, length-take i topics) in
-    ap (produce_mentions_from 0) (take_more topics i topic lt ∙ ap (λ (t : ProduceTopic). take i topics ++ t ∷ []) (sym is)) ∙ produce_topic_more 0 (take i topics) topic
-    ∙ ap (λ (k : ℕ). produce_mentions_from 0 (take i topics) ++ produce_mentions k topic.name topic.parts) len
-
-fetch_topic_more : (entry : ℕ) (xs : List FetchTopic) (x : FetchTopic) → fetch_mentions_from entry (xs ++ x ∷ []) ≡ fetch_mentions_from entry xs ++ fetch_mentions (entry + length xs) x.name x.parts
-fetch_topic_more entry [] x = append-nil (fetch_mentions entry x.name x.parts) ∙ ap (λ (k : ℕ). fetch_mentions k x.name x.parts) (omega arith)
-fetch_topic_more entry (y ∷ xs) x =
-    ap (λ (ms : List Mention). fetch_mentions entry y.name y.parts ++ ms) (fetch_topic_more (entry + 1) xs x)
-    ∙ sym (append_assoc (fetch_mentions entry y.name y.parts) (fetch_mentions_from (entry + 1) xs) (fetch_mentions (entry + 1 + length xs) x.name x.parts))
-    ∙ ap (λ (k : ℕ). (fetch_mentions entry y.name y.parts ++ fetch_mentions_from (entry + 1) xs) ++ fetch_mentions k x.name x.parts) (omega arith)
-
-pub fetch_topic_next : (topics : List FetchTopic) (i : ℕ) (topic : FetchTopic) → i < length topics → topic ≡ get_or topics i topic
-    → fetch_mentions_from 0 (take (i + 1) topics) ≡ fetch_mentions_from 0 (take i topics) ++ fetch_mentions i topic.name topic.parts
-fetch_topic_next topics i topic lt is =
-    let len : 0 + length (take i topics) ≡ i = omega (arith, length-take i topics) in
-    ap (fetch_mentions_from 0) (take_more topics i topic lt ∙ ap (λ (t : FetchTopic). take i topics ++ t ∷ []) (sym is)) ∙ fetch_topic_more 0 (take i topics) topic
-    ∙ ap (λ (k : ℕ). fetch_mentions_from 0 (take i topics) ++ fetch_mentions k topic.name topic.parts) len
+  pub topic_next : (topics : List X) (i : ℕ) (d : X) → i < length topics → mentions_from each 0 (take (i + 1) topics) ≡ mentions_from each 0 (take i topics) ++ each i (get_or topics i d)
+  topic_next topics i d lt =
+      let len : 0 + length (take i topics) ≡ i = omega (arith, length-take i topics) in
+      ap (mentions_from each 0) (take_more topics i d lt) ∙ topic_more 0 (take i topics) (get_or topics i d)
+      ∙ ap (λ (k : ℕ). mentions_from each 0 (take i topics) ++ each k (get_or topics i d)) len
 
 -- ---- looked for
 
@@ -124,3 +95,15 @@ module _ (ms : List Kept) (i : ℕ) (d : Kept) (lt : i < length ms) where
 
 pub none_found : (ms : List Kept) (i : ℕ) → length ms ≤ i → NoneSoFar ms i → option_map place_of (repeat_after [] (map view ms)) ≡ None
 none_found ms i le so_far = ap (option_map place_of) (so_far ∙ ap (λ (xs : List Kept). repeat_after (back (take i ms)) (map view xs)) (drop_all i ms le))
+
+-- ---- places
+
+pub no_place : (found : Option Mention) → option_map place_of found ≡ None → found ≡ None
+no_place None e = refl
+no_place (Some m) e = absurd cc
+
+pub a_place : (found : Option Mention) (entry : ℕ) (index : ℤ) → option_map place_of found ≡ Some (entry, index) → (m : Mention) × (found ≡ Some m) × ((m.entry ≡ entry) × (m.index ≡ index))
+a_place None entry index e = absurd cc
+a_place (Some m) entry index e =
+    let pair : place_of m ≡ (entry, index) = cc in
+    (m, refl, (ap (λ (p : ℕ × ℤ). p.0) pair, ap (λ (p : ℕ × ℤ). p.1) pair))

@@ -1,399 +1,458 @@
--- A body is a request exactly where reading it gives that request.
-use Rattle.std.proofs.Common.{◌≡◌, ◌≢◌, ℕ, Bool, true, false, cond, eqb, ℤ, pos, List, [], ◌∷◌, ◌++◌, ◌||◌, length, Option, Some, None, Result, Ok, Err, refl, sym, ap, subst, ◌∙◌, append_assoc, arith, lit<, inl, inr}
-use Rattle.std.specs.Int.{w16, w32}
+-- A body is one request, or is refused for one cause, and not both.
+use Rattle.std.proofs.Common.{◌≡◌, ◌≢◌, ◌⊎◌, ℕ, Bool, true, false, ℤ, pos, List, [], ◌∷◌, ◌++◌, length, Option, Some, None, refl, sym, ap, subst, ◌∙◌, inl, inr}
 use Rattle.std.specs.Ordering.{int_eq}
-use Rattle.std.proofs.lemmas.Bool.{cases_Bool, or_cases, eqb-true, true≢false}
+use Rattle.std.proofs.lemmas.Bool.{true≢false}
 use Rattle.std.proofs.lemmas.Bool.Decides.{Decides-int_eq}
 use Rattle.std.proofs.lemmas.List.{append-nil}
 use Rattle.kbytes.specs.Octets.{IsBytes}
-use Rattle.kbytes.specs.Cursor.{Cursor, rest_of, moved}
-use Rattle.kbytes.specs.Reading.{◌>>=◌, integer_at, sized_at}
 use Rattle.kbytes.specs.Field.{Field, Int16, Int32, NullableString, fields}
+use Rattle.kbytes.specs.FitsField.{FitsField}
+use Rattle.kwire.specs.declared.api.Api.{Api}
+use Rattle.kwire.specs.declared.api.Api.TheVariants.{Produce as ProduceApi, Fetch as FetchApi, Metadata as MetadataApi, Versions as VersionsApi}
 use Rattle.kwire.specs.declared.frame.WireFault.{WireFault}
 use Rattle.kwire.specs.declared.frame.WireFault.TheVariants.{BadRequest, UnknownApi, Unsupported, Twice}
 use Rattle.kwire.specs.declared.request.Request.{Request}
 use Rattle.kwire.specs.declared.request.Ask.{Ask}
-use Rattle.kwire.specs.declared.request.Ask.TheVariants.{Produce, Fetch, Metadata, Versions}
-use Rattle.kwire.specs.IsRequest.{Named, IsWhole, IsOtherVersion, IsRequest, key_of, version_of, IsKnownVersion, ask_fields, head_fields, request_fields}
-use Rattle.kwire.specs.Refusal.{Read, wire, ask_at, mentions_of, repeat_after, unless_repeated, at_its_end, is_known, known_version, body_at, by_version, request_at, Mention}
-use Rattle.std.specs.Prelude.{IfOk, IsErrAnd, FitsSigned}
-use mir.Val.{of_z, to_z}
-use Rattle.std.proofs.lemmas.Int.{to_z-of_z}
-use Rattle.kwire.specs.ReadAnswers.{IsFaultOf, Answers}
-use Rattle.kwire.proofs.Codecs.{Codec, Covers, AllFit, all_fit_both, covers_both, behind, fields-append, got, went_on, of_field, join_field, keep, said}
-use Rattle.kwire.proofs.FieldLaws.{int16_field, int32_field, nullable_string_field}
-use Rattle.kwire.proofs.AskCodecs.{IsAsk, produce, fetch, metadata, versions}
-use Rattle.kwire.proofs.TwiceNamed.{none_repeated, no_two}
-
-abbrev answer : Request → Result Request WireFault
-answer request = Ok request
-
-abbrev bad : WireFault → Result Request WireFault
-bad why = Err why
-
-abbrev Differ : Named → Named → Type 0
-Differ a b = a ≢ b
-
--- ---- what stands behind the header
-
-abbrev request_of : ℤ → Option (List ℕ) → Ask → Request
-request_of correlation client ask = record { correlation = correlation; client = client; ask = ask }
-
-abbrev asked_at : ℤ → ℤ → Option (List ℕ) → Cursor → Read Request
-asked_at key correlation client c = ask_at key c >>= λ asked. Ok (request_of correlation client asked.0, asked.1)
-
-abbrev read_body : ℤ → ℤ → Cursor → Read Request
-read_body key correlation c = wire (sized_at w16 c) >>= λ client. asked_at key correlation client.0 client.1
-
-ended_last : (correlation : ℤ) (client : Option (List ℕ)) (read : Read Ask) → (read >>= λ asked. at_its_end (request_of correlation client asked.0, asked.1)) ≡ ((read >>= λ asked. Ok (request_of correlation client asked.0, asked.1)) >>= at_its_end)
-ended_last correlation client (Ok x) = refl
-ended_last correlation client (Err e) = refl
-
-ended_late : (key correlation : ℤ) (read : Read (Option (List ℕ))) → (read >>= λ client. ask_at key client.1 >>= λ asked. at_its_end (request_of correlation client.0 asked.0, asked.1)) ≡ ((read >>= λ client. asked_at key correlation client.0 client.1) >>= at_its_end)
-ended_late key correlation (Ok x) = ended_last correlation x.0 (ask_at key x.1)
-ended_late key correlation (Err e) = refl
-
-body_is : (key correlation : ℤ) (c : Cursor) → body_at key correlation c ≡ (read_body key correlation c >>= at_its_end)
-unfolding body_at
-body_is key correlation c = ended_late key correlation (wire (sized_at w16 c))
-
-abbrev body_fields : Request → List Field
-body_fields request = NullableString request.client ∷ ask_fields request.ask
-
-abbrev IsBodyOf : ℤ → ℤ → Request → Type 0
-IsBodyOf key correlation request = IsAsk key request.ask × (request.correlation ≡ correlation)
-
-abbrev AskedAlso : ℤ → ℤ → Option (List ℕ) → Request → Type 0
-AskedAlso key correlation client request = IsAsk key request.ask × (request ≡ request_of correlation client request.ask)
-
-asked : (key correlation : ℤ) → Codec (ask_at key) ask_fields (IsAsk key) → (client : Option (List ℕ)) → Codec (asked_at key correlation client) (λ request. ask_fields request.ask) (AskedAlso key correlation client)
-asked key correlation ask client = keep (ask_at key) ask_fields (IsAsk key) (request_of correlation client) (λ request. request.ask) ask (λ ask. refl)
-
-body : (key correlation : ℤ) → Codec (ask_at key) ask_fields (IsAsk key) → Codec (read_body key correlation) body_fields (IsBodyOf key correlation)
-body key correlation ask =
-    said (read_body key correlation) body_fields (λ request. AskedAlso key correlation request.client request) (IsBodyOf key correlation)
-    (λ request h. (h.0, ap (λ (r : Request). r.correlation) h.1))
-    (λ request h. (h.0, ap (λ (z : ℤ). request_of z request.client request.ask) h.1))
-    (join_field (sized_at w16) NullableString (asked_at key correlation) (λ client request. ask_fields request.ask) (AskedAlso key correlation) (λ request. request.client)
-    nullable_string_field (asked key correlation ask) (λ client request h. ap (λ (r : Request). r.client) h.1))
-
--- ---- the end
-
-empty_length : (xs : List ℕ) → xs ≡ [] → eqb (length xs) 0 ≡ true
-empty_length [] e = refl
-empty_length (x ∷ xs) e = absurd cc
-
-length_empty : (xs : List ℕ) → eqb (length xs) 0 ≡ true → xs ≡ []
-length_empty [] e = refl
-length_empty (x ∷ xs) e = absurd (omega (arith, eqb-true (length (x ∷ xs)) 0 e))
-
-ended_again : (request : Request) (c : Cursor) → rest_of c ≡ [] → repeat_after [] (mentions_of request.ask) ≡ None → at_its_end (request, c) ≡ Ok request
-ended_again request c none once = rw (empty_length (rest_of c) none) (rw once refl)
-
--- what the end says
-pub record IsEnded (read request : Request) (c : Cursor) : Type 0 where
-  pub same : read ≡ request
-  pub none : rest_of c ≡ []
-  pub once : repeat_after [] (mentions_of read.ask) ≡ None
-
-unrepeated : (read request : Request) (mention : Option Mention) → unless_repeated mention read ≡ Ok request → (mention ≡ None) × (read ≡ request)
-unrepeated read request None e = let there : answer read ≡ answer request = e in (refl, cc)
-unrepeated read request (Some m) e = let other : bad (Twice m.entry m.index) ≡ answer request = e in absurd cc
-
-ended_back : (read request : Request) (c : Cursor) → at_its_end (read, c) ≡ Ok request → IsEnded read request c
-ended_back read request c e =
-    elim (cases_Bool (eqb (length (rest_of c)) 0)) [
-      | inl over ↦
-          let there : unless_repeated (repeat_after [] (mentions_of read.ask)) read ≡ Ok request = rw over at e in
-          let parts = unrepeated read request (repeat_after [] (mentions_of read.ask)) there in
-          record { same = parts.1; none = length_empty (rest_of c) over; once = parts.0 }
-      | inr more ↦ let other : bad (BadRequest c.at) ≡ answer request = rw more at e in absurd cc
-    ]
+use Rattle.kwire.specs.declared.request.Ask.TheVariants.{Versions}
+use Rattle.kwire.specs.Layouts.{INT16, INT32, NULLABLE_STRING, End, ◌⨾◌, LeadTo, AreOf, IsFirstFault}
+use Rattle.kwire.specs.Apis.{key_of_api, version_of_api, head_layout, request_layout, ask_layout}
+use Rattle.kwire.specs.IsRequest.{IsSpelledOut, IsWhole, IsOtherVersion, IsRequest, api_of, version_of, head, head_fields, ask_fields, request_fields}
+use Rattle.kwire.specs.Refusal.{HasHead, Mention, mentions_of, IsFirstRepeat, IsRefused, NoHead, NoApi, NoVersion, NoField, MoreBytes, NamedTwice}
+use Rattle.kwire.specs.Mentions.{repeat_after}
+use Rattle.kwire.proofs.OneReading.{fields_once, fault_once, not_fault, fields_or_fault}
+use Rattle.kwire.proofs.Places.{AllFit, fields-append}
+use Rattle.kwire.proofs.Typed.{first_of, tails, ask_of_fields, ask_apart}
+use Rattle.kwire.proofs.TwiceNamed.{no_two, none_repeated, first_repeat_of, repeat_of_first}
 
 -- ---- the header
 
-abbrev start_of : List ℕ → Cursor
-start_of bytes = record { bytes = bytes; at = 0 }
+pub head_are : (key version correlation : ℤ) → AllFit (head key version correlation) → AreOf head_layout (head key version correlation)
+head_are key version correlation fits = record { named = 0; lead = (((key, refl), fits.0), (((version, refl), fits.1.0), (((correlation, refl), fits.1.1.0), (refl, refl)))) }
 
-pub record Head : Type 0 where
-  pub api : ℤ
+int16_same : (x y : ℤ) → Int16 x ≡ Int16 y → x ≡ y
+int16_same x y e = cc
+
+int32_same : (x y : ℤ) → Int32 x ≡ Int32 y → x ≡ y
+int32_same x y e = cc
+
+pub record SameHead (key version correlation : ℤ) (other_key other_version other_correlation : ℤ) : Type 0 where
+  pub api : key ≡ other_key
+  pub version_same : version ≡ other_version
+  pub correlation_same : correlation ≡ other_correlation
+
+heads_same : (k v c l w d : ℤ) → head k v c ≡ head l w d → SameHead k v c l w d
+heads_same k v c l w d e =
+    let one = tails (Int16 k) (Int16 l) (Int16 v ∷ Int32 c ∷ []) (Int16 w ∷ Int32 d ∷ []) e in
+    let two = tails (Int16 v) (Int16 w) (Int32 c ∷ []) (Int32 d ∷ []) one.1 in
+    let three = tails (Int32 c) (Int32 d) [] [] two.1 in
+    record { api = int16_same k l one.0; version_same = int16_same v w two.0; correlation_same = int32_same c d three.0 }
+
+head_once : (body : List ℕ) (k v l w : ℤ) (a : HasHead body k v) (b : HasHead body l w) → SameHead k v a.correlation l w b.correlation
+head_once body k v l w a b =
+    let same = fields_once head_layout (head k v a.correlation) (head l w b.correlation) a.rest b.rest (head_are k v a.correlation a.fits) (head_are l w b.correlation b.fits) (sym a.parts ∙ b.parts) in
+    heads_same k v a.correlation l w b.correlation same.0
+
+head_no_fault : (body : List ℕ) (k v : ℤ) (why : WireFault) → HasHead body k v → IsFirstFault head_layout body why → ⊥
+head_no_fault body k v why a fault = not_fault head_layout (head k v a.correlation) a.rest why (head_are k v a.correlation a.fits) (subst (λ (t : List ℕ). IsFirstFault head_layout t why) a.parts fault)
+
+key_once : (a b : Api) → key_of_api a ≡ key_of_api b → a ≡ b
+key_once ProduceApi ProduceApi e = refl
+key_once ProduceApi FetchApi e = absurd cc
+key_once ProduceApi MetadataApi e = absurd cc
+key_once ProduceApi VersionsApi e = absurd cc
+key_once FetchApi ProduceApi e = absurd cc
+key_once FetchApi FetchApi e = refl
+key_once FetchApi MetadataApi e = absurd cc
+key_once FetchApi VersionsApi e = absurd cc
+key_once MetadataApi ProduceApi e = absurd cc
+key_once MetadataApi FetchApi e = absurd cc
+key_once MetadataApi MetadataApi e = refl
+key_once MetadataApi VersionsApi e = absurd cc
+key_once VersionsApi ProduceApi e = absurd cc
+key_once VersionsApi FetchApi e = absurd cc
+key_once VersionsApi MetadataApi e = absurd cc
+key_once VersionsApi VersionsApi e = refl
+
+-- ---- a request that is spelled out has a header
+
+body_fields : Request → List Field
+body_fields request = NullableString request.client ∷ ask_fields request.ask
+
+spelled_head : (body : List ℕ) (request : Request) → IsSpelledOut body request → HasHead body (key_of_api (api_of request.ask)) (version_of_api (api_of request.ask))
+unfolding body_fields
+spelled_head body request h =
+    let key = key_of_api (api_of request.ask) in
+    let lead = h.laid_out.lead in
+    let first : HasHead body key (version_of request.ask) = record {
+      correlation = request.correlation;
+      fits = (lead.0.1, (lead.1.0.1, (lead.1.1.0.1, tt)));
+      rest = fields (body_fields request);
+      parts = h.spelled ∙ fields-append (head_fields request) (body_fields request);
+    } in
+    subst (HasHead body key) h.version first
+
+-- what a request is, besides its fields
+same_made : (r s : Request) → r.correlation ≡ s.correlation → r.client ≡ s.client → r.ask ≡ s.ask → r ≡ s
+same_made r s one two three =
+    ap (λ (z : ℤ). record { correlation = z; client = r.client; ask = r.ask }) one ∙ ap (λ (c : Option (List ℕ)). record { correlation = s.correlation; client = c; ask = r.ask }) two
+    ∙ ap (λ (a : Ask). record { correlation = s.correlation; client = s.client; ask = a }) three
+
+client_same : (a b : Option (List ℕ)) → NullableString a ≡ NullableString b → a ≡ b
+client_same a b e = cc
+
+fields_same : (r s : Request) → api_of r.ask ≡ api_of s.ask → version_of r.ask ≡ version_of_api (api_of r.ask) → version_of s.ask ≡ version_of_api (api_of s.ask) → request_fields r ≡ request_fields s → r ≡ s
+fields_same r s api v w e =
+    let one = tails _ _ _ _ e in
+    let two = tails _ _ _ _ one.1 in
+    let three = tails _ _ _ _ two.1 in
+    let four = tails _ _ _ _ three.1 in
+    same_made r s (int32_same r.correlation s.correlation three.0) (client_same r.client s.client four.0) (ask_apart r.ask s.ask api v w four.1)
+
+whole_end : (body : List ℕ) (fs : List Field) → body ≡ fields fs → body ≡ fields fs ++ []
+whole_end body fs e = e ∙ sym (append-nil (fields fs))
+
+pub spelled_once : (body : List ℕ) (r s : Request) → IsSpelledOut body r → IsSpelledOut body s → r ≡ s
+spelled_once body r s h k =
+    let heads = head_once body (key_of_api (api_of r.ask)) (version_of_api (api_of r.ask)) (key_of_api (api_of s.ask)) (version_of_api (api_of s.ask)) (spelled_head body r h) (spelled_head body s k) in
+    let api = key_once (api_of r.ask) (api_of s.ask) heads.api in
+    let there = subst (λ (a : Api). AreOf (request_layout a) (request_fields s)) (sym api) k.laid_out in
+    let same = fields_once (request_layout (api_of r.ask)) (request_fields r) (request_fields s) [] [] h.laid_out there (sym (whole_end body (request_fields r) h.spelled) ∙ whole_end body (request_fields s) k.spelled) in
+    fields_same r s api h.version k.version same.0
+
+other_head : (body : List ℕ) (r : Request) (o : IsOtherVersion body r) → HasHead body (key_of_api VersionsApi) o.version
+other_head body r o =
+    let heads : head_fields r ≡ head (key_of_api VersionsApi) o.version r.correlation = ap (λ (a : Ask). head (key_of_api (api_of a)) (version_of a) r.correlation) o.asked in
+    record { correlation = r.correlation; fits = subst AllFit heads o.fits; rest = o.rest; parts = o.spelled ∙ ap (λ (fs : List Field). fields fs ++ o.rest) heads }
+
+whole_not_other : (body : List ℕ) (r s : Request) → IsSpelledOut body r → IsOtherVersion body s → ⊥
+whole_not_other body r s h o =
+    let heads = head_once body (key_of_api (api_of r.ask)) (version_of_api (api_of r.ask)) (key_of_api VersionsApi) o.version (spelled_head body r h) (other_head body s o) in
+    let api = key_once (api_of r.ask) VersionsApi heads.api in
+    o.other (sym heads.version_same ∙ ap version_of_api api)
+
+pub same_request : (body : List ℕ) (r s : Request) → IsRequest body r → IsRequest body s → r ≡ s
+unfolding other_head
+same_request body r s (inl h) (inl k) = spelled_once body r s h.whole k.whole
+same_request body r s (inl h) (inr o) = absurd (whole_not_other body r s h.whole o)
+same_request body r s (inr o) (inl k) = absurd (whole_not_other body s r k.whole o)
+same_request body r s (inr o) (inr p) =
+    let heads = head_once body (key_of_api VersionsApi) o.version (key_of_api VersionsApi) p.version (other_head body r o) (other_head body s p) in
+    same_made r s heads.correlation_same (o.nobody ∙ sym p.nobody) (o.asked ∙ ap Versions heads.version_same ∙ sym p.asked)
+
+-- ---- refusals after a header
+
+pub record HasMore (api : Api) (body : List ℕ) (why : WireFault) : Type 0 where
+  pub all : List Field
+  pub are : AreOf (request_layout api) all
+  pub rest : List ℕ
+  pub more : rest ≢ []
+  pub parts : body ≡ fields all ++ rest
+  pub told : why ≡ BadRequest (length (fields all))
+
+pub record IsTwice (api : Api) (body : List ℕ) (why : WireFault) : Type 0 where
+  pub request : Request
+  pub asked : api_of request.ask ≡ api
+  pub spelled : IsSpelledOut body request
+  pub mention : Mention
+  pub repeat : IsFirstRepeat (mentions_of request.ask) mention
+  pub told : why ≡ Twice mention.entry mention.index
+
+abbrev InBody : Api → List ℕ → WireFault → Type 0
+InBody api body why = IsFirstFault (request_layout api) body why ⊎ HasMore api body why ⊎ IsTwice api body why
+
+twice_are : (api : Api) (body : List ℕ) (why : WireFault) (t : IsTwice api body why) → AreOf (request_layout api) (request_fields t.request)
+twice_are api body why t = subst (λ (a : Api). AreOf (request_layout a) (request_fields t.request)) t.asked t.spelled.laid_out
+
+mention_once : (ms : List Mention) (m n : Mention) → IsFirstRepeat ms m → IsFirstRepeat ms n → m ≡ n
+mention_once ms m n h k =
+    let e : ◌≡◌ {A = Option Mention} (Some m) (Some n) = sym (repeat_of_first ms m h) ∙ repeat_of_first ms n k in
+    cc
+
+in_body_once : (api : Api) (body : List ℕ) (v w : WireFault) → InBody api body v → InBody api body w → v ≡ w
+in_body_once api body v w (inl f) (inl g) = fault_once (request_layout api) body v w f g
+in_body_once api body v w (inl f) (inr (inl g)) = absurd (not_fault (request_layout api) g.all g.rest v g.are (subst (λ (t : List ℕ). IsFirstFault (request_layout api) t v) g.parts f))
+in_body_once api body v w (inl f) (inr (inr g)) =
+    absurd (not_fault (request_layout api) (request_fields g.request) [] v (twice_are api body w g) (subst (λ (t : List ℕ). IsFirstFault (request_layout api) t v) (whole_end body (request_fields g.request) g.spelled.spelled) f))
+in_body_once api body v w (inr (inl f)) (inl g) = absurd (not_fault (request_layout api) f.all f.rest w f.are (subst (λ (t : List ℕ). IsFirstFault (request_layout api) t w) f.parts g))
+in_body_once api body v w (inr (inl f)) (inr (inl g)) =
+    let same = fields_once (request_layout api) f.all g.all f.rest g.rest f.are g.are (sym f.parts ∙ g.parts) in
+    f.told ∙ ap (λ (fs : List Field). BadRequest (length (fields fs))) same.0 ∙ sym g.told
+in_body_once api body v w (inr (inl f)) (inr (inr g)) =
+    absurd (f.more (fields_once (request_layout api) f.all (request_fields g.request) f.rest [] f.are (twice_are api body w g) (sym f.parts ∙ whole_end body (request_fields g.request) g.spelled.spelled)).1)
+in_body_once api body v w (inr (inr f)) (inl g) =
+    absurd (not_fault (request_layout api) (request_fields f.request) [] w (twice_are api body v f) (subst (λ (t : List ℕ). IsFirstFault (request_layout api) t w) (whole_end body (request_fields f.request) f.spelled.spelled) g))
+in_body_once api body v w (inr (inr f)) (inr (inl g)) =
+    absurd (g.more (fields_once (request_layout api) g.all (request_fields f.request) g.rest [] g.are (twice_are api body v f) (sym g.parts ∙ whole_end body (request_fields f.request) f.spelled.spelled)).1)
+in_body_once api body v w (inr (inr f)) (inr (inr g)) =
+    let same = spelled_once body f.request g.request f.spelled g.spelled in
+    let there = subst (λ (r : Request). IsFirstRepeat (mentions_of r.ask) f.mention) same f.repeat in
+    f.told ∙ ap (λ (m : Mention). Twice m.entry m.index) (mention_once (mentions_of g.request.ask) f.mention g.mention there g.repeat) ∙ sym g.told
+
+-- why a body with this header is refused
+pub record IsUnsupported (key version : ℤ) (why : WireFault) : Type 0 where
+  pub api : Api
+  pub is : key ≡ key_of_api api
+  pub other : version ≢ version_of_api api
+  pub no_versions : api ≢ VersionsApi
+  pub told : why ≡ Unsupported key version
+
+pub record IsInBody (key version : ℤ) (body : List ℕ) (why : WireFault) : Type 0 where
+  pub api : Api
+  pub is : key ≡ key_of_api api
+  pub version_is : version ≡ version_of_api api
+  pub fault : InBody api body why
+
+abbrev Behind : ℤ → ℤ → List ℕ → WireFault → Type 0
+Behind key version body why = (((api : Api) → key ≢ key_of_api api) × (why ≡ UnknownApi key)) ⊎ IsUnsupported key version why ⊎ IsInBody key version body why
+
+behind_once : (key version : ℤ) (body : List ℕ) (v w : WireFault) → Behind key version body v → Behind key version body w → v ≡ w
+behind_once key version body v w (inl f) (inl g) = f.1 ∙ sym g.1
+behind_once key version body v w (inl f) (inr (inl g)) = absurd (f.0 g.api g.is)
+behind_once key version body v w (inl f) (inr (inr g)) = absurd (f.0 g.api g.is)
+behind_once key version body v w (inr (inl f)) (inl g) = absurd (g.0 f.api f.is)
+behind_once key version body v w (inr (inl f)) (inr (inl g)) = f.told ∙ sym g.told
+behind_once key version body v w (inr (inl f)) (inr (inr g)) = absurd (f.other (g.version_is ∙ ap version_of_api (key_once g.api f.api (sym g.is ∙ f.is))))
+behind_once key version body v w (inr (inr f)) (inl g) = absurd (g.0 f.api f.is)
+behind_once key version body v w (inr (inr f)) (inr (inl g)) = absurd (g.other (f.version_is ∙ ap version_of_api (key_once f.api g.api (sym f.is ∙ g.is))))
+behind_once key version body v w (inr (inr f)) (inr (inr g)) =
+    in_body_once f.api body v w f.fault (subst (λ (a : Api). InBody a body w) (key_once g.api f.api (sym g.is ∙ f.is)) g.fault)
+
+-- a refusal is a fault of the header, or comes after it
+pub record HasBehind (body : List ℕ) (why : WireFault) : Type 0 where
+  pub key : ℤ
   pub version : ℤ
-  pub correlation : ℤ
+  pub at_front : HasHead body key version
+  pub behind : Behind key version body why
 
-abbrev head_of : ℤ → ℤ → ℤ → Head
-head_of key version correlation = record { api = key; version = version; correlation = correlation }
-
-abbrev spelled_head : Head → List Field
-spelled_head head = Int16 head.api ∷ Int16 head.version ∷ Int32 head.correlation ∷ []
-
-abbrev head_2 : ℤ → ℤ → Cursor → Read Head
-head_2 key version c = wire (integer_at w32 c) >>= λ correlation. Ok (head_of key version correlation.0, correlation.1)
-
-abbrev head_1 : ℤ → Cursor → Read Head
-head_1 key c = wire (integer_at w16 c) >>= λ version. head_2 key version.0 version.1
-
-abbrev read_head : Cursor → Read Head
-read_head c = wire (integer_at w16 c) >>= λ key. head_1 key.0 key.1
-
-correlation_codec : (key version : ℤ) → Codec (head_2 key version) (λ head. Int32 head.correlation ∷ []) (λ head. Unit {0} × (head ≡ head_of key version head.correlation))
-correlation_codec key version =
-    keep (λ c. wire (integer_at w32 c)) (λ z. Int32 z ∷ []) (λ z. Unit {0}) (head_of key version) (λ head. head.correlation) (of_field (integer_at w32) Int32 int32_field) (λ z. refl)
-
-version_codec : (key : ℤ) → Codec (head_1 key) (λ head. Int16 head.version ∷ Int32 head.correlation ∷ []) (λ head. Unit {0} × (head ≡ head_of key head.version head.correlation))
-version_codec key =
-    join_field (integer_at w16) Int16 (head_2 key) (λ version head. Int32 head.correlation ∷ []) (λ version head. Unit {0} × (head ≡ head_of key version head.correlation)) (λ head. head.version)
-    int16_field (correlation_codec key) (λ version head h. ap (λ (x : Head). x.version) h.1)
-
-head_codec : Codec read_head spelled_head (λ head. Unit {0})
-head_codec =
-    said read_head spelled_head (λ head. Unit {0} × (head ≡ head_of head.api head.version head.correlation)) (λ head. Unit {0}) (λ head h. tt) (λ head h. (tt, refl))
-    (join_field (integer_at w16) Int16 head_1 (λ key head. Int16 head.version ∷ Int32 head.correlation ∷ []) (λ key head. Unit {0} × (head ≡ head_of key head.version head.correlation)) (λ head. head.api)
-    int16_field version_codec (λ key head h. ap (λ (x : Head). x.api) h.1))
-
--- what comes of a header
-abbrev behind_head : Head × Cursor → Result Request WireFault
-behind_head (head, c) = cond (is_known head.api) (by_version head.api head.version head.correlation c) (Err (UnknownApi head.api))
-
-late_2 : (key version : ℤ) (read : Read ℤ) → (read >>= λ correlation. behind_head (head_of key version correlation.0, correlation.1)) ≡ ((read >>= λ correlation. Ok (head_of key version correlation.0, correlation.1)) >>= behind_head)
-late_2 key version (Ok x) = refl
-late_2 key version (Err e) = refl
-
-late_1 : (key : ℤ) (read : Read ℤ) → (read >>= λ version. wire (integer_at w32 version.1) >>= λ correlation. behind_head (head_of key version.0 correlation.0, correlation.1)) ≡ ((read >>= λ version. head_2 key version.0 version.1) >>= behind_head)
-late_1 key (Ok x) = late_2 key x.0 (wire (integer_at w32 x.1))
-late_1 key (Err e) = refl
-
-late_0 : (read : Read ℤ) → (read >>= λ key. wire (integer_at w16 key.1) >>= λ version. wire (integer_at w32 version.1) >>= λ correlation. behind_head (head_of key.0 version.0 correlation.0, correlation.1)) ≡ ((read >>= λ key. head_1 key.0 key.1) >>= behind_head)
-late_0 (Ok x) = late_1 x.0 (wire (integer_at w16 x.1))
-late_0 (Err e) = refl
-
-request_is : (bytes : List ℕ) → request_at bytes ≡ (read_head (start_of bytes) >>= behind_head)
-unfolding request_at
-request_is bytes = late_0 (wire (integer_at w16 (start_of bytes)))
-
--- ---- from the request to its reading
-
-whole_again : (key : ℤ) → Codec (ask_at key) ask_fields (IsAsk key) → (request : Request) (c : Cursor) → IsAsk key request.ask → AllFit (body_fields request) → rest_of c ≡ fields (body_fields request) ++ []
-    → repeat_after [] (mentions_of request.ask) ≡ None → body_at key request.correlation c ≡ Ok request
-whole_again key ask request c is fit at once =
-    let fs = body_fields request in
-    let read = (body key request.correlation ask).again request c [] fit (is, refl) at in
-    let none : rest_of (moved c (length (fields fs))) ≡ [] = behind c fs [] [] (at ∙ ap (λ (gs : List Field). fields gs ++ []) (sym (append-nil fs))) in
-    body_is key request.correlation c ∙ rw read (ended_again request (moved c (length (fields fs))) none once)
-
-abbrev GivesRequest : Request → Cursor → Ask → Type 0
-GivesRequest request c ask = behind_head (head_of (key_of ask) (version_of ask) request.correlation, c) ≡ Ok request
-
-versions_again : (request : Request) (c : Cursor) (version : ℤ) → version ≡ pos 0 → body_at (pos 18) request.correlation c ≡ Ok request → GivesRequest request c (Versions version)
-versions_again request c version zero_is read = subst (λ (v : ℤ). GivesRequest request c (Versions v)) (sym zero_is) read
-
-by_ask : (request : Request) (c : Cursor) (ask : Ask) → request.ask ≡ ask → IsAsk (key_of ask) ask → AllFit (body_fields request) → rest_of c ≡ fields (body_fields request) ++ []
-    → repeat_after [] (mentions_of request.ask) ≡ None → GivesRequest request c ask
-by_ask request c (Produce t a ti topics) same is fit at once = whole_again (pos 0) produce request c (subst (IsAsk (pos 0)) (sym same) is) fit at once
-by_ask request c (Fetch r w l m i topics) same is fit at once = whole_again (pos 1) fetch request c (subst (IsAsk (pos 1)) (sym same) is) fit at once
-by_ask request c (Metadata topics) same is fit at once = whole_again (pos 3) metadata request c (subst (IsAsk (pos 3)) (sym same) is) fit at once
-by_ask request c (Versions version) same is fit at once =
-    versions_again request c version is.version (whole_again (pos 18) versions request c (subst (IsAsk (pos 18)) (sym same) is) fit at once)
-
-whole_reads : (bytes : List ℕ) (request : Request) → IsWhole bytes request → request_at bytes ≡ Ok request
-whole_reads bytes request whole =
-    let start = start_of bytes in
-    let head = head_of (key_of request.ask) (version_of request.ask) request.correlation in
-    let fs = spelled_head head in
-    let gs = body_fields request in
-    let fit = whole.fits in
-    let at : rest_of start ≡ fields (fs ++ gs) ++ [] = whole.spelled ∙ sym (append-nil (fields (request_fields request))) in
-    let front : rest_of start ≡ fields fs ++ (fields gs ++ []) = at ∙ ap (λ (t : List ℕ). t ++ []) (fields-append fs gs) ∙ append_assoc (fields fs) (fields gs) [] in
-    let read = head_codec.again head start (fields gs ++ []) (fit.0, (fit.1.0, (fit.1.1.0, tt))) tt front in
-    let d = moved start (length (fields fs)) in
-    let is : IsAsk (key_of request.ask) request.ask = record { api = refl; version = whole.version; isolation = whole.isolation; few_topics = whole.few_topics; few_partitions = whole.few_partitions } in
-    request_is bytes ∙ rw read (by_ask request d request.ask refl is fit.1.1.1 (behind start fs gs [] at) (none_repeated request.ask whole.once))
-
-other_made : (request : Request) (version : ℤ) → request.ask ≡ Versions version → request.client ≡ None → answer (request_of request.correlation None (Versions version)) ≡ Ok request
-other_made request version asked nobody =
-    ap (λ (ask : Ask). answer (request_of request.correlation None ask)) (sym asked) ∙ ap (λ (client : Option (List ℕ)). answer (request_of request.correlation client request.ask)) (sym nobody)
-
-not_same : (a b : ℤ) → a ≢ b → int_eq a b ≡ false
-not_same a b other =
-    elim (cases_Bool (int_eq a b)) [
-      | inl same ↦ absurd (other ((Decides-int_eq a b).0 same))
-      | inr differs ↦ differs
-    ]
-
-not_zero : (version : ℤ) → version ≢ pos 0 → int_eq version (pos 0) ≡ false
-not_zero version other = not_same version (pos 0) other
-
-other_reads : (bytes : List ℕ) (request : Request) → IsOtherVersion bytes request → request_at bytes ≡ Ok request
-other_reads bytes request other =
-    let start = start_of bytes in
-    let head = head_of (key_of request.ask) (version_of request.ask) request.correlation in
-    let d = moved start (length (fields (spelled_head head))) in
-    let read = head_codec.again head start other.rest other.fits tt other.spelled in
-    let there : GivesRequest request d (Versions other.version) = rw (not_zero other.version other.other) (other_made request other.version other.asked other.nobody) in
-    request_is bytes ∙ rw read (subst (λ (ask : Ask). GivesRequest request d ask) (sym other.asked) there)
-
--- ---- from the reading to the request
-
-version_known : (ask : Ask) → IsKnownVersion ask → version_of ask ≡ known_version (key_of ask)
-version_known (Produce t a ti topics) h = refl
-version_known (Fetch r w l m i topics) h = refl
-version_known (Metadata topics) h = refl
-version_known (Versions version) h = h
-
--- the parts of a whole request
-pub record IsParted (bytes : List ℕ) (head : Head) (d : Cursor) (request : Request) : Type 0 where
-  pub head_fit : AllFit (spelled_head head)
-  pub head_covers : Covers (start_of bytes) d (spelled_head head)
-
-same_head : (head : Head) (request : Request) → head.version ≡ known_version head.api → IsBodyOf head.api head.correlation request → spelled_head head ≡ head_fields request
-same_head head request version is =
-    let key : head.api ≡ key_of request.ask = sym is.0.api in
-    let v : head.version ≡ version_of request.ask = version ∙ ap known_version key ∙ sym (version_known request.ask is.0.version) in
-    ap (λ (z : ℤ). Int16 z ∷ Int16 head.version ∷ Int32 head.correlation ∷ []) key
-    ∙ ap (λ (z : ℤ). Int16 (key_of request.ask) ∷ Int16 z ∷ Int32 head.correlation ∷ []) v
-    ∙ ap (λ (z : ℤ). Int16 (key_of request.ask) ∷ Int16 (version_of request.ask) ∷ Int32 z ∷ []) (sym is.1)
-
-whole_found : (bytes : List ℕ) (head : Head) (d : Cursor) (request : Request) → IsBytes d.bytes → Codec (ask_at head.api) ask_fields (IsAsk head.api) → head.version ≡ known_version head.api
-    → IsParted bytes head d request → body_at head.api head.correlation d ≡ Ok request → IsWhole bytes request
-whole_found bytes head d request fits ask version parted is =
-    let w = went_on (read_body head.api head.correlation d) at_its_end request (sym (body_is head.api head.correlation d) ∙ is) in
-    let over = ended_back w.value request w.place w.others in
-    let read : read_body head.api head.correlation d ≡ got request w.place = w.read ∙ ap (λ (r : Request). got r w.place) over.same in
-    let h = (body head.api head.correlation ask).back request d w.place fits read in
-    let fs = spelled_head head in
-    let gs = body_fields request in
-    let covers = covers_both (start_of bytes) d w.place fs gs parted.head_covers h.covers in
-    let text : bytes ≡ fields (fs ++ gs) = covers.parts ∙ ap (λ (t : List ℕ). fields (fs ++ gs) ++ t) over.none ∙ append-nil (fields (fs ++ gs)) in
-    let same = same_head head request version h.also in
-    record {
-      spelled = text ∙ ap (λ (hs : List Field). fields (hs ++ gs)) same;
-      fits = subst (λ (hs : List Field). AllFit (hs ++ gs)) same (all_fit_both fs gs parted.head_fit h.fit);
-      version = h.also.0.version;
-      isolation = h.also.0.isolation;
-      few_topics = h.also.0.few_topics;
-      few_partitions = h.also.0.few_partitions;
-      once = no_two request.ask (subst (λ (r : Request). repeat_after [] (mentions_of r.ask) ≡ None) over.same over.once);
-    }
-
-codec_of : (key : ℤ) → is_known key ≡ true → Codec (ask_at key) ask_fields (IsAsk key)
-codec_of key known =
-    let C : ℤ → Type 0 = λ k. Codec (ask_at k) ask_fields (IsAsk k) in
-    elim (or_cases (int_eq key (pos 0)) (int_eq key (pos 1) || (int_eq key (pos 3) || int_eq key (pos 18))) known) [
-      | inl e ↦ subst C (sym ((Decides-int_eq key (pos 0)).0 e)) produce
-      | inr more ↦ elim (or_cases (int_eq key (pos 1)) (int_eq key (pos 3) || int_eq key (pos 18)) more) [
-        | inl e ↦ subst C (sym ((Decides-int_eq key (pos 1)).0 e)) fetch
-        | inr others ↦ elim (or_cases (int_eq key (pos 3)) (int_eq key (pos 18)) others) [
-          | inl e ↦ subst C (sym ((Decides-int_eq key (pos 3)).0 e)) metadata
-          | inr e ↦ subst C (sym ((Decides-int_eq key (pos 18)).0 e)) versions
-        ]
-      ]
-    ]
-
-zero_passes : (version : ℤ) → version ≡ pos 0 → int_eq version (pos 0) ≡ true
-zero_passes version e = (Decides-int_eq version (pos 0)).1 e
-
-other_found : (bytes : List ℕ) (head : Head) (d : Cursor) (request : Request) → int_eq head.version (known_version head.api) ≡ false → head.api ≡ pos 18
-    → IsParted bytes head d request → request_of head.correlation None (Versions head.version) ≡ request → IsOtherVersion bytes request
-other_found bytes head d request differs key parted made_is =
-    let one = request_of head.correlation None (Versions head.version) in
-    let zero_no : int_eq head.version (pos 0) ≡ false = ap (λ (k : ℤ). int_eq head.version (known_version k)) (sym key) ∙ differs in
-    let same : spelled_head head ≡ head_fields one = ap (λ (k : ℤ). Int16 k ∷ Int16 head.version ∷ Int32 head.correlation ∷ []) key in
-    subst (IsOtherVersion bytes) made_is (record {
-      version = head.version;
-      asked = refl;
-      other = λ e. true≢false (sym (zero_passes head.version e) ∙ zero_no);
-      nobody = refl;
-      fits = subst AllFit same parted.head_fit;
-      rest = rest_of d;
-      spelled = parted.head_covers.parts ∙ ap (λ (hs : List Field). fields hs ++ rest_of d) same;
+refusal : (body : List ℕ) (why : WireFault) → IsRefused body why → IsFirstFault head_layout body why ⊎ HasBehind body why
+refusal body why (NoHead fault) = inl fault
+refusal body why (NoApi h none) = inr (record { key = _; version = _; at_front = h; behind = inl (none, refl) })
+refusal body why (NoVersion h api is other known) = inr (record { key = _; version = _; at_front = h; behind = inr (inl (record { api = api; is = is; other = other; no_versions = known; told = refl })) })
+refusal body why (NoField api h fault) = inr (record { key = _; version = _; at_front = h; behind = inr (inr (record { api = api; is = refl; version_is = refl; fault = inl fault })) })
+refusal body why (MoreBytes api h fs are rest more parts) =
+    inr (record { key = _; version = _; at_front = h; behind = inr (inr (record { api = api; is = refl; version_is = refl; fault = inr (inl (record { all = fs; are = are; rest = rest; more = more; parts = parts; told = refl })) })) })
+refusal body why (NamedTwice request spelled mention repeat) =
+    inr (record {
+      key = _;
+      version = _;
+      at_front = spelled_head body request spelled;
+      behind = inr (inr (record { api = api_of request.ask; is = refl; version_is = refl; fault = inr (inr (record { request = request; asked = refl; spelled = spelled; mention = mention; repeat = repeat; told = refl })) }));
     })
 
-by_version_found : (bytes : List ℕ) (head : Head) (d : Cursor) (request : Request) → IsBytes d.bytes → is_known head.api ≡ true
-    → IsParted bytes head d request → by_version head.api head.version head.correlation d ≡ Ok request → IsRequest bytes request
-by_version_found bytes head d request fits known parted is =
-    elim (cases_Bool (int_eq head.version (known_version head.api))) [
-      | inl same ↦
-          let there : body_at head.api head.correlation d ≡ Ok request = rw same at is in
-          inl (whole_found bytes head d request fits (codec_of head.api known) ((Decides-int_eq head.version (known_version head.api)).0 same) parted there)
-      | inr differs ↦
-          let there : cond (int_eq head.api (pos 18)) (answer (request_of head.correlation None (Versions head.version))) (bad (Unsupported head.api head.version)) ≡ Ok request = rw differs at is in
-          elim (cases_Bool (int_eq head.api (pos 18))) [
-            | inl key ↦
-                let found : answer (request_of head.correlation None (Versions head.version)) ≡ answer request = rw key at there in
-                inr (other_found bytes head d request differs ((Decides-int_eq head.api (pos 18)).0 key) parted cc)
-            | inr another ↦ let other : bad (Unsupported head.api head.version) ≡ answer request = rw another at there in absurd cc
-          ]
-    ]
+behind_there : (body : List ℕ) (why : WireFault) (h : HasBehind body why) (key version : ℤ) → HasHead body key version → Behind key version body why
+behind_there body why h key version front =
+    let same = head_once body h.key h.version key version h.at_front front in
+    subst (λ (k : ℤ). Behind k version body why) same.api (subst (λ (v : ℤ). Behind h.key v body why) same.version_same h.behind)
 
-behind_found : (bytes : List ℕ) (head : Head) (d : Cursor) (request : Request) → IsBytes d.bytes → IsParted bytes head d request → behind_head (head, d) ≡ Ok request → IsRequest bytes request
-behind_found bytes head d request fits parted is =
-    elim (cases_Bool (is_known head.api)) [
-      | inl known ↦
-          let there : by_version head.api head.version head.correlation d ≡ Ok request = rw known at is in
-          by_version_found bytes head d request fits known parted there
-      | inr strange ↦ let other : bad (UnknownApi head.api) ≡ answer request = rw strange at is in absurd cc
-    ]
+pub same_refusal : (body : List ℕ) (v w : WireFault) → IsRefused body v → IsRefused body w → v ≡ w
+same_refusal body v w p q = both (refusal body v p) (refusal body w q)
+  where
+    both : IsFirstFault head_layout body v ⊎ HasBehind body v → IsFirstFault head_layout body w ⊎ HasBehind body w → v ≡ w
+    both (inl f) (inl g) = fault_once head_layout body v w f g
+    both (inl f) (inr g) = absurd (head_no_fault body g.key g.version v g.at_front f)
+    both (inr f) (inl g) = absurd (head_no_fault body f.key f.version w f.at_front g)
+    both (inr f) (inr g) = behind_once f.key f.version body v w f.behind (behind_there body w g f.key f.version f.at_front)
 
--- ---- both ways
+none_and_some : (ms : List Mention) (m : Mention) → repeat_after [] ms ≡ None → IsFirstRepeat ms m → ⊥
+none_and_some ms m none h = let e : ◌≡◌ {A = Option Mention} None (Some m) = sym none ∙ repeat_of_first ms m h in absurd cc
 
--- a request is read
-pub request_reads : (bytes : List ℕ) (request : Request) → IsRequest bytes request → request_at bytes ≡ Ok request
-request_reads bytes request (inl whole) = whole_reads bytes request whole
-request_reads bytes request (inr other) = other_reads bytes request other
+whole_not_behind : (body : List ℕ) (r : Request) (w : WireFault) → IsWhole body r → Behind (key_of_api (api_of r.ask)) (version_of_api (api_of r.ask)) body w → ⊥
+whole_not_behind body r w h (inl g) = g.0 (api_of r.ask) refl
+whole_not_behind body r w h (inr (inl g)) = g.other (ap version_of_api (key_once (api_of r.ask) g.api g.is))
+whole_not_behind body r w h (inr (inr g)) = there (subst (λ (a : Api). InBody a body w) (sym (key_once (api_of r.ask) g.api g.is)) g.fault)
+  where
+    there : InBody (api_of r.ask) body w → ⊥
+    there (inl f) = not_fault (request_layout (api_of r.ask)) (request_fields r) [] w h.whole.laid_out (subst (λ (t : List ℕ). IsFirstFault (request_layout (api_of r.ask)) t w) (whole_end body (request_fields r) h.whole.spelled) f)
+    there (inr (inl f)) = f.more (fields_once (request_layout (api_of r.ask)) f.all (request_fields r) f.rest [] f.are h.whole.laid_out (sym f.parts ∙ whole_end body (request_fields r) h.whole.spelled)).1
+    there (inr (inr f)) =
+        let same = spelled_once body r f.request h.whole f.spelled in
+        none_and_some (mentions_of f.request.ask) f.mention (subst (λ (s : Request). repeat_after [] (mentions_of s.ask) ≡ None) same (none_repeated r.ask h.once)) f.repeat
 
--- what is read of bytes is a request
-pub read_request_is : (bytes : List ℕ) (request : Request) → IsBytes bytes → request_at bytes ≡ Ok request → IsRequest bytes request
-read_request_is bytes request fits is =
-    let start = start_of bytes in
-    let w = went_on (read_head start) behind_head request (sym (request_is bytes) ∙ is) in
-    let h = head_codec.back w.value start w.place fits w.read in
-    let same : bytes ≡ w.place.bytes = sym (ap (λ (c : Cursor). c.bytes) h.covers.at) in
-    behind_found bytes w.value w.place request (subst IsBytes same fits) (record { head_fit = h.fit; head_covers = h.covers }) w.others
+other_not_behind : (body : List ℕ) (r : Request) (w : WireFault) (o : IsOtherVersion body r) → Behind (key_of_api VersionsApi) o.version body w → ⊥
+other_not_behind body r w o (inl g) = g.0 VersionsApi refl
+other_not_behind body r w o (inr (inl g)) = g.no_versions (sym (key_once VersionsApi g.api g.is))
+other_not_behind body r w o (inr (inr g)) = o.other (g.version_is ∙ ap version_of_api (sym (key_once VersionsApi g.api g.is)))
 
--- ---- as the code reads it
+pub not_both : (body : List ℕ) (r : Request) (w : WireFault) → IsRequest body r → IsRefused body w → ⊥
+not_both body r w p q = both p (refusal body w q)
+  where
+    both : IsRequest body r → IsFirstFault head_layout body w ⊎ HasBehind body w → ⊥
+    both (inl h) (inl f) = head_no_fault body (key_of_api (api_of r.ask)) (version_of_api (api_of r.ask)) w (spelled_head body r h.whole) f
+    both (inl h) (inr g) = whole_not_behind body r w h (behind_there body w g (key_of_api (api_of r.ask)) (version_of_api (api_of r.ask)) (spelled_head body r h.whole))
+    both (inr o) (inl f) = head_no_fault body (key_of_api VersionsApi) o.version w (other_head body r o) f
+    both (inr o) (inr g) = other_not_behind body r w o (behind_there body w g (key_of_api VersionsApi) o.version (other_head body r o))
 
--- the client and what is asked were read, and nothing stands behind them
-pub body_read : (key correlation : ℤ) (c d e : Cursor) (client : Option (List ℕ)) (ask : Ask) → sized_at w16 c ≡ Ok (client, d) → ask_at key d ≡ Ok (ask, e) → eqb (length (rest_of e)) 0 ≡ true
-    → body_at key correlation c ≡ unless_repeated (repeat_after [] (mentions_of ask)) (request_of correlation client ask)
-unfolding body_at
-body_read key correlation c d e client ask one two over = rw (one, two, over) refl
+-- ---- one or the other
 
-pub known_from : (key known : ℤ) (b : Bool) → is_known key ≡ b → cond b (Some (known_version key)) None ≡ Some known → (is_known key ≡ true) × (known_version key ≡ known)
-known_from key known true is e = (is, cc)
-known_from key known false is e = absurd cc
+api_or_none : (key : ℤ) → ((api : Api) × (key ≡ key_of_api api)) ⊎ ((api : Api) → key ≢ key_of_api api)
+api_or_none key = try_all (int_eq key (pos 0)) refl (int_eq key (pos 1)) refl (int_eq key (pos 3)) refl (int_eq key (pos 18)) refl
+  where
+    is : (n : ℕ) → int_eq key (pos n) ≡ true → key ≡ pos n
+    is n e = (Decides-int_eq key (pos n)).0 e
 
-module _ (bytes : List ℕ) (c d e : Cursor) (key version correlation : ℤ) (one : integer_at w16 (start_of bytes) ≡ Ok (key, c)) (two : integer_at w16 c ≡ Ok (version, d)) (three : integer_at w32 d ≡ Ok (correlation, e)) (known : is_known key ≡ true) where
-  head_read : request_at bytes ≡ by_version key version correlation e
-  unfolding request_at
-  head_read = rw (one, two, three, known) refl
+    not : (n : ℕ) → int_eq key (pos n) ≡ false → key ≢ pos n
+    not n e same = true≢false (sym ((Decides-int_eq key (pos n)).1 same) ∙ e)
 
-  pub known_read : version ≡ known_version key → request_at bytes ≡ body_at key correlation e
-  known_read same = head_read ∙ rw ((Decides-int_eq version (known_version key)).1 same) refl
+    try_all : (a : Bool) → int_eq key (pos 0) ≡ a → (b : Bool) → int_eq key (pos 1) ≡ b → (c : Bool) → int_eq key (pos 3) ≡ c → (d : Bool) → int_eq key (pos 18) ≡ d
+        → ((api : Api) × (key ≡ key_of_api api)) ⊎ ((api : Api) → key ≢ key_of_api api)
+    try_all true p b q c r d s = inl (ProduceApi, is 0 p)
+    try_all false p true q c r d s = inl (FetchApi, is 1 q)
+    try_all false p false q true r d s = inl (MetadataApi, is 3 r)
+    try_all false p false q false r true s = inl (VersionsApi, is 18 s)
+    try_all false p false q false r false s = inr (elim [
+      | ProduceApi ↦ not 0 p
+      | FetchApi ↦ not 1 q
+      | MetadataApi ↦ not 3 r
+      | VersionsApi ↦ not 18 s
+    ])
 
-  pub unsupported_read : version ≢ known_version key → key ≢ pos 18 → request_at bytes ≡ Err (Unsupported key version)
-  unsupported_read differs other =
-      head_read ∙ rw (not_same version (known_version key) differs, not_same key (pos 18) other) refl
+is_versions : (api : Api) → (api ≡ VersionsApi) ⊎ (api ≢ VersionsApi)
+is_versions ProduceApi = inr (λ e. absurd cc)
+is_versions FetchApi = inr (λ e. absurd cc)
+is_versions MetadataApi = inr (λ e. absurd cc)
+is_versions VersionsApi = inl refl
 
-pub starts : (bytes : List ℕ) (start : Cursor) → start.bytes ≡ bytes → start.at ≡ 0 → start_of bytes ≡ start
-starts bytes start bytes_is at_is = ap (λ (bs : List ℕ). record { bytes = bs; at = 0 }) (sym bytes_is) ∙ ap (λ (n : ℕ). record { bytes = start.bytes; at = n }) (sym at_is)
+abbrev Either : List ℕ → Type 0
+Either body = ((r : Request) × IsRequest body r) ⊎ ((w : WireFault) × IsRefused body w)
 
--- the version of an api fits its field
-known_fits : (a b d : Bool) → FitsSigned w16 (cond a (pos 3) (cond b (pos 4) (cond d (pos 1) (pos 0))))
-known_fits true b d = record { sfits = lit< tt }
-known_fits false true d = record { sfits = lit< tt }
-known_fits false false true = record { sfits = lit< tt }
-known_fits false false false = record { sfits = lit< tt }
+-- the header that fields of the header's layout are
+pub record HeadOf (body : List ℕ) : Type 0 where
+  pub key : ℤ
+  pub version : ℤ
+  pub has : HasHead body key version
 
--- what the code finds of the version
-pub version_same : (key version known : ℤ) → known_version key ≡ known → FitsSigned w16 version → of_z w16 version ≡ of_z w16 known → version ≡ known_version key
-version_same key version known is fits same =
-    let fits_known : FitsSigned w16 known = subst (FitsSigned w16) is (known_fits (int_eq key (pos 0)) (int_eq key (pos 1)) (int_eq key (pos 3))) in
-    sym (to_z-of_z w16 version fits) ∙ ap (to_z w16) same ∙ to_z-of_z w16 known fits_known ∙ sym is
+head_of : (body : List ℕ) (fs : List Field) (rest : List ℕ) → AreOf head_layout fs → body ≡ fields fs ++ rest → HeadOf body
+head_of body fs rest are e =
+    let key = first_of INT16 (INT16 ⨾ INT32 ⨾ End) 0 are.named fs are.lead in
+    let version = first_of INT16 (INT32 ⨾ End) 0 are.named key.others key.lead in
+    let correlation = first_of INT32 End 0 are.named version.others version.lead in
+    let whole : fs ≡ head key.is.0 version.is.0 correlation.is.0 =
+    key.parts ∙ ap (λ (f : Field). f ∷ key.others) key.is.1
+    ∙ ap (λ (gs : List Field). Int16 key.is.0 ∷ gs) (version.parts ∙ ap (λ (f : Field). f ∷ version.others) version.is.1
+    ∙ ap (λ (gs : List Field). Int16 version.is.0 ∷ gs) (correlation.parts ∙ ap (λ (f : Field). f ∷ correlation.others) correlation.is.1
+    ∙ ap (λ (gs : List Field). Int32 correlation.is.0 ∷ gs) (none correlation.others correlation.lead))) in
+    record {
+      key = key.is.0;
+      version = version.is.0;
+      has = record {
+        correlation = correlation.is.0;
+        fits = (subst FitsField key.is.1 key.fits, (subst FitsField version.is.1 version.fits, (subst FitsField correlation.is.1 correlation.fits, tt)));
+        rest = rest;
+        parts = e ∙ ap (λ (gs : List Field). fields gs ++ rest) whole;
+      };
+    }
+  where
+    none : (gs : List Field) → LeadTo End 0 gs End are.named → gs ≡ []
+    none [] h = refl
+    none (g ∷ gs) h = absurd h.0
 
-pub answers_request : (bytes : List ℕ) (r : Result Request WireFault) → IsBytes bytes → Answers r (request_at bytes) → IfOk r (IsRequest bytes)
-answers_request bytes (Ok request) fits is = read_request_is bytes request fits is
-answers_request bytes (Err e) fits is = tt
+-- the request whose fields these are
+pub record RequestOf (api : Api) (fs : List Field) : Type 0 where
+  pub request : Request
+  pub whole : fs ≡ request_fields request
+  pub asked : api_of request.ask ≡ api
+  pub version : version_of request.ask ≡ version_of_api api
 
--- a fault that was handed on
-pub fault_handed : (r : Result Request WireFault) (e : WireFault) (whole read : Result Request WireFault) → IsErrAnd r (λ f. f ≡ e) → whole ≡ read → IsFaultOf read e → Answers r whole
-fault_handed (Ok x) e whole read is same h = absurd is
-fault_handed (Err f) e whole read is same h = subst (IsFaultOf whole) (sym is) (subst (λ (w : Result Request WireFault). IsFaultOf w e) (sym same) h)
+request_of : (api : Api) (correlation : ℤ) (fs : List Field) (named : ℕ) → LeadTo (NULLABLE_STRING ⨾ ask_layout api) 0 fs End named → (all : List Field) → all ≡ head (key_of_api api) (version_of_api api) correlation ++ fs → RequestOf api all
+request_of api correlation fs named lead all is =
+    let client = first_of NULLABLE_STRING (ask_layout api) 0 named fs lead in
+    let asked = ask_of_fields api named client.others client.lead in
+    let request : Request = record { correlation = correlation; client = client.is.0; ask = asked.ask } in
+    let behind : fs ≡ NullableString client.is.0 ∷ ask_fields asked.ask = client.parts ∙ ap (λ (f : Field). f ∷ client.others) client.is.1 ∙ ap (λ (gs : List Field). NullableString client.is.0 ∷ gs) asked.parts in
+    record {
+      request = request;
+      whole = is ∙ ap (λ (gs : List Field). head (key_of_api api) (version_of_api api) correlation ++ gs) behind
+          ∙ ap (λ (k : ℤ). head k (version_of_api api) correlation ++ NullableString client.is.0 ∷ ask_fields asked.ask) (ap key_of_api (sym asked.asked))
+          ∙ ap (λ (v : ℤ). head (key_of_api (api_of asked.ask)) v correlation ++ NullableString client.is.0 ∷ ask_fields asked.ask) (sym asked.version);
+      asked = asked.asked;
+      version = asked.version;
+    }
+
+-- the fields after the header
+pub record Parted (api : Api) (fs : List Field) : Type 0 where
+  pub correlation : ℤ
+  pub others : List Field
+  pub named : ℕ
+  pub lead : LeadTo (NULLABLE_STRING ⨾ ask_layout api) 0 others End named
+  pub key : ℤ
+  pub version : ℤ
+  pub parts : fs ≡ head key version correlation ++ others
+  pub fits : AllFit (head key version correlation)
+
+parted : (api : Api) (fs : List Field) → AreOf (request_layout api) fs → Parted api fs
+parted api fs are =
+    let key = first_of INT16 (INT16 ⨾ INT32 ⨾ NULLABLE_STRING ⨾ ask_layout api) 0 are.named fs are.lead in
+    let version = first_of INT16 (INT32 ⨾ NULLABLE_STRING ⨾ ask_layout api) 0 are.named key.others key.lead in
+    let correlation = first_of INT32 (NULLABLE_STRING ⨾ ask_layout api) 0 are.named version.others version.lead in
+    record {
+      correlation = correlation.is.0;
+      others = correlation.others;
+      named = are.named;
+      lead = correlation.lead;
+      key = key.is.0;
+      version = version.is.0;
+      parts = key.parts ∙ ap (λ (f : Field). f ∷ key.others) key.is.1
+          ∙ ap (λ (gs : List Field). Int16 key.is.0 ∷ gs) (version.parts ∙ ap (λ (f : Field). f ∷ version.others) version.is.1
+          ∙ ap (λ (gs : List Field). Int16 version.is.0 ∷ gs) (correlation.parts ∙ ap (λ (f : Field). f ∷ correlation.others) correlation.is.1));
+      fits = (subst FitsField key.is.1 key.fits, (subst FitsField version.is.1 version.fits, (subst FitsField correlation.is.1 correlation.fits, tt)));
+    }
+
+found : (body : List ℕ) (api : Api) → HasHead body (key_of_api api) (version_of_api api) → (fs : List Field) → AreOf (request_layout api) fs → body ≡ fields fs → RequestOf api fs
+found body api front fs are e =
+    let p = parted api fs are in
+    let mine : HasHead body p.key p.version = record { correlation = p.correlation; fits = p.fits; rest = fields p.others; parts = e ∙ ap fields p.parts ∙ fields-append (head p.key p.version p.correlation) p.others } in
+    let same = head_once body p.key p.version (key_of_api api) (version_of_api api) mine front in
+    request_of api p.correlation p.others p.named p.lead fs
+    (p.parts ∙ ap (λ (k : ℤ). head k p.version p.correlation ++ p.others) same.api ∙ ap (λ (v : ℤ). head (key_of_api api) v p.correlation ++ p.others) same.version_same)
+
+spelled_or_twice : (body : List ℕ) (r : Request) → IsSpelledOut body r → Either body
+spelled_or_twice body r h = by_search (repeat_after [] (mentions_of r.ask)) refl
+  where
+    by_search : (m : Option Mention) → repeat_after [] (mentions_of r.ask) ≡ m → Either body
+    by_search None e = inl (r, inl (record { whole = h; once = no_two r.ask e }))
+    by_search (Some m) e = inr (_, NamedTwice r h m (first_repeat_of (mentions_of r.ask) m e))
+
+in_version : (body : List ℕ) (api : Api) → IsBytes body → HasHead body (key_of_api api) (version_of_api api) → Either body
+in_version body api bytes front = by_reading (fields_or_fault (request_layout api) body bytes)
+  where
+    by_rest : (fs : List Field) (rest : List ℕ) → AreOf (request_layout api) fs → body ≡ fields fs ++ rest → Either body
+    by_rest fs (b ∷ rest) are e = inr (_, MoreBytes api front fs are (b ∷ rest) (λ none. absurd cc) e)
+    by_rest fs [] are e =
+        let whole : body ≡ fields fs = e ∙ append-nil (fields fs) in
+        let r = found body api front fs are whole in
+        let there = subst (λ (a : Api). AreOf (request_layout a) (request_fields r.request)) (sym r.asked) (subst (AreOf (request_layout api)) r.whole are) in
+        spelled_or_twice body r.request (record { spelled = whole ∙ ap fields r.whole; version = r.version ∙ ap version_of_api (sym r.asked); laid_out = there })
+
+    by_reading : ((fs : List Field) × (rest : List ℕ) × AreOf (request_layout api) fs × (body ≡ fields fs ++ rest)) ⊎ ((why : WireFault) × IsFirstFault (request_layout api) body why) → Either body
+    by_reading (inl read) = by_rest read.0 read.1 read.2 read.3
+    by_reading (inr stopped) = inr (stopped.0, NoField api front stopped.1)
+
+pub other_request : (body : List ℕ) (key version : ℤ) → key ≡ key_of_api VersionsApi → version ≢ version_of_api VersionsApi → (h : HasHead body key version) → IsOtherVersion body (record { correlation = h.correlation; client = None; ask = Versions version })
+other_request body key version is other h =
+    let heads : head key version h.correlation ≡ head (key_of_api VersionsApi) version h.correlation = ap (λ (k : ℤ). head k version h.correlation) is in
+    record { version = version; asked = refl; other = other; nobody = refl; fits = subst AllFit heads h.fits; rest = h.rest; spelled = h.parts ∙ ap (λ (fs : List Field). fields fs ++ h.rest) heads }
+
+with_head : (body : List ℕ) (key version : ℤ) → IsBytes body → HasHead body key version → Either body
+with_head body key version bytes front = by_api (api_or_none key)
+  where
+    other_version : (api : Api) → key ≡ key_of_api api → version ≢ version_of_api api → (api ≡ VersionsApi) ⊎ (api ≢ VersionsApi) → Either body
+    other_version api is other (inl versions) =
+        inl (_, inr (other_request body key version (is ∙ ap key_of_api versions) (λ e. other (e ∙ ap version_of_api (sym versions))) front))
+    other_version api is other (inr known) = inr (_, NoVersion front api is other known)
+
+    by_version : (api : Api) → key ≡ key_of_api api → (same : Bool) → int_eq version (version_of_api api) ≡ same → Either body
+    by_version api is true e =
+        let v : version ≡ version_of_api api = (Decides-int_eq version (version_of_api api)).0 e in
+        in_version body api bytes (subst (HasHead body (key_of_api api)) v (subst (λ (k : ℤ). HasHead body k version) is front))
+    by_version api is false e = other_version api is (λ same. true≢false (sym ((Decides-int_eq version (version_of_api api)).1 same) ∙ e)) (is_versions api)
+
+    by_api : ((api : Api) × (key ≡ key_of_api api)) ⊎ ((api : Api) → key ≢ key_of_api api) → Either body
+    by_api (inl known) = by_version known.0 known.1 (int_eq version (version_of_api known.0)) refl
+    by_api (inr none) = inr (_, NoApi front none)
+
+pub request_or_refusal : (body : List ℕ) → IsBytes body → Either body
+request_or_refusal body bytes = by_reading (fields_or_fault head_layout body bytes)
+  where
+    by_reading : ((fs : List Field) × (rest : List ℕ) × AreOf head_layout fs × (body ≡ fields fs ++ rest)) ⊎ ((why : WireFault) × IsFirstFault head_layout body why) → Either body
+    by_reading (inl read) = let h = head_of body read.0 read.1 read.2 read.3 in with_head body h.key h.version bytes h.has
+    by_reading (inr stopped) = inr (stopped.0, NoHead stopped.1)

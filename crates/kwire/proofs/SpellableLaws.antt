@@ -1,19 +1,22 @@
--- Replies to produces and fetches whose lengths and counts are in range.
-use Rattle.std.proofs.Common.{◌≡◌, ℕ, ◌+◌, ◌*◌, ◌<◌, ◌≤◌, ◌^◌, ℤ, pos, Bool, true, false, cond, List, [], ◌∷◌, ◌++◌, length, Some, None, refl, ap, ◌∙◌, arith, lit<}
+-- Replies whose lengths and counts are in range.
+use Rattle.std.proofs.Common.{◌≡◌, ℕ, ◌+◌, ◌*◌, ◌<◌, ◌≤◌, ◌^◌, ℤ, pos, Bool, true, false, cond, List, [], ◌∷◌, ◌++◌, length, map, Some, None, refl, ap, ◌∙◌, arith, lit<}
 use Rattle.std.specs.Prelude.{IfSome, ⊤}
 use Rattle.std.specs.List.{flat_map, AllByRecursion}
 use Rattle.std.specs.Ordering.{int_eq}
 use native.Mathlib.Nat.{suc-mul}
 use Rattle.std.proofs.lemmas.List.{length-append}
-use Rattle.kbytes.specs.Field.{Field, Int32, String, Array, field, fields}
-use Rattle.kwire.specs.declared.reply.Told.TheVariants.{Produced, Fetched}
+use Rattle.std.specs.List.{range_with_len}
+use Rattle.std.proofs.lemmas.List.FromFn.{length-range_with_len}
+use Rattle.kbytes.specs.Field.{Field, Int8, Int32, String, Array, field, fields}
+use Rattle.kwire.specs.declared.reply.Told.TheVariants.{Produced, Fetched, Metadata, Versions}
 use Rattle.kwire.specs.declared.reply.ProducedPart.{ProducedPart}
 use Rattle.kwire.specs.declared.reply.ProducedTopic.{ProducedTopic}
 use Rattle.kwire.specs.declared.reply.FetchedPart.{FetchedPart}
 use Rattle.kwire.specs.declared.reply.FetchedTopic.{FetchedTopic}
+use Rattle.kwire.specs.declared.reply.TopicInfo.{TopicInfo}
 use Rattle.kwire.specs.IsSpellable.{AreInRange, IsSpellable}
-use Rattle.kwire.specs.Spelling.{produced_part_fields, produced_topic_fields, fetched_part_fields, fetched_topic_fields, told_fields, spelling}
-use Rattle.kwire.proofs.Codecs.{fields-append}
+use Rattle.kwire.specs.Spelling.{produced_part_fields, produced_topic_fields, fetched_part_fields, fetched_topic_fields, replica_fields, partition_fields, topic_info_fields, told_fields, spelling}
+use Rattle.kwire.proofs.Places.{fields-append}
 
 pub record IsProducedTopic (topic : ProducedTopic) : Type 0 where
   pub name : length topic.name < 2 ^ 15
@@ -97,7 +100,7 @@ all_true (x ∷ xs) = (tt, all_true xs)
 abbrev pub records_in : FetchedTopic → List ℕ
 records_in topic = flat_map (λ part. part.records) topic.parts
 
--- a name, a count and what stands behind them
+-- a name, a count and what stands after them
 topic_length : (name : List ℕ) (count : ℕ) (parts : List Field) → length (fields (String name ∷ Array (Some count) ∷ parts)) ≡ 6 + length name + length (fields parts)
 topic_length name count parts =
     let rest = field (Array (Some count)) ++ fields parts in
@@ -144,3 +147,77 @@ fetched_spellable correlation isolation topics few all bytes =
     let each = length_all (fetched_topic_fields isolation) records_in IsFetchedTopic 40000 (fetched_topic_length isolation) topics all in
     let whole : length (spelling (record { correlation = correlation; told = Fetched isolation topics })) ≡ 16 + length (fields (flat_map (fetched_topic_fields isolation) topics)) = omega arith in
     record { in_range = fetched_in_range isolation topics few all; short = omega arith }
+
+-- ---- metadata, and the versions of the apis
+
+-- a topic that metadata tells
+pub record IsInfo (topic : TopicInfo) : Type 0 where
+  pub name : length topic.name < 2 ^ 15
+  pub few : topic.partitions ≤ 64
+  pub replicas : topic.followers ≤ 8
+
+abbrev numbers : List ℕ → List Field
+numbers xs = map (λ x. Int32 (pos x)) xs
+
+numbers_in_range : (xs : List ℕ) → AreInRange (numbers xs)
+numbers_in_range [] = tt
+numbers_in_range (x ∷ xs) = (tt, numbers_in_range xs)
+
+numbers_length : (xs : List ℕ) → length (fields (numbers xs)) ≡ 4 * length xs
+numbers_length [] = refl
+numbers_length (x ∷ xs) = let rest = numbers_length xs in omega arith
+
+replicas_in_range : (followers : ℕ) → followers ≤ 8 → AreInRange (replica_fields followers)
+replicas_in_range followers few = (few_fit (followers + 1) (omega (arith, few)), numbers_in_range (range_with_len 0 (followers + 1)))
+
+replicas_length : (followers : ℕ) → length (fields (replica_fields followers)) ≡ 8 + 4 * followers
+replicas_length followers =
+    let all = numbers_length (range_with_len 0 (followers + 1)) in
+    let size = length-range_with_len 0 (followers + 1) in
+    omega arith
+
+partition_in_range : (followers index : ℕ) → followers ≤ 8 → AreInRange (partition_fields followers index)
+partition_in_range followers index few =
+    let one = replicas_in_range followers few in
+    (tt, (tt, (tt, in_range_both (replica_fields followers) (replica_fields followers) one one)))
+
+partition_length : (followers index : ℕ) → followers ≤ 8 → length (fields (partition_fields followers index)) ≤ 90 + 0
+partition_length followers index few =
+    let one = replica_fields followers in
+    let both : length (fields (one ++ one)) ≡ length (fields one) + length (fields one) = ap length (fields-append one one) ∙ length-append (fields one) (fields one) in
+    let size = replicas_length followers in
+    omega arith
+
+info_in_range : (topic : TopicInfo) → IsInfo topic → AreInRange (topic_info_fields topic)
+info_in_range topic is =
+    let parts = range_with_len 0 topic.partitions in
+    (tt, (is.name, (tt, (few_fit topic.partitions is.few, in_range_all (partition_fields topic.followers) (λ _. ⊤) (λ index _. partition_in_range topic.followers index is.replicas) parts (all_true parts)))))
+
+info_length : (topic : TopicInfo) → IsInfo topic → length (fields (topic_info_fields topic)) ≤ 40000 + 0
+info_length topic is =
+    let parts = range_with_len 0 topic.partitions in
+    let inside = flat_map (partition_fields topic.followers) parts in
+    let each = length_all (partition_fields topic.followers) nothing (λ _. ⊤) 90 (λ index _. partition_length topic.followers index is.replicas) parts (all_true parts) in
+    let none = none_of_none parts in
+    let count = length-range_with_len 0 topic.partitions in
+    let behind = field (Int8 (pos 0)) ++ (field (Array (Some topic.partitions)) ++ fields inside) in
+    let all : length (fields (topic_info_fields topic)) ≡ 4 + length (topic.name ++ behind) = omega arith in
+    let name = is.name in
+    let few = is.few in
+    omega (arith, length-append topic.name behind)
+
+pub metadata_spellable : (correlation : ℤ) (port : ℕ) (topics : List TopicInfo) → length topics ≤ 64 → AllByRecursion IsInfo topics → IsSpellable (record { correlation = correlation; told = Metadata port topics })
+metadata_spellable correlation port topics few all =
+    let each = length_all topic_info_fields nothing IsInfo 40000 info_length topics all in
+    let none = none_of_none topics in
+    let whole : length (spelling (record { correlation = correlation; told = Metadata port topics })) ≡ 41 + length (fields (flat_map topic_info_fields topics)) = omega arith in
+    record {
+      in_range = (lit< tt, (tt, (lit< tt, (tt, (tt, (tt, (few_fit (length topics) few, in_range_all topic_info_fields IsInfo info_in_range topics all)))))));
+      short = omega arith;
+    }
+
+pub versions_spellable : (correlation code : ℤ) → IsSpellable (record { correlation = correlation; told = Versions code })
+versions_spellable correlation code = record {
+  in_range = (tt, (lit< tt, (tt, (tt, (tt, (tt, (tt, (tt, (tt, (tt, (tt, (tt, (tt, (tt, tt))))))))))))));
+  short = omega arith;
+}

@@ -3,13 +3,14 @@ use Rattle.std.proofs.Common.{◌≡◌, ℕ, zero, suc, ◌+◌, ◌<◌, ◌�
 use Rattle.std.specs.List.{flat_map}
 use Rattle.std.proofs.lemmas.List.{append-nil, take_more, take_all}
 use Rattle.std.proofs.lemmas.Grind.{flat_map-append}
-use Rattle.kbytes.specs.Field.{Field, field, fields}
+use Rattle.kbytes.specs.Field.{Field, field, fields, Int8, Int16, Int32, Uint32, Int64, String, NullableString, Records, Array, Varint, Varlong}
+use Rattle.kbytes.specs.FitsField.{FitsField}
 use Rattle.std.specs.Prelude.{Result, Ok, Err, OnOk}
 use Rattle.kbytes.specs.declared.no_memory.NoMemory.{NoMemory}
-use Rattle.kwire.specs.IsSpellable.{AreInRange}
-use Rattle.kwire.proofs.Codecs.{fields-append}
+use Rattle.kwire.specs.IsSpellable.{HasShortLength, AreInRange}
+use Rattle.kwire.proofs.Places.{AllFit, fields-append}
 
--- these fields were written behind the first bytes
+-- these fields were written after the first bytes
 abbrev pub Put : List ℕ → List ℕ → List Field → Type 0
 Put before now written = now ≡ before ++ fields written
 
@@ -64,3 +65,22 @@ last_field (Err e) before now after fs f so_far is = tt
 pub on_ok : {P Q : Type 0} (r : Result (Unit {0}) NoMemory) → (P → Q) → OnOk r P → OnOk r Q
 on_ok (Ok x) f h = f h
 on_ok (Err e) f h = tt
+
+-- ---- fields in the range of their types have short lengths
+
+short_of : (f : Field) → FitsField f → HasShortLength f
+short_of (Int8 z) h = tt
+short_of (Int16 z) h = tt
+short_of (Int32 z) h = tt
+short_of (Uint32 n) h = tt
+short_of (Int64 z) h = tt
+short_of (String bytes) h = h
+short_of (NullableString bytes) h = h
+short_of (Records bytes) h = h
+short_of (Array count) h = h
+short_of (Varint z) h = tt
+short_of (Varlong z) h = tt
+
+pub all_short : (fs : List Field) → AllFit fs → AreInRange fs
+all_short [] h = tt
+all_short (f ∷ fs) h = (short_of f h.0, all_short fs h.1)

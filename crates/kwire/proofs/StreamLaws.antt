@@ -100,7 +100,7 @@ whole_before stream end e =
       | inr enough ↦ size_before (length stream) (cast_signed w32 (from_be_bytes w32 (take 4 stream))) end (rw (le-ltb (length stream) 4 enough) at e)
     ]
 
--- its end is behind its body
+-- its end is after its body
 pub whole_ends : (inbox : List ℕ) (end : ℕ) → next_frame_of inbox ≡ Whole end → end ≡ 4 + length (take (end - 4) (drop 4 inbox))
 whole_ends inbox end whole = omega (arith, whole_within inbox end whole, whole_before inbox end whole, length-take (end - 4) (drop 4 inbox), length-drop 4 inbox)
 
@@ -113,7 +113,7 @@ nothing_came : (inbox later : List ℕ) → inbox ++ later ≡ [] → inbox ≡ 
 nothing_came [] later e = refl
 nothing_came (x ∷ inbox) later e = absurd cc
 
--- the first body of a stream, and what stands behind its frame
+-- the first body of a stream, and what stands after its frame
 pub record IsNextBody (inbox later : List ℕ) (bodies : List (List ℕ)) (end : ℕ) : Type 0 where
   pub others : List (List ℕ)
   pub bodies_are : bodies ≡ take (end - 4) (drop 4 inbox) ∷ others

@@ -1,5 +1,6 @@
 -- A partition is named twice exactly where one of the mentions was mentioned before.
-use Rattle.std.proofs.Common.{◌≡◌, ◌≢◌, Decides, ℕ, zero, suc, ◌+◌, ◌<◌, ℤ, true, false, List, [], ◌∷◌, ◌++◌, length, get_or, map, Some, None, refl, sym, ap, subst, ◌∙◌, arith, inl, inr}
+use Rattle.std.proofs.Common.{◌≡◌, ◌≢◌, ◌||◌, Decides, Bool, Option, ℕ, zero, suc, ◌+◌, ◌<◌, ℤ, true, false, List, [], ◌∷◌, ◌++◌, length, get_or, map, Some, None, refl, sym, ap, subst, ◌∙◌, arith, inl, inr}
+use Rattle.std.specs.Prelude.{Contains}
 use Rattle.std.specs.List.{flat_map, AllByRecursion, AllPairs, list_any}
 use Rattle.std.specs.Cmp.Lexicographic.{pointwise}
 use Rattle.std.specs.Ordering.{int_eq}
@@ -15,44 +16,32 @@ use Rattle.kwire.specs.declared.request.ProduceTopic.{ProduceTopic}
 use Rattle.kwire.specs.declared.request.FetchPart.{FetchPart}
 use Rattle.kwire.specs.declared.request.FetchTopic.{FetchTopic}
 use Rattle.kwire.specs.IsRequest.{Named, named_of}
-use Rattle.kwire.specs.Refusal.{Mention, mentions_of, produce_mentions, produce_mentions_from, fetch_mentions, fetch_mentions_from, is_same, repeat_after}
-
-abbrev pub named : Mention → Named
-named m = record { topic = m.topic; index = m.index }
+use Rattle.kwire.specs.Refusal.{Mention, named, mentions_from, mentions_of, IsFirstRepeat}
+use Rattle.kwire.specs.Mentions.{is_same, repeat_after}
 
 -- ---- the mentions are the named partitions
 
-produce_part_names : (entry : ℕ) (topic : List ℕ) (parts : List ProducePart) → map named (produce_mentions entry topic parts) ≡ map (λ part. record { topic = topic; index = part.index }) parts
-produce_part_names entry topic [] = refl
-produce_part_names entry topic (part ∷ parts) = ap (λ (ns : List Named). record { topic = topic; index = part.index } ∷ ns) (produce_part_names entry topic parts)
+module _ {X Y : Type 0} (name : X → List ℕ) (parts : X → List Y) (index : Y → ℤ) where
+  abbrev mentions_in : ℕ → X → List Mention
+  mentions_in entry topic = map (λ part. record { entry = entry; topic = name topic; index = index part }) (parts topic)
 
-fetch_part_names : (entry : ℕ) (topic : List ℕ) (parts : List FetchPart) → map named (fetch_mentions entry topic parts) ≡ map (λ part. record { topic = topic; index = part.index }) parts
-fetch_part_names entry topic [] = refl
-fetch_part_names entry topic (part ∷ parts) = ap (λ (ns : List Named). record { topic = topic; index = part.index } ∷ ns) (fetch_part_names entry topic parts)
+  abbrev named_in : X → List Named
+  named_in topic = map (λ part. record { topic = name topic; index = index part }) (parts topic)
 
-abbrev produce_named : ProduceTopic → List Named
-produce_named topic = map (λ part. record { topic = topic.name; index = part.index }) topic.parts
+  part_names : (entry : ℕ) (topic : List ℕ) (ys : List Y) → map named (map (λ part. record { entry = entry; topic = topic; index = index part }) ys) ≡ map (λ part. record { topic = topic; index = index part }) ys
+  part_names entry topic [] = refl
+  part_names entry topic (y ∷ ys) = ap (λ (ns : List Named). record { topic = topic; index = index y } ∷ ns) (part_names entry topic ys)
 
-abbrev fetch_named : FetchTopic → List Named
-fetch_named topic = map (λ part. record { topic = topic.name; index = part.index }) topic.parts
+  topic_names : (entry : ℕ) (topics : List X) → map named (mentions_from mentions_in entry topics) ≡ flat_map named_in topics
+  topic_names entry [] = refl
+  topic_names entry (topic ∷ topics) =
+      map-append named (mentions_in entry topic) (mentions_from mentions_in (entry + 1) topics)
+      ∙ ap (λ (ns : List Named). ns ++ map named (mentions_from mentions_in (entry + 1) topics)) (part_names entry (name topic) (parts topic))
+      ∙ ap (λ (ns : List Named). named_in topic ++ ns) (topic_names (entry + 1) topics)
 
-produce_names : (entry : ℕ) (topics : List ProduceTopic) → map named (produce_mentions_from entry topics) ≡ flat_map produce_named topics
-produce_names entry [] = refl
-produce_names entry (topic ∷ topics) =
-    map-append named (produce_mentions entry topic.name topic.parts) (produce_mentions_from (entry + 1) topics)
-    ∙ ap (λ (ns : List Named). ns ++ map named (produce_mentions_from (entry + 1) topics)) (produce_part_names entry topic.name topic.parts)
-    ∙ ap (λ (ns : List Named). produce_named topic ++ ns) (produce_names (entry + 1) topics)
-
-fetch_names : (entry : ℕ) (topics : List FetchTopic) → map named (fetch_mentions_from entry topics) ≡ flat_map fetch_named topics
-fetch_names entry [] = refl
-fetch_names entry (topic ∷ topics) =
-    map-append named (fetch_mentions entry topic.name topic.parts) (fetch_mentions_from (entry + 1) topics)
-    ∙ ap (λ (ns : List Named). ns ++ map named (fetch_mentions_from (entry + 1) topics)) (fetch_part_names entry topic.name topic.parts)
-    ∙ ap (λ (ns : List Named). fetch_named topic ++ ns) (fetch_names (entry + 1) topics)
-
-names_are : (ask : Ask) → map named (mentions_of ask) ≡ named_of ask
-names_are (Produce transactional acks timeout topics) = produce_names 0 topics
-names_are (Fetch replica max_wait min_bytes max_bytes isolation topics) = fetch_names 0 topics
+pub names_are : (ask : Ask) → map named (mentions_of ask) ≡ named_of ask
+names_are (Produce transactional acks timeout topics) = topic_names (λ (t : ProduceTopic). t.name) (λ (t : ProduceTopic). t.parts) (λ (p : ProducePart). p.index) 0 topics
+names_are (Fetch replica max_wait min_bytes max_bytes isolation topics) = topic_names (λ (t : FetchTopic). t.name) (λ (t : FetchTopic). t.parts) (λ (p : FetchPart). p.index) 0 topics
 names_are (Metadata topics) = refl
 names_are (Versions version) = refl
 
@@ -157,9 +146,104 @@ all_apart_nothing : (ms : List Mention) → ApartAll ms []
 all_apart_nothing [] = tt
 all_apart_nothing (m ∷ ms) = (tt, all_apart_nothing ms)
 
--- none is repeated exactly where no two named partitions are the same
+-- none is repeated exactly where no two mentions name the same
+none_apart_from : (ms : List Mention) → AllPairs Differ (map named ms) → repeat_after [] ms ≡ None
+none_apart_from ms h = none_of [] ms (all_apart_nothing ms) (pairs_once ms h)
+
+apart_from_none : (ms : List Mention) → repeat_after [] ms ≡ None → AllPairs Differ (map named ms)
+apart_from_none ms e = once_pairs ms (once_of [] ms e).1
+
 pub none_repeated : (ask : Ask) → AllPairs Differ (named_of ask) → repeat_after [] (mentions_of ask) ≡ None
-none_repeated ask h = none_of [] (mentions_of ask) (all_apart_nothing (mentions_of ask)) (pairs_once (mentions_of ask) (subst (AllPairs Differ) (sym (names_are ask)) h))
+none_repeated ask h = none_apart_from (mentions_of ask) (subst (AllPairs Differ) (sym (names_are ask)) h)
 
 pub no_two : (ask : Ask) → repeat_after [] (mentions_of ask) ≡ None → AllPairs Differ (named_of ask)
-no_two ask e = subst (AllPairs Differ) (names_are ask) (once_pairs (mentions_of ask) (once_of [] (mentions_of ask) e).1)
+no_two ask e = subst (AllPairs Differ) (names_are ask) (apart_from_none (mentions_of ask) e)
+
+-- ---- the first that is named again
+
+abbrev no_mention : Option Mention
+no_mention = None
+
+-- the last one first, and then those before them
+abbrev back : List Mention → List Mention → List Mention
+back [] before = before
+back (x ∷ front) before = back front (x ∷ before)
+
+-- the mentions are those before it, it, and others; none before it is repeated, and it is among those before it
+pub record IsFound (before ms : List Mention) (m : Mention) : Type 0 where
+  pub front : List Mention
+  pub others : List Mention
+  pub parts : ms ≡ front ++ m ∷ others
+  pub fresh : repeat_after before front ≡ None
+  pub again : list_any (is_same m) (back front before) ≡ true
+
+found_of : (before ms : List Mention) (m : Mention) → repeat_after before ms ≡ Some m → IsFound before ms m
+found_of before [] m e = let other : no_mention ≡ Some m = e in absurd cc
+found_of before (x ∷ ms) m e =
+    elim (cases_Bool (list_any (is_same x) before)) [
+      | inl repeated ↦
+          let there : Some x ≡ Some m = rw repeated at e in
+          let same : x ≡ m = cc in
+          record { front = []; others = ms; parts = ap (λ (y : Mention). y ∷ ms) same; fresh = refl; again = subst (λ (y : Mention). list_any (is_same y) before ≡ true) same repeated }
+      | inr new ↦
+          let there : repeat_after (x ∷ before) ms ≡ Some m = rw new at e in
+          let h = found_of (x ∷ before) ms m there in
+          record { front = x ∷ h.front; others = h.others; parts = ap (λ (ys : List Mention). x ∷ ys) h.parts; fresh = rw new h.fresh; again = h.again }
+    ]
+
+of_found : (before front others : List Mention) (m : Mention) → repeat_after before front ≡ None → list_any (is_same m) (back front before) ≡ true → repeat_after before (front ++ m ∷ others) ≡ Some m
+of_found before [] others m fresh again = rw again refl
+of_found before (x ∷ front) others m fresh again =
+    elim (cases_Bool (list_any (is_same x) before)) [
+      | inl repeated ↦ let other : Some x ≡ no_mention = rw repeated at fresh in absurd cc
+      | inr new ↦
+          let there : repeat_after (x ∷ before) front ≡ None = rw new at fresh in
+          rw new (of_found (x ∷ before) front others m there again)
+    ]
+
+any_behind : (p : Mention → Bool) (front before : List Mention) → list_any p (back front before) ≡ (list_any p front || list_any p before)
+any_behind p [] before = refl
+any_behind p (x ∷ front) before = any_behind p front (x ∷ before) ∙ turned (list_any p front) (p x) (list_any p before)
+  where
+    turned : (a b c : Bool) → (a || (b || c)) ≡ ((b || a) || c)
+    turned true true c = refl
+    turned true false c = refl
+    turned false true c = refl
+    turned false false c = refl
+
+or_nothing : (a : Bool) → (a || false) ≡ a
+or_nothing true = refl
+or_nothing false = refl
+
+any_back : (p : Mention → Bool) (front : List Mention) → list_any p (back front []) ≡ list_any p front
+any_back p front = any_behind p front [] ∙ or_nothing (list_any p front)
+
+any_named : (m : Mention) (ms : List Mention) → list_any (is_same m) ms ≡ true → Contains (map named ms) (named m)
+any_named m [] e = absurd (true≢false (sym e))
+any_named m (x ∷ ms) e =
+    elim (cases_Bool (is_same m x)) [
+      | inl same ↦ (0, omega arith, sym (same_named m x same))
+      | inr differs ↦
+          let there : list_any (is_same m) ms ≡ true = rw differs at e in
+          let h = any_named m ms there in
+          (suc h.0, omega (arith, h.1), h.2)
+    ]
+
+named_any : (m : Mention) (ms : List Mention) → Contains (map named ms) (named m) → list_any (is_same m) ms ≡ true
+named_any m [] h = absurd (omega (arith, h.1))
+named_any m (x ∷ ms) h = among m x ms h.0 h.1 h.2 (is_same m x) refl (λ k lt e. named_any m ms (k, lt, e))
+  where
+    among : (m x : Mention) (ms : List Mention) (k : ℕ) → k < length (map named (x ∷ ms)) → get_or (map named (x ∷ ms)) k (named m) ≡ named m → (b : Bool) → is_same m x ≡ b
+        → ((k : ℕ) → k < length (map named ms) → get_or (map named ms) k (named m) ≡ named m → list_any (is_same m) ms ≡ true) → (b || list_any (is_same m) ms) ≡ true
+    among m x ms k lt e true same others = refl
+    among m x ms zero lt e false differs others = absurd (true≢false (sym (named_same m x (sym e)) ∙ differs))
+    among m x ms (suc k) lt e false differs others = others k (omega (arith, lt)) e
+
+pub first_repeat_of : (ms : List Mention) (m : Mention) → repeat_after [] ms ≡ Some m → IsFirstRepeat ms m
+first_repeat_of ms m e =
+    let h = found_of [] ms m e in
+    record { before = h.front; after = h.others; parts = h.parts; fresh = apart_from_none h.front h.fresh; again = any_named m h.front (sym (any_back (is_same m) h.front) ∙ h.again) }
+
+pub repeat_of_first : (ms : List Mention) (m : Mention) → IsFirstRepeat ms m → repeat_after [] ms ≡ Some m
+repeat_of_first ms m h =
+    ap (repeat_after []) h.parts ∙ of_found [] h.before h.after m (none_apart_from h.before h.fresh) (any_back (is_same m) h.before ∙ named_any m h.before h.again)

@@ -1,6 +1,5 @@
--- Requests and the bodies of their frames (Kafka protocol guide: Produce v3, Fetch v4, Metadata v1, ApiVersions v0). All fields
--- of a body stand one after the other, and nothing stands behind them.
-use Rattle.std.specs.Prelude.{ℕ, ◌≡◌, ◌≢◌, ◌≤◌, ◌⊎◌, ℤ, pos, List, [], ◌∷◌, ◌++◌, length, map, unwrap_or, Some, None, option_map, AllPairs}
+-- Requests and the bodies of their frames. All fields of a body stand one after the other, and nothing stands after them.
+use Rattle.std.specs.Prelude.{ℕ, ◌≡◌, ◌≢◌, ◌⊎◌, ℤ, List, [], ◌∷◌, ◌++◌, length, map, unwrap_or, Some, None, option_map, AllPairs}
 use Rattle.std.specs.List.{flat_map, AllByRecursion}
 use Rattle.kbytes.specs.Field.{Field, Int8, Int16, Int32, Int64, String, NullableString, Records, Array, fields}
 use Rattle.kbytes.specs.FitsField.{FitsField}
@@ -11,18 +10,23 @@ use Rattle.kwire.specs.declared.request.ProducePart.{ProducePart}
 use Rattle.kwire.specs.declared.request.ProduceTopic.{ProduceTopic}
 use Rattle.kwire.specs.declared.request.FetchPart.{FetchPart}
 use Rattle.kwire.specs.declared.request.FetchTopic.{FetchTopic}
-use Rattle.kwire.specs.declared.request.TheConstants.{MOST_NAMED}
+use Rattle.kwire.specs.declared.api.Api.{Api}
+use Rattle.kwire.specs.declared.api.Api.TheVariants.{Produce as ProduceApi, Fetch as FetchApi, Metadata as MetadataApi, Versions as VersionsApi}
+use Rattle.kwire.specs.Layouts.{AreOf}
+use Rattle.kwire.specs.Apis.{key_of_api, version_of_api, request_layout}
 
-abbrev pub key_of : Ask → ℤ
-key_of (Produce transactional acks timeout topics) = pos 0
-key_of (Fetch replica max_wait min_bytes max_bytes isolation topics) = pos 1
-key_of (Metadata topics) = pos 3
-key_of (Versions version) = pos 18
+-- the api that is asked
+abbrev pub api_of : Ask → Api
+api_of (Produce transactional acks timeout topics) = ProduceApi
+api_of (Fetch replica max_wait min_bytes max_bytes isolation topics) = FetchApi
+api_of (Metadata topics) = MetadataApi
+api_of (Versions version) = VersionsApi
 
+-- the version that the header tells
 abbrev pub version_of : Ask → ℤ
-version_of (Produce transactional acks timeout topics) = pos 3
-version_of (Fetch replica max_wait min_bytes max_bytes isolation topics) = pos 4
-version_of (Metadata topics) = pos 1
+version_of (Produce transactional acks timeout topics) = version_of_api ProduceApi
+version_of (Fetch replica max_wait min_bytes max_bytes isolation topics) = version_of_api FetchApi
+version_of (Metadata topics) = version_of_api MetadataApi
 version_of (Versions version) = version
 
 abbrev pub produce_part_fields : ProducePart → List Field
@@ -37,18 +41,24 @@ fetch_part_fields part = Int32 part.index ∷ Int64 part.offset ∷ Int32 part.m
 abbrev pub fetch_topic_fields : FetchTopic → List Field
 fetch_topic_fields topic = String topic.name ∷ Array (Some (length topic.parts)) ∷ flat_map fetch_part_fields topic.parts
 
--- what stands behind the header
+abbrev pub name_fields : List ℕ → List Field
+name_fields name = String name ∷ []
+
+-- what stands after the header and the client's id
 abbrev pub ask_fields : Ask → List Field
 ask_fields (Produce transactional acks timeout topics) =
     NullableString transactional ∷ Int16 acks ∷ Int32 timeout ∷ Array (Some (length topics)) ∷ flat_map produce_topic_fields topics
 ask_fields (Fetch replica max_wait min_bytes max_bytes isolation topics) =
     Int32 replica ∷ Int32 max_wait ∷ Int32 min_bytes ∷ Int32 max_bytes ∷ Int8 isolation ∷ Array (Some (length topics)) ∷ flat_map fetch_topic_fields topics
-ask_fields (Metadata topics) = Array (option_map length topics) ∷ map String (unwrap_or topics [])
+ask_fields (Metadata topics) = Array (option_map length topics) ∷ flat_map name_fields (unwrap_or topics [])
 ask_fields (Versions version) = []
 
--- the api key, the version and the correlation id
+-- the api's key, the version and the correlation id
+abbrev pub head : ℤ → ℤ → ℤ → List Field
+head key version correlation = Int16 key ∷ Int16 version ∷ Int32 correlation ∷ []
+
 abbrev pub head_fields : Request → List Field
-head_fields request = Int16 (key_of request.ask) ∷ Int16 (version_of request.ask) ∷ Int32 request.correlation ∷ []
+head_fields request = head (key_of_api (api_of request.ask)) (version_of request.ask) request.correlation
 
 abbrev pub request_fields : Request → List Field
 request_fields request = head_fields request ++ NullableString request.client ∷ ask_fields request.ask
@@ -74,34 +84,22 @@ topics_named (Fetch replica max_wait min_bytes max_bytes isolation topics) = len
 topics_named (Metadata topics) = length (unwrap_or topics [])
 topics_named (Versions version) = 0
 
-abbrev pub IsKnownIsolation : Ask → Type 0
-IsKnownIsolation (Produce transactional acks timeout topics) = Unit {0}
-IsKnownIsolation (Fetch replica max_wait min_bytes max_bytes isolation topics) = (isolation ≡ pos 0) ⊎ (isolation ≡ pos 1)
-IsKnownIsolation (Metadata topics) = Unit {0}
-IsKnownIsolation (Versions version) = Unit {0}
-
--- the other requests are read in one version alone, and so have none
-abbrev pub IsKnownVersion : Ask → Type 0
-IsKnownVersion (Produce transactional acks timeout topics) = Unit {0}
-IsKnownVersion (Fetch replica max_wait min_bytes max_bytes isolation topics) = Unit {0}
-IsKnownVersion (Metadata topics) = Unit {0}
-IsKnownVersion (Versions version) = version ≡ pos 0
-
--- a body of a known version
-pub record IsWhole (body : List ℕ) (request : Request) : Type 0 where
+-- the body is the fields of the request, and they are those of the api's layout
+pub record IsSpelledOut (body : List ℕ) (request : Request) : Type 0 where
   pub spelled : body ≡ fields (request_fields request)
-  pub fits : AllByRecursion FitsField (request_fields request)
-  pub version : IsKnownVersion request.ask
-  pub isolation : IsKnownIsolation request.ask
-  pub few_topics : topics_named request.ask ≤ MOST_NAMED
-  pub few_partitions : length (named_of request.ask) ≤ MOST_NAMED
+  pub version : version_of request.ask ≡ version_of_api (api_of request.ask)
+  pub laid_out : AreOf (request_layout (api_of request.ask)) (request_fields request)
+
+-- a body of the version that is read whole, in which no partition is named twice
+pub record IsWhole (body : List ℕ) (request : Request) : Type 0 where
+  pub whole : IsSpelledOut body request
   pub once : AllPairs (λ a b. a ≢ b) (named_of request.ask)
 
--- ApiVersions in another version, whatever stands behind the correlation id
+-- ApiVersions in another version, whatever stands after the correlation id
 pub record IsOtherVersion (body : List ℕ) (request : Request) : Type 0 where
   pub version : ℤ
   pub asked : request.ask ≡ Versions version
-  pub other : version ≢ pos 0
+  pub other : version ≢ version_of_api VersionsApi
   pub nobody : request.client ≡ None
   pub fits : AllByRecursion FitsField (head_fields request)
   pub rest : List ℕ

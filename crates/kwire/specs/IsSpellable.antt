@@ -1,4 +1,4 @@
--- Which replies have a frame: each field is in its range, and the frame has fewer than 2,147,483,648 bytes behind its size.
+-- Which replies have a frame: each field is in its range, and the frame has fewer than 2,147,483,648 bytes after its size.
 use Rattle.std.specs.Prelude.{◌+◌, ◌<◌, ◌^◌, List, length, IfSome, ⊤}
 use Rattle.std.specs.List.{AllByRecursion}
 use Rattle.kbytes.specs.Field.{Field, Int8, Int16, Int32, Uint32, Int64, String, NullableString, Records, Array, Varint, Varlong}

@@ -3,6 +3,9 @@ use Rattle.std.specs.Prelude.{ℕ, ◌+◌, ℤ, pos, negsuc, List, [], ◌∷�
 use Rattle.std.specs.List.{flat_map, range_with_len}
 use Rattle.std.specs.Ordering.{int_eq}
 use Rattle.kbytes.specs.Field.{Field, Int8, Int16, Int32, Int64, String, NullableString, Records, Array, fields}
+use Rattle.kwire.specs.declared.api.Api.{Api}
+use Rattle.kwire.specs.declared.api.Api.TheVariants.{Produce as ProduceApi, Fetch as FetchApi, Metadata as MetadataApi, Versions as VersionsApi}
+use Rattle.kwire.specs.Apis.{key_of_api, version_of_api}
 use Rattle.kwire.specs.Frames.{framed}
 use Rattle.kwire.specs.declared.reply.Reply.{Reply}
 use Rattle.kwire.specs.declared.reply.Told.{Told}
@@ -50,9 +53,12 @@ topic_info_fields topic =
 abbrev pub broker_fields : ℕ → List Field
 broker_fields port = Int32 (pos 0) ∷ String (codes "localhost") ∷ Int32 (pos port) ∷ NullableString None ∷ []
 
--- an api and its least and greatest version
-abbrev pub api_fields : ℕ → ℕ → List Field
-api_fields key version = Int16 (pos key) ∷ Int16 (pos version) ∷ Int16 (pos version) ∷ []
+-- an api, and its least and greatest version
+abbrev pub api_fields : Api → List Field
+api_fields api = Int16 (key_of_api api) ∷ Int16 (version_of_api api) ∷ Int16 (version_of_api api) ∷ []
+
+abbrev pub all_apis : List Api
+all_apis = ProduceApi ∷ FetchApi ∷ MetadataApi ∷ VersionsApi ∷ []
 
 -- no reply is throttled
 abbrev pub told_fields : Told → List Field
@@ -62,7 +68,7 @@ told_fields (Fetched isolation topics) =
 told_fields (Metadata port topics) =
     Array (Some 1) ∷ broker_fields port ++ Int32 (pos 0) ∷ Array (Some (length topics)) ∷ flat_map topic_info_fields topics
 told_fields (Versions code) =
-    Int16 code ∷ Array (Some 4) ∷ api_fields 0 3 ++ api_fields 1 4 ++ api_fields 3 1 ++ api_fields 18 0
+    Int16 code ∷ Array (Some (length all_apis)) ∷ flat_map api_fields all_apis
 
 -- the bytes of a reply's frame
 abbrev pub spelling : Reply → List ℕ

@@ -1,96 +1,124 @@
 //! Reading a request from the body of a frame.
 
-ghost use Rattle.std.specs.Prelude.{◌≡◌, ◌≤◌, Some, None, Ok, IfOk, if◌then◌else◌};
-ghost use Rattle.kwire.specs.declared.request.Request.{Request};
-ghost use Rattle.kwire.specs.IsRequest.{IsRequest, topics_named};
-ghost use Rattle.kwire.specs.Refusal.{ask_at, is_known, known_version, body_at, request_at};
-ghost use Rattle.kwire.specs.ReadAnswers.{Reads, Answers};
+ghost use Rattle.std.specs.Prelude.{◌≡◌, ◌≢◌, ◌≤◌, AllPairs, IfOk, IfErr};
+ghost use Rattle.kwire.specs.Apis.{version_of_api, head_layout, ask_layout};
+ghost use Rattle.kwire.specs.IsRequest.{IsRequest, api_of, version_of, head, ask_fields, named_of, topics_named};
+ghost use Rattle.kwire.specs.Refusal.{IsRefused};
+ghost use Rattle.kwire.specs.Views.{ask_of};
+ghost use Rattle.kwire.specs.Reading.{Reads, fields_at, IsReadBody, IsNoBody};
+ghost use Rattle.kwire.specs.declared.frame.WireFault.TheVariants.{NoMemory as OutOfMemory};
 ghost use Rattle.kwire.specs.declared.request.TheConstants.{MOST_NAMED};
 
+use crate::api::{Api, api_of, version_of};
 use crate::frame::WireFault;
 use crate::read_fetch::read_fetch;
 use crate::read_metadata::read_metadata;
 use crate::read_produce::read_produce;
 use crate::repeats::refuse_repeats;
-use crate::request::{Ask, Request};
-use kbytes::{Reader, copied_or_null};
+use crate::request::Request;
+use crate::view::{AskView, RequestView};
+use kbytes::Reader;
 use std::alloc::Global;
 
-// The version of a known api that is read whole.
-fn version_of(key: i16) -> Option<i16>
-    ensures { result ≡ (if is_known key then Some (known_version key) else None) }
-{
-    match key {
-        0 => Some(3),
-        1 => Some(4),
-        3 => Some(1),
-        18 => Some(0),
-        _ => None,
-    }
-}
-
-// What is asked of a known api.
-fn read_ask(alloc: Global, reader: &mut Reader<'_>, key: i16) -> Result<Ask, WireFault>
-    ensures exact { Reads reader.new result (ask_at key reader.old) }
-    ensures few { IfOk result (λ ask. topics_named ask ≤ MOST_NAMED) }
-{
-    match key {
-        0 => read_produce(alloc, reader),
-        1 => read_fetch(alloc, reader),
-        3 => read_metadata(alloc, reader),
-        _ => Ok(Ask::Versions { version: 0 }),
-    }
-}
-
-// The client's id, and what is asked; nothing stands behind it.
-#[tactic(auto, unfolding(crate::specs::Refusal::body_at))]
-fn read_body(
-    alloc: Global,
-    mut reader: Reader<'_>,
+/// The front of a request's body.
+#[derive(Clone, Copy, Debug)]
+pub struct Head {
     key: i16,
+    version: i16,
     correlation: i32,
-) -> Result<Request, WireFault>
-    ensures { Answers result (body_at key correlation reader.entry) }
+}
+
+#[tactic(auto, unfolding(crate::specs::Reading::layout_at))]
+fn read_head(reader: &mut Reader<'_>) -> Result<Head, WireFault>
+    ensures { Reads (λ found. head found.key found.version found.correlation) reader.new result (fields_at head_layout reader.old) }
+{
+    let key = reader.i16()?;
+    let version = reader.i16()?;
+    let correlation = reader.i32()?;
+    Ok(Head {
+        key,
+        version,
+        correlation,
+    })
+}
+
+// What is asked of an api in the version that is read whole.
+#[tactic(auto, unfolding(crate::specs::Reading::layout_at))]
+fn read_ask<'a>(alloc: Global, reader: &mut Reader<'a>, api: Api) -> Result<AskView<'a>, WireFault>
+    ensures exact { Reads (λ ask. ask_fields (ask_of ask)) reader.new result (fields_at (ask_layout api) reader.old) }
+    ensures asked { IfOk result (λ ask. api_of (ask_of ask) ≡ api) }
+    ensures version { IfOk result (λ ask. version_of (ask_of ask) ≡ version_of_api api) }
+    ensures few { IfOk result (λ ask. topics_named (ask_of ask) ≤ MOST_NAMED) }
+{
+    match api {
+        Api::Produce => read_produce(alloc, reader),
+        Api::Fetch => read_fetch(alloc, reader),
+        Api::Metadata => read_metadata(alloc, reader),
+        Api::Versions => Ok(AskView::Versions { version: 0 }),
+    }
+}
+
+// The client's id, and what is asked; nothing stands after it.
+fn read_body<'a>(
+    alloc: Global,
+    mut reader: Reader<'a>,
+    api: Api,
+    correlation: i32,
+) -> Result<RequestView<'a>, WireFault>
+    ensures read { IfOk result (λ request. IsReadBody api reader.entry request) }
+    ensures correlation { IfOk result (λ request. request.correlation ≡ correlation) }
+    ensures once { IfOk result (λ request. AllPairs (λ a b. a ≢ b) (named_of request.ask)) }
+    ensures refused { IfErr result (λ why. why ≢ OutOfMemory → IsNoBody api correlation reader.entry why) }
 {
     let client = reader.nullable_string()?;
-    let client = copied_or_null(alloc, client)?;
-    let ask = read_ask(alloc, &mut reader, key)?;
+    let ask = read_ask(alloc, &mut reader, api)?;
     if !reader.rest().is_empty() {
         return Err(WireFault::BadRequest { at: reader.at() });
     }
     refuse_repeats(alloc, &ask)?;
-    Ok(Request {
+    Ok(RequestView {
         correlation,
         client,
         ask,
     })
 }
 
-/// The request that the body of a frame is, or why it is none. The first fault from the left is told: the header, the api
-/// and its version, the fields, bytes behind them, a partition named twice. A request for the versions of the apis in an
-/// unknown version is one whatever stands behind its correlation id.
-#[tactic(auto, unfolding(crate::specs::Refusal::request_at))]
-pub fn read_request(alloc: Global, body: &[u8]) -> Result<Request, WireFault>
-    ensures exact { Answers result (request_at body.now) }
+/// The request that the body of a frame is, or why it is none; its names and records are those of the body. The first fault
+/// from the left is told: the header, the api and its version, the fields, bytes after them, a partition named twice. A
+/// request for the versions of the apis in an unknown version is one whatever stands after its correlation id.
+pub fn view_request<'a>(alloc: Global, body: &'a [u8]) -> Result<RequestView<'a>, WireFault>
     ensures request { IfOk result (λ request. IsRequest body.now request) }
-    ensures only { (request : Request) → IsRequest body.now request → request_at body.now ≡ Ok request }
+    ensures refused { IfErr result (λ why. why ≢ OutOfMemory → IsRefused body.now why) }
 {
     let mut reader = Reader::new(body);
-    let key = reader.i16()?;
-    let version = reader.i16()?;
-    let correlation = reader.i32()?;
-    let Some(known) = version_of(key) else {
-        return Err(WireFault::UnknownApi { key });
+    let head = read_head(&mut reader)?;
+    let Some(api) = api_of(head.key) else {
+        return Err(WireFault::UnknownApi { key: head.key });
     };
-    if version == known {
-        return read_body(alloc, reader, key, correlation);
+    if head.version == version_of(api) {
+        return read_body(alloc, reader, api, head.correlation);
     }
-    if key == 18 {
-        return Ok(Request {
-            correlation,
+    match api {
+        Api::Versions => Ok(RequestView {
+            correlation: head.correlation,
             client: None,
-            ask: Ask::Versions { version },
-        });
+            ask: AskView::Versions {
+                version: head.version,
+            },
+        }),
+        Api::Produce | Api::Fetch | Api::Metadata => Err(WireFault::Unsupported {
+            key: head.key,
+            version: head.version,
+        }),
     }
-    Err(WireFault::Unsupported { key, version })
+}
+
+/// The same request, with bytes of its own.
+pub fn read_request(alloc: Global, body: &[u8]) -> Result<Request, WireFault>
+    ensures request { IfOk result (λ request. IsRequest body.now request) }
+    ensures refused { IfErr result (λ why. why ≢ OutOfMemory → IsRefused body.now why) }
+{
+    let request = view_request(alloc, body)?;
+    let request = request.to_owned(alloc)?;
+    Ok(request)
 }

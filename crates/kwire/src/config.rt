@@ -149,7 +149,7 @@ impl Config {
         }
     }
 
-    /// Declares a topic behind the others. `BadName` comes exactly where the name isn't one of a topic, then `TopicTwice`
+    /// Declares a topic after the others. `BadName` comes exactly where the name isn't one of a topic, then `TopicTwice`
     /// exactly where it is declared, then `BadCount` exactly where the number of partitions or followers is out of range.
     /// After a refusal the configuration is as before.
     pub fn add(&mut self, name: &[u8], partitions: u32, followers: u32) -> Result<(), ConfigFault>

@@ -2,7 +2,7 @@
 
 ghost use Rattle.std.specs.Prelude.{◌≡◌};
 ghost use Rattle.kwire.specs.declared.frame.WireFault.TheVariants.{BadRequest, NoMemory as OutOfMemory};
-ghost use Rattle.kwire.specs.Refusal.{place_of_fault};
+ghost use Rattle.kwire.specs.Reading.{place_of_fault};
 
 use kbytes::{ByteFault, NoMemory};
 use std::error::Error;

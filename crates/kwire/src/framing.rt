@@ -8,7 +8,7 @@ use crate::frame::Frame;
 /// The most bytes that may follow the size of a frame.
 pub const MOST_FRAME_BYTES: u32 = 8_388_608;
 
-/// What stands at the front of these bytes. `Whole` ends behind the frame's body, whose size is the four bytes before it.
+/// What stands at the front of these bytes. `Whole` ends after the frame's body, whose size is the four bytes before it.
 /// `TooLong` comes as soon as the four bytes of a size below 0 or above 8,388,608 are there.
 pub fn next_frame(bytes: &[u8]) -> Frame
     ensures { result ≡ next_frame_of bytes.now }

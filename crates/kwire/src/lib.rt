@@ -4,15 +4,20 @@
 //! or learn the first fault from the left, and spell a `Reply` as the bytes of its frame.
 #![tactic(auto)]
 
+mod api;
 mod body;
 mod config;
 mod frame;
 mod framing;
 mod inbox;
+mod owned;
 mod promises;
 mod put_fetched;
+mod put_items;
+mod put_metadata;
 mod put_produced;
 mod put_reply;
+mod put_request;
 mod read_fetch;
 mod read_items;
 mod read_metadata;
@@ -20,13 +25,19 @@ mod read_produce;
 mod repeats;
 mod reply;
 mod request;
+mod view;
 
-pub use body::read_request;
+pub use body::{read_request, view_request};
 pub use config::{Config, ConfigFault, MOST_FOLLOWERS, MOST_NAME_BYTES, MOST_PARTITIONS, Topic};
 pub use frame::{Frame, WireFault};
 pub use framing::{MOST_FRAME_BYTES, next_frame};
 pub use inbox::Inbox;
-pub use promises::frames_are_one;
+pub use promises::{frames_are_one, frames_in_pieces, layouts_are_one, requests_are_one};
 pub use put_reply::reply_bytes;
+pub use put_request::request_bytes;
 pub use reply::{FetchedPart, FetchedTopic, ProducedPart, ProducedTopic, Reply, Told, TopicInfo};
 pub use request::{Ask, FetchPart, FetchTopic, MOST_NAMED, ProducePart, ProduceTopic, Request};
+pub use view::{AskView, FetchTopicView, ProducePartView, ProduceTopicView, RequestView};
+
+#[cfg(test)]
+mod tests;

@@ -63,7 +63,7 @@ fn put_topics(out: &mut Bytes, isolation: i8, topics: &[FetchedTopic]) -> Result
     Ok(())
 }
 
-/// The topics, behind their count. The isolation level is 0 or 1.
+/// The topics, after their count. The isolation level is 0 or 1.
 pub fn put_fetched(out: &mut Bytes, isolation: i8, topics: &[FetchedTopic]) -> Result<(), NoMemory>
     requires { AreInRange (Array (Some (length topics.now)) ∷ flat_map (fetched_topic_fields isolation) topics.now) }
     ensures { OnOk result (out.new ≡ out.old

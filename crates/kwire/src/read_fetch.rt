@@ -1,80 +1,67 @@
 //! The fields of a fetch.
 
-ghost use Rattle.std.specs.Prelude.{◌≡◌, ◌+◌, ◌≤◌, length, IfOk};
-ghost use Rattle.kwire.specs.IsRequest.{topics_named};
-ghost use Rattle.kwire.specs.Refusal.{items_at, fetch_part_at, fetch_topic_at, fetch_topics_at, isolation_at, fetch_at};
-ghost use Rattle.kwire.specs.ReadAnswers.{Reads};
+ghost use Rattle.std.specs.Prelude.{◌≡◌, ◌≤◌, IfOk};
+ghost use Rattle.kbytes.specs.Field.{Int8};
+ghost use Rattle.kwire.specs.Layouts.{INT8_OF};
+ghost use Rattle.kwire.specs.Apis.{fetch_part_layout, fetch_topic_layout, isolation_levels, version_of_api, ask_layout};
+ghost use Rattle.kwire.specs.IsRequest.{fetch_part_fields, fetch_topic_fields, api_of, version_of, ask_fields, topics_named};
+ghost use Rattle.kwire.specs.Views.{ask_of};
+ghost use Rattle.kwire.specs.Reading.{Reads, field_at, fields_at, layout_at};
+ghost use Rattle.kwire.specs.declared.api.Api.TheVariants.{Fetch as FetchApi};
 ghost use Rattle.kwire.specs.declared.request.TheConstants.{MOST_NAMED};
 
 use crate::frame::WireFault;
-use crate::read_items::read_count;
-use crate::request::{Ask, FetchPart, FetchTopic};
-use kbytes::{List, Reader, copied};
+use crate::read_items::{Item, read_count, read_items, refuse_many};
+use crate::request::FetchPart;
+use crate::view::{AskView, FetchTopicView};
+use kbytes::Reader;
 use std::alloc::Global;
 
-fn read_part(reader: &mut Reader<'_>) -> Result<FetchPart, WireFault>
-    ensures { Reads reader.new result (fetch_part_at reader.old) }
-{
-    let index = reader.i32()?;
-    let offset = reader.i64()?;
-    let most = reader.i32()?;
-    Ok(FetchPart {
-        index,
-        offset,
-        most,
-    })
-}
+impl<'a> Item<'a> for FetchPart {
+    ghost layout = { fetch_part_layout };
 
-fn read_parts(
-    alloc: Global,
-    reader: &mut Reader<'_>,
-    count: u32,
-) -> Result<List<FetchPart>, WireFault>
-    ensures exact { Reads reader.new result (items_at fetch_part_at count reader.old) }
-    ensures whole { IfOk result (λ parts. length parts ≡ count) }
-{
-    let mut parts = List::new(alloc);
-    for _ in 0..count {
-        let part = read_part(reader)?;
-        parts.push(part)?;
+    ghost fields = { fetch_part_fields };
+
+    #[tactic(auto, unfolding(crate::specs::Reading::layout_at))]
+    fn read(
+        _alloc: Global,
+        reader: &mut Reader<'a>,
+        _named: &mut u32,
+    ) -> Result<FetchPart, WireFault> {
+        let index = reader.i32()?;
+        let offset = reader.i64()?;
+        let most = reader.i32()?;
+        Ok(FetchPart {
+            index,
+            offset,
+            most,
+        })
     }
-    Ok(parts)
 }
 
-// A topic, of which so many partitions were named before.
-fn read_topic(alloc: Global, reader: &mut Reader<'_>, before: u32) -> Result<FetchTopic, WireFault>
-    requires { before ≤ MOST_NAMED }
-    ensures exact { Reads reader.new result (fetch_topic_at before reader.old) }
-    ensures few { IfOk result (λ topic. before + length topic.parts ≤ MOST_NAMED) }
-{
-    let name = reader.string()?;
-    let name = copied(alloc, name)?;
-    let count = read_count(reader, before)?;
-    let parts = read_parts(alloc, reader, count)?;
-    Ok(FetchTopic { name, parts })
-}
+impl<'a> Item<'a> for FetchTopicView<'a> {
+    ghost layout = { fetch_topic_layout };
 
-fn read_topics(
-    alloc: Global,
-    reader: &mut Reader<'_>,
-    count: u32,
-) -> Result<List<FetchTopic>, WireFault>
-    ensures exact { Reads reader.new result (fetch_topics_at count 0 reader.old) }
-    ensures whole { IfOk result (λ topics. length topics ≡ count) }
-{
-    let mut topics = List::new(alloc);
-    let mut named = 0;
-    for _ in 0..count {
-        let topic = read_topic(alloc, reader, named)?;
-        named += topic.parts.len() as u32;
-        topics.push(topic)?;
+    ghost fields = { fetch_topic_fields };
+
+    #[tactic(auto, unfolding(crate::specs::Reading::layout_at))]
+    fn read(
+        alloc: Global,
+        reader: &mut Reader<'a>,
+        named: &mut u32,
+    ) -> Result<FetchTopicView<'a>, WireFault> {
+        let name = reader.string()?;
+        let count = read_count(reader)?;
+        refuse_many(*named + count)?;
+        *named += count;
+        let parts = read_items(alloc, reader, count, named)?;
+        Ok(FetchTopicView { name, parts })
     }
-    Ok(topics)
 }
 
 // 0 or 1.
 fn read_isolation(reader: &mut Reader<'_>) -> Result<i8, WireFault>
-    ensures { Reads reader.new result (isolation_at reader.old) }
+    ensures { Reads Int8 reader.new result (field_at (INT8_OF isolation_levels) reader.old) }
 {
     let at = reader.at();
     let level = reader.i8()?;
@@ -84,20 +71,23 @@ fn read_isolation(reader: &mut Reader<'_>) -> Result<i8, WireFault>
     Err(WireFault::BadRequest { at })
 }
 
-/// The fields of a fetch behind the client's id.
-#[tactic(auto, unfolding(crate::specs::Refusal::fetch_at))]
-pub fn read_fetch(alloc: Global, reader: &mut Reader<'_>) -> Result<Ask, WireFault>
-    ensures exact { Reads reader.new result (fetch_at reader.old) }
-    ensures few { IfOk result (λ ask. topics_named ask ≤ MOST_NAMED) }
+/// What is asked by a fetch.
+#[tactic(auto, unfolding(crate::specs::Reading::layout_at))]
+pub fn read_fetch<'a>(alloc: Global, reader: &mut Reader<'a>) -> Result<AskView<'a>, WireFault>
+    ensures exact { Reads (λ ask. ask_fields (ask_of ask)) reader.new result (fields_at (ask_layout FetchApi) reader.old) }
+    ensures asked { IfOk result (λ ask. api_of (ask_of ask) ≡ FetchApi) }
+    ensures version { IfOk result (λ ask. version_of (ask_of ask) ≡ version_of_api FetchApi) }
+    ensures few { IfOk result (λ ask. topics_named (ask_of ask) ≤ MOST_NAMED) }
 {
     let replica = reader.i32()?;
     let max_wait = reader.i32()?;
     let min_bytes = reader.i32()?;
     let max_bytes = reader.i32()?;
     let isolation = read_isolation(reader)?;
-    let count = read_count(reader, 0)?;
-    let topics = read_topics(alloc, reader, count)?;
-    Ok(Ask::Fetch {
+    let count = read_count(reader)?;
+    refuse_many(count)?;
+    let topics = read_items(alloc, reader, count, &mut 0)?;
+    Ok(AskView::Fetch {
         replica,
         max_wait,
         min_bytes,

@@ -1,26 +1,69 @@
-//! What several requests share.
+//! What several requests share: counts, and lists of items.
 
-ghost use Rattle.std.specs.Prelude.{◌+◌, ◌≤◌, IfOk};
-ghost use Rattle.kwire.specs.Refusal.{count_at};
-ghost use Rattle.kwire.specs.ReadAnswers.{Reads};
+ghost use Rattle.std.specs.Prelude.{◌≡◌, ◌<◌, ◌≤◌, ◌^◌, List as Items, Some, length, IfOk};
+ghost use Rattle.std.specs.List.{flat_map};
+ghost use Rattle.kbytes.specs.Field.{Field, Array};
+ghost use Rattle.kwire.specs.Layouts.{Layout, ARRAY, End};
+ghost use Rattle.kwire.specs.Reading.{Reads, ReadsItem, within, field_at, times_at, layout_at};
+ghost use Rattle.kwire.specs.declared.request.TheConstants.{MOST_NAMED};
 
 use crate::frame::WireFault;
 use crate::request::MOST_NAMED;
-use kbytes::Reader;
+use kbytes::{List, Reader};
+use std::alloc::Global;
 
-/// A count of things of which so many were named before, at most 64 in all.
-pub fn read_count(reader: &mut Reader<'_>, before: u32) -> Result<u32, WireFault>
-    requires { before ≤ MOST_NAMED }
-    ensures exact { Reads reader.new result (count_at before reader.old) }
-    ensures few { IfOk result (λ count. before + count ≤ MOST_NAMED) }
+/// What is read one after the other. `named` counts the partitions that were named so far.
+pub trait Item<'a>: Drop + Sized {
+    ghost layout: { Layout };
+
+    ghost fields: { Self → Items Field };
+
+    fn read(alloc: Global, reader: &mut Reader<'a>, named: &mut u32) -> Result<Self, WireFault>
+        requires { named.old ≤ MOST_NAMED }
+        ensures exact { ReadsItem fields named.new reader.new result (layout_at layout named.old reader.old) }
+        ensures few { IfOk result (λ _. named.new ≤ MOST_NAMED) };
+}
+
+/// The count of an array that isn't null.
+pub fn read_count(reader: &mut Reader<'_>) -> Result<u32, WireFault>
+    ensures exact { Reads (λ count. Array (Some count)) reader.new result (field_at ARRAY reader.old) }
+    ensures small { IfOk result (λ count. count < 2 ^ 31) }
 {
     let at = reader.at();
     let Some(count) = reader.array()? else {
         return Err(WireFault::BadRequest { at });
     };
-    let total = before + count;
-    if total > MOST_NAMED {
-        return Err(WireFault::TooMany { count: total });
-    }
     Ok(count)
+}
+
+/// `TooMany`, exactly where more than 64 topics or partitions are named.
+pub fn refuse_many(count: u32) -> Result<(), WireFault>
+    ensures exact { result ≡ within count }
+    ensures few { IfOk result (λ _. count ≤ MOST_NAMED) }
+{
+    if count > MOST_NAMED {
+        return Err(WireFault::TooMany { count });
+    }
+    Ok(())
+}
+
+/// So many items.
+pub fn read_items<'a, T: Item<'a>>(
+    alloc: Global,
+    reader: &mut Reader<'a>,
+    count: u32,
+    named: &mut u32,
+) -> Result<List<T>, WireFault>
+    requires { named.old ≤ MOST_NAMED }
+    ensures exact { ReadsItem (flat_map T.fields) named.new reader.new result
+        (times_at (layout_at T.layout) (layout_at End) count named.old reader.old) }
+    ensures whole { IfOk result (λ items. length items ≡ count) }
+    ensures few { IfOk result (λ _. named.new ≤ MOST_NAMED) }
+{
+    let mut items = List::new(alloc);
+    for _ in 0..count {
+        let item = T::read(alloc, reader, named)?;
+        items.push(item)?;
+    }
+    Ok(items)
 }

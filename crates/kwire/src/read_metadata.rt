@@ -1,49 +1,49 @@
 //! The fields of a request for metadata.
 
-ghost use Rattle.std.specs.Prelude.{◌≡◌, ◌≤◌, length, IfOk};
-ghost use Rattle.kwire.specs.IsRequest.{topics_named};
-ghost use Rattle.kwire.specs.Refusal.{items_at, name_at, metadata_at};
-ghost use Rattle.kwire.specs.ReadAnswers.{Reads};
+ghost use Rattle.std.specs.Prelude.{◌≡◌, ◌≤◌, IfOk};
+ghost use Rattle.kwire.specs.Apis.{name_layout, version_of_api, ask_layout};
+ghost use Rattle.kwire.specs.IsRequest.{name_fields, api_of, version_of, ask_fields, topics_named};
+ghost use Rattle.kwire.specs.Views.{ask_of};
+ghost use Rattle.kwire.specs.Reading.{Reads, fields_at, layout_at};
+ghost use Rattle.kwire.specs.declared.api.Api.TheVariants.{Metadata as MetadataApi};
+ghost use Rattle.kwire.specs.declared.request.TheConstants.{MOST_NAMED};
 
 use crate::frame::WireFault;
-use crate::request::{Ask, MOST_NAMED};
-use kbytes::{Bytes, List, Reader, copied};
+use crate::read_items::{Item, read_items, refuse_many};
+use crate::view::AskView;
+use kbytes::Reader;
 use std::alloc::Global;
 
-fn read_name(alloc: Global, reader: &mut Reader<'_>) -> Result<Bytes, WireFault>
-    ensures { Reads reader.new result (name_at reader.old) }
-{
-    let name = reader.string()?;
-    let name = copied(alloc, name)?;
-    Ok(name)
-}
+impl<'a> Item<'a> for &'a [u8] {
+    ghost layout = { name_layout };
 
-fn read_names(alloc: Global, reader: &mut Reader<'_>, count: u32) -> Result<List<Bytes>, WireFault>
-    ensures exact { Reads reader.new result (items_at name_at count reader.old) }
-    ensures whole { IfOk result (λ names. length names ≡ count) }
-{
-    let mut names = List::new(alloc);
-    for _ in 0..count {
-        let name = read_name(alloc, reader)?;
-        names.push(name)?;
+    ghost fields = { λ name. name_fields name.now };
+
+    #[tactic(auto, unfolding(crate::specs::Reading::layout_at))]
+    fn read(
+        _alloc: Global,
+        reader: &mut Reader<'a>,
+        _named: &mut u32,
+    ) -> Result<&'a [u8], WireFault> {
+        let name = reader.string()?;
+        Ok(name)
     }
-    Ok(names)
 }
 
 /// The topics that are asked for, at most 64, or all of them.
-#[tactic(auto, unfolding(crate::specs::Refusal::metadata_at))]
-pub fn read_metadata(alloc: Global, reader: &mut Reader<'_>) -> Result<Ask, WireFault>
-    ensures exact { Reads reader.new result (metadata_at reader.old) }
-    ensures few { IfOk result (λ ask. topics_named ask ≤ MOST_NAMED) }
+#[tactic(auto, unfolding(crate::specs::Reading::layout_at))]
+pub fn read_metadata<'a>(alloc: Global, reader: &mut Reader<'a>) -> Result<AskView<'a>, WireFault>
+    ensures exact { Reads (λ ask. ask_fields (ask_of ask)) reader.new result (fields_at (ask_layout MetadataApi) reader.old) }
+    ensures asked { IfOk result (λ ask. api_of (ask_of ask) ≡ MetadataApi) }
+    ensures version { IfOk result (λ ask. version_of (ask_of ask) ≡ version_of_api MetadataApi) }
+    ensures few { IfOk result (λ ask. topics_named (ask_of ask) ≤ MOST_NAMED) }
 {
     let Some(count) = reader.array()? else {
-        return Ok(Ask::Metadata { topics: None });
+        return Ok(AskView::Metadata { topics: None });
     };
-    if count > MOST_NAMED {
-        return Err(WireFault::TooMany { count });
-    }
-    let names = read_names(alloc, reader, count)?;
-    Ok(Ask::Metadata {
+    refuse_many(count)?;
+    let names = read_items(alloc, reader, count, &mut 0)?;
+    Ok(AskView::Metadata {
         topics: Some(names),
     })
 }

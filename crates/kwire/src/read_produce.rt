@@ -1,90 +1,71 @@
 //! The fields of a produce.
 
-ghost use Rattle.std.specs.Prelude.{◌≡◌, ◌+◌, ◌≤◌, length, IfOk};
-ghost use Rattle.kwire.specs.IsRequest.{topics_named};
-ghost use Rattle.kwire.specs.Refusal.{items_at, produce_part_at, produce_topic_at, produce_topics_at, produce_at};
-ghost use Rattle.kwire.specs.ReadAnswers.{Reads};
+ghost use Rattle.std.specs.Prelude.{◌≡◌, ◌≤◌, IfOk};
+ghost use Rattle.kwire.specs.Apis.{produce_part_layout, produce_topic_layout, version_of_api, ask_layout};
+ghost use Rattle.kwire.specs.IsRequest.{produce_part_fields, produce_topic_fields, api_of, version_of, ask_fields, topics_named};
+ghost use Rattle.kwire.specs.Views.{ask_of};
+ghost use Rattle.kwire.specs.Reading.{Reads, fields_at, layout_at};
+ghost use Rattle.kwire.specs.declared.api.Api.TheVariants.{Produce as ProduceApi};
 ghost use Rattle.kwire.specs.declared.request.TheConstants.{MOST_NAMED};
 
 use crate::frame::WireFault;
-use crate::read_items::read_count;
-use crate::request::{Ask, ProducePart, ProduceTopic};
-use kbytes::{List, Reader, copied, copied_or_null};
+use crate::read_items::{Item, read_count, read_items, refuse_many};
+use crate::view::{AskView, ProducePartView, ProduceTopicView};
+use kbytes::Reader;
 use std::alloc::Global;
 
-fn read_part(alloc: Global, reader: &mut Reader<'_>) -> Result<ProducePart, WireFault>
-    ensures { Reads reader.new result (produce_part_at reader.old) }
-{
-    let index = reader.i32()?;
-    let records = reader.records()?;
-    let records = copied_or_null(alloc, records)?;
-    Ok(ProducePart { index, records })
-}
+impl<'a> Item<'a> for ProducePartView<'a> {
+    ghost layout = { produce_part_layout };
 
-fn read_parts(
-    alloc: Global,
-    reader: &mut Reader<'_>,
-    count: u32,
-) -> Result<List<ProducePart>, WireFault>
-    ensures exact { Reads reader.new result (items_at produce_part_at count reader.old) }
-    ensures whole { IfOk result (λ parts. length parts ≡ count) }
-{
-    let mut parts = List::new(alloc);
-    for _ in 0..count {
-        let part = read_part(alloc, reader)?;
-        parts.push(part)?;
+    ghost fields = { produce_part_fields };
+
+    #[tactic(auto, unfolding(crate::specs::Reading::layout_at))]
+    fn read(
+        _alloc: Global,
+        reader: &mut Reader<'a>,
+        _named: &mut u32,
+    ) -> Result<ProducePartView<'a>, WireFault> {
+        let index = reader.i32()?;
+        let records = reader.records()?;
+        Ok(ProducePartView { index, records })
     }
-    Ok(parts)
 }
 
-// A topic, of which so many partitions were named before.
-fn read_topic(
-    alloc: Global,
-    reader: &mut Reader<'_>,
-    before: u32,
-) -> Result<ProduceTopic, WireFault>
-    requires { before ≤ MOST_NAMED }
-    ensures exact { Reads reader.new result (produce_topic_at before reader.old) }
-    ensures few { IfOk result (λ topic. before + length topic.parts ≤ MOST_NAMED) }
-{
-    let name = reader.string()?;
-    let name = copied(alloc, name)?;
-    let count = read_count(reader, before)?;
-    let parts = read_parts(alloc, reader, count)?;
-    Ok(ProduceTopic { name, parts })
-}
+impl<'a> Item<'a> for ProduceTopicView<'a> {
+    ghost layout = { produce_topic_layout };
 
-fn read_topics(
-    alloc: Global,
-    reader: &mut Reader<'_>,
-    count: u32,
-) -> Result<List<ProduceTopic>, WireFault>
-    ensures exact { Reads reader.new result (produce_topics_at count 0 reader.old) }
-    ensures whole { IfOk result (λ topics. length topics ≡ count) }
-{
-    let mut topics = List::new(alloc);
-    let mut named = 0;
-    for _ in 0..count {
-        let topic = read_topic(alloc, reader, named)?;
-        named += topic.parts.len() as u32;
-        topics.push(topic)?;
+    ghost fields = { produce_topic_fields };
+
+    #[tactic(auto, unfolding(crate::specs::Reading::layout_at))]
+    fn read(
+        alloc: Global,
+        reader: &mut Reader<'a>,
+        named: &mut u32,
+    ) -> Result<ProduceTopicView<'a>, WireFault> {
+        let name = reader.string()?;
+        let count = read_count(reader)?;
+        refuse_many(*named + count)?;
+        *named += count;
+        let parts = read_items(alloc, reader, count, named)?;
+        Ok(ProduceTopicView { name, parts })
     }
-    Ok(topics)
 }
 
-/// The fields of a produce behind the client's id.
-#[tactic(auto, unfolding(crate::specs::Refusal::produce_at))]
-pub fn read_produce(alloc: Global, reader: &mut Reader<'_>) -> Result<Ask, WireFault>
-    ensures exact { Reads reader.new result (produce_at reader.old) }
-    ensures few { IfOk result (λ ask. topics_named ask ≤ MOST_NAMED) }
+/// What is asked by a produce.
+#[tactic(auto, unfolding(crate::specs::Reading::layout_at))]
+pub fn read_produce<'a>(alloc: Global, reader: &mut Reader<'a>) -> Result<AskView<'a>, WireFault>
+    ensures exact { Reads (λ ask. ask_fields (ask_of ask)) reader.new result (fields_at (ask_layout ProduceApi) reader.old) }
+    ensures asked { IfOk result (λ ask. api_of (ask_of ask) ≡ ProduceApi) }
+    ensures version { IfOk result (λ ask. version_of (ask_of ask) ≡ version_of_api ProduceApi) }
+    ensures few { IfOk result (λ ask. topics_named (ask_of ask) ≤ MOST_NAMED) }
 {
     let transactional = reader.nullable_string()?;
-    let transactional = copied_or_null(alloc, transactional)?;
     let acks = reader.i16()?;
     let timeout = reader.i32()?;
-    let count = read_count(reader, 0)?;
-    let topics = read_topics(alloc, reader, count)?;
-    Ok(Ask::Produce {
+    let count = read_count(reader)?;
+    refuse_many(count)?;
+    let topics = read_items(alloc, reader, count, &mut 0)?;
+    Ok(AskView::Produce {
         transactional,
         acks,
         timeout,

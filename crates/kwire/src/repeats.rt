@@ -1,16 +1,17 @@
 //! Partitions that are named twice.
 
-ghost use Rattle.std.specs.Prelude.{◌≡◌, [], ◌++◌, ◌<◌, ◌≤◌, ◌^◌, length, map, option_map, None, OnOk, IfOk, IfErr};
+ghost use Rattle.std.specs.Prelude.{◌≡◌, ◌≢◌, ℕ, ℤ, List as Items, [], ◌++◌, ◌<◌, ◌≤◌, ◌^◌, length, map, option_map, AllPairs, OnOk, IfOk, IfErr};
 ghost use Rattle.std.specs.List.{list_any};
-ghost use Rattle.kwire.specs.declared.request.Request.{Request};
-ghost use Rattle.kwire.specs.IsRequest.{topics_named};
-ghost use Rattle.kwire.specs.Mentions.{view, place_of};
-ghost use Rattle.kwire.specs.Refusal.{is_same, repeat_after, unless_repeated, mentions_of, produce_mentions, produce_mentions_from, fetch_mentions, fetch_mentions_from};
-ghost use Rattle.kwire.specs.ReadAnswers.{IsFaultOf};
+ghost use Rattle.kwire.specs.IsRequest.{topics_named, named_of};
+ghost use Rattle.kwire.specs.Views.{ask_of};
+ghost use Rattle.kwire.specs.Mentions.{view, place_of, parts_mentions, is_same, repeat_after};
+ghost use Rattle.kwire.specs.Refusal.{Mention as AMention, IsFirstRepeat, mentions_from, mentions_of};
+ghost use Rattle.kwire.specs.declared.frame.WireFault.TheVariants.{Twice, NoMemory as OutOfMemory};
 ghost use Rattle.kwire.specs.declared.request.TheConstants.{MOST_NAMED};
 
 use crate::frame::WireFault;
-use crate::request::{Ask, FetchTopic, ProduceTopic};
+use crate::request::FetchPart;
+use crate::view::{AskView, FetchTopicView, ProducePartView, ProduceTopicView};
 use kbytes::{List, NoMemory};
 use std::alloc::Global;
 
@@ -46,90 +47,131 @@ fn first_repeat(mentions: &[Mention<'_>]) -> Option<(u32, i32)>
     None
 }
 
-fn put_produce<'a>(
+/// A partition of a topic entry.
+pub trait HasIndex {
+    ghost index: { Self → ℤ };
+
+    fn index(&self) -> i32
+        ensures { result ≡ index self.now };
+}
+
+impl HasIndex for ProducePartView<'_> {
+    ghost index = { λ part. part.index };
+
+    fn index(&self) -> i32 {
+        self.index
+    }
+}
+
+impl HasIndex for FetchPart {
+    ghost index = { λ part. part.index };
+
+    fn index(&self) -> i32 {
+        self.index
+    }
+}
+
+/// A topic entry with its partitions.
+pub trait HasParts {
+    type Part: HasIndex;
+
+    ghost name: { Self → Items ℕ };
+
+    ghost parts: { Self → Items Self.Part };
+
+    fn name(&self) -> &[u8]
+        ensures { result.now ≡ name self.now };
+
+    fn parts(&self) -> &[Self::Part]
+        ensures { result.now ≡ parts self.now };
+}
+
+impl<'a> HasParts for ProduceTopicView<'a> {
+    type Part = ProducePartView<'a>;
+
+    ghost name = { λ topic. topic.name };
+
+    ghost parts = { λ topic. topic.parts };
+
+    fn name(&self) -> &[u8] {
+        self.name
+    }
+
+    fn parts(&self) -> &[ProducePartView<'a>] {
+        self.parts.as_slice()
+    }
+}
+
+impl<'a> HasParts for FetchTopicView<'a> {
+    type Part = FetchPart;
+
+    ghost name = { λ topic. topic.name };
+
+    ghost parts = { λ topic. topic.parts };
+
+    fn name(&self) -> &[u8] {
+        self.name
+    }
+
+    fn parts(&self) -> &[FetchPart] {
+        self.parts.as_slice()
+    }
+}
+
+// The partitions of one topic entry.
+fn put_parts<'a, P: HasIndex>(
     mentions: &mut List<Mention<'a>>,
     entry: u32,
-    topic: &'a ProduceTopic,
+    topic: &'a [u8],
+    parts: &[P],
 ) -> Result<(), NoMemory>
-    ensures { OnOk result (map view mentions.new
-        ≡ map view mentions.old ++ produce_mentions entry topic.now.name topic.now.parts) }
+    ensures { OnOk result (map view mentions.new ≡ map view mentions.old ++ parts_mentions P.index entry topic.now parts.now) }
 {
-    let name = topic.name.as_slice();
-    for part in topic.parts.as_slice() {
+    for part in parts {
+        let index = part.index();
         mentions.push(Mention {
             entry,
-            topic: name,
-            index: part.index,
+            topic,
+            index,
         })?;
     }
     Ok(())
 }
 
-fn produce_mentions<'a>(
+// The partitions of all topic entries.
+fn all_mentions<'a, T: HasParts>(
     alloc: Global,
-    topics: &'a [ProduceTopic],
+    topics: &'a [T],
 ) -> Result<List<Mention<'a>>, NoMemory>
     requires { length topics.now < 2 ^ 32 }
-    ensures { IfOk result (λ mentions. map view mentions ≡ produce_mentions_from 0 topics.now) }
+    ensures { IfOk result (λ mentions. map view mentions
+        ≡ mentions_from (λ entry topic. parts_mentions T.Part.index entry (T.name topic) (T.parts topic)) 0 topics.now) }
 {
     let mut mentions = List::new(alloc);
     for (entry, topic) in topics.iter().enumerate() {
-        put_produce(&mut mentions, entry as u32, topic)?;
-    }
-    Ok(mentions)
-}
-
-fn put_fetch<'a>(
-    mentions: &mut List<Mention<'a>>,
-    entry: u32,
-    topic: &'a FetchTopic,
-) -> Result<(), NoMemory>
-    ensures { OnOk result (map view mentions.new
-        ≡ map view mentions.old ++ fetch_mentions entry topic.now.name topic.now.parts) }
-{
-    let name = topic.name.as_slice();
-    for part in topic.parts.as_slice() {
-        mentions.push(Mention {
-            entry,
-            topic: name,
-            index: part.index,
-        })?;
-    }
-    Ok(())
-}
-
-fn fetch_mentions<'a>(
-    alloc: Global,
-    topics: &'a [FetchTopic],
-) -> Result<List<Mention<'a>>, NoMemory>
-    requires { length topics.now < 2 ^ 32 }
-    ensures { IfOk result (λ mentions. map view mentions ≡ fetch_mentions_from 0 topics.now) }
-{
-    let mut mentions = List::new(alloc);
-    for (entry, topic) in topics.iter().enumerate() {
-        put_fetch(&mut mentions, entry as u32, topic)?;
+        put_parts(&mut mentions, entry as u32, topic.name(), topic.parts())?;
     }
     Ok(mentions)
 }
 
 // The partitions that are named, in order over all topics.
-fn mentions_of<'a>(alloc: Global, ask: &'a Ask) -> Result<List<Mention<'a>>, NoMemory>
-    requires { topics_named ask.now ≤ MOST_NAMED }
-    ensures { IfOk result (λ mentions. map view mentions ≡ mentions_of ask.now) }
+fn mentions_of<'a>(alloc: Global, ask: &'a AskView<'_>) -> Result<List<Mention<'a>>, NoMemory>
+    requires { topics_named (ask_of ask.now) ≤ MOST_NAMED }
+    ensures { IfOk result (λ mentions. map view mentions ≡ mentions_of (ask_of ask.now)) }
 {
     match ask {
-        Ask::Produce { topics, .. } => produce_mentions(alloc, topics.as_slice()),
-        Ask::Fetch { topics, .. } => fetch_mentions(alloc, topics.as_slice()),
-        Ask::Metadata { .. } | Ask::Versions { .. } => Ok(List::new(alloc)),
+        AskView::Produce { topics, .. } => all_mentions(alloc, topics.as_slice()),
+        AskView::Fetch { topics, .. } => all_mentions(alloc, topics.as_slice()),
+        AskView::Metadata { .. } | AskView::Versions { .. } => Ok(List::new(alloc)),
     }
 }
 
-/// `Twice`, exactly where a partition is named twice.
-pub fn refuse_repeats(alloc: Global, ask: &Ask) -> Result<(), WireFault>
-    requires { topics_named ask.now ≤ MOST_NAMED }
-    ensures once { OnOk result (repeat_after [] (mentions_of ask.now) ≡ None) }
-    ensures twice { (request : Request) → IfErr result
-        (IsFaultOf (unless_repeated (repeat_after [] (mentions_of ask.now)) request)) }
+/// `Twice`, exactly where a partition is named twice: the first that is named again.
+pub fn refuse_repeats(alloc: Global, ask: &AskView<'_>) -> Result<(), WireFault>
+    requires { topics_named (ask_of ask.now) ≤ MOST_NAMED }
+    ensures once { OnOk result (AllPairs (λ a b. a ≢ b) (named_of (ask_of ask.now))) }
+    ensures twice { IfErr result (λ why. why ≢ OutOfMemory
+        → (mention : AMention) × IsFirstRepeat (mentions_of (ask_of ask.now)) mention × (why ≡ Twice mention.entry mention.index)) }
 {
     let mentions = mentions_of(alloc, ask)?;
     match first_repeat(mentions.as_slice()) {

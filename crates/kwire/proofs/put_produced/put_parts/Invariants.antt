@@ -1,8 +1,0 @@
-use Rattle.std.proofs.Common.{take}
-use Rattle.std.specs.List.{flat_map}
-use Rattle.kwire.specs.Spelling.{produced_part_fields}
-use Rattle.kwire.proofs.Spelled.{Put}
-use Rattle.kwire.proofs.put_produced.put_parts.Given as goal
-
-abbrev pub invariant-loop-part : goal.invariant-loop-part
-invariant-loop-part l = Put l.fn.out l.out (flat_map produced_part_fields (take l.part-index l.parts))

@@ -1,6 +1,0 @@
-use Rattle.std.proofs.Common.{◌≡◌, ◌≤◌, length}
-use Rattle.kwire.proofs.ItemLoops.{FetchSoFar}
-use Rattle.kwire.proofs.read_fetch.read_topics.Given as goal
-
-abbrev pub invariant-loop : goal.invariant-loop
-invariant-loop l = record { place : length l.topics ≡ l.counter; few : l.named ≤ 64; so_far : FetchSoFar l.count l.fn.reader l.topics l.named l.reader }

@@ -1,0 +1,52 @@
+//! What replies and requests share: fields, and lists of items.
+
+ghost use Rattle.std.specs.Prelude.{◌≡◌, ◌<◌, ◌^◌, ◌++◌, List as Items, length, IfOk, OnOk};
+ghost use Rattle.std.specs.Option.{option_copied};
+ghost use Rattle.std.specs.List.{flat_map};
+ghost use Rattle.kbytes.specs.Field.{Field, fields};
+ghost use Rattle.kwire.specs.Frames.{framed};
+ghost use Rattle.kwire.specs.IsSpellable.{AreInRange};
+
+use kbytes::{Bytes, NoMemory, put_i32};
+use std::alloc::Global;
+
+/// What is written as fields, one after the other.
+pub trait Written {
+    ghost written: { Self → Items Field };
+
+    fn put(&self, out: &mut Bytes) -> Result<(), NoMemory>
+        requires { AreInRange (written self.now) }
+        ensures { OnOk result (out.new ≡ out.old ++ fields (written self.now)) };
+}
+
+/// Items, one after the other.
+pub fn put_items<T: Written>(out: &mut Bytes, items: &[T]) -> Result<(), NoMemory>
+    requires { AreInRange (flat_map T.written items.now) }
+    ensures { OnOk result (out.new ≡ out.old ++ fields (flat_map T.written items.now)) }
+{
+    for item in items {
+        item.put(out)?;
+    }
+    Ok(())
+}
+
+/// The bytes, where they aren't null.
+pub fn slice_of(bytes: &Option<Bytes>) -> Option<&[u8]>
+    ensures { option_copied result ≡ bytes.now }
+{
+    match bytes {
+        None => None,
+        Some(bytes) => Some(bytes.as_slice()),
+    }
+}
+
+/// The frame of a body, which has at most 2,147,483,647 bytes.
+pub fn frame(alloc: Global, body: &[u8]) -> Result<Bytes, NoMemory>
+    requires { length body.now < 2 ^ 31 }
+    ensures { IfOk result (λ frame. frame ≡ framed body.now) }
+{
+    let mut frame = Bytes::new(alloc);
+    put_i32(&mut frame, body.len() as i32)?;
+    frame.extend(body)?;
+    Ok(frame)
+}

@@ -1,0 +1,146 @@
+//! The frame of a request.
+
+ghost use Rattle.std.specs.Prelude.{◌≡◌, ◌≤◌, ◌<◌, ◌^◌, ◌++◌, length, IfOk, OnOk};
+ghost use Rattle.kbytes.specs.Field.{fields};
+ghost use Rattle.kwire.specs.Frames.{framed};
+ghost use Rattle.kwire.specs.IsRequest.{IsRequest, IsWhole, version_of as asked_version, produce_part_fields, produce_topic_fields, fetch_part_fields, fetch_topic_fields, name_fields, ask_fields, request_fields};
+ghost use Rattle.kwire.specs.IsSpellable.{AreInRange};
+
+use crate::api::{asked_api, key_of, version_of};
+use crate::put_items::{Written, frame, put_items, slice_of};
+use crate::request::{Ask, FetchPart, FetchTopic, ProducePart, ProduceTopic, Request};
+use kbytes::{
+    Bytes, NoMemory, put_array, put_i8, put_i16, put_i32, put_i64, put_nullable_string,
+    put_records, put_string,
+};
+use std::alloc::Global;
+
+impl Written for ProducePart {
+    ghost written = { produce_part_fields };
+
+    fn put(&self, out: &mut Bytes) -> Result<(), NoMemory> {
+        put_i32(out, self.index)?;
+        put_records(out, slice_of(&self.records))
+    }
+}
+
+impl Written for ProduceTopic {
+    ghost written = { produce_topic_fields };
+
+    fn put(&self, out: &mut Bytes) -> Result<(), NoMemory> {
+        put_string(out, self.name.as_slice())?;
+        put_array(out, Some(self.parts.len() as u32))?;
+        put_items(out, self.parts.as_slice())
+    }
+}
+
+impl Written for FetchPart {
+    ghost written = { fetch_part_fields };
+
+    fn put(&self, out: &mut Bytes) -> Result<(), NoMemory> {
+        put_i32(out, self.index)?;
+        put_i64(out, self.offset)?;
+        put_i32(out, self.most)
+    }
+}
+
+impl Written for FetchTopic {
+    ghost written = { fetch_topic_fields };
+
+    fn put(&self, out: &mut Bytes) -> Result<(), NoMemory> {
+        put_string(out, self.name.as_slice())?;
+        put_array(out, Some(self.parts.len() as u32))?;
+        put_items(out, self.parts.as_slice())
+    }
+}
+
+impl Written for Bytes {
+    ghost written = { name_fields };
+
+    fn put(&self, out: &mut Bytes) -> Result<(), NoMemory> {
+        put_string(out, self.as_slice())
+    }
+}
+
+impl Written for Ask {
+    ghost written = { ask_fields };
+
+    fn put(&self, out: &mut Bytes) -> Result<(), NoMemory> {
+        match self {
+            Ask::Produce {
+                transactional,
+                acks,
+                timeout,
+                topics,
+            } => {
+                put_nullable_string(out, slice_of(transactional))?;
+                put_i16(out, *acks)?;
+                put_i32(out, *timeout)?;
+                put_array(out, Some(topics.len() as u32))?;
+                put_items(out, topics.as_slice())
+            }
+            Ask::Fetch {
+                replica,
+                max_wait,
+                min_bytes,
+                max_bytes,
+                isolation,
+                topics,
+            } => {
+                put_i32(out, *replica)?;
+                put_i32(out, *max_wait)?;
+                put_i32(out, *min_bytes)?;
+                put_i32(out, *max_bytes)?;
+                put_i8(out, *isolation)?;
+                put_array(out, Some(topics.len() as u32))?;
+                put_items(out, topics.as_slice())
+            }
+            Ask::Metadata { topics: None } => put_array(out, None),
+            Ask::Metadata {
+                topics: Some(names),
+            } => {
+                put_array(out, Some(names.len() as u32))?;
+                put_items(out, names.as_slice())
+            }
+            Ask::Versions { .. } => Ok(()),
+        }
+    }
+}
+
+// The version that the header tells.
+fn asked_version(ask: &Ask) -> i16
+    ensures { result ≡ asked_version ask.now }
+{
+    match ask {
+        Ask::Versions { version } => *version,
+        Ask::Produce { .. } | Ask::Fetch { .. } | Ask::Metadata { .. } => version_of(asked_api(
+            ask,
+        )),
+    }
+}
+
+impl Written for Request {
+    ghost written = { request_fields };
+
+    fn put(&self, out: &mut Bytes) -> Result<(), NoMemory> {
+        let api = asked_api(&self.ask);
+        put_i16(out, key_of(api))?;
+        put_i16(out, asked_version(&self.ask))?;
+        put_i32(out, self.correlation)?;
+        put_nullable_string(out, slice_of(&self.client))?;
+        self.ask.put(out)
+    }
+}
+
+/// The frame of a request that is whole: one of the version that is read whole, that names at most 64 topics and partitions,
+/// and none of these twice. Its body is that request, so it is read again as it was.
+pub fn request_bytes(alloc: Global, request: &Request) -> Result<Bytes, NoMemory>
+    requires whole { IsWhole (fields (request_fields request.now)) request.now }
+    requires short { length (fields (request_fields request.now)) < 2 ^ 31 }
+    ensures spelled { IfOk result (λ frame. frame ≡ framed (fields (request_fields request.now))) }
+    ensures again { IfOk result (λ _. IsRequest (fields (request_fields request.now)) request.now) }
+{
+    let mut body = Bytes::new(alloc);
+    request.put(&mut body)?;
+    frame(alloc, body.as_slice())
+}
