@@ -73,7 +73,7 @@ fetched_parts_are replica (asked ∷ parts) (result ∷ results) (reading ∷ re
     ∙ ap (λ (ps : List FetchedPart). fetched_as asked s.result s.state batches ∷ ps) (fetched_parts_are replica parts results readings shown (budget_after batches budget) h.2)
 fetched_parts_are replica (asked ∷ parts) results readings shown budget h = absurd h
 
--- the readings of some partitions, and of those behind them with what is left
+-- the readings of some partitions, and of those after them with what is left
 fetched_cut : (replica : ℤ) (parts more : List FetchPart) (results : List Accepted) (readings : List Reading) (shown : List Shown) (budget : Budget) → FetchReadings replica (parts ++ more) results readings shown budget
     → FetchReadings replica parts (take (length parts) results) (take (length parts) readings) (take (length parts) shown) budget
     × FetchReadings replica more (drop (length parts) results) (drop (length parts) readings) (drop (length parts) shown) (budget_behind replica parts (take (length parts) shown) budget)

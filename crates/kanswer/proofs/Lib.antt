@@ -2,6 +2,8 @@
 pub mod Laws
 -- what is read of one partition
 pub mod PartBatches
+-- what a fetch asks of the partition at a place
+pub mod AskedParts
 -- what is decided of a request is one thing
 pub mod DecidedOnce
 -- a stamped batch has its length

@@ -1,7 +1,7 @@
 -- The reply to a request, from what became of each named partition and a state of it. The same function serves a request
 -- that is answered at once, one that was satisfied and one that expired.
 use Rattle.std.specs.Prelude.{ℕ, ◌+◌, ◌-◌, min, ℤ, pos, negsuc, Bool, true, false, ◌||◌, List, [], ◌∷◌, length, map, take, drop, filter, nat_lt, nat_le, if◌then◌else◌, Option, Some, None}
-use Rattle.std.specs.List.{find}
+use Rattle.std.specs.List.{find, flat_map, slice_get}
 use Rattle.std.specs.Cmp.Lexicographic.{pointwise}
 use Rattle.std.specs.Ordering.{int_eq}
 use Rattle.std.specs.Bool.{nat_eq}
@@ -32,8 +32,8 @@ use Rattle.kanswer.specs.Waiting.{Shown, at_least_zero, reply_limit, is_consumer
 
 -- with acks -1 every follower has to have the batch; else the time has run out, which is code 7
 abbrev pub produced_code : ℤ → ℕ → State → ℤ
-produced_code acks behind state =
-    if int_eq acks (negsuc 0) then (if nat_le behind (high_of state) then pos 0 else pos 7) else pos 0
+produced_code acks after state =
+    if int_eq acks (negsuc 0) then (if nat_le after (high_of state) then pos 0 else pos 7) else pos 0
 
 -- a refused partition has the base offset -1
 abbrev pub produced_as : ℤ → ℤ → Accepted → State → ProducedPart
@@ -63,7 +63,23 @@ abbrev pub read_of : ℤ → FetchPart → ℕ → State → Budget → List Sto
 read_of replica asked start state budget =
     taken (min (at_least_zero asked.most) budget.left) budget.any (filter (is_readable replica state) (batches_past start state.batches))
 
--- what is left to the reply behind them
+-- what a fetch asks of the partitions that it names, in order over all topics
+abbrev pub asked_parts : List FetchTopic → List FetchPart
+asked_parts topics = flat_map (λ topic. topic.parts) topics
+
+abbrev pub read_if : ℤ → Option FetchPart → ℕ → State → Budget → List Stored
+read_if replica None start state budget = []
+read_if replica (Some asked) start state budget = read_of replica asked start state budget
+
+-- those of the partition that a request names at this place, counted from 0 over all topics; only a fetch reads any
+abbrev pub read_at : Ask → ℕ → ℕ → State → Budget → List Stored
+read_at (ask.Produce transactional acks timeout topics) at start state budget = []
+read_at (ask.Fetch replica max_wait min_bytes max_bytes isolation topics) at start state budget =
+    read_if replica (slice_get (asked_parts topics) at) start state budget
+read_at (ask.Metadata topics) at start state budget = []
+read_at (ask.Versions version) at start state budget = []
+
+-- what is left to the reply after them
 abbrev pub budget_after : List Stored → Budget → Budget
 budget_after batches budget =
     record { left = budget.left - length (joined batches); any = budget.any || nat_lt 0 (length batches) }
@@ -87,7 +103,7 @@ fetched_parts replica (asked ∷ parts) (s ∷ shown) budget =
     let batches = batches_as replica asked s.result s.state budget in
     fetched_as asked s.result s.state batches ∷ fetched_parts replica parts shown (budget_after batches budget)
 
--- what is left to the reply behind these partitions
+-- what is left to the reply after these partitions
 abbrev pub budget_behind : ℤ → List FetchPart → List Shown → Budget → Budget
 budget_behind replica [] shown budget = budget
 budget_behind replica (asked ∷ parts) [] budget = budget

@@ -1,6 +1,5 @@
 -- What was read of the named partitions for a reply: one reading for each, in the order of the request over all topics.
 use Rattle.std.specs.Prelude.{ℕ, ◌+◌, ◌≡◌, ◌<◌, ◌^◌, ℤ, false, List, [], ◌∷◌, length, sum_by, ⊤}
-use Rattle.std.specs.List.{flat_map}
 use Rattle.partlog.specs.State.{PartState as State}
 use Rattle.partlog.specs.Gauges.{numbers_of}
 use Rattle.partlog.specs.Taken.{joined}
@@ -12,7 +11,7 @@ use Rattle.kanswer.specs.declared.accepted.Accepted.TheVariants.{Refused, Append
 use Rattle.kanswer.specs.declared.accepted.Reading.{Reading}
 use Rattle.kanswer.specs.declared.accepted.Budget.{Budget}
 use Rattle.kanswer.specs.Waiting.{Shown}
-use Rattle.kanswer.specs.Answer.{first_budget, batches_as, budget_after}
+use Rattle.kanswer.specs.Answer.{first_budget, asked_parts, batches_as, budget_after}
 
 -- what a reply may take of its first partition
 abbrev pub budget_of : Ask → Budget
@@ -58,7 +57,7 @@ FetchReadings replica _ _ _ _ budget = ⊥
 abbrev pub AreReadings : Ask → List Accepted → List Reading → List Shown → Type 0
 AreReadings (Produce transactional acks timeout topics) results readings shown = ProduceReadings results readings shown
 AreReadings (Fetch replica max_wait min_bytes max_bytes isolation topics) results readings shown =
-    FetchReadings replica (flat_map (λ topic. topic.parts) topics) results readings shown (first_budget max_bytes)
+    FetchReadings replica (asked_parts topics) results readings shown (first_budget max_bytes)
 AreReadings (Metadata topics) results readings shown = shown ≡ []
 AreReadings (Versions version) results readings shown = shown ≡ []
 

@@ -15,7 +15,7 @@ use Rattle.kanswer.specs.declared.accepted.Reading.{Reading}
 
 -- with acks -1 a batch that every follower has, or else the time ran out
 abbrev pub code_at : ℤ → ℕ → ℕ → ℤ
-code_at acks behind high = if int_eq acks (negsuc 0) then (if nat_le behind high then pos 0 else pos 7) else pos 0
+code_at acks after high = if int_eq acks (negsuc 0) then (if nat_le after high then pos 0 else pos 7) else pos 0
 
 abbrev pub produced_part : ℤ → ProducePart → Accepted → Reading → ProducedPart
 produced_part acks asked (Refused code) reading = record { index = asked.index; code = code; base = negsuc 0 }

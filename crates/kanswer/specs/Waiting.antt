@@ -29,7 +29,7 @@ at_least_zero (negsuc n) = 0
 abbrev pub reply_limit : ℤ → ℕ
 reply_limit max_bytes = min (at_least_zero max_bytes) MOST_REPLY_BYTES
 
--- an appended partition needs its high watermark behind the batch
+-- an appended partition needs its high watermark after the batch
 abbrev pub produce_need : Accepted → Option Need
 produce_need (Refused code) = None
 produce_need (Appended part base count) = Some (record { gauge = 3 * part; start = base + count - 1; cap = 1 })

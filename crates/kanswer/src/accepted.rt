@@ -3,7 +3,7 @@
 ghost use Rattle.std.specs.Prelude.{◌≡◌};
 
 use kbytes::Bytes;
-use kwire::{Ask, Request};
+use kwire::{AskView, RequestView};
 use partlog::Numbers;
 
 /// What became of one named partition of a request as it was accepted.
@@ -37,12 +37,12 @@ impl Budget {
     ghost use Rattle.kanswer.specs.LogReadings.{budget_of};
 
     /// What a reply to this request may take: for a fetch as many bytes as it asks for, at most 52,428,800.
-    pub fn of(request: &Request) -> Budget
+    pub fn of(request: &RequestView<'_>) -> Budget
         ensures { result ≡ budget_of request.now.ask }
     {
         let left = match &request.ask {
-            Ask::Fetch { max_bytes, .. } => ((*max_bytes).max(0) as u64).min(MOST_REPLY_BYTES),
-            Ask::Produce { .. } | Ask::Metadata { .. } | Ask::Versions { .. } => 0,
+            AskView::Fetch { max_bytes, .. } => ((*max_bytes).max(0) as u64).min(MOST_REPLY_BYTES),
+            AskView::Produce { .. } | AskView::Metadata { .. } | AskView::Versions { .. } => 0,
         };
         Budget { left, any: false }
     }

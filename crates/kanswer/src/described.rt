@@ -1,8 +1,8 @@
 //! What metadata tells of topics.
-ghost use Rattle.std.specs.Prelude.{◌≡◌, Some, map, IfOk};
+ghost use Rattle.std.specs.Prelude.{◌≡◌, Some, map, option_map, IfOk};
 ghost use Rattle.kanswer.specs.Answer.{info_as, info_of, infos_of};
 
-use kbytes::{Bytes, List, NoMemory, copied};
+use kbytes::{List, NoMemory, copied};
 use kwire::{Topic, TopicInfo};
 use std::alloc::Global;
 
@@ -45,12 +45,12 @@ fn all_declared(alloc: Global, topics: &[Topic]) -> Result<List<TopicInfo>, NoMe
     Ok(infos)
 }
 
-fn all_named(alloc: Global, topics: &[Topic], names: &[Bytes]) -> Result<List<TopicInfo>, NoMemory>
-    ensures { IfOk result (λ infos. infos ≡ map (info_of topics.now) names.now) }
+fn all_named(alloc: Global, topics: &[Topic], names: &[&[u8]]) -> Result<List<TopicInfo>, NoMemory>
+    ensures { IfOk result (λ infos. infos ≡ map (info_of topics.now) (map (λ name. name.now) names.now)) }
 {
     let mut infos = List::new(alloc);
     for name in names {
-        infos.push(named(alloc, topics, name.as_slice())?)?;
+        infos.push(named(alloc, topics, name)?)?;
     }
     Ok(infos)
 }
@@ -59,9 +59,9 @@ fn all_named(alloc: Global, topics: &[Topic], names: &[Bytes]) -> Result<List<To
 pub fn described(
     alloc: Global,
     topics: &[Topic],
-    names: &Option<List<Bytes>>,
+    names: &Option<List<&[u8]>>,
 ) -> Result<List<TopicInfo>, NoMemory>
-    ensures { IfOk result (λ infos. infos ≡ infos_of topics.now names.now) }
+    ensures { IfOk result (λ infos. infos ≡ infos_of topics.now (option_map (map (λ name. name.now)) names.now)) }
 {
     match names {
         None => all_declared(alloc, topics),

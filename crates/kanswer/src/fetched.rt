@@ -5,7 +5,7 @@ ghost use Rattle.kanswer.specs.ToldParts.{parts_by, fetched_part, fetched_topic,
 
 use crate::accepted::{Accepted, Reading};
 use kbytes::{Bytes, List, NoMemory, copied};
-use kwire::{FetchPart, FetchTopic, FetchedPart, FetchedTopic};
+use kwire::{FetchPart, FetchTopicView, FetchedPart, FetchedTopic};
 use std::alloc::Global;
 
 // A partition with an error has the high watermark -1 and no records.
@@ -62,7 +62,7 @@ fn fetched_parts(
 
 fn fetched_topic(
     alloc: Global,
-    topic: &FetchTopic,
+    topic: &FetchTopicView<'_>,
     accepted: &[Accepted],
     readings: &[Reading],
 ) -> Result<FetchedTopic, NoMemory>
@@ -71,7 +71,7 @@ fn fetched_topic(
     requires carriable { All HasCarriable readings.now }
     ensures { IfOk result (λ told. told ≡ fetched_topic topic.now accepted.now readings.now) }
 {
-    let name = copied(alloc, topic.name.as_slice())?;
+    let name = copied(alloc, topic.name)?;
     let parts = fetched_parts(alloc, topic.parts.as_slice(), accepted, readings)?;
     Ok(FetchedTopic { name, parts })
 }
@@ -79,7 +79,7 @@ fn fetched_topic(
 /// What is told of each topic of a fetch.
 pub fn fetched_topics(
     alloc: Global,
-    topics: &[FetchTopic],
+    topics: &[FetchTopicView<'_>],
     accepted: &[Accepted],
     readings: &[Reading],
 ) -> Result<List<FetchedTopic>, NoMemory>

@@ -14,7 +14,7 @@ mod replies;
 
 pub use accepted::{Accepted, Budget, MOST_REPLY_BYTES, Reading};
 pub use code::code_of;
-pub use one_part::{read_nothing, read_numbers, read_part};
+pub use one_part::{read_asked, read_nothing, read_numbers, read_part};
 pub use replies::answer;
 
 #[cfg(test)]

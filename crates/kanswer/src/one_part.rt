@@ -1,15 +1,17 @@
-//! One partition read for a fetch.
-ghost use Rattle.std.specs.Prelude.{◌≡◌, ◌≤◌, ◌-◌, ◌||◌, [], min, filter, nat_lt, if◌then◌else◌, IfOk, OnOk, OnErr};
+//! One partition read for a reply.
+ghost use Rattle.std.specs.Prelude.{◌≡◌, ◌≤◌, ◌-◌, ◌||◌, [], min, filter, nat_lt, slice_get, if◌then◌else◌, IfOk, OnOk, OnErr};
+ghost use Rattle.std.specs.Option.{option_copied};
 ghost use Rattle.partlog.specs.declared.part_log.TheConstants.{MOST_LOG_BYTES};
+ghost use Rattle.partlog.specs.Kept.{IsKept};
 ghost use Rattle.partlog.specs.State.{state_of};
 ghost use Rattle.partlog.specs.Gauges.{numbers_of};
 ghost use Rattle.partlog.specs.Taken.{batches_past, joined, taken};
 ghost use Rattle.kanswer.specs.Waiting.{at_least_zero, is_consumer};
-ghost use Rattle.kanswer.specs.Answer.{is_readable, read_of, budget_after};
+ghost use Rattle.kanswer.specs.Answer.{is_readable, read_of, asked_parts, read_at, budget_after};
 
 use crate::accepted::{Budget, Reading};
 use kbytes::{Bytes, NoMemory, copied};
-use kwire::FetchPart;
+use kwire::{AskView, FetchPart, FetchTopicView, RequestView};
 use partlog::{Numbers, PartLog};
 use std::alloc::Global;
 
@@ -36,12 +38,11 @@ fn readable(log: &PartLog, replica: i32, start: u64, limit: u64, any: bool) -> &
     ensures { let state = state_of log.now in
         result.now ≡ joined (taken limit any (filter (is_readable replica state) (batches_past start state.batches))) }
 {
-    let _log = log.log();
     let upto = upto(replica, &log.numbers());
     log.read(start, upto, limit, !any)
 }
 
-// The budget behind so many bytes of whole batches.
+// The budget after so many bytes of whole batches.
 fn lowered(budget: Budget, bytes: u64) -> Budget
     ensures { result ≡ record { left = budget.left - bytes; any = budget.any || nat_lt 0 bytes } }
 {
@@ -54,7 +55,7 @@ fn lowered(budget: Budget, bytes: u64) -> Budget
 /// Reads one partition for a fetch from the byte place `start` of its log on, and lowers the budget by what was taken:
 /// whole batches, as many as fit together. Where not even the first one fits and the reply holds no batch yet, that one is
 /// taken. A negative replica is a consumer, which reads below the high watermark. After a refusal the budget is as it was.
-pub fn read_part(
+pub fn read_asked(
     alloc: Global,
     replica: i32,
     asked: &FetchPart,
@@ -67,22 +68,67 @@ pub fn read_part(
     ensures bounded { IfOk result (λ reading. reading.numbers.high ≤ MOST_LOG_BYTES) }
     ensures lowered { OnOk result (budget.new ≡ budget_after (read_of replica asked.now start (state_of log.now) budget.old) budget.old) }
     ensures refused { OnErr result (budget.new ≡ budget.old) }
+    ensures kept { IsKept log.now.log log.now.events }
 {
+    let numbers = log.numbers();
     let limit = limit_of(asked, budget.left);
-    let _log = log.log();
     let seen = readable(log, replica, start, limit, budget.any);
     let records = copied(alloc, seen)?;
     *budget = lowered(*budget, records.len() as u64);
-    Ok(Reading {
-        numbers: log.numbers(),
-        records,
-    })
+    Ok(Reading { numbers, records })
+}
+
+// What is asked of the partition that a fetch names at this place, counted from 0 over all topics.
+fn asked_at<'a>(topics: &'a [FetchTopicView<'_>], at: u32) -> Option<&'a FetchPart>
+    ensures { option_copied result ≡ slice_get (asked_parts topics.now) at }
+{
+    let mut left = at as usize;
+    for topic in topics {
+        let parts = topic.parts.as_slice();
+        if left < parts.len() {
+            return Some(&parts[left]);
+        }
+        left -= parts.len();
+    }
+    None
+}
+
+/// Reads the partition that a request names at this place, counted from 0 over all topics: for a fetch as `read_asked` does,
+/// from the byte place `start` of its log on. For every other request it gives the numbers and no records. After a refusal
+/// the budget is as it was.
+pub fn read_part(
+    alloc: Global,
+    request: &RequestView<'_>,
+    at: u32,
+    start: u64,
+    log: &PartLog,
+    budget: &mut Budget,
+) -> Result<Reading, NoMemory>
+    ensures numbers { IfOk result (λ reading. reading.numbers ≡ numbers_of (state_of log.now)) }
+    ensures records { IfOk result (λ reading. reading.records ≡ joined (read_at request.now.ask at start (state_of log.now) budget.old)) }
+    ensures bounded { IfOk result (λ reading. reading.numbers.high ≤ MOST_LOG_BYTES) }
+    ensures lowered { OnOk result (budget.new ≡ budget_after (read_at request.now.ask at start (state_of log.now) budget.old) budget.old) }
+    ensures refused { OnErr result (budget.new ≡ budget.old) }
+    ensures kept { IsKept log.now.log log.now.events }
+{
+    if let AskView::Fetch {
+        replica,
+        topics,
+        ..
+    } = &request.ask
+    {
+        if let Some(asked) = asked_at(topics.as_slice(), at) {
+            return read_asked(alloc, *replica, asked, start, log, budget);
+        }
+    }
+    Ok(read_numbers(alloc, log))
 }
 
 /// The numbers of a partition that was appended to, and no records. It takes no memory.
 pub fn read_numbers(alloc: Global, log: &PartLog) -> Reading
     ensures reading { result ≡ record { numbers = numbers_of (state_of log.now); records = [] } }
     ensures bounded { result.numbers.high ≤ MOST_LOG_BYTES }
+    ensures kept { IsKept log.now.log log.now.events }
 {
     Reading {
         numbers: log.numbers(),

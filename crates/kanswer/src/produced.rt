@@ -5,14 +5,14 @@ ghost use Rattle.kanswer.specs.ToldParts.{code_at, parts_by, produced_part, prod
 
 use crate::accepted::{Accepted, Reading};
 use kbytes::{List, NoMemory, copied};
-use kwire::{ProducePart, ProduceTopic, ProducedPart, ProducedTopic};
+use kwire::{ProducePartView, ProduceTopicView, ProducedPart, ProducedTopic};
 use std::alloc::Global;
 
 // With acks -1 code 7 where some follower hasn't the whole batch yet.
-fn code_at(acks: i16, behind: u64, high: u64) -> i16
-    ensures { result ≡ code_at acks behind high }
+fn code_at(acks: i16, after: u64, high: u64) -> i16
+    ensures { result ≡ code_at acks after high }
 {
-    if acks == -1 && behind > high { 7 } else { 0 }
+    if acks == -1 && after > high { 7 } else { 0 }
 }
 
 // A partition that nothing was appended to has the base offset -1.
@@ -28,7 +28,7 @@ fn without_base(index: i32, code: i16) -> ProducedPart
 
 fn produced_part(
     acks: i16,
-    asked: &ProducePart,
+    asked: &ProducePartView<'_>,
     became: &Accepted,
     reading: &Reading,
 ) -> ProducedPart
@@ -50,7 +50,7 @@ fn produced_part(
 fn produced_parts(
     alloc: Global,
     acks: i16,
-    parts: &[ProducePart],
+    parts: &[ProducePartView<'_>],
     accepted: &[Accepted],
     readings: &[Reading],
 ) -> Result<List<ProducedPart>, NoMemory>
@@ -69,7 +69,7 @@ fn produced_parts(
 fn produced_topic(
     alloc: Global,
     acks: i16,
-    topic: &ProduceTopic,
+    topic: &ProduceTopicView<'_>,
     accepted: &[Accepted],
     readings: &[Reading],
 ) -> Result<ProducedTopic, NoMemory>
@@ -78,7 +78,7 @@ fn produced_topic(
     requires carriable { All IsCarriable accepted.now }
     ensures { IfOk result (λ told. told ≡ produced_topic acks topic.now accepted.now readings.now) }
 {
-    let name = copied(alloc, topic.name.as_slice())?;
+    let name = copied(alloc, topic.name)?;
     let parts = produced_parts(alloc, acks, topic.parts.as_slice(), accepted, readings)?;
     Ok(ProducedTopic { name, parts })
 }
@@ -87,7 +87,7 @@ fn produced_topic(
 pub fn produced_topics(
     alloc: Global,
     acks: i16,
-    topics: &[ProduceTopic],
+    topics: &[ProduceTopicView<'_>],
     accepted: &[Accepted],
     readings: &[Reading],
 ) -> Result<List<ProducedTopic>, NoMemory>

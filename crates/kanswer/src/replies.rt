@@ -2,6 +2,7 @@
 ghost use Rattle.std.specs.Prelude.{◌≡◌, List as Items, length, All, IfOk};
 ghost use Rattle.kanswer.specs.Waiting.{Shown};
 ghost use Rattle.kanswer.specs.Answer.{answer, told_to};
+ghost use Rattle.kwire.specs.Views.{ask_of};
 ghost use Rattle.kanswer.specs.LogReadings.{AreReadings, IsCarriable, HasCarriable, named_count};
 
 use crate::accepted::{Accepted, Reading};
@@ -9,29 +10,29 @@ use crate::described::described;
 use crate::fetched::fetched_topics;
 use crate::produced::produced_topics;
 use kbytes::NoMemory;
-use kwire::{Ask, Config, Reply, Request, Told};
+use kwire::{AskView, Config, Reply, RequestView, Told};
 use std::alloc::Global;
 
 // What is answered to this.
 fn told_to(
     alloc: Global,
     config: &Config,
-    ask: &Ask,
+    ask: &AskView<'_>,
     accepted: &[Accepted],
     readings: &[Reading],
 ) -> Result<Told, NoMemory>
-    requires accepted { length accepted.now ≡ named_count ask.now }
-    requires readings { length readings.now ≡ named_count ask.now }
+    requires accepted { length accepted.now ≡ named_count (ask_of ask.now) }
+    requires readings { length readings.now ≡ named_count (ask_of ask.now) }
     requires offsets { All IsCarriable accepted.now }
     requires numbers { All HasCarriable readings.now }
-    ensures { IfOk result (λ told. (shown : Items Shown) → AreReadings ask.now accepted.now readings.now shown
-        → told ≡ told_to config.now ask.now shown) }
+    ensures { IfOk result (λ told. (shown : Items Shown) → AreReadings (ask_of ask.now) accepted.now readings.now shown
+        → told ≡ told_to config.now (ask_of ask.now) shown) }
 {
     match ask {
-        Ask::Produce { acks, topics, .. } => Ok(Told::Produced {
+        AskView::Produce { acks, topics, .. } => Ok(Told::Produced {
             topics: produced_topics(alloc, *acks, topics.as_slice(), accepted, readings)?,
         }),
-        Ask::Fetch {
+        AskView::Fetch {
             isolation,
             topics,
             ..
@@ -39,11 +40,11 @@ fn told_to(
             isolation: *isolation,
             topics: fetched_topics(alloc, topics.as_slice(), accepted, readings)?,
         }),
-        Ask::Metadata { topics } => Ok(Told::Metadata {
+        AskView::Metadata { topics } => Ok(Told::Metadata {
             port: config.port(),
             topics: described(alloc, config.topics(), topics)?,
         }),
-        Ask::Versions { version } => Ok(Told::Versions {
+        AskView::Versions { version } => Ok(Told::Versions {
             code: if *version == 0 { 0 } else { 35 },
         }),
     }
@@ -54,7 +55,7 @@ fn told_to(
 pub fn answer(
     alloc: Global,
     config: &Config,
-    request: &Request,
+    request: &RequestView<'_>,
     accepted: &[Accepted],
     readings: &[Reading],
 ) -> Result<Reply, NoMemory>

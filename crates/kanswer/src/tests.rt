@@ -1,11 +1,14 @@
 //! One partition that is read, and replies.
-ghost use Rattle.std.specs.Prelude.{◌≡◌, IfOk};
+ghost use Rattle.std.specs.Prelude.{◌≡◌, length, IfOk};
 ghost use Rattle.kanswer.specs.LogReadings.{named_count};
 
 use super::{Accepted, Budget, answer, read_nothing, read_part};
 use kbatch::read_batch;
-use kbytes::{List, NoMemory, copied};
-use kwire::{Ask, Config, FetchPart, FetchTopic, ProducePart, ProduceTopic, Reply, Request, Told};
+use kbytes::{List, NoMemory};
+use kwire::{
+    AskView, Config, FetchPart, FetchTopicView, ProducePartView, ProduceTopicView, RequestView,
+    Told,
+};
 use partlog::{PartLog, Who};
 use std::alloc::Global;
 use std::test::*;
@@ -31,77 +34,114 @@ fn two_batches(alloc: Global, followers: u32) -> Result<PartLog, Fail> {
     Ok(log)
 }
 
-// A limit of 1 byte: the first batch is given whole, and nothing behind it.
+// The partition 0 of a topic, of which so many bytes are asked for.
+fn one_fetch<'a>(alloc: Global, name: &'a [u8], most: i32) -> Result<FetchTopicView<'a>, NoMemory>
+    ensures { IfOk result (λ topic. length topic.parts ≡ 1) }
+{
+    let mut parts = List::new(alloc);
+    parts.push(FetchPart {
+        index: 0,
+        offset: 0,
+        most,
+    })?;
+    Ok(FetchTopicView { name, parts })
+}
+
+// A fetch of the topics `t` and `u`, with so many bytes of each.
+fn two_fetches<'a>(
+    alloc: Global,
+    replica: i32,
+    first: i32,
+    second: i32,
+) -> Result<RequestView<'a>, NoMemory>
+    ensures { IfOk result (λ request. named_count request.ask ≡ 2) }
+{
+    let mut topics = List::new(alloc);
+    topics.push(one_fetch(alloc, b"t", first)?)?;
+    topics.push(one_fetch(alloc, b"u", second)?)?;
+    Ok(RequestView {
+        correlation: 5,
+        client: None,
+        ask: AskView::Fetch {
+            replica,
+            max_wait: 0,
+            min_bytes: 1,
+            max_bytes: 500,
+            isolation: 0,
+            topics,
+        },
+    })
+}
+
+// A limit of 1 byte: the first batch is given whole, and nothing after it.
 #[test]
 fn one_batch_at_least(rt: HostRuntime) -> Result<(), Fail> {
     let alloc = rt.alloc();
     let log = two_batches(alloc, 0)?;
-    let asked = FetchPart {
-        index: 0,
-        offset: 0,
-        most: 1,
-    };
-    let mut budget = Budget {
-        left: 100,
-        any: false,
-    };
-    let first = read_part(alloc, -1, &asked, 0, &log, &mut budget)?;
+    let request = two_fetches(alloc, -1, 1, 1)?;
+    let mut budget = Budget::of(&request);
+    let first = read_part(alloc, &request, 0, 0, &log, &mut budget)?;
     assert_eq!(rt; first.records.as_slice(), ONE_RECORD.as_slice());
     assert_eq!(rt;
         budget,
         Budget {
-            left: 31,
+            left: 431,
             any: true
         }
     );
-    let second = read_part(alloc, -1, &asked, 69, &log, &mut budget)?;
+    let second = read_part(alloc, &request, 1, 69, &log, &mut budget)?;
     assert!(rt; second.records.is_empty());
     Ok(())
 }
 
-// The follower reads what a consumer may not see yet.
+// The follower reads what a consumer may not see yet, of each partition as much as is asked for.
 #[test]
 fn below_the_high_watermark(rt: HostRuntime) -> Result<(), Fail> {
     let alloc = rt.alloc();
     let log = two_batches(alloc, 1)?;
-    let asked = FetchPart {
-        index: 0,
-        offset: 0,
-        most: 500,
-    };
-    for (replica, bytes) in [(-1, 0), (1, 138)] {
-        let mut budget = Budget {
-            left: 500,
-            any: false,
-        };
-        let reading = read_part(alloc, replica, &asked, 0, &log, &mut budget)?;
-        assert_eq!(rt; reading.records.len(), bytes);
+    for (replica, all, one) in [(-1, 0, 0), (1, 138, 69)] {
+        let request = two_fetches(alloc, replica, 200, 100)?;
+        let mut budget = Budget::of(&request);
+        let first = read_part(alloc, &request, 0, 0, &log, &mut budget)?;
+        let second = read_part(alloc, &request, 1, 0, &log, &mut budget)?;
+        assert_eq!(rt; (first.records.len(), second.records.len()), (all, one));
     }
     Ok(())
 }
 
 // One partition of the topic `t`, with acks -1.
-fn one_produce(alloc: Global) -> Result<Request, NoMemory>
+fn one_produce<'a>(alloc: Global) -> Result<RequestView<'a>, NoMemory>
     ensures { IfOk result (λ request. named_count request.ask ≡ 1) }
 {
     let mut parts = List::new(alloc);
-    parts.push(ProducePart {
+    parts.push(ProducePartView {
         index: 4,
         records: None,
     })?;
     let mut topics = List::new(alloc);
-    let name = copied(alloc, b"t")?;
-    topics.push(ProduceTopic { name, parts })?;
-    Ok(Request {
+    topics.push(ProduceTopicView { name: b"t", parts })?;
+    Ok(RequestView {
         correlation: 9,
         client: None,
-        ask: Ask::Produce {
+        ask: AskView::Produce {
             transactional: None,
             acks: -1,
             timeout: 0,
             topics,
         },
     })
+}
+
+// Of an append the numbers are read, and no records.
+#[test]
+fn the_numbers_of_a_produce(rt: HostRuntime) -> Result<(), Fail> {
+    let alloc = rt.alloc();
+    let log = two_batches(alloc, 0)?;
+    let request = one_produce(alloc)?;
+    let mut budget = Budget::of(&request);
+    let reading = read_part(alloc, &request, 0, 0, &log, &mut budget)?;
+    assert_eq!(rt; (reading.numbers.end, reading.records.len()), (2, 0));
+    Ok(())
 }
 
 // The time ran out before the followers had the batch.
@@ -125,5 +165,63 @@ fn a_produce_that_expired(rt: HostRuntime) -> Result<(), Fail> {
     let topic = topics.get(0).ok_or("a topic")?;
     let part = topic.parts.get(0).ok_or("a partition")?;
     assert_eq!(rt; (part.index, part.code, part.base), (4, 7, 5));
+    Ok(())
+}
+
+// The topics `t` with two partitions and a follower, and `v` with one partition.
+fn two_topics(alloc: Global) -> Result<Config, Fail> {
+    let mut config = Config::new(alloc, 9092);
+    for (name, partitions, followers) in [(b"t", 2, 1), (b"v", 1, 0)] {
+        config
+            .add(name, partitions, followers)
+            .ok()
+            .ok_or("the topic is new")?;
+    }
+    Ok(config)
+}
+
+// Without names all topics are told, in the order in which they were declared.
+#[test]
+fn metadata_of_all_topics(rt: HostRuntime) -> Result<(), Fail> {
+    let alloc = rt.alloc();
+    let config = two_topics(alloc)?;
+    let request = RequestView {
+        correlation: 7,
+        client: None,
+        ask: AskView::Metadata { topics: None },
+    };
+    let reply = answer(alloc, &config, &request, &[], &[])?;
+    let Told::Metadata { port, topics } = &reply.told else {
+        return Err(Fail::from("metadata was answered as another"));
+    };
+    assert_eq!(rt; (reply.correlation, *port, topics.len()), (7, 9092, 2));
+    for (at, name, partitions, followers) in [(0, b"t", 2, 1), (1, b"v", 1, 0)] {
+        let topic = topics.get(at).ok_or("a topic")?;
+        assert_eq!(rt; topic.name.as_slice(), name.as_slice());
+        assert_eq!(rt;
+            (topic.code, topic.partitions, topic.followers),
+            (0, partitions, followers)
+        );
+    }
+    Ok(())
+}
+
+// Only version 0 of the table of versions is known.
+#[test]
+fn versions_in_any_version(rt: HostRuntime) -> Result<(), Fail> {
+    let alloc = rt.alloc();
+    let config = Config::new(alloc, 9092);
+    for (version, want) in [(0, 0), (3, 35), (-1, 35)] {
+        let request = RequestView {
+            correlation: 8,
+            client: None,
+            ask: AskView::Versions { version },
+        };
+        let reply = answer(alloc, &config, &request, &[], &[])?;
+        let Told::Versions { code } = reply.told else {
+            return Err(Fail::from("versions were answered as another"));
+        };
+        assert_eq!(rt; (reply.correlation, code), (8, want));
+    }
     Ok(())
 }

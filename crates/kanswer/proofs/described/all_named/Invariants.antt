@@ -3,4 +3,4 @@ use Rattle.kanswer.specs.Answer.{info_of}
 use Rattle.kanswer.proofs.described.all_named.Given as goal
 
 abbrev pub invariant-loop-name : goal.invariant-loop-name
-invariant-loop-name l = l.infos ≡ map (info_of l.topics) (take l.name-index l.names)
+invariant-loop-name l = l.infos ≡ map (info_of l.topics) (map (λ name. name.now) (take l.name-index l.names))

@@ -16,10 +16,10 @@ returns c =
     let log = c.args.log.now in
     let start = c.args.start in
     let state : PartState = state_of log in
-    let reads = replica_reads c.args.replica start state (readable-now log c.log-log.ensures.kept) in
+    let reads = replica_reads c.args.replica start state (readable-now log c.numbers.ensures.kept) in
     let asked : ℤ → ℕ = λ replica. if is_consumer replica then c.numbers.result.visible else c.numbers.result.bytes in
     let upto = c.upto-upto.ensures ∙ ap asked (to_z-of_z w32 c.args.replica c.ranges.replica) ∙ ap (λ (n : Numbers). if is_consumer c.args.replica then n.visible else n.bytes) c.numbers.ensures.numbers in
-    c.read.ensures
+    c.read.ensures.bytes
     ∙ ap (λ (b : Bool). joined (taken c.args.limit b (batches_past start (batches_upto c.upto-upto.result state.batches)))) (not_not c.args.any)
     ∙ ap (λ (n : ℕ). joined (taken c.args.limit c.args.any (batches_past start (batches_upto n state.batches)))) upto
     ∙ ap (λ (bs : List StoredBatch). joined (taken c.args.limit c.args.any bs)) reads

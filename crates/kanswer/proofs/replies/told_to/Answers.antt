@@ -2,7 +2,8 @@ use Rattle.std.proofs.Common.{◌≡◌, ℤ, List, sym, ap, subst, ◌∙◌, r
 use Rattle.std.proofs.lemmas.Int.{to_z-of_z}
 use Rattle.std.specs.Int.{w8, w16}
 use mir.Val.{SFits}
-use Rattle.kwire.specs.declared.request.Ask.{Ask}
+use Rattle.kwire.specs.declared.view.AskView.{AskView}
+use Rattle.kwire.specs.Views.{ask_of}
 use Rattle.kwire.specs.declared.request.ProduceTopic.{ProduceTopic}
 use Rattle.kwire.specs.declared.request.FetchTopic.{FetchTopic}
 use Rattle.kwire.specs.declared.reply.Told.TheVariants.{Produced, Fetched}
@@ -20,7 +21,7 @@ returns-in_ok-produced_topics-in-Produce c =
     let topics = c.in_ok-produced_topics-in-Produce.field-0 in
     let acks_fit : SFits w16 a.acks = search rules in
     λ shown.
-    let Tells : Ask → Type 0 = λ ask. AreReadings ask results readings shown → Produced topics ≡ told_to c.args.config.now ask shown in
+    let Tells : AskView → Type 0 = λ v. AreReadings (ask_of v) results readings shown → Produced topics ≡ told_to c.args.config.now (ask_of v) shown in
     subst Tells (sym a.is) (λ are. ap Produced (
     c.in_ok-produced_topics-in-Produce.ensures
     ∙ ap (λ (acks : ℤ). produced_of acks c.as_slice.result.now results readings) (to_z-of_z w16 a.acks acks_fit)
@@ -36,8 +37,8 @@ returns-in_ok-fetched_topics-in-Fetch c =
     let topics = c.in_ok-fetched_topics-in-Fetch.field-0 in
     let isolation_fits : SFits w8 a.isolation = search rules in
     λ shown.
-    let Tells : Ask → Type 0 = λ ask. AreReadings ask results readings shown → Fetched a.isolation topics ≡ told_to c.args.config.now ask shown in
-    let told : AreReadings c.args.ask.now results readings shown → Fetched a.isolation topics ≡ told_to c.args.config.now c.args.ask.now shown =
+    let Tells : AskView → Type 0 = λ v. AreReadings (ask_of v) results readings shown → Fetched a.isolation topics ≡ told_to c.args.config.now (ask_of v) shown in
+    let told : AreReadings (ask_of c.args.ask.now) results readings shown → Fetched a.isolation topics ≡ told_to c.args.config.now (ask_of c.args.ask.now) shown =
     subst Tells (sym a.is) (λ are. ap (Fetched a.isolation) (
     c.in_ok-fetched_topics-in-Fetch.ensures
     ∙ ap (λ (ts : List FetchTopic). fetched_of ts results readings) c.as_slice-in-Fetch.ensures

@@ -7,7 +7,7 @@ use Rattle.partlog.proofs.Laws.{kept-full}
 use Rattle.kanswer.specs.declared.accepted.Budget.{Budget}
 use Rattle.kanswer.specs.Answer.{is_readable, read_of}
 use Rattle.kanswer.proofs.PartBatches.{full_read, some_bytes}
-use Rattle.kanswer.proofs.one_part.read_part.Goals as goal
+use Rattle.kanswer.proofs.one_part.read_asked.Goals as goal
 
 pub returns-clause-lowered : goal.returns-clause-lowered
 returns-clause-lowered c =
@@ -15,7 +15,7 @@ returns-clause-lowered c =
     let b = c.args.budget.now in
     let state : PartState = state_of log in
     let bs = read_of c.args.replica c.args.asked.now c.args.start state b in
-    let full = full_read c.args.replica c.args.asked.now c.args.start state b (kept-full log.log log.events c.log-log.ensures.kept) in
+    let full = full_read c.args.replica c.args.asked.now c.args.start state b (kept-full log.log log.events c.numbers-numbers.ensures.kept) in
     let size : c.len.result ≡ length (joined bs) =
     c.len.ensures ∙ ap (λ (l : List ℕ). length l) (c.in_ok-records.ensures ∙ c.readable-seen.ensures
     ∙ ap (λ (replica : ℤ). joined (taken c.limit_of-limit.result b.any (filter (is_readable replica state) (batches_past c.args.start state.batches)))) (to_z-of_z w32 c.args.replica c.ranges.replica)
