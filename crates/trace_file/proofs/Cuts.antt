@@ -2,7 +2,7 @@
 use Rattle.std.proofs.Common.{◌≡◌, ◌≢◌, ℕ, ◌+◌, ◌<◌, ◌≤◌, Bool, true, false, cond, eqb, List, [], ◌∷◌, ◌++◌, length, get_or, take, drop, refl, sym, ap, ◌∙◌, eq-eqb, arith}
 use Rattle.std.proofs.lemmas.Bool.{ne_eqb}
 use Rattle.std.proofs.lemmas.List.{take-append-drop, drop_more, get_or-take, get_or_default, length-take-le}
-use Rattle.std.proofs.lemmas.List.Splits.{slice_split_at, slice_split_none}
+use Rattle.std.proofs.lemmas.List.Splits.{slice_split_at, slice_split_none, length-slice_split}
 use Rattle.std.specs.List.{slice_split, onto_first, All}
 use Rattle.trace_file.specs.Trace.{pieces_of, without_empty_end}
 
@@ -48,3 +48,7 @@ pieces_of-cut text piece behind e =
 
 pub pieces_of-last : (text : List ℕ) → length text ≢ 0 → slice_split (λ c. eqb c 10) text ≡ text ∷ [] → pieces_of text ≡ text ∷ []
 pieces_of-last text some e = ap without_empty_end e ∙ ap (λ (b : Bool). cond b [] (text ∷ [])) (ne_eqb (length text) 0 some)
+
+-- what is cut has a part at least
+pub some_parts : (p : ℕ → Bool) (text : List ℕ) → 0 < length (slice_split p text)
+some_parts p text = omega (arith, length-slice_split p text)

@@ -1,5 +1,5 @@
 -- No session of a trace receives more bytes than the trace has, and only sessions that there may be are named.
-use Rattle.std.proofs.Common.{◌≡◌, ℕ, ◌+◌, ◌*◌, ◌%◌, ◌≤◌, ◌<◌, Bool, true, false, cond, eqb, List, [], ◌∷◌, length, Ok, Err, ap, arith, length-append, ◌||◌, inl, inr}
+use Rattle.std.proofs.Common.{◌≡◌, ◌≢◌, refl, ℕ, ◌+◌, ◌*◌, ◌%◌, ◌≤◌, ◌<◌, Bool, true, false, cond, eqb, List, [], ◌∷◌, length, Ok, Err, ap, arith, length-append, ◌||◌, inl, inr}
 use Rattle.std.proofs.lemmas.Bool.{or_cases, eqb-true}
 use Rattle.std.specs.Prelude.{codes}
 use Rattle.std.specs.Fmt.{decimal}
@@ -45,8 +45,13 @@ decoded_by_test true hex bytes e = absurd cc
 decoded_by_test false hex bytes e = e
 
 -- the digits are twice as many as the bytes
-decoded_len : (hex bytes : List ℕ) → decode_of hex ≡ Ok bytes → length hex ≡ 2 * length bytes
+pub decoded_len : (hex bytes : List ℕ) → decode_of hex ≡ Ok bytes → length hex ≡ 2 * length bytes
 decoded_len hex bytes e = (decode_pairs-ok 0 hex bytes (decoded_by_test (eqb (length hex % 2) 1) hex bytes e)).1
+
+-- and where there are digits, there are bytes
+pub decoded_some : (hex bytes : List ℕ) → decode_of hex ≡ Ok bytes → hex ≢ [] → 0 < length bytes
+decoded_some [] bytes e some = absurd (some refl)
+decoded_some (c ∷ hex) bytes e some = omega (arith, decoded_len (c ∷ hex) bytes e)
 
 feed_size : (piece : List ℕ) (session : ℕ) (bytes : List ℕ) → IsFeedLine (words_of piece) session bytes → length bytes ≤ length piece
 feed_size piece session bytes h =

@@ -6,11 +6,23 @@ pub mod Digits
 pub mod Numbers
 -- a text that is cut at a byte
 pub mod Cuts
+-- words that are filled
+pub mod Filled
 -- the words of a line, and the one line that they spell
 pub mod Lines
--- what may stand behind lines of a plain trace
-pub mod NextLines
+-- what may come after the lines so far
+pub mod Orders
 -- a text that is read line by line
 pub mod TextSoFar
 -- what a session receives is within the text
 pub mod FewBytes
+-- lines at the front of a trace
+pub mod Fronts
+-- what is wrong with a piece of text is one thing
+pub mod Faults
+-- a text has one first bad line at most
+pub mod OneFault
+-- what a refusal tells, in other words
+pub mod Refused
+-- a line that is written is read back
+pub mod ReadBack

@@ -1,6 +1,6 @@
 -- The words of a line, and the one line that they spell.
-use Rattle.std.proofs.Common.{◌≡◌, ◌≢◌, ℕ, ◌≤◌, ◌^◌, List, [], ◌∷◌, get_or, refl, sym, ap, ◌∙◌, arith}
-use Rattle.std.specs.Prelude.{codes, Result, Ok, Err, IfErr, nat_eq, if◌then◌else◌}
+use Rattle.std.proofs.Common.{◌≡◌, ◌≢◌, ℕ, ◌≤◌, List, [], ◌∷◌, get_or, refl, sym, ap, ◌∙◌, arith}
+use Rattle.std.specs.Prelude.{codes, Result, Ok, Err, nat_eq, if◌then◌else◌}
 use Rattle.std.specs.Fmt.{decimal}
 use Rattle.std.specs.Cmp.Lexicographic.{pointwise, other_text}
 use Rattle.std.specs.Str.Parse.{digits_value}
@@ -9,9 +9,6 @@ use Rattle.hex.specs.declared.error.FromHexError.{FromHexError}
 use Rattle.trace_file.specs.declared.line.Line.{Line}
 use Rattle.trace_file.specs.declared.line.Line.TheVariants.{Topic, Feed, Shut, Clock, End}
 use Rattle.trace_file.specs.declared.line.TheConstants.{LAST_MOMENT}
-use Rattle.trace_file.specs.declared.fault.NotRead.{NotRead}
-use Rattle.trace_file.specs.declared.fault.NotRead.TheVariants.{Other, NoMemory}
-use Rattle.trace_file.specs.Denies.{Denies}
 use Rattle.trace_file.proofs.Numbers.{decimal_value}
 use Rattle.trace_file.specs.IsLine.{IsTopicLine, IsFeedLine, IsShutLine, IsClockLine, AreWordsOf}
 
@@ -76,15 +73,6 @@ lone_end word (Feed session bytes) h = let e = h.spelled in absurd cc
 lone_end word (Shut session) h = let e = h.spelled in absurd cc
 lone_end word (Clock t) h = let e = h.spelled in absurd cc
 lone_end word End h = cc
-
--- who denies what follows, denies what it follows from
-pub Denies-weaker : (e : NotRead) {P Q : Type 0} → (Q → P) → Denies e P → Denies e Q
-Denies-weaker Other f none = λ q. none (f q)
-Denies-weaker NoMemory f none = tt
-
-pub fault-weaker : {A : Type 0} (r : Result A NotRead) {P Q : Type 0} → (Q → P) → IfErr r (λ e. Denies e P) → IfErr r (λ e. Denies e Q)
-fault-weaker (Ok x) f h = tt
-fault-weaker (Err e) f h = Denies-weaker e f h
 
 -- the bytes of digits that decode
 bytes_in : Result (List ℕ) FromHexError → List ℕ

@@ -1,14 +1,11 @@
 -- Reading the pieces of a text, one after the other.
-use Rattle.std.proofs.Common.{◌≡◌, ℕ, List, [], ◌∷◌, ◌++◌, refl, sym, ap, subst, ◌∙◌}
-use Rattle.std.specs.List.{All, AllZip}
+use Rattle.std.proofs.Common.{◌≡◌, ℕ, arith, length, List, [], ◌∷◌, ◌++◌, refl, sym, ap, subst, ◌∙◌}
+use Rattle.std.specs.List.{AllZip}
 use Rattle.std.proofs.lemmas.List.{append_assoc, append-nil}
 use Rattle.trace_file.specs.declared.line.Line.{Line}
 use Rattle.trace_file.specs.IsLine.{IsLine, words_of}
-use Rattle.trace_file.specs.IsInOrder.{IsInOrder}
-use Rattle.trace_file.specs.Trace.{pieces_of, IsTrace, IsPlainLine, IsPlainTrace}
-use Rattle.trace_file.specs.PlainFront.{MayCome}
+use Rattle.trace_file.specs.Trace.{pieces_of}
 use Rattle.trace_file.proofs.Lines.{words_say}
-use Rattle.trace_file.proofs.NextLines.{order_comes}
 
 -- these lines are read, and this text is left
 pub record IsReading (text rest : List ℕ) (lines : List Line) : Type 0 where
@@ -38,7 +35,7 @@ reading_all text rest lines h done =
     subst (λ (ps : List (List ℕ)). AllZip IsLine ps lines) (sym all) h.spelled
 
 -- the lines of a text begin with those of its front
-zip_front : (pieces more : List (List ℕ)) (lines all : List Line) → AllZip IsLine pieces lines → AllZip IsLine (pieces ++ more) all → (back : List Line) × (all ≡ lines ++ back) × AllZip IsLine more back
+pub zip_front : (pieces more : List (List ℕ)) (lines all : List Line) → AllZip IsLine pieces lines → AllZip IsLine (pieces ++ more) all → (back : List Line) × (all ≡ lines ++ back) × AllZip IsLine more back
 zip_front [] more [] all h whole = (all, refl, whole)
 zip_front [] more (l ∷ lines) all h whole = absurd h
 zip_front (p ∷ pieces) more [] all h whole = absurd h
@@ -48,40 +45,18 @@ zip_front (p ∷ pieces) more (l ∷ lines) (a ∷ all) h whole =
     let same : a ≡ l = words_say (words_of p) a l whole.0 h.0 in
     (rest.0, ap (λ (x : Line). x ∷ all) same ∙ ap (λ (xs : List Line). l ∷ xs) rest.1, rest.2)
 
-pub reading_rest : (text rest : List ℕ) (lines all : List Line) → IsReading text rest lines → AllZip IsLine (pieces_of text) all → (back : List Line) × (all ≡ lines ++ back) × AllZip IsLine (pieces_of rest) back
-reading_rest text rest lines all h spelled =
-    zip_front h.pieces (pieces_of rest) lines all h.spelled (subst (λ (ps : List (List ℕ)). AllZip IsLine ps all) h.whole spelled)
-
--- the next piece of a trace is a line
-next_line : (piece : List ℕ) (pieces : List (List ℕ)) (back : List Line) → AllZip IsLine (piece ∷ pieces) back → (line : Line) × (more : List Line) × (back ≡ line ∷ more) × IsLine piece line
-next_line piece pieces [] h = absurd h
-next_line piece pieces (line ∷ more) h = (line, more, refl, h.0)
-
--- what stands next in a trace: a line that may come
-pub next_comes : (text rest behind piece : List ℕ) (lines all : List Line) → IsReading text rest lines → pieces_of rest ≡ piece ∷ pieces_of behind → IsPlainTrace text all
-    → (line : Line) × IsLine piece line × MayCome lines line
-next_comes text rest behind piece lines all h e plain =
-    let left = reading_rest text rest lines all h plain.0.spelled in
-    let next = next_line piece (pieces_of behind) left.0 (subst (λ (ps : List (List ℕ)). AllZip IsLine ps left.0) e left.2) in
-    let parts : all ≡ lines ++ next.0 ∷ next.1 = left.1 ∙ ap (λ (b : List Line). lines ++ b) next.2 in (
-      next.0,
-      next.3,
-      order_comes lines next.1 next.0 (subst IsInOrder parts plain.0.order) (subst (λ (ls : List Line). All IsPlainLine ls) parts plain.1),
-    )
-
 no_pieces : (back : List Line) → AllZip IsLine [] back → back ≡ []
 no_pieces [] h = refl
 no_pieces (l ∷ back) h = absurd h
 
--- where nothing is left, the lines are all of the trace
-pub all_read : (text rest : List ℕ) (lines all : List Line) → IsReading text rest lines → rest ≡ [] → IsPlainTrace text all → IsInOrder lines
-all_read text rest lines all h done plain =
-    let left = reading_rest text rest lines all h plain.0.spelled in
-    let none : left.0 ≡ [] = no_pieces left.0 (subst (λ (r : List ℕ). AllZip IsLine (pieces_of r) left.0) done left.2) in
-    subst IsInOrder (left.1 ∙ ap (λ (b : List Line). lines ++ b) none ∙ append-nil lines) plain.0.order
-
--- a text is one trace at most
-pub one_trace : (text : List ℕ) (lines others : List Line) → IsTrace text lines → IsTrace text others → lines ≡ others
-one_trace text lines others h other =
-    let left = zip_front (pieces_of text) [] lines others h.spelled (subst (λ (ps : List (List ℕ)). AllZip IsLine ps others) (sym (append-nil (pieces_of text))) other.spelled) in
+-- pieces are the text of one list of lines
+pub one_reading : (pieces : List (List ℕ)) (lines others : List Line) → AllZip IsLine pieces lines → AllZip IsLine pieces others → lines ≡ others
+one_reading pieces lines others h other =
+    let left = zip_front pieces [] lines others h (subst (λ (ps : List (List ℕ)). AllZip IsLine ps others) (sym (append-nil pieces)) other) in
     sym (left.1 ∙ ap (λ (b : List Line). lines ++ b) (no_pieces left.0 left.2) ∙ append-nil lines)
+
+pub zip_length : (pieces : List (List ℕ)) (lines : List Line) → AllZip IsLine pieces lines → length pieces ≡ length lines
+zip_length [] [] h = refl
+zip_length [] (line ∷ lines) h = absurd h
+zip_length (piece ∷ pieces) [] h = absurd h
+zip_length (piece ∷ pieces) (line ∷ lines) h = omega (arith, zip_length pieces lines h.1)

@@ -13,9 +13,17 @@ IsTopic (Shut session) = ⊥
 IsTopic (Clock t) = ⊥
 IsTopic End = ⊥
 
--- what a line may be that stands somewhere behind another
+-- a topic, or the end
+abbrev pub DeclaresOrEnds : Line → Type 0
+DeclaresOrEnds (Topic name partitions followers) = Unit {0}
+DeclaresOrEnds (Feed session bytes) = ⊥
+DeclaresOrEnds (Shut session) = ⊥
+DeclaresOrEnds (Clock t) = ⊥
+DeclaresOrEnds End = Unit {0}
+
+-- what a line may be that stands somewhere after another
 pub record MayFollow (earlier later : Line) : Type 0 where
-  -- nothing stands behind `end`
+  -- nothing stands after `end`
   pub end_last : earlier ≢ End
   -- topics come first
   pub topics_first : IsTopic later → IsTopic earlier

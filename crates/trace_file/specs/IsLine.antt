@@ -1,12 +1,12 @@
 -- The text of one line of a trace, without its line feed. A line's words are what stands between its spaces, so that two
 -- words are separated by exactly one space and no word is empty. Numbers are decimal digits without sign or leading zeros.
-use Rattle.std.specs.Prelude.{ℕ, ◌≡◌, ◌<◌, ◌≤◌, ◌^◌, ◌==◌, List, [], ◌∷◌, length, codes, Ok}
+use Rattle.std.specs.Prelude.{ℕ, ◌≡◌, ◌<◌, ◌≤◌, ◌==◌, List, [], ◌∷◌, length, codes, Ok}
 use Rattle.std.specs.Fmt.{decimal}
 use Rattle.std.specs.List.{slice_split}
 use Rattle.hex.specs.Hex.{decode_of}
 use Rattle.trace_file.specs.declared.line.Line.{Line}
 use Rattle.trace_file.specs.declared.line.Line.TheVariants.{Topic, Feed, Shut, Clock, End}
-use Rattle.trace_file.specs.declared.line.TheConstants.{LAST_MOMENT, MOST_SESSIONS}
+use Rattle.trace_file.specs.declared.line.TheConstants.{LAST_MOMENT, MOST_NUMBER, MOST_SESSIONS}
 
 abbrev pub words_of : List ℕ → List (List ℕ)
 words_of piece = slice_split (λ byte. byte == 32) piece
@@ -15,8 +15,8 @@ words_of piece = slice_split (λ byte. byte == 32) piece
 pub record IsTopicLine (words : List (List ℕ)) (name : List ℕ) (partitions followers : ℕ) : Type 0 where
   pub spelled : words ≡ codes "topic" ∷ name ∷ decimal partitions ∷ decimal followers ∷ []
   pub named : 0 < length name
-  pub partitions_fit : partitions ≤ 4_294_967_295
-  pub followers_fit : followers ≤ 4_294_967_295
+  pub partitions_fit : partitions ≤ MOST_NUMBER
+  pub followers_fit : followers ≤ MOST_NUMBER
 
 -- `bytes S HEX`, with digits of either case
 pub record IsFeedLine (words : List (List ℕ)) (session : ℕ) (bytes : List ℕ) : Type 0 where

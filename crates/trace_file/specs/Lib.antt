@@ -8,11 +8,15 @@ pub mod Contents
 pub mod IsInOrder
 -- the text of a trace
 pub mod Trace
--- one printed line
+-- what is wrong with a line
+pub mod LineFaults
+-- the first bad line of a text
+pub mod FirstBad
+-- one line that is written
 pub mod PrintedLine
 -- ==== the words of private functions
 
--- what a refusal to read says
-pub mod Denies
--- the lines of a plain trace as far as they are read
-pub mod PlainFront
+-- what a refusal to take a line tells
+pub mod Refusals
+-- what is kept of the lines so far
+pub mod Sees

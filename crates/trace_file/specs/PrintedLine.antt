@@ -1,7 +1,11 @@
--- One printed line: it ends with a line feed, and frames are printed in lower case hex.
-use Rattle.std.specs.Prelude.{ℕ, List, [], ◌∷◌, ◌++◌, codes}
+-- One line that is written: it ends with a line feed, and bytes are written in lower case hex.
+use Rattle.std.specs.Prelude.{ℕ, ◌<◌, ◌≤◌, List, [], ◌∷◌, ◌++◌, length, codes}
 use Rattle.std.specs.Fmt.{decimal}
-use Rattle.hex.specs.Hex.{encode_lower}
+use Rattle.hex.specs.Hex.{encode_lower, IsBytes}
+use Rattle.trace_file.specs.declared.line.Line.{Line}
+use Rattle.trace_file.specs.declared.line.Line.TheVariants.{Topic, Feed, Shut, Clock, End}
+use Rattle.trace_file.specs.declared.line.TheConstants.{LAST_MOMENT, MOST_NUMBER, MOST_SESSIONS}
+use Rattle.kwire.specs.Configuration.{IsTopicName}
 use Rattle.kwire.specs.declared.reply.Reply.{Reply}
 use Rattle.kwire.specs.Spelling.{spelling}
 
@@ -14,3 +18,19 @@ line_of (word ∷ next ∷ words) = word ++ 32 ∷ line_of (next ∷ words)
 -- `reply S HEX`
 abbrev pub reply_line : ℕ → Reply → List ℕ
 reply_line session reply = line_of (codes "reply" ∷ decimal session ∷ encode_lower (spelling reply) ∷ [])
+
+-- a line of a trace
+abbrev pub text_of : Line → List ℕ
+text_of (Topic name partitions followers) = line_of (codes "topic" ∷ name ∷ decimal partitions ∷ decimal followers ∷ [])
+text_of (Feed session bytes) = line_of (codes "bytes" ∷ decimal session ∷ encode_lower bytes ∷ [])
+text_of (Shut session) = line_of (codes "close" ∷ decimal session ∷ [])
+text_of (Clock t) = line_of (codes "clock" ∷ decimal t ∷ [])
+text_of End = line_of (codes "end" ∷ [])
+
+-- a line that a trace may have, so that its text is read back as that line
+abbrev pub IsWritable : Line → Type 0
+IsWritable (Topic name partitions followers) = IsTopicName name × (partitions ≤ MOST_NUMBER) × (followers ≤ MOST_NUMBER)
+IsWritable (Feed session bytes) = (session < MOST_SESSIONS) × (0 < length bytes) × IsBytes bytes
+IsWritable (Shut session) = session < MOST_SESSIONS
+IsWritable (Clock t) = t ≤ LAST_MOMENT
+IsWritable End = Unit {0}

@@ -1,8 +1,7 @@
 -- The text of a trace: lines in order, each ended by a line feed, the last one with it or without.
-use Rattle.std.specs.Prelude.{ℕ, ◌≡◌, ◌≤◌, ◌==◌, List, [], ◌∷◌, length, if◌then◌else◌}
-use Rattle.std.specs.List.{slice_split, All, AllZip}
+use Rattle.std.specs.Prelude.{ℕ, ◌≤◌, ◌==◌, List, [], ◌∷◌, length, if◌then◌else◌}
+use Rattle.std.specs.List.{slice_split, AllZip}
 use Rattle.trace_file.specs.declared.line.Line.{Line}
-use Rattle.trace_file.specs.declared.line.Line.TheVariants.{Topic, Feed, Shut, Clock, End}
 use Rattle.trace_file.specs.declared.line.TheConstants.{MOST_TRACE_BYTES}
 use Rattle.trace_file.specs.IsLine.{IsLine}
 use Rattle.trace_file.specs.IsInOrder.{IsInOrder}
@@ -21,14 +20,3 @@ pub record IsTrace (text : List ℕ) (lines : List Line) : Type 0 where
   pub size : length text ≤ MOST_TRACE_BYTES
   pub spelled : AllZip IsLine (pieces_of text) lines
   pub order : IsInOrder lines
-
--- a line of the traces whose requests wait for nothing: no topic has followers, no session is closed, no time passes
-abbrev pub IsPlainLine : Line → Type 0
-IsPlainLine (Topic name partitions followers) = followers ≡ 0
-IsPlainLine (Feed session bytes) = Unit {0}
-IsPlainLine (Shut session) = ⊥
-IsPlainLine (Clock t) = ⊥
-IsPlainLine End = Unit {0}
-
-abbrev pub IsPlainTrace : List ℕ → List Line → Type 0
-IsPlainTrace text lines = IsTrace text lines × All IsPlainLine lines

@@ -1,22 +1,28 @@
 //! Recorded traces: their lines, the texts that are traces, and the printed line of a reply.
 //!
-//! The layer above may read a text as the lines of a trace whose requests wait for nothing, with the configuration of its
-//! topics, and print the frames that a session is sent.
+//! The layer above may read a text as the lines of a trace or learn its first bad line, make the configuration of its topics,
+//! write a line, and print the frames that a session is sent.
 #![tactic(auto)]
 
-mod fault;
 mod line;
+mod line_text;
 mod number;
+mod order;
 mod pieces;
-mod plain_trace;
+mod promises;
 mod read_line;
+mod reading;
+mod refusal;
 mod reply_line;
+mod words;
 
 pub use line::{
-    LAST_MOMENT, Line, LineFault, LineKind, MOST_SESSIONS, MOST_TRACE_BYTES, REPLAY_PORT,
-    TraceFault,
+    LAST_MOMENT, LAST_SESSION, Line, LineFault, LineKind, MOST_NUMBER, MOST_SESSIONS,
+    MOST_TRACE_BYTES, REPLAY_PORT, TraceFault,
 };
-pub use plain_trace::{PlainTrace, read_plain_trace};
+pub use line_text::put_line;
+pub use promises::{no_bad_line, one_first_bad_line, read_back};
+pub use reading::{config_of, read_trace};
 pub use reply_line::put_reply_line;
 
 #[cfg(test)]

@@ -6,6 +6,12 @@ use thiserror::Error;
 /// The sessions of a trace have the numbers below this one.
 pub const MOST_SESSIONS: u32 = 64;
 
+/// The greatest number of a session of a trace.
+pub const LAST_SESSION: u32 = MOST_SESSIONS - 1;
+
+/// The greatest number of partitions or followers that a line may write. What a topic may have is less.
+pub const MOST_NUMBER: u32 = 4_294_967_295;
+
 /// The last moment, in milliseconds.
 pub const LAST_MOMENT: u64 = 1_000_000_000_000_000;
 
@@ -42,25 +48,27 @@ pub enum Line {
 }
 
 /// What is wrong with a line. The first that applies is the line's kind: the order is that of the variants, but that `Order`
-/// comes before `BadTopic`. `NoEnd` is told of the line behind the last one, where no line is bad. `TooLong` is told of the line
+/// comes before `BadTopic`. `NoEnd` is told of the line after the last one, where no line is bad. `TooLong` is told of the line
 /// that goes past the limit, before every other.
 #[derive(Debug, Drop, Error, Clone, Copy, PartialEq, Eq)]
 pub enum LineKind {
-    #[error("the first word isn't known")]
+    #[error("a line begins with topic, bytes, close, clock or end")]
     Word,
-    #[error("the number of words is wrong, or words aren't separated by one space")]
+    #[error("a line has as many words as its kind, and one space between two words")]
     Form,
-    #[error("a number isn't decimal digits, or is out of range")]
+    #[error("a session is a number from 0 to 63, a moment from 0 to 10^15, partitions and followers from 0 to 4294967295, with no \
+         leading zeros")]
     Number,
-    #[error("the bytes aren't pairs of hex digits")]
+    #[error("bytes are written as pairs of hex digits")]
     Hex,
-    #[error("the topic can't be declared")]
+    #[error("a topic has a new name of at most 249 letters, digits, dots, underscores and hyphens, at least 1 partition, at most 64 \
+         with those of other topics, and at most 8 followers")]
     BadTopic,
-    #[error("the line can't stand here")]
+    #[error("topics stand first and end last, the clock never goes back, and nothing more comes for a session that is closed")]
     Order,
-    #[error("the line `end` is missing")]
+    #[error("the line end is missing")]
     NoEnd,
-    #[error("the text is longer than 67,108,864 bytes")]
+    #[error("a trace has at most 67108864 bytes")]
     TooLong,
 }
 

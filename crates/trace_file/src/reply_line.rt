@@ -8,8 +8,8 @@ ghost use Rattle.trace_file.specs.PrintedLine.{line_of};
 use itoa::Buffer;
 use kbytes::{Bytes, NoMemory};
 
-// Puts the digits of the bytes at the end. After want of memory some of them may stand there.
-fn put_hex(out: &mut Bytes, bytes: &[u8]) -> Result<(), NoMemory>
+/// Puts the digits of the bytes at the end. After want of memory some of them may stand there.
+pub fn put_hex(out: &mut Bytes, bytes: &[u8]) -> Result<(), NoMemory>
     ensures ok { OnOk result (out.new ≡ out.old ++ encode_lower bytes.now) }
     ensures front { OnErr result (take (length out.old) out.new ≡ out.old) }
 {

@@ -1,0 +1,100 @@
+//! The text of a line of a trace.
+
+ghost use Rattle.std.specs.Prelude.{◌≡◌, ◌∷◌, ◌++◌, [], codes, length, take, OnOk, OnErr};
+ghost use Rattle.std.specs.Fmt.{decimal};
+ghost use Rattle.hex.specs.Hex.{encode_lower};
+ghost use Rattle.trace_file.specs.PrintedLine.{line_of, text_of};
+
+use crate::line::Line;
+use crate::reply_line::put_hex;
+use itoa::Buffer;
+use kbytes::{Bytes, NoMemory};
+
+fn put_number(out: &mut Bytes, n: u64) -> Result<(), NoMemory>
+    ensures ok { OnOk result (out.new ≡ out.old ++ decimal n) }
+    ensures err { OnErr result (out.new ≡ out.old) }
+{
+    let mut buffer = Buffer::new();
+    out.extend(buffer.format(n).as_bytes())?;
+    Ok(())
+}
+
+// Puts the line at the end. After want of memory some of it may stand there, as with those below.
+fn put_topic(out: &mut Bytes, name: &[u8], partitions: u32, followers: u32) -> Result<(), NoMemory>
+    ensures ok { OnOk result (out.new ≡ out.old ++ line_of (codes "topic" ∷ name.now ∷ decimal partitions ∷ decimal followers ∷ [])) }
+    ensures front { OnErr result (take (length out.old) out.new ≡ out.old) }
+{
+    out.extend(b"topic ".as_slice())?;
+    out.extend(name)?;
+    out.push(b' ')?;
+    put_number(out, u64::from(partitions))?;
+    out.push(b' ')?;
+    put_number(out, u64::from(followers))?;
+    out.push(b'\n')?;
+    Ok(())
+}
+
+fn put_feed(out: &mut Bytes, session: u32, bytes: &[u8]) -> Result<(), NoMemory>
+    ensures ok { OnOk result (out.new ≡ out.old ++ line_of (codes "bytes" ∷ decimal session ∷ encode_lower bytes.now ∷ [])) }
+    ensures front { OnErr result (take (length out.old) out.new ≡ out.old) }
+{
+    out.extend(b"bytes ".as_slice())?;
+    put_number(out, u64::from(session))?;
+    out.push(b' ')?;
+    put_hex(out, bytes)?;
+    out.push(b'\n')?;
+    Ok(())
+}
+
+fn put_shut(out: &mut Bytes, session: u32) -> Result<(), NoMemory>
+    ensures ok { OnOk result (out.new ≡ out.old ++ line_of (codes "close" ∷ decimal session ∷ [])) }
+    ensures front { OnErr result (take (length out.old) out.new ≡ out.old) }
+{
+    out.extend(b"close ".as_slice())?;
+    put_number(out, u64::from(session))?;
+    out.push(b'\n')?;
+    Ok(())
+}
+
+fn put_clock(out: &mut Bytes, t: u64) -> Result<(), NoMemory>
+    ensures ok { OnOk result (out.new ≡ out.old ++ line_of (codes "clock" ∷ decimal t ∷ [])) }
+    ensures front { OnErr result (take (length out.old) out.new ≡ out.old) }
+{
+    out.extend(b"clock ".as_slice())?;
+    put_number(out, t)?;
+    out.push(b'\n')?;
+    Ok(())
+}
+
+fn put_text(out: &mut Bytes, line: &Line) -> Result<(), NoMemory>
+    ensures ok { OnOk result (out.new ≡ out.old ++ text_of line.now) }
+    ensures front { OnErr result (take (length out.old) out.new ≡ out.old) }
+{
+    match line {
+        Line::Topic {
+            name,
+            partitions,
+            followers,
+        } => put_topic(out, name.as_slice(), *partitions, *followers),
+        Line::Feed { session, bytes } => put_feed(out, *session, bytes.as_slice()),
+        Line::Shut { session } => put_shut(out, *session),
+        Line::Clock { t } => put_clock(out, *t),
+        Line::End => {
+            out.extend(b"end\n".as_slice())?;
+            Ok(())
+        }
+    }
+}
+
+/// Puts the line's text at the end, with its line feed. After want of memory the bytes are as before.
+pub fn put_line(out: &mut Bytes, line: &Line) -> Result<(), NoMemory>
+    ensures ok { OnOk result (out.new ≡ out.old ++ text_of line.now) }
+    ensures err { OnErr result (out.new ≡ out.old) }
+{
+    let before = out.len();
+    let put = put_text(out, line);
+    if put.is_err() {
+        out.truncate(before);
+    }
+    put
+}
