@@ -20,3 +20,5 @@ pub mod WorkedProduces
 pub mod WorkedRequests
 -- a worked run
 pub mod WorkedRuns
+-- what holds of a call that went well
+pub mod Ends

@@ -18,7 +18,7 @@ use Rattle.audit.specs.Fits.{ShowsFor, IsReplyOf, answered_of, HasReplies}
 use Rattle.audit.specs.LawfulCall.{Step, IsStep, IsAccepted, IsWholeCall, Completes, step_points, shown_as_completed}
 use Rattle.audit.specs.Histories.{before_point}
 use Rattle.kanswer.proofs.Laws.{decided_once}
-use Rattle.kwire.proofs.Laws.{request_reads, same_request}
+use Rattle.kwire.proofs.Laws.{same_request}
 
 abbrev step : Accepted → Option Point → Step
 step result point = record { result = result; point = point }
@@ -58,7 +58,7 @@ steps_once account (AskLog part outcome ∷ ds) (x ∷ xs) (y ∷ ys) ps qs h k 
     ap (λ (s : Step). s ∷ xs) same ∙ ap (λ (ss : List Step). y ∷ ss) (steps_once account ds xs ys ps qs h.1 k.1 rest)
 
 pub request_once : (account : Account) (call : Call) (a b : IsAccepted account call) → a.request ≡ b.request
-request_once account call a b = same_request call.frame a.request b.request (request_reads call.frame a.request a.accepted.asked) (request_reads call.frame b.request b.accepted.asked)
+request_once account call a b = same_request call.frame a.request b.request a.accepted.asked b.accepted.asked
 
 pub accepted_once : (account : Account) (call : Call) (a b : IsAccepted account call) → a.steps ≡ b.steps
 accepted_once account call a b =

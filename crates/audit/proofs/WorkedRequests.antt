@@ -3,6 +3,7 @@ use Rattle.std.proofs.Common.{◌≡◌, ◌≢◌, ℕ, zero, suc, ◌<◌, ◌
 use Rattle.std.specs.Prelude.{AllPairs}
 use Rattle.kbytes.specs.Field.{fields}
 use Rattle.kwire.specs.IsRequest.{IsRequest, Named, request_fields}
+use Rattle.kwire.specs.Layouts.{followed_by, times}
 use Rattle.audit.specs.Worked.{fetch_one, fetch_both, fetch_now, produce_of}
 
 other_parts : (topic : List ℕ) → ◌≢◌ {A = Named} (record { topic = topic; index = pos 0 }) (record { topic = topic; index = pos 1 })
@@ -18,185 +19,36 @@ pair a b ne zero (suc (suc j)) d lt within = absurd (omega (arith, within))
 pair a b ne (suc i) j d lt within = absurd (omega (arith, lt, within))
 
 pub one_body : IsRequest (fields (request_fields fetch_one)) fetch_one
+unfolding followed_by times
 one_body = inl (record {
-  spelled = refl;
-  fits = (
-    record { sfits = omega arith },
-    (
-      record { sfits = omega arith },
-      (
-        record { sfits = omega arith },
-        (
-          tt,
-          (
-            record { sfits = omega arith },
-            (
-              record { sfits = omega arith },
-              (
-                record { sfits = omega arith },
-                (
-                  record { sfits = omega arith },
-                  (
-                    record { sfits = omega arith },
-                    (omega arith, (omega arith, (omega arith, (record { sfits = omega arith }, (record { sfits = omega arith }, (record { sfits = omega arith }, tt)))))),
-                  ),
-                ),
-              ),
-            ),
-          ),
-        ),
-      ),
-    ),
-  );
-  version = tt;
-  isolation = inl refl;
-  few_topics = omega arith;
-  few_partitions = omega arith;
+  whole = record { spelled = refl; version = refl; laid_out = record { named = 1; lead = (((_, refl), record { sfits = omega arith }), (((_, refl), record { sfits = omega arith }), (((_, refl), record { sfits = omega arith }), (((_, refl), tt), (((_, refl), record { sfits = omega arith }), (((_, refl), record { sfits = omega arith }), (((_, refl), record { sfits = omega arith }), (((_, refl), record { sfits = omega arith }), (((_, refl, (0, omega arith, refl)), record { sfits = omega arith }), (((_, refl), omega arith, omega arith), (((_, refl), omega arith), (((_, refl), omega arith, omega arith), (((_, refl), record { sfits = omega arith }), (((_, refl), record { sfits = omega arith }), (((_, refl), record { sfits = omega arith }), (refl, refl)))))))))))))))) } };
   once = alone (record { topic = 116 ∷ []; index = pos 0 });
 })
 
 pub now_body : IsRequest (fields (request_fields fetch_now)) fetch_now
+unfolding followed_by times
 now_body = inl (record {
-  spelled = refl;
-  fits = (
-    record { sfits = omega arith },
-    (
-      record { sfits = omega arith },
-      (
-        record { sfits = omega arith },
-        (
-          tt,
-          (
-            record { sfits = omega arith },
-            (
-              record { sfits = omega arith },
-              (
-                record { sfits = omega arith },
-                (
-                  record { sfits = omega arith },
-                  (
-                    record { sfits = omega arith },
-                    (omega arith, (omega arith, (omega arith, (record { sfits = omega arith }, (record { sfits = omega arith }, (record { sfits = omega arith }, tt)))))),
-                  ),
-                ),
-              ),
-            ),
-          ),
-        ),
-      ),
-    ),
-  );
-  version = tt;
-  isolation = inl refl;
-  few_topics = omega arith;
-  few_partitions = omega arith;
+  whole = record { spelled = refl; version = refl; laid_out = record { named = 1; lead = (((_, refl), record { sfits = omega arith }), (((_, refl), record { sfits = omega arith }), (((_, refl), record { sfits = omega arith }), (((_, refl), tt), (((_, refl), record { sfits = omega arith }), (((_, refl), record { sfits = omega arith }), (((_, refl), record { sfits = omega arith }), (((_, refl), record { sfits = omega arith }), (((_, refl, (0, omega arith, refl)), record { sfits = omega arith }), (((_, refl), omega arith, omega arith), (((_, refl), omega arith), (((_, refl), omega arith, omega arith), (((_, refl), record { sfits = omega arith }), (((_, refl), record { sfits = omega arith }), (((_, refl), record { sfits = omega arith }), (refl, refl)))))))))))))))) } };
   once = alone (record { topic = 116 ∷ []; index = pos 0 });
 })
 
 pub both_body : IsRequest (fields (request_fields fetch_both)) fetch_both
+unfolding followed_by times
 both_body = inl (record {
-  spelled = refl;
-  fits = (
-    record { sfits = omega arith },
-    (
-      record { sfits = omega arith },
-      (
-        record { sfits = omega arith },
-        (
-          tt,
-          (
-            record { sfits = omega arith },
-            (
-              record { sfits = omega arith },
-              (
-                record { sfits = omega arith },
-                (
-                  record { sfits = omega arith },
-                  (
-                    record { sfits = omega arith },
-                    (
-                      omega arith,
-                      (
-                        omega arith,
-                        (
-                          omega arith,
-                          (
-                            record { sfits = omega arith },
-                            (
-                              record { sfits = omega arith },
-                              (
-                                record { sfits = omega arith },
-                                (record { sfits = omega arith }, (record { sfits = omega arith }, (record { sfits = omega arith }, tt))),
-                              ),
-                            ),
-                          ),
-                        ),
-                      ),
-                    ),
-                  ),
-                ),
-              ),
-            ),
-          ),
-        ),
-      ),
-    ),
-  );
-  version = tt;
-  isolation = inl refl;
-  few_topics = omega arith;
-  few_partitions = omega arith;
+  whole = record { spelled = refl; version = refl; laid_out = record { named = 2; lead = (((_, refl), record { sfits = omega arith }), (((_, refl), record { sfits = omega arith }), (((_, refl), record { sfits = omega arith }), (((_, refl), tt), (((_, refl), record { sfits = omega arith }), (((_, refl), record { sfits = omega arith }), (((_, refl), record { sfits = omega arith }), (((_, refl), record { sfits = omega arith }), (((_, refl, (0, omega arith, refl)), record { sfits = omega arith }), (((_, refl), omega arith, omega arith), (((_, refl), omega arith), (((_, refl), omega arith, omega arith), (((_, refl), record { sfits = omega arith }), (((_, refl), record { sfits = omega arith }), (((_, refl), record { sfits = omega arith }), (((_, refl), record { sfits = omega arith }), (((_, refl), record { sfits = omega arith }), (((_, refl), record { sfits = omega arith }), (refl, refl))))))))))))))))))) } };
   once = pair (record { topic = 116 ∷ []; index = pos 0 }) (record { topic = 116 ∷ []; index = pos 1 }) (other_parts (116 ∷ []));
 })
 
 pub leader_body : (batch : List ℕ) → length batch < 2 ^ 31 → IsRequest (fields (request_fields (produce_of (pos 1) batch))) (produce_of (pos 1) batch)
+unfolding followed_by times
 leader_body batch small = inl (record {
-  spelled = refl;
-  fits = (
-    record { sfits = omega arith },
-    (
-      record { sfits = omega arith },
-      (
-        record { sfits = omega arith },
-        (
-          tt,
-          (
-            tt,
-            (record { sfits = omega arith }, (record { sfits = omega arith }, (omega arith, (omega arith, (omega arith, (record { sfits = omega arith }, (small, tt))))))),
-          ),
-        ),
-      ),
-    ),
-  );
-  version = tt;
-  isolation = tt;
-  few_topics = omega arith;
-  few_partitions = omega arith;
+  whole = record { spelled = refl; version = refl; laid_out = record { named = 1; lead = (((_, refl), record { sfits = omega arith }), (((_, refl), record { sfits = omega arith }), (((_, refl), record { sfits = omega arith }), (((_, refl), tt), (((_, refl), tt), (((_, refl), record { sfits = omega arith }), (((_, refl), record { sfits = omega arith }), (((_, refl), omega arith, omega arith), (((_, refl), omega arith), (((_, refl), omega arith, omega arith), (((_, refl), record { sfits = omega arith }), (((_, refl), small), (refl, refl))))))))))))) } };
   once = alone (record { topic = 116 ∷ []; index = pos 0 });
 })
 
 pub all_body : (batch : List ℕ) → length batch < 2 ^ 31 → IsRequest (fields (request_fields (produce_of (negsuc 0) batch))) (produce_of (negsuc 0) batch)
+unfolding followed_by times
 all_body batch small = inl (record {
-  spelled = refl;
-  fits = (
-    record { sfits = omega arith },
-    (
-      record { sfits = omega arith },
-      (
-        record { sfits = omega arith },
-        (
-          tt,
-          (
-            tt,
-            (record { sfits = omega arith }, (record { sfits = omega arith }, (omega arith, (omega arith, (omega arith, (record { sfits = omega arith }, (small, tt))))))),
-          ),
-        ),
-      ),
-    ),
-  );
-  version = tt;
-  isolation = tt;
-  few_topics = omega arith;
-  few_partitions = omega arith;
+  whole = record { spelled = refl; version = refl; laid_out = record { named = 1; lead = (((_, refl), record { sfits = omega arith }), (((_, refl), record { sfits = omega arith }), (((_, refl), record { sfits = omega arith }), (((_, refl), tt), (((_, refl), tt), (((_, refl), record { sfits = omega arith }), (((_, refl), record { sfits = omega arith }), (((_, refl), omega arith, omega arith), (((_, refl), omega arith), (((_, refl), omega arith, omega arith), (((_, refl), record { sfits = omega arith }), (((_, refl), small), (refl, refl))))))))))))) } };
   once = alone (record { topic = 116 ∷ []; index = pos 0 });
 })

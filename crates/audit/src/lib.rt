@@ -4,6 +4,7 @@
 #![tactic(auto)]
 
 mod account;
+mod ending;
 mod numbers;
 mod promises;
 mod summary;
@@ -12,6 +13,7 @@ mod tally;
 pub use account::{
     Account, CLOCK_PART, Call, CallHow, MOST_CALLS, PartAccount, Point, SessionEnd, Transcript,
 };
+pub use ending::put_end_line;
 pub use promises::{
     looks_stand, one_print, one_reply, worked_account, worked_calls, worked_prints, worked_replies,
     worked_requests, worked_run,

@@ -13,8 +13,8 @@ use itoa::Buffer;
 use kbytes::{Bytes, List, NoMemory};
 use std::alloc::Global;
 
-// Puts a word and a number at the end. After want of memory a part of them may stand there.
-fn put_number(out: &mut Bytes, word: &[u8], number: u64) -> Result<(), NoMemory>
+/// Puts a word and a number at the end. After want of memory a part of them may stand there.
+pub fn put_number(out: &mut Bytes, word: &[u8], number: u64) -> Result<(), NoMemory>
     ensures { OnOk result (out.new ≡ out.old ++ (word.now ++ decimal number)) }
 {
     let mut buffer = Buffer::new();
