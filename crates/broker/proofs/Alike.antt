@@ -1,10 +1,12 @@
 -- The reply to a request that needn't wait comes from what became of its partitions and the logs of those that are seen.
-use Rattle.std.proofs.Common.{◌≡◌, ℕ, zero, suc, ◌+◌, ℤ, pos, List, [], ◌∷◌, length, take, drop, inl, inr, refl, sym, ap, ◌∙◌}
-use Rattle.std.specs.Prelude.{◌⊎◌}
+use Rattle.std.proofs.Common.{◌≡◌, ℕ, zero, suc, ◌+◌, ℤ, pos, negsuc, Bool, true, false, cond, List, [], ◌∷◌, length, take, drop, refl, sym, ap, ◌∙◌}
+use Rattle.std.proofs.lemmas.Bool.{le-leb}
+use Rattle.std.specs.Prelude.{nat_le}
+use Rattle.std.specs.Ordering.{int_eq}
 use Rattle.std.specs.List.{AllByRecursion}
 use Rattle.partlog.specs.History.{History}
 use Rattle.partlog.specs.Batches.{StoredBatch}
-use Rattle.partlog.specs.State.{PartState}
+use Rattle.partlog.specs.State.{PartState, high_of}
 use Rattle.kwire.specs.Configuration.{Configuration}
 use Rattle.kwire.specs.declared.request.Request.{Request}
 use Rattle.kwire.specs.declared.request.Ask.{Ask}
@@ -26,8 +28,7 @@ use Rattle.kanswer.specs.declared.accepted.Budget.{Budget}
 use Rattle.kanswer.specs.Waiting.{Shown, results_of}
 use Rattle.kanswer.specs.Answer.{produced_code, produced_as, produced_parts, produced_topics, read_of, batches_as, budget_after, fetched_as, fetched_parts, budget_behind, fetched_topics, first_budget, told_to, answer}
 use Rattle.broker.specs.Gathered.{state_now, shown_in_logs}
-use Rattle.broker.specs.PlainStream.{IsPlainAsk}
-use Rattle.broker.specs.Replying.{ShowsLog, ShowsLogs}
+use Rattle.broker.specs.Replying.{HasAll, ShowsLog, ShowsLogs}
 
 abbrev shown_as : Accepted → PartState → Shown
 shown_as result state = record { result = result; state = state }
@@ -61,29 +62,35 @@ module _ (parts : List History) where
 
   -- ---- a produce
 
-  code_alike : (acks : ℤ) (behind : ℕ) (state : PartState) → (acks ≡ pos 0) ⊎ (acks ≡ pos 1) → produced_code acks behind state ≡ pos 0
-  code_alike acks behind state (inl e) = ap (λ (z : ℤ). produced_code z behind state) e
-  code_alike acks behind state (inr e) = ap (λ (z : ℤ). produced_code z behind state) e
+  had : (acks : ℤ) (offset : ℕ) (state : PartState) → HasAll offset state → produced_code acks offset state ≡ pos 0
+  had acks offset state has =
+      let there : nat_le offset (high_of state) ≡ true = le-leb offset (high_of state) has.1 in
+      ap (λ (b : Bool). cond (int_eq acks (negsuc 0)) (cond b (pos 0) (pos 7)) (pos 0)) there ∙ either_way (int_eq acks (negsuc 0))
+    where
+      either_way : (b : Bool) → cond b (pos 0) (pos 0) ≡ pos 0
+      either_way true = refl
+      either_way false = refl
 
-  produced_alike : (acks index : ℤ) (result : Accepted) (state : PartState) → (acks ≡ pos 0) ⊎ (acks ≡ pos 1) → produced_as acks index result state ≡ produced_as acks index result (state_now parts result)
-  produced_alike acks index (Refused code) state plain = refl
-  produced_alike acks index (Appended part base count) state plain =
-      ap (λ (z : ℤ). let told : ProducedPart = record { index = index; code = z; base = pos base } in told) (code_alike acks (base + count) state plain ∙ sym (code_alike acks (base + count) (state_now parts (Appended part base count)) plain))
-  produced_alike acks index (Seen part start) state plain = refl
+  produced_alike : (acks index : ℤ) (result : Accepted) (state : PartState) → ShowsLog parts (record { result = result; state = state }) → produced_as acks index result state ≡ produced_as acks index result (state_now parts result)
+  produced_alike acks index (Refused code) state h = refl
+  produced_alike acks index (Appended part base count) state h =
+      ap (λ (z : ℤ). let told : ProducedPart = record { index = index; code = z; base = pos base } in told)
+      (had acks (base + count) state h.0 ∙ sym (had acks (base + count) (state_now parts (Appended part base count)) h.1))
+  produced_alike acks index (Seen part start) state h = refl
 
-  produced_parts_alike : (acks : ℤ) (asked : List ProducePart) (shown : List Shown) → (acks ≡ pos 0) ⊎ (acks ≡ pos 1) → produced_parts acks asked shown ≡ produced_parts acks asked (renewed shown)
-  produced_parts_alike acks [] shown plain = refl
-  produced_parts_alike acks (a ∷ asked) [] plain = refl
-  produced_parts_alike acks (a ∷ asked) (s ∷ shown) plain =
-      ap (λ (p : ProducedPart). p ∷ produced_parts acks asked shown) (produced_alike acks a.index s.result s.state plain)
-      ∙ ap (λ (ps : List ProducedPart). produced_as acks a.index s.result (state_now parts s.result) ∷ ps) (produced_parts_alike acks asked shown plain)
+  produced_parts_alike : (acks : ℤ) (asked : List ProducePart) (shown : List Shown) → Shows shown → produced_parts acks asked shown ≡ produced_parts acks asked (renewed shown)
+  produced_parts_alike acks [] shown h = refl
+  produced_parts_alike acks (a ∷ asked) [] h = refl
+  produced_parts_alike acks (a ∷ asked) (s ∷ shown) h =
+      ap (λ (p : ProducedPart). p ∷ produced_parts acks asked shown) (produced_alike acks a.index s.result s.state h.0)
+      ∙ ap (λ (ps : List ProducedPart). produced_as acks a.index s.result (state_now parts s.result) ∷ ps) (produced_parts_alike acks asked shown h.1)
 
-  produced_topics_alike : (acks : ℤ) (topics : List ProduceTopic) (shown : List Shown) → (acks ≡ pos 0) ⊎ (acks ≡ pos 1) → produced_topics acks topics shown ≡ produced_topics acks topics (renewed shown)
-  produced_topics_alike acks [] shown plain = refl
-  produced_topics_alike acks (t ∷ topics) shown plain =
+  produced_topics_alike : (acks : ℤ) (topics : List ProduceTopic) (shown : List Shown) → Shows shown → produced_topics acks topics shown ≡ produced_topics acks topics (renewed shown)
+  produced_topics_alike acks [] shown h = refl
+  produced_topics_alike acks (t ∷ topics) shown h =
       let n : ℕ = length t.parts in
-      let here = produced_parts_alike acks t.parts (take n shown) plain ∙ ap (λ (ss : List Shown). produced_parts acks t.parts ss) (take_renewed n shown) in
-      let rest = produced_topics_alike acks topics (drop n shown) plain ∙ ap (λ (ss : List Shown). produced_topics acks topics ss) (drop_renewed n shown) in
+      let here = produced_parts_alike acks t.parts (take n shown) (take_shows n shown h) ∙ ap (λ (ss : List Shown). produced_parts acks t.parts ss) (take_renewed n shown) in
+      let rest = produced_topics_alike acks topics (drop n shown) (drop_shows n shown h) ∙ ap (λ (ss : List Shown). produced_topics acks topics ss) (drop_renewed n shown) in
       ap (λ (ps : List ProducedPart). let told : List ProducedTopic = record { name = t.name; parts = ps } ∷ produced_topics acks topics (drop n shown) in told) here
       ∙ ap (λ (ts : List ProducedTopic). let told : List ProducedTopic = record { name = t.name; parts = produced_parts acks t.parts (take n (renewed shown)) } ∷ ts in told) rest
 
@@ -129,13 +136,13 @@ module _ (parts : List History) where
       ap (λ (ps : List FetchedPart). let told : List FetchedTopic = record { name = t.name; parts = ps } ∷ fetched_topics replica topics (drop n shown) (budget_behind replica t.parts (take n shown) b) in told) here
       ∙ ap (λ (ts : List FetchedTopic). let told : List FetchedTopic = record { name = t.name; parts = fetched_parts replica t.parts first b } ∷ ts in told) rest
 
-told_alike : (config : Configuration) (parts : List History) (ask : Ask) (shown : List Shown) → IsPlainAsk ask → AllByRecursion (ShowsLog parts) shown → told_to config ask shown ≡ told_to config ask (shown_in_logs parts (results_of shown))
-told_alike config parts (Produce transactional acks timeout topics) shown plain h = ap Produced (produced_topics_alike parts acks topics shown plain)
-told_alike config parts (Fetch replica max_wait min_bytes max_bytes isolation topics) shown plain h = ap (Fetched isolation) (fetched_topics_alike parts replica topics shown (first_budget max_bytes) h)
-told_alike config parts (Metadata topics) shown plain h = absurd plain
-told_alike config parts (Versions version) shown plain h = absurd plain
+told_alike : (config : Configuration) (parts : List History) (ask : Ask) (shown : List Shown) → AllByRecursion (ShowsLog parts) shown → told_to config ask shown ≡ told_to config ask (shown_in_logs parts (results_of shown))
+told_alike config parts (Produce transactional acks timeout topics) shown h = ap Produced (produced_topics_alike parts acks topics shown h)
+told_alike config parts (Fetch replica max_wait min_bytes max_bytes isolation topics) shown h = ap (Fetched isolation) (fetched_topics_alike parts replica topics shown (first_budget max_bytes) h)
+told_alike config parts (Metadata topics) shown h = refl
+told_alike config parts (Versions version) shown h = refl
 
-pub same_answer : (config : Configuration) (parts : List History) (request : Request) (accepted : List Accepted) (shown : List Shown) → IsPlainAsk request.ask → ShowsLogs parts request.ask accepted shown → answer config request shown ≡ answer config request (shown_in_logs parts accepted)
-same_answer config parts request accepted shown plain h =
-    ap (λ (t : Told). let reply : Reply = record { correlation = request.correlation; told = t } in reply) (told_alike config parts request.ask shown plain h.states)
-    ∙ ap (λ (a : List Accepted). answer config request (shown_in_logs parts a)) h.results
+pub same_answer : (config : Configuration) (parts : List History) (request : Request) (accepted : List Accepted) (shown : List Shown) → ShowsLogs parts request.ask accepted shown → answer config request shown ≡ answer config request (shown_in_logs parts accepted)
+same_answer config parts request accepted shown h =
+    ap (λ (t : Told). let reply : Reply = record { correlation = request.correlation; told = t } in reply) (told_alike config parts request.ask shown h.states)
+    ∙ ap (λ (rs : List Accepted). answer config request (shown_in_logs parts rs)) h.results

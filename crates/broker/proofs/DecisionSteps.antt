@@ -1,10 +1,10 @@
 -- Decisions that are carried out one after the other.
-use Rattle.std.proofs.Common.{◌≡◌, ℕ, ◌+◌, ◌≤◌, ◌<◌, Bool, true, false, cond, ltb, pos, List, [], ◌∷◌, ◌++◌, length, get_or, set, Option, Some, None, Result, Ok, Err, unwrap_or, refl, sym, ap, ◌∙◌, arith, append_assoc, append-nil, inl, inr}
-use Rattle.std.proofs.lemmas.List.{map-append}
+use Rattle.std.proofs.Common.{◌≡◌, ℕ, ◌+◌, ◌≤◌, ◌<◌, Bool, true, false, cond, ltb, pos, List, [], ◌∷◌, ◌++◌, length, get_or, set, Option, Some, None, Result, Ok, Err, unwrap_or, refl, sym, ap, subst, ◌∙◌, arith, append_assoc, append-nil, inl, inr}
+use Rattle.std.proofs.lemmas.List.{map-append, set-get_or}
 use Rattle.std.proofs.lemmas.List.Elements.{filter_map-append}
 use Rattle.std.proofs.lemmas.Bool.{le-ltb, lt-ltb}
 use Rattle.std.proofs.lemmas.Bool.Decides.{leb_tells}
-use Rattle.std.specs.Prelude.{slice_get, OnOk}
+use Rattle.std.specs.Prelude.{OnOk}
 use Rattle.std.specs.List.{AllZip}
 use Rattle.partlog.specs.History.{History}
 use Rattle.partlog.specs.State.{PartState, state_of}
@@ -17,13 +17,13 @@ use Rattle.std.proofs.lemmas.Option.{slice_get-get_or}
 use Rattle.audit.proofs.Laws.{some_is}
 use Rattle.partlog.proofs.Laws.{bytes_in-batches}
 use Rattle.audit.specs.declared.account.Point.{Point}
-use Rattle.broker.specs.declared.came.Came.{Came}
+use Rattle.broker.specs.Carried.{Came}
 use Rattle.kanswer.specs.declared.accepted.Accepted.{Accepted}
 use Rattle.kanswer.specs.declared.accepted.Accepted.TheVariants.{Refused, Appended}
 use Rattle.kanswer.specs.Decisions.{Put, Outcome, Decision, Refuse, AskLog, look, append_outcome}
 use Rattle.broker.specs.Entering.{Noted, entered, accept_all, steps_of, shown_of}
 use Rattle.broker.specs.Board.{history_at, empty_history}
-use Rattle.broker.specs.Carried.{IsCarried}
+use Rattle.broker.specs.Carried.{IsEntered, IsSettled, IsCarried}
 use Rattle.kanswer.specs.Waiting.{results_of}
 use Rattle.audit.specs.LawfulCall.{step_points, Step}
 use Rattle.audit.specs.Histories.{no_state}
@@ -37,19 +37,6 @@ pub refusal_carried : (by seq : ℕ) (code : _) (parts : List History) (came lat
     → IsCarried by seq (Refuse code ∷ []) parts parts came later
 refusal_carried by seq code parts came later e =
     record { histories = refl; accepted = ap (λ (c : Came). c.accepted) e; points = ap (λ (c : Came). c.points) e ∙ sym (append-nil came.points) }
-
--- a partition whose log is asked
-pub entry_carried : (by seq part : ℕ) (parts after : List History) (found left : History) (outcome : PartState → Outcome) (came later : Came) → slice_get parts part ≡ Some found
-    → left ≡ entered found by seq (outcome (state_of found)).entry → after ≡ set parts part left
-    → later ≡ record { accepted = came.accepted ++ (outcome (state_of found)).result ∷ []; points = came.points ++ record { part = part; place = length found.events } ∷ [] }
-    → IsCarried by seq (AskLog part outcome ∷ []) parts after came later
-entry_carried by seq part parts after found left outcome came later there is_left is_after e =
-    let same : found ≡ history_at parts part = sym (ap (λ (o : Option History). unwrap_or o (empty_history 0)) there) in
-    record {
-      histories = is_after ∙ ap (set parts part) is_left ∙ ap (λ (h : History). set parts part (entered h by seq (outcome (state_of h)).entry)) same;
-      accepted = ap (λ (c : Came). c.accepted) e ∙ ap (λ (h : History). came.accepted ++ (outcome (state_of h)).result ∷ []) same;
-      points = ap (λ (c : Came). c.points) e ∙ ap (λ (h : History). came.points ++ record { part = part; place = length h.events } ∷ []) same;
-    }
 
 -- a log's bytes are those of its batches
 pub log_bytes : (h : History) → IsKept h.log h.events → (gauges_of (state_of h)).bytes ≡ length h.log
@@ -131,25 +118,51 @@ pub not_above : (a b : ℕ) → (a < b → ⊥) → b ≤ a
 not_above a b never = elim (leb_tells b a) [ inl le ↦ le.1 | inr lt ↦ absurd (never lt.1) ]
 
 -- a batch was put
-pub put_carried : (by seq part base place count : ℕ) (parts after : List History) (h left : History) (batch : List ℕ) (came later : Came) → slice_get parts part ≡ Some h → IsKept h.log h.events
-    → length h.log + length batch ≤ 67108864 → left ≡ appended h by seq batch → base ≡ log_end_of h.events → place ≡ length h.events → count ≡ count_of batch → after ≡ set parts part left
+pub put_entered : (by seq part base place count : ℕ) (h left : History) (batch : List ℕ) (came later : Came) → IsKept h.log h.events
+    → length h.log + length batch ≤ 67108864 → left ≡ appended h by seq batch → base ≡ log_end_of h.events → place ≡ length h.events → count ≡ count_of batch
     → later ≡ record { accepted = came.accepted ++ Appended part base count ∷ []; points = came.points ++ record { part = part; place = place } ∷ [] }
-    → IsCarried by seq (AskLog part (append_outcome part (count_of batch) batch) ∷ []) parts after came later
-put_carried by seq part base place count parts after h left batch came later there kept room is_left is_base is_place is_count is_after e =
+    → IsEntered by seq part (append_outcome part (count_of batch) batch) h left came later
+put_entered by seq part base place count h left batch came later kept room is_left is_base is_place is_count e =
     let outcome = append_outcome part (count_of batch) batch in
     let found : outcome (state_of h) ≡ record { result = Appended part (state_of h).log_end (count_of batch); entry = Put (count_of batch) batch } = has_room part (count_of batch) batch h kept room in
-    entry_carried by seq part parts after h left outcome came later there
-    (is_left ∙ ap (λ (o : Outcome). entered h by seq o.entry) (sym found)) is_after
-    (e ∙ ap (λ (b : ℕ). record { accepted = came.accepted ++ Appended part b count ∷ []; points = came.points ++ record { part = part; place = place } ∷ [] }) is_base
+    let all : later ≡ record { accepted = came.accepted ++ (outcome (state_of h)).result ∷ []; points = came.points ++ record { part = part; place = length h.events } ∷ [] } =
+    e ∙ ap (λ (b : ℕ). record { accepted = came.accepted ++ Appended part b count ∷ []; points = came.points ++ record { part = part; place = place } ∷ [] }) is_base
     ∙ ap (λ (k : ℕ). record { accepted = came.accepted ++ Appended part (log_end_of h.events) k ∷ []; points = came.points ++ record { part = part; place = place } ∷ [] }) is_count
     ∙ ap (λ (p : ℕ). record { accepted = came.accepted ++ Appended part (log_end_of h.events) (count_of batch) ∷ []; points = came.points ++ record { part = part; place = p } ∷ [] }) is_place
-    ∙ ap (λ (o : Outcome). record { accepted = came.accepted ++ o.result ∷ []; points = came.points ++ record { part = part; place = length h.events } ∷ [] }) (sym found))
+    ∙ ap (λ (o : Outcome). record { accepted = came.accepted ++ o.result ∷ []; points = came.points ++ record { part = part; place = length h.events } ∷ [] }) (sym found) in
+    record {
+      history = is_left ∙ ap (λ (o : Outcome). entered h by seq o.entry) (sym found);
+      accepted = ap (λ (k : Came). k.accepted) all;
+      points = ap (λ (k : Came). k.points) all;
+    }
 
 -- the log was full
-pub full_carried : (by seq part : ℕ) (parts after : List History) (h : History) (batch : List ℕ) (came later : Came) → slice_get parts part ≡ Some h → IsKept h.log h.events
-    → 67108864 < length h.log + length batch
-    → ((outcome : PartState → Outcome) → outcome (state_of (history_at parts part)) ≡ look (Refused (pos 6)) → IsCarried by seq (AskLog part outcome ∷ []) parts after came later)
-    → IsCarried by seq (AskLog part (append_outcome part (count_of batch) batch) ∷ []) parts after came later
-full_carried by seq part parts after h batch came later there kept full then =
-    let same : history_at parts part ≡ h = ap (λ (o : Option History). unwrap_or o (empty_history 0)) there in
-    then (append_outcome part (count_of batch) batch) (ap (λ (x : History). append_outcome part (count_of batch) batch (state_of x)) same ∙ has_no_room part (count_of batch) batch h kept full)
+pub full_entered : (by seq part : ℕ) (h after : History) (batch : List ℕ) (came later : Came) → IsKept h.log h.events → 67108864 < length h.log + length batch
+    → ((outcome : PartState → Outcome) → outcome (state_of h) ≡ look (Refused (pos 6)) → IsEntered by seq part outcome h after came later)
+    → IsEntered by seq part (append_outcome part (count_of batch) batch) h after came later
+full_entered by seq part h after batch came later kept full then =
+    then (append_outcome part (count_of batch) batch) (has_no_room part (count_of batch) batch h kept full)
+
+-- ---- one partition among the others
+
+-- the history that is shown at a place
+pub history_shown : (parts : List History) (part : ℕ) (h : History) → part < length parts → h ≡ get_or parts part h → history_at parts part ≡ h
+history_shown parts part h lt is = ap (λ (o : Option History). unwrap_or o (empty_history 0)) (slice_get-get_or parts part h lt) ∙ sym is
+
+pub entered_carried : (by seq part : ℕ) (parts after : List History) (h left : History) (outcome : PartState → Outcome) (came later : Came) → part < length parts → h ≡ get_or parts part h
+    → IsEntered by seq part outcome h left came later → after ≡ set parts part left → IsCarried by seq (AskLog part outcome ∷ []) parts after came later
+entered_carried by seq part parts after h left outcome came later lt at e is =
+    let same : h ≡ history_at parts part = sym (history_shown parts part h lt at) in
+    record {
+      histories = is ∙ ap (set parts part) e.history ∙ ap (λ (x : History). set parts part (entered x by seq (outcome (state_of x)).entry)) same;
+      accepted = e.accepted ∙ ap (λ (x : History). came.accepted ++ (outcome (state_of x)).result ∷ []) same;
+      points = e.points ∙ ap (λ (x : History). came.points ++ record { part = part; place = length x.events } ∷ []) same;
+    }
+
+pub settled_carried : (by seq part : ℕ) (decision : Decision) (parts after : List History) (h left : History) (came later : Came) → part < length parts → h ≡ get_or parts part h
+    → IsSettled by seq part decision h left came later → after ≡ set parts part left → IsCarried by seq (decision ∷ []) parts after came later
+settled_carried by seq part (Refuse code) parts after h left came later lt at s is =
+    let none : after ≡ parts = is ∙ ap (set parts part) (s.0 ∙ at) ∙ set-get_or parts part h in
+    subst (λ (ps : List History). IsCarried by seq (Refuse code ∷ []) parts ps came later) (sym none) (refusal_carried by seq code parts came later s.1)
+settled_carried by seq part (AskLog number outcome) parts after h left came later lt at s is =
+    subst (λ (n : ℕ). IsCarried by seq (AskLog n outcome ∷ []) parts after came later) (sym s.0) (entered_carried by seq part parts after h left outcome came later lt at s.1 is)

@@ -216,7 +216,7 @@ accepted_nowhere by seq n (AskLog part outcome ∷ decisions) parts fair p past 
     places_other p part (length found.events) (step_points (steps_of (accept_all by seq decisions (set parts part left)).0)) (λ e. omega (arith, e, past, fair.0.0))
     ∙ accepted_nowhere by seq n decisions (set parts part left) fair.1 p past
 
-set_same : {X Y : Type 0} (f : X → Y) (xs : List X) (i : ℕ) (x y : X) → slice_get xs i ≡ Some x → f y ≡ f x → map f (set xs i y) ≡ map f xs
+pub set_same : {X Y : Type 0} (f : X → Y) (xs : List X) (i : ℕ) (x y : X) → slice_get xs i ≡ Some x → f y ≡ f x → map f (set xs i y) ≡ map f xs
 set_same {Y = Y} f [] i x y there same = refl
 set_same {Y = Y} f (z ∷ xs) zero x y there same = ap (λ (v : Y). v ∷ map f xs) (same ∙ ap f (sym (some_is z x there)))
 set_same {Y = Y} f (z ∷ xs) (suc i) x y there same = ap (λ (vs : List Y). f z ∷ vs) (set_same f xs i x y there same)

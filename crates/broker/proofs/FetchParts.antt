@@ -27,7 +27,7 @@ all_zero : (n : ℕ) (rest : List ℕ) (f : ℕ) → f ≡ 0 → AllByRecursion 
 all_zero zero rest f e all = all
 all_zero (suc n) rest f e all = (e, all_zero n rest f e all)
 
-none_follow : (topics : List Topic) → HasNoFollowers topics → AllByRecursion (λ x. x ≡ 0) (followers_of topics)
+pub none_follow : (topics : List Topic) → HasNoFollowers topics → AllByRecursion (λ x. x ≡ 0) (followers_of topics)
 none_follow [] none = tt
 none_follow (topic ∷ topics) none = all_zero topic.partitions (followers_of topics) topic.followers none.0 (none_follow topics none.1)
 
@@ -46,14 +46,20 @@ no_follower r = elim (leb_tells r 0) [
     and_false true = refl
     and_false false = refl
 
--- a replica that is no follower
+-- a replica where nobody follows
+pub fetch_of_nobody : (part : ℕ) (replica : ℤ) (n : ℕ) (asked : FetchPart) (state : PartState) → replica ≡ pos n → fetch_outcome 0 replica asked part state ≡ look (Refused (pos 9))
+fetch_of_nobody part replica n asked state is =
+    ap (λ (r : ℤ). fetch_outcome 0 r asked part state) is
+    ∙ ap (λ (b : Bool). cond b (in_range_outcome part asked.offset (Followed (pos n) (offset_of asked.offset)) state) (look (Refused (pos 9)))) (no_follower n)
+
+-- no topic has followers
+pub no_followers_at : (topics : List Topic) (part : ℕ) → HasNoFollowers topics → get_or (followers_of topics) part 0 ≡ 0
+no_followers_at topics part none = zero_at (followers_of topics) part (none_follow topics none)
+
 pub fetch_of_no_follower : (topics : List Topic) (part : ℕ) (replica : ℤ) (n : ℕ) (asked : FetchPart) (state : PartState) → HasNoFollowers topics → replica ≡ pos n
     → fetch_outcome (get_or (followers_of topics) part 0) replica asked part state ≡ look (Refused (pos 9))
 fetch_of_no_follower topics part replica n asked state none is =
-    let zero_of : get_or (followers_of topics) part 0 ≡ 0 = zero_at (followers_of topics) part (none_follow topics none) in
-    ap (λ (r : ℤ). fetch_outcome (get_or (followers_of topics) part 0) r asked part state) is
-    ∙ ap (λ (f : ℕ). fetch_outcome f (pos n) asked part state) zero_of
-    ∙ ap (λ (b : Bool). cond b (in_range_outcome part asked.offset (Followed (pos n) (offset_of asked.offset)) state) (look (Refused (pos 9)))) (no_follower n)
+    ap (λ (f : ℕ). fetch_outcome f replica asked part state) (no_followers_at topics part none) ∙ fetch_of_nobody part replica n asked state is
 
 -- a consumer, whose offset is out of range or not
 pub fetch_out_of_range : (followers part : ℕ) (replica : ℤ) (n : ℕ) (asked : FetchPart) (state : PartState) (end : ℕ) → replica ≡ negsuc n → end ≡ state.log_end

@@ -1,10 +1,10 @@
 -- The broker before the first line of a trace of the form that is built.
-use Rattle.std.proofs.Common.{◌≡◌, ℕ, zero, suc, ◌+◌, ◌≤◌, List, [], ◌∷◌, ◌++◌, length, map, replicate, Some, unwrap_or, refl, sym, ap, subst, ◌∙◌, arith, append-nil, append_assoc}
-use Rattle.std.proofs.lemmas.List.Elements.{All-tail}
+use Rattle.std.proofs.Common.{◌≡◌, ℕ, zero, suc, ◌+◌, ◌≤◌, List, [], ◌∷◌, ◌++◌, length, map, replicate, Some, unwrap_or, refl, sym, ap, subst, ◌∙◌, arith, append-nil, append_assoc, true, false, inl, inr}
+use Rattle.std.proofs.lemmas.Bool.{cases_Bool, lt-ltb}
 use Rattle.std.proofs.lemmas.List.Sums.{sum_by-append, sum_by-cons}
 use Rattle.std.proofs.lemmas.Grind.{flat_map-append}
-use Rattle.std.specs.Prelude.{slice_get}
-use Rattle.std.specs.List.{All, flat_map}
+use Rattle.std.specs.Prelude.{slice_get, nat_lt}
+use Rattle.std.specs.List.{AllByRecursion, flat_map, list_any}
 use Rattle.std.specs.List.Sorted.{IsStrictlyIncreasing}
 use Rattle.partlog.specs.History.{History}
 use Rattle.audit.specs.declared.account.Call.{Call}
@@ -12,26 +12,20 @@ use Rattle.kwire.specs.declared.config.Topic.{Topic as TheTopic}
 use Rattle.trace_file.specs.declared.line.Line.{Line}
 use Rattle.trace_file.specs.declared.line.Line.TheVariants.{Topic, Feed, Shut, Clock, End}
 use Rattle.broker.specs.Board.{Seat, empty_seat, empty_history, new_transcript, seat_at, transcript_at, opening}
-use Rattle.broker.specs.Carried.{HasNoFollowers}
+use Rattle.broker.specs.Carried.{IsDeclared, AreDeclared, HasNoFollowers}
 use Rattle.kwire.specs.Configuration.{Configuration, followers_of, partitions_of}
-use Rattle.audit.specs.Fits.{IsUnfinished}
 use Rattle.audit.specs.Histories.{owner_of}
 use Rattle.trace_file.specs.IsInOrder.{AreNewTopics, IsInOrder}
 use Rattle.audit.specs.IsLawful.{places_in}
-use Rattle.broker.specs.PlainForm.{IsPlainForm}
-use Rattle.broker.specs.PlainStream.{IsPlainStream}
-use Rattle.trace_file.specs.Contents.{topic_in, configuration_of, input_of}
+use Rattle.broker.specs.BuiltForm.{IsBuiltForm, calls_for_waiting}
+use Rattle.broker.specs.Ready.{has_work}
+use Rattle.trace_file.specs.Contents.{topic_in, configuration_of}
 use Rattle.broker.specs.Steady.{IsWhole, AllBelow, the_owner, all_points, IsSteady}
-use Rattle.trace_file.specs.Trace.{IsPlainLine}
 use Rattle.broker.specs.UnderWay.{IsUnderWay}
 use Rattle.audit.proofs.Laws.{some_is}
 use Rattle.broker.proofs.Fair.{parts_size}
-use Rattle.trace_file.proofs.Laws.{few_bytes, few_sessions}
-use Rattle.broker.proofs.FedLines.{fed_opening}
+use Rattle.broker.proofs.FedLines.{BringsNoTime, or_neither, fed_opening, acts_where_works}
 use Rattle.trace_file.specs.declared.line.TheConstants.{REPLAY_PORT}
-
-nothing_left : IsUnfinished []
-nothing_left = record { not_whole = λ w. absurd (cc w.1); not_too_long = λ w. absurd (cc w.1) }
 
 replicate_at : {X : Type 0} (n : ℕ) (x : X) (s : ℕ) → unwrap_or (slice_get (replicate n x) s) x ≡ x
 replicate_at zero x s = refl
@@ -74,14 +68,20 @@ first_steady config calls few none =
           absurd cc;
     }
 
--- plain lines declare topics without followers
-alone : (lines : List Line) → All IsPlainLine lines → HasNoFollowers (flat_map topic_in lines)
-alone [] plain = tt
-alone (Topic name partitions followers ∷ lines) plain = (plain 0 End (omega arith), alone lines (All-tail IsPlainLine _ _ plain))
-alone (Feed session bytes ∷ lines) plain = alone lines (All-tail IsPlainLine _ _ plain)
-alone (Shut session ∷ lines) plain = absurd (plain 0 End (omega arith))
-alone (Clock t ∷ lines) plain = absurd (plain 0 End (omega arith))
-alone (End ∷ lines) plain = alone lines (All-tail IsPlainLine _ _ plain)
+-- lines that don't call for waiting declare topics without followers
+none_follow : (followers : ℕ) → nat_lt 0 followers ≡ false → followers ≡ 0
+none_follow zero none = refl
+none_follow (suc n) none = let some : true ≡ false = sym (lt-ltb 0 (suc n) (omega arith)) ∙ none in absurd cc
+
+alone : (lines : List Line) → BringsNoTime lines → HasNoFollowers (flat_map topic_in lines)
+alone [] still = tt
+alone (Topic name partitions followers ∷ lines) still =
+    let both = or_neither (nat_lt 0 followers) (list_any calls_for_waiting lines) still in
+    (none_follow followers both.0, alone lines both.1)
+alone (Feed session bytes ∷ lines) still = alone lines still
+alone (Shut session ∷ lines) still = alone lines still
+alone (Clock t ∷ lines) still = absurd cc
+alone (End ∷ lines) still = alone lines still
 
 topics_more : (topics more : List TheTopic) → partitions_of (topics ++ more) ≡ partitions_of topics + partitions_of more
 topics_more topics more = sum_by-append (λ t. t.partitions) topics more
@@ -107,16 +107,40 @@ few_behind lines front (line ∷ back) new parts few =
 few_parts : (lines : List Line) → IsInOrder lines → partitions_of (flat_map topic_in lines) ≤ 64
 few_parts lines order = few_behind lines [] lines order.topics refl (omega arith)
 
-pub before_first : (text : List ℕ) (lines : List Line) → IsPlainForm text lines → IsUnderWay [] lines (opening (configuration_of REPLAY_PORT lines))
+declared_behind : (lines front back : List Line) → AreNewTopics lines → lines ≡ front ++ back → AllByRecursion IsDeclared (flat_map topic_in back)
+declared_behind lines front [] new parts = tt
+declared_behind lines front (line ∷ back) new parts =
+    let rest = declared_behind lines (front ++ line ∷ []) back new (parts ∙ sym (append_assoc front (line ∷ []) back)) in
+    by_line line parts rest
+  where
+    by_line : (line : Line) → lines ≡ front ++ line ∷ back → AllByRecursion IsDeclared (flat_map topic_in back) → AllByRecursion IsDeclared (flat_map topic_in (line ∷ back))
+    by_line (Topic name partitions followers) is rest = let n = new front back name partitions followers is in ((n.named.short, n.some, n.replicas), rest)
+    by_line (Feed session bytes) is rest = rest
+    by_line (Shut session) is rest = rest
+    by_line (Clock t) is rest = rest
+    by_line End is rest = rest
+
+-- the topics of a trace
+declared : (lines : List Line) → IsInOrder lines → AreDeclared (flat_map topic_in lines)
+declared lines order = record { each = declared_behind lines [] lines order.topics refl; few = few_parts lines order }
+
+-- nothing in a trace of the form calls for waiting
+pub form_still : (text : List ℕ) (lines : List Line) → IsBuiltForm text lines → BringsNoTime lines
+form_still text lines form = elim (cases_Bool (list_any calls_for_waiting lines)) [
+  | inl calls ↦ absurd (form.built (inl calls))
+  | inr none ↦ none
+]
+
+pub before_first : (text : List ℕ) (lines : List Line) → IsBuiltForm text lines → IsUnderWay [] lines (opening (configuration_of REPLAY_PORT lines))
 before_first text lines form =
     let config = configuration_of REPLAY_PORT lines in record {
       running = record {
+        text = text;
+        form = form;
         given = fed_opening config;
-        steady = first_steady config (λ s. (transcript_at (opening config) s).calls) (few_parts lines form.trace.0.order) (no_calls config);
-        alone = alone lines form.trace.1;
-        in_range = λ s named. few_sessions text lines s form.trace.0 named;
-        streams = λ s lt. subst (λ (seat : Seat). IsPlainStream (seat.inbox ++ input_of s lines)) (sym (first_seat config s)) (form.streams s lt);
-        few = λ s lt. few_bytes text lines s form.trace.0;
+        steady = first_steady config (λ s. (transcript_at (opening config) s).calls) (few_parts lines form.trace.order) (no_calls config);
+        declared = declared lines form.trace.order;
+        alone = alone lines (form_still text lines form);
       };
-      rest = λ s lt. subst (λ (seat : Seat). IsUnfinished seat.inbox) (sym (first_seat config s)) nothing_left;
+      rest = λ s lt. acts_where_works (opening config) s refl ∙ ap has_work (first_seat config s);
     }

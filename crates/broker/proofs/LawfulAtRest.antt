@@ -21,7 +21,7 @@ use Rattle.kanswer.specs.Waiting.{is_quiet}
 use Rattle.audit.specs.LawfulCall.{Step, IsLawfulCall, LooksAtClock, Completes, is_delayed}
 use Rattle.audit.specs.IsLawful.{IsLawful, IsWholeLog, places_in, is_point, is_won_by, is_won_as, EndsAs, EndWell, FollowOn}
 use Rattle.broker.specs.Board.{Board, Seat, empty_seat, transcript_at, new_transcript, put_before, passes_of, part_account, account_of}
-pub use Rattle.broker.specs.Fed.{IsPlainCall, IsTameTranscript}
+pub use Rattle.broker.specs.Fed.{IsCallAtOnce, IsTameTranscript}
 use Rattle.broker.proofs.Growth.{longer_self}
 use Rattle.audit.proofs.Laws.{same_or_not, some_is}
 use Rattle.broker.proofs.Entries.{the_owner, AllWhole, Follows}
@@ -58,13 +58,13 @@ ends_as : (how : CallHow) (later : List Call) (end : Option SessionEnd) → (how
 ends_as how later end plain =
     elim plain [ inl e ↦ subst (λ (h : CallHow). EndsAs h later end) (sym e) tt | inr e ↦ subst (λ (h : CallHow). EndsAs h later end) (sym e) tt ]
 
-end_well : (calls : List Call) (end : Option SessionEnd) → AllByRecursion IsPlainCall calls → EndWell calls end
+end_well : (calls : List Call) (end : Option SessionEnd) → AllByRecursion IsCallAtOnce calls → EndWell calls end
 end_well [] end plain = tt
 end_well (call ∷ calls) end plain = (ends_as call.how calls end plain.0, end_well calls end plain.1)
 
 follow_on : (n : ℕ) (o : Option Transcript) → IfSome o (IsTameTranscript n) → FollowOn 0 (option_to_list o)
 follow_on n None tame = tt
-follow_on n (Some t) tame = (tame.first, end_well t.calls t.end tame.plain, tt)
+follow_on n (Some t) tame = (tame.first, end_well t.calls t.end tame.at_once, tt)
 
 put_follow : (ts : List Transcript) (ps : List (List Transcript)) → FollowOn 0 ts → AllByRecursion (FollowOn 0) ps → AllByRecursion (FollowOn 0) (put_before ts ps)
 put_follow [] [] a b = tt
@@ -79,26 +79,26 @@ the_ends n (seat ∷ seats) tame = put_follow (option_to_list seat.transcript) (
 not_won : (w : ℕ) (how : CallHow) → (how ≡ Quiet) ⊎ (how ≡ AtOnce) → is_won_as w how ≡ false
 not_won w how plain = elim plain [ inl e ↦ ap (is_won_as w) e | inr e ↦ ap (is_won_as w) e ]
 
-pub none_won : (w : ℕ) (calls : List Call) → AllByRecursion IsPlainCall calls → count_by (is_won_by w) calls ≡ 0
+pub none_won : (w : ℕ) (calls : List Call) → AllByRecursion IsCallAtOnce calls → count_by (is_won_by w) calls ≡ 0
 none_won w [] plain = refl
 none_won w (call ∷ calls) plain =
     sum_by-cons (λ c. cond (is_won_by w c) 1 0) call calls ∙ ap (λ (b : Bool). cond b 1 0 + count_by (is_won_by w) calls) (not_won w call.how plain.0) ∙ omega (arith, none_won w calls plain.1)
 
-all_on : (xs ys : List Call) → AllByRecursion IsPlainCall xs → AllByRecursion IsPlainCall ys → AllByRecursion IsPlainCall (xs ++ ys)
+all_on : (xs ys : List Call) → AllByRecursion IsCallAtOnce xs → AllByRecursion IsCallAtOnce ys → AllByRecursion IsCallAtOnce (xs ++ ys)
 all_on [] ys a b = b
 all_on (x ∷ xs) ys a b = (a.0, all_on xs ys a.1 b)
 
-listed_plain : (n : ℕ) (o : Option Transcript) → IfSome o (IsTameTranscript n) → AllByRecursion IsPlainCall (calls_in (option_to_list o))
+listed_plain : (n : ℕ) (o : Option Transcript) → IfSome o (IsTameTranscript n) → AllByRecursion IsCallAtOnce (calls_in (option_to_list o))
 listed_plain n None tame = tt
-listed_plain n (Some t) tame = all_on t.calls [] tame.plain tt
+listed_plain n (Some t) tame = all_on t.calls [] tame.at_once tt
 
-put_plain : (ts : List Transcript) (ps : List (List Transcript)) → AllByRecursion IsPlainCall (calls_in ts) → AllByRecursion IsPlainCall (flat_map calls_in ps)
-    → AllByRecursion IsPlainCall (flat_map calls_in (put_before ts ps))
+put_plain : (ts : List Transcript) (ps : List (List Transcript)) → AllByRecursion IsCallAtOnce (calls_in ts) → AllByRecursion IsCallAtOnce (flat_map calls_in ps)
+    → AllByRecursion IsCallAtOnce (flat_map calls_in (put_before ts ps))
 put_plain [] [] a b = tt
 put_plain [] (p ∷ ps) a b = b
 put_plain (t ∷ ts) ps a b = all_on (calls_in (t ∷ ts)) (flat_map calls_in ps) a b
 
-pub all_plain : (n : ℕ) (seats : List Seat) → AreTame n seats → AllByRecursion IsPlainCall (flat_map calls_in (passes_of seats))
+pub all_plain : (n : ℕ) (seats : List Seat) → AreTame n seats → AllByRecursion IsCallAtOnce (flat_map calls_in (passes_of seats))
 all_plain n [] tame = tt
 all_plain n (seat ∷ seats) tame = put_plain (option_to_list seat.transcript) (passes_of seats) (listed_plain n seat.transcript tame.0) (all_plain (n + 1) seats tame.1)
 
@@ -148,9 +148,6 @@ done_lawful by seq account call d = inl (record {
   };
   completed = subst (λ (how : CallHow). Completes account d.request d.steps [] call.finish how) (sym d.how) (completes account d.request d.steps call.finish (is_quiet d.request.ask) refl d.undelayed d.unfinished);
 })
-
-abbrev pub IsSteadyBoard : Board → Type 0
-IsSteadyBoard board = IsSteady board.config board.parts (λ s. (transcript_at board s).calls)
 
 module _ (board : Board) (no_clock : board.clock ≡ []) (tame : AreTame 0 board.seats) (steady : IsSteady board.config board.parts (λ s. (transcript_at board s).calls)) where
   account : Account

@@ -1,7 +1,7 @@
 -- What the crates above may cite.
 
 -- the broker before the first line of a trace of the form
-pub use Rattle.broker.proofs.FirstBoard.{before_first}
+pub use Rattle.broker.proofs.FirstBoard.{before_first, form_still}
 -- lines that are played, one more at a time
 pub use Rattle.broker.proofs.LineByLine.{plays_keep, plays_on, lines_left, lines_more}
 -- lines play to something, and to one thing at most

@@ -22,8 +22,8 @@ pub mod FetchParts
 pub mod FedLines
 -- what the reply to a request that needn't wait is computed from
 pub mod ShownLogs
--- streams of requests that wait for nothing, frame by frame
-pub mod StreamByFrame
+-- whether the frames of a stream hold a fetch that may have to wait, frame by frame
+pub mod WaitingFetch
 -- what is read of the logs for a reply, and how many bytes of records that are
 pub mod ReadForReply
 -- the reply to a request that needn't wait comes from what became of its partitions and the logs of those that are seen
@@ -32,13 +32,13 @@ pub mod Alike
 pub mod ResultsStand
 -- a request that needn't wait, and what its reply needs
 pub mod AnsweredAtOnce
--- the reply to a plain request has a frame
-pub mod PlainSpellable
+-- the reply to a request that was read has a frame
+pub mod Spellable
 -- logs without entries, one after the other
 pub mod Openings
 -- the parts of an account, one after the other, and the whole
 pub mod Closings
--- how a broker amid a plain trace serves one session
+-- how a broker amid a trace serves one session
 pub mod Serving
 -- what a call and a line leave of a broker, from the parts that they changed
 pub mod Calling

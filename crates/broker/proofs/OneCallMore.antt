@@ -228,3 +228,15 @@ module _ (config : Configuration) (parts : List History) (calls calls1 : ℕ →
     below = steady_below;
     left = steady_left;
   }
+
+-- the same of calls that are alike
+pub steady_alike : (config : Configuration) (parts : List History) (calls calls1 : ℕ → List Call) → ((s : ℕ) → calls1 s ≡ calls s) → IsSteady config parts calls → IsSteady config parts calls1
+steady_alike config parts calls calls1 same h = record {
+  whole = h.whole;
+  few = h.few;
+  followers = h.followers;
+  done = λ s seq call e. h.done s seq call (ap (λ (cs : List Call). slice_get cs seq) (sym (same s)) ∙ e);
+  order = λ s p. subst (λ (cs : List Call). IsStrictlyIncreasing (places_in p (all_points cs))) (sym (same s)) (h.order s p);
+  below = λ s p l e. subst (λ (cs : List Call). AllBelow (length l.events) (places_in p (all_points cs))) (sym (same s)) (h.below s p l e);
+  left = λ p l k by seq e f. let found = h.left p l k by seq e f in (found.0, ap (λ (cs : List Call). slice_get cs seq) (same by) ∙ found.1, found.2);
+}

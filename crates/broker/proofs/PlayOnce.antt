@@ -19,7 +19,7 @@ use Rattle.broker.specs.Turns.{Turned, handled, ended}
 use Rattle.broker.specs.Play.{brought, Rests, PlaysLine, Plays, IsPlay}
 use Rattle.audit.specs.Printed.{summary_of}
 use Rattle.audit.proofs.Laws.{some_is}
-use Rattle.kwire.proofs.Laws.{request_reads, same_request, same_refusal, not_both}
+use Rattle.kwire.proofs.Laws.{same_request, same_refusal, not_both}
 use Rattle.audit.specs.declared.account.TheConstants.{MOST_CALLS}
 
 -- ---- what is done
@@ -29,13 +29,13 @@ frame_once board session body t u p q =
     elim p [
       | inl f ↦ elim q [
         | inl g ↦
-            let same : f.0 ≡ g.0 = same_request body f.0 g.0 (request_reads body f.0 f.2) (request_reads body g.0 g.2) in
+            let same : f.0 ≡ g.0 = same_request body f.0 g.0 f.2 g.2 in
             let decided : f.1 ≡ g.1 = decided_once board.config f.0.ask f.1 g.1 f.3 (subst (λ (r : Request). Decides board.config r.ask g.1) (sym same) g.3) in
             f.4 ∙ ap (λ (r : Request). handled board session body r f.1) same ∙ ap (handled board session body g.0) decided ∙ sym g.4
-        | inr w ↦ absurd (not_both body f.0 w.0 (request_reads body f.0 f.2) w.1)
+        | inr w ↦ absurd (not_both body f.0 w.0 f.2 w.1)
       ]
       | inr v ↦ elim q [
-        | inl g ↦ absurd (not_both body g.0 v.0 (request_reads body g.0 g.2) v.1)
+        | inl g ↦ absurd (not_both body g.0 v.0 g.2 v.1)
         | inr w ↦ v.2 ∙ ap (λ (why : WireFault). ended board session (Refused why)) (same_refusal body v.0 w.0 v.1 w.1) ∙ sym w.2
       ]
     ]

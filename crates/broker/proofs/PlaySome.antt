@@ -1,5 +1,5 @@
 -- Every configuration and list of lines plays to something, where what its sessions receive are bytes.
-use Rattle.std.proofs.Common.{◌≡◌, ℕ, zero, suc, ◌-◌, ◌≤◌, ◌<◌, ℤ, pos, Bool, true, false, cond, List, [], ◌∷◌, ◌++◌, length, drop, Option, Some, None, Result, Ok, Err, MatchBool, unwrap_or, refl, subst, arith, inl, inr, eq-eqb}
+use Rattle.std.proofs.Common.{◌≡◌, ◌⊎◌, ℕ, zero, suc, ◌-◌, ◌≤◌, ◌<◌, ℤ, pos, Bool, true, false, cond, List, [], ◌∷◌, ◌++◌, length, drop, Option, Some, None, MatchBool, unwrap_or, refl, subst, arith, inl, inr, eq-eqb}
 use Rattle.std.specs.Prelude.{MatchOption, nat_lt, ◌==◌}
 use Rattle.std.specs.List.{AllByRecursion, AllZip}
 use Rattle.hex.proofs.HexLemmas.{decode_of-ok}
@@ -28,12 +28,13 @@ use Rattle.kwire.specs.Frames.{next_frame_of}
 use Rattle.broker.specs.Turns.{Turned, handled, ended}
 use Rattle.broker.specs.Play.{brought, Rests, Plays, IsPlay}
 use Rattle.audit.specs.Printed.{summary_of}
-use Rattle.kwire.specs.Refusal.{request_at}
+use Rattle.kwire.specs.IsRequest.{IsRequest}
+use Rattle.kwire.specs.Refusal.{IsRefused}
 use Rattle.trace_file.specs.Contents.{bytes_in, input_of}
 use Rattle.trace_file.specs.IsLine.{IsLine}
 use Rattle.trace_file.specs.Trace.{pieces_of, IsTrace}
 use Rattle.broker.proofs.RequestBytes.{HasBytes, CarriesBytes, request_bytes, none_are_bytes, front_bytes, back_bytes, both_bytes}
-use Rattle.kwire.proofs.Laws.{read_request_is}
+use Rattle.kwire.proofs.Laws.{request_or_refusal}
 use Rattle.broker.proofs.Work.{AreSeats, work_on, seats_set, inbox_bytes, opening_seats, scanned_as_much, acts_less, its_turn}
 use Rattle.audit.specs.declared.account.TheConstants.{MOST_CALLS}
 
@@ -74,14 +75,13 @@ decides config (Versions version) all = ([], refl)
 -- ---- what is done
 
 frame_acts : (board : Board) (session : ℕ) (body : List ℕ) → IsBytes body → (turned : Turned) × HandlesFrame board session body turned
-frame_acts board session body fits = by_reading (request_at body) refl
+frame_acts board session body fits = by_reading (request_or_refusal body fits)
   where
-    by_reading : (read : Result Request WireFault) → request_at body ≡ read → (turned : Turned) × HandlesFrame board session body turned
-    by_reading (Ok request) is =
-        let asked = read_request_is body request fits is in
-        let d = decides board.config request.ask (request_bytes body request fits asked) in
-        (handled board session body request d.0, inl (request, d.0, asked, d.1, refl))
-    by_reading (Err why) is = (ended board session (Refused why), inr (why, is, refl))
+    by_reading : ((request : Request) × IsRequest body request) ⊎ ((why : WireFault) × IsRefused body why) → (turned : Turned) × HandlesFrame board session body turned
+    by_reading (inl known) =
+        let d = decides board.config known.0.ask (request_bytes body known.0 fits known.1) in
+        (handled board session body known.0 d.0, inl (known.0, d.0, known.1, d.1, refl))
+    by_reading (inr known) = (ended board session (Refused known.0), inr (known.0, known.1, refl))
 
 whole_acts : (full : Bool) (board : Board) (session : ℕ) (body : List ℕ) (last : Turned) → IsBytes body → (turned : Turned) × MatchBool full (turned ≡ last) (HandlesFrame board session body turned)
 whole_acts true board session body last fits = (last, refl)

@@ -5,7 +5,7 @@ use Rattle.std.proofs.lemmas.Grind.{flat_map-append}
 use Rattle.std.specs.Prelude.{MatchOption, MatchBool, is_some}
 use Rattle.std.specs.List.{AllZip, flat_map}
 use Rattle.partlog.specs.History.{History}
-use Rattle.broker.specs.declared.came.Came.{Came}
+use Rattle.broker.specs.Carried.{Came}
 use Rattle.broker.specs.declared.accept.Terms.{Terms}
 use Rattle.kwire.specs.declared.request.ProducePart.{ProducePart}
 use Rattle.kwire.specs.declared.request.ProduceTopic.{ProduceTopic}

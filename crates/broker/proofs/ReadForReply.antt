@@ -1,16 +1,16 @@
 -- What is read of the logs for a reply, and how many bytes of records that are.
-use Rattle.std.proofs.Common.{◌≡◌, ◌≤◌, ◌<◌, ◌+◌, ◌-◌, ◌||◌, ℕ, suc, ℤ, pos, Bool, true, false, cond, ltb, List, [], ◌∷◌, ◌++◌, length, get_or, take, drop, map, filter, min, sum_by, Option, Result, Ok, Err, IfOk, OnOk, All, length-append, refl, sym, ap, subst, ◌∙◌, arith, inl, inr}
+use Rattle.std.proofs.Common.{◌≡◌, ◌≤◌, ◌<◌, ◌+◌, ◌-◌, ◌||◌, ℕ, suc, ℤ, Bool, true, false, cond, ltb, List, [], ◌∷◌, ◌++◌, length, get_or, take, drop, map, filter, min, sum_by, Option, Result, Ok, Err, IfOk, OnOk, length-append, refl, sym, ap, subst, ◌∙◌, arith, inl, inr}
 use Rattle.std.specs.Prelude.{unwrap_or, ⊤}
 use Rattle.std.specs.List.{flat_map}
 use Rattle.std.proofs.lemmas.Bool.{lt-ltb, cases_lt}
 use Rattle.std.proofs.lemmas.Option.{slice_get-get_or}
-use Rattle.std.proofs.lemmas.List.{append_assoc, drop-drop, drop_more, take_more, map-append}
+use Rattle.std.proofs.lemmas.List.{append_assoc, drop-drop, drop_more}
 use Rattle.std.proofs.lemmas.List.Sums.{sum_by-cons, sum_by-drop_more}
-use Rattle.std.proofs.lemmas.List.Elements.{All-nil, All-push, All-append}
 use Rattle.partlog.specs.History.{History}
 use Rattle.partlog.specs.Batches.{StoredBatch}
 use Rattle.partlog.specs.State.{PartState, state_of}
-use Rattle.partlog.specs.Gauges.{bytes_in}
+use Rattle.partlog.specs.declared.numbers.Numbers.{Numbers}
+use Rattle.partlog.specs.Gauges.{bytes_in, numbers_of}
 use Rattle.partlog.specs.Taken.{batches_past, fitting, taken, joined}
 use Rattle.partlog.proofs.Laws.{bytes_in-cons, fitting-more, fitting-none, past-le, sum_by-filter-le}
 use Rattle.kwire.specs.declared.request.Ask.{Ask}
@@ -24,16 +24,19 @@ use Rattle.kanswer.specs.declared.accepted.Budget.{Budget}
 use Rattle.broker.specs.Board.{history_at, empty_history}
 use Rattle.kanswer.specs.Waiting.{at_least_zero}
 use Rattle.kanswer.specs.Answer.{is_readable, read_of, batches_as, budget_after, first_budget}
-use Rattle.kanswer.specs.LogReadings.{AreReadings, HasNumbers, ProduceReadings, HasRecords, FetchReadings, HasCarriable, named_count, budget_of}
-use Rattle.broker.specs.Gathered.{nothing_read, state_now, shown_in_logs, reading_now, left_now, readings_now, left_behind, bytes_read, most_left}
+use Rattle.kanswer.specs.LogReadings.{AreReadings, HasNumbers, ProduceReadings, HasRecords, FetchReadings, named_count, budget_of}
+use Rattle.broker.specs.Gathered.{numbers_now, state_now, shown_in_logs, reading_now, left_now, readings_now, left_behind, bytes_read, most_left}
 use Rattle.broker.specs.Replying.{HasLog}
-use Rattle.broker.specs.PlainStream.{IsPlainAsk}
 
 -- ---- one partition
 
 pub if_ok_two : {T E : Type 0} {P R : T → Type 0} {Q : Type 0} (r : Result T E) → IfOk r P → OnOk r Q → ((x : T) → P x → Q → R x) → IfOk r R
 if_ok_two (Ok x) p q f = f x p q
 if_ok_two (Err e) p q f = tt
+
+pub if_ok_both : {T E : Type 0} {P Q R : T → Type 0} (r : Result T E) → IfOk r P → IfOk r Q → ((x : T) → P x → Q x → R x) → IfOk r R
+if_ok_both (Ok x) p q f = f x p q
+if_ok_both (Err e) p q f = tt
 
 pub if_ok_then : {T E : Type 0} {P R : T → Type 0} (r : Result T E) → IfOk r P → ((x : T) → P x → R x) → IfOk r R
 if_ok_then (Ok x) p f = f x p
@@ -50,6 +53,19 @@ seen_left parts r replica asked became part start h b new who is has at e =
     ∙ ap (λ (z : ℤ). budget_after (read_of z asked start (state_of h) b) b) who
     ∙ ap (λ (x : History). budget_after (read_of replica asked start (state_of x) b) b) (sym (seen_at parts part h lt at))
     ∙ ap (λ (a : Accepted). left_now parts replica asked a b) (sym is)
+
+pub seen_read : (parts : List History) (r replica : ℤ) (asked : FetchPart) (became : Accepted) (part start : ℕ) (h : History) (b : Budget) (reading : Reading) → r ≡ replica → became ≡ Seen part start → HasLog parts became → h ≡ get_or parts part h
+    → reading.numbers ≡ numbers_of (state_of h) → reading.records ≡ joined (read_of r asked start (state_of h) b) → reading ≡ reading_now parts replica asked became b
+seen_read parts r replica asked became part start h b reading who is has at numbers records =
+    let lt : part < length parts = subst (HasLog parts) is has in
+    let read = λ (n : Numbers) (bytes : List ℕ). let one : Reading = record { numbers = n; records = bytes } in one in
+    ap (λ (n : Numbers). read n reading.records) numbers
+    ∙ ap (read (numbers_of (state_of h))) (records ∙ ap (λ (z : ℤ). joined (read_of z asked start (state_of h) b)) who)
+    ∙ ap (λ (x : History). reading_now_of x) (sym (seen_at parts part h lt at))
+    ∙ ap (λ (a : Accepted). reading_now parts replica asked a b) (sym is)
+  where
+    reading_now_of : History → Reading
+    reading_now_of x = record { numbers = numbers_of (state_of x); records = joined (read_of replica asked start (state_of x) b) }
 
 joined_bytes : (bs : List StoredBatch) → length (joined bs) ≡ bytes_in bs
 joined_bytes [] = refl
@@ -180,36 +196,42 @@ fetch_read parts ask r replica max_wait min_bytes max_bytes isolation topics ite
     (subst (λ (rs : List Reading). FetchReadings replica (flat_map (λ topic. topic.parts) topics) accepted rs (shown_in_logs parts accepted) (first_budget max_bytes)) (sym all)
     (now_are_readings parts replica (flat_map (λ topic. topic.parts) topics) accepted (first_budget max_bytes) count))
 
-nothing_numbers : (parts : List History) (became : Accepted) → HasNumbers became nothing_read (state_now parts became)
-nothing_numbers parts (Refused code) = tt
-nothing_numbers parts (Appended part base count) = refl
-nothing_numbers parts (Seen part start) = tt
+numbers_are : (parts : List History) (accepted : List Accepted) → ProduceReadings accepted (map (numbers_now parts) accepted) (shown_in_logs parts accepted)
+numbers_are parts [] = tt
+numbers_are parts (x ∷ accepted) = (refl, numbers_of_one x, numbers_are parts accepted)
+  where
+    numbers_of_one : (x : Accepted) → HasNumbers x (numbers_now parts x) (state_now parts x)
+    numbers_of_one (Refused code) = tt
+    numbers_of_one (Appended part base count) = refl
+    numbers_of_one (Seen part start) = tt
 
-nothing_are : (parts : List History) (accepted : List Accepted) → ProduceReadings accepted (map (λ became. nothing_read) accepted) (shown_in_logs parts accepted)
-nothing_are parts [] = tt
-nothing_are parts (x ∷ accepted) = (refl, nothing_numbers parts x, nothing_are parts accepted)
+no_records : (parts : List History) (x : Accepted) → length (numbers_now parts x).records ≡ 0
+no_records parts (Refused code) = refl
+no_records parts (Appended part base count) = refl
+no_records parts (Seen part start) = refl
 
-pub nothing_offsets : (accepted : List Accepted) → All HasCarriable (map (λ became. nothing_read) accepted)
-nothing_offsets [] = All-nil HasCarriable
-nothing_offsets (x ∷ accepted) = All-append HasCarriable (nothing_read ∷ []) (map (λ became. nothing_read) accepted) (All-push HasCarriable [] nothing_read (All-nil HasCarriable) (omega arith)) (nothing_offsets accepted)
+numbers_bytes : (parts : List History) (accepted : List Accepted) → bytes_read (map (numbers_now parts) accepted) ≡ 0
+numbers_bytes parts [] = refl
+numbers_bytes parts (x ∷ accepted) =
+    omega (arith, sum_by-cons (λ (reading : Reading). length reading.records) (numbers_now parts x) (map (numbers_now parts) accepted), no_records parts x, numbers_bytes parts accepted)
 
-pub nothing_bytes : (accepted : List Accepted) → bytes_read (map (λ became. nothing_read) accepted) ≡ 0
-nothing_bytes [] = refl
-nothing_bytes (x ∷ accepted) = omega (arith, sum_by-cons (λ (reading : Reading). length reading.records) nothing_read (map (λ became. nothing_read) accepted), nothing_bytes accepted)
-
--- a plain request that is no fetch
 abbrev pub IsNoFetch : Ask → Type 0
 IsNoFetch (Produce transactional acks timeout topics) = ⊤
 IsNoFetch (Fetch replica max_wait min_bytes max_bytes isolation topics) = ⊥
 IsNoFetch (Metadata topics) = ⊤
 IsNoFetch (Versions version) = ⊤
 
-pub nothing_read_are : (parts : List History) (ask : Ask) (accepted : List Accepted) (readings : List Reading) → IsNoFetch ask → IsPlainAsk ask → readings ≡ map (λ became. nothing_read) accepted → AreReadings ask accepted readings (shown_in_logs parts accepted)
-nothing_read_are parts (Produce transactional acks timeout topics) accepted readings other plain e =
-    subst (λ (rs : List Reading). ProduceReadings accepted rs (shown_in_logs parts accepted)) (sym e) (nothing_are parts accepted)
-nothing_read_are parts (Fetch replica max_wait min_bytes max_bytes isolation topics) accepted readings other plain e = absurd other
-nothing_read_are parts (Metadata topics) accepted readings other plain e = absurd plain
-nothing_read_are parts (Versions version) accepted readings other plain e = absurd plain
+none_shown : (parts : List History) (accepted : List Accepted) → length accepted ≡ 0 → shown_in_logs parts accepted ≡ []
+none_shown parts [] e = refl
+none_shown parts (x ∷ accepted) e = absurd (omega (arith, e))
+
+pub numbers_read_are : (parts : List History) (ask : Ask) (accepted : List Accepted) (readings : List Reading) → IsNoFetch ask → length accepted ≡ named_count ask → readings ≡ map (numbers_now parts) accepted
+    → AreReadings ask accepted readings (shown_in_logs parts accepted)
+numbers_read_are parts (Produce transactional acks timeout topics) accepted readings other size e =
+    subst (λ (rs : List Reading). ProduceReadings accepted rs (shown_in_logs parts accepted)) (sym e) (numbers_are parts accepted)
+numbers_read_are parts (Fetch replica max_wait min_bytes max_bytes isolation topics) accepted readings other size e = absurd other
+numbers_read_are parts (Metadata topics) accepted readings other size e = none_shown parts accepted size
+numbers_read_are parts (Versions version) accepted readings other size e = none_shown parts accepted size
 
 -- ---- topic after topic
 
@@ -247,17 +269,5 @@ topic_read parts r topics items accepted i from n t b left before now whole lt i
     ∙ ap (λ (rs : List Reading). before ++ rs) (sym split)
     ∙ so_far
 
-pub nothing_held : (accepted : List Accepted) (readings : List Reading) → readings ≡ map (λ became. nothing_read) accepted → All HasCarriable readings
-nothing_held accepted readings e = subst (λ (rs : List Reading). All HasCarriable rs) (sym e) (nothing_offsets accepted)
-
-pub nothing_room : (accepted : List Accepted) (readings : List Reading) (room : ℕ) → readings ≡ map (λ became. nothing_read) accepted → bytes_read readings ≤ room
-nothing_room accepted readings room e = omega (arith, ap bytes_read e, nothing_bytes accepted)
-
-pub nothing_next : (accepted : List Accepted) (i : ℕ) (readings new : List Reading) (r : Reading) → i < length accepted → readings ≡ map (λ became. nothing_read) (take i accepted) → r ≡ nothing_read → new ≡ readings ++ r ∷ []
-    → new ≡ map (λ became. nothing_read) (take (i + 1) accepted)
-nothing_next accepted i readings new r lt so_far is e =
-    let none : Accepted → Reading = λ became. nothing_read in
-    e
-    ∙ ap (λ (x : Reading). readings ++ x ∷ []) is
-    ∙ ap (λ (rs : List Reading). rs ++ nothing_read ∷ []) so_far
-    ∙ sym (ap (map none) (take_more accepted i (Refused (pos 0)) lt) ∙ map-append none (take i accepted) (get_or accepted i (Refused (pos 0)) ∷ []))
+pub numbers_room : (parts : List History) (accepted : List Accepted) (readings : List Reading) (room : ℕ) → readings ≡ map (numbers_now parts) accepted → bytes_read readings ≤ room
+numbers_room parts accepted readings room e = omega (arith, ap bytes_read e, numbers_bytes parts accepted)

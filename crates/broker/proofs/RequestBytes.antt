@@ -88,6 +88,6 @@ versions_bytes ask version is = subst CarriesBytes (sym is) tt
 
 pub request_bytes : (body : List ℕ) (request : Request) → IsBytes body → IsRequest body request → CarriesBytes request.ask
 request_bytes body request fits (inl whole) =
-    let each = each_field (request_fields request) (subst IsBytes whole.spelled fits) in
+    let each = each_field (request_fields request) (subst IsBytes whole.whole.spelled fits) in
     ask_bytes request.ask each.1.1.1.1
 request_bytes body request fits (inr other) = versions_bytes request.ask other.version other.asked

@@ -6,11 +6,9 @@ use Rattle.std.specs.Prelude.{MatchOption, MatchBool, nat_lt, nat_le, ◌&&◌, 
 use Rattle.std.specs.List.{AllByRecursion, AllZip, flat_map}
 use Rattle.partlog.specs.Added.{added_count, log_end_of}
 use Rattle.partlog.specs.History.{History}
-use Rattle.partlog.specs.Kept.{IsKept}
 use Rattle.partlog.specs.State.{PartState, state_of}
 use Rattle.partlog.specs.Gauges.{gauges_of}
 use Rattle.partlog.specs.Start.{start_of}
-use Rattle.partlog.proofs.Laws.{log_end-le-bytes}
 use Rattle.kanswer.specs.declared.accepted.Accepted.{Accepted}
 use Rattle.kanswer.specs.declared.accepted.Accepted.TheVariants.{Refused, Appended, Seen}
 use Rattle.kwire.specs.declared.request.Ask.{Ask}
@@ -20,7 +18,7 @@ use Rattle.kwire.specs.declared.request.ProducePart.{ProducePart}
 use Rattle.kwire.specs.Configuration.{Configuration, followers_of, part_of}
 use Rattle.kanswer.specs.Decisions.{Entry, Put, Looked, Followed, Outcome, Decision, Refuse, AskLog, Decides, BatchDecides, ProduceDecides, fetch_decision, fetch_outcome, in_range_outcome, offset_of, look, is_acks, produce_parts, fetch_parts}
 use Rattle.broker.specs.Entering.{entered, accept_all, shown_of}
-use Rattle.kanswer.specs.LogReadings.{IsCarriable, named_count}
+use Rattle.kanswer.specs.LogReadings.{named_count}
 use Rattle.broker.specs.Board.{history_at, empty_history}
 use Rattle.kanswer.specs.Waiting.{results_of}
 use Rattle.broker.specs.Replying.{HasLog}
@@ -31,14 +29,14 @@ use Rattle.audit.proofs.Laws.{same_or_not, get_set_same, get_set_other}
 -- the outcome speaks of its own partition, and of an append at the log end
 abbrev pub IsHonestAs : ℕ → PartState → Accepted → Entry → Type 0
 IsHonestAs part state (Refused code) entry = Unit {0}
-IsHonestAs part state (Appended q base count) entry = (q ≡ part) × (base ≡ state.log_end) × ((batch : List ℕ) × (entry ≡ Put count batch))
+IsHonestAs part state (Appended q base count) entry = (q ≡ part) × (base ≡ state.log_end) × (0 < count) × ((batch : List ℕ) × (entry ≡ Put count batch))
 IsHonestAs part state (Seen q start) entry = q ≡ part
 
 abbrev pub IsHonest : Decision → Type 0
 IsHonest (Refuse code) = Unit {0}
 IsHonest (AskLog part outcome) = (state : PartState) → IsHonestAs part state (outcome state).result (outcome state).entry
 
-history_there : (parts : List History) (part p : ℕ) (h : History) → part < length parts → (P : ℕ → Type 0)
+pub history_there : (parts : List History) (part p : ℕ) (h : History) → part < length parts → (P : ℕ → Type 0)
     → (p ≡ part → P (log_end_of h.events)) → (p ≢ part → P (log_end_of (history_at parts p).events)) → P (log_end_of (history_at (set parts part h) p).events)
 history_there parts part p h lt P same other =
     elim (same_or_not p part) [
@@ -48,11 +46,11 @@ history_there parts part p h lt P same other =
       | inr ne ↦ subst (λ (o : Option History). P (log_end_of (unwrap_or o (empty_history 0)).events)) (sym (get_set_other parts part p h ne)) (other ne)
     ]
 
-entered_end : (h : History) (by seq : ℕ) (entry : Entry) → log_end_of (entered h by seq entry).events ≡ log_end_of h.events + added_count (event_of by seq entry)
+pub entered_end : (h : History) (by seq : ℕ) (entry : Entry) → log_end_of (entered h by seq entry).events ≡ log_end_of h.events + added_count (event_of by seq entry)
 entered_end h by seq entry = ap log_end_of (entered_events h by seq entry) ∙ sum_by_push added_count h.events (event_of by seq entry)
 
 -- no log end falls
-ends_grow : (by seq n : ℕ) (decisions : List Decision) (parts : List History) → length parts ≡ n → AllByRecursion (IsFair n) decisions → (p : ℕ)
+pub ends_grow : (by seq n : ℕ) (decisions : List Decision) (parts : List History) → length parts ≡ n → AllByRecursion (IsFair n) decisions → (p : ℕ)
     → log_end_of (history_at parts p).events ≤ log_end_of (history_at (accept_all by seq decisions parts).1 p).events
 ends_grow by seq n [] parts size fair p = omega arith
 ends_grow by seq n (Refuse code ∷ decisions) parts size fair p = ends_grow by seq n decisions parts size fair.1 p
@@ -77,7 +75,7 @@ served : (parts : List History) (part n : ℕ) (state : PartState) (result : Acc
 served parts part n state (Refused code) entry lt honest end = tt
 served parts part n state (Appended q base count) entry lt honest end =
     let same : log_end_of (history_at parts q).events ≡ log_end_of (history_at parts part).events = ap (λ (i : ℕ). log_end_of (history_at parts i).events) honest.0 in
-    (omega (arith, honest.0, lt), omega (arith, same, honest.1, end count honest.2.0 honest.2.1))
+    (omega (arith, honest.0, lt), omega (arith, same, honest.1, end count honest.3.0 honest.3.1))
 served parts part n state (Seen q start) entry lt honest end = omega (arith, honest, lt)
 
 pub all_servable : (by seq n : ℕ) (decisions : List Decision) (parts : List History) → length parts ≡ n → AllByRecursion (IsFair n) decisions → AllByRecursion IsHonest decisions
@@ -113,7 +111,7 @@ batch_honest : (part : ℕ) (bytes : List ℕ) (decision : Decision) → BatchDe
 batch_honest part bytes decision d =
     elim d [
       | inl fault ↦ subst IsHonest (sym fault.2) tt
-      | inr batch ↦ subst IsHonest (sym batch.2) (λ state. either_honest part state (nat_lt 67108864 ((gauges_of state).bytes + length bytes)) (look (Refused (pos 6))) (record { result = Appended part state.log_end (length batch.0); entry = Put (length batch.0) bytes }) tt (refl, refl, (bytes, refl)))
+      | inr batch ↦ subst IsHonest (sym batch.2) (λ state. either_honest part state (nat_lt 67108864 ((gauges_of state).bytes + length bytes)) (look (Refused (pos 6))) (record { result = Appended part state.log_end (length batch.0); entry = Put (length batch.0) bytes }) tt (refl, refl, omega (arith, batch.1.some_record), (bytes, refl)))
     ]
 
 acks_honest : (b : Bool) (part : ℕ) (bytes : List ℕ) (decision : Decision) → MatchBool b (BatchDecides part bytes decision) (decision ≡ Refuse (pos 21)) → IsHonest decision
@@ -195,11 +193,3 @@ pub servable_log : (parts : List History) (result : Accepted) → IsServable par
 servable_log parts (Refused code) s = tt
 servable_log parts (Appended q base count) s = s.0
 servable_log parts (Seen q start) s = s
-
-kept_end : (h : History) → IsKept h.log h.events → log_end_of h.events ≤ 67108864
-kept_end h kept = omega (arith, log_end-le-bytes h.events kept.dense, kept.whole, kept.bounded)
-
-pub servable_offset : (parts : List History) (result : Accepted) → ((p : ℕ) → p < length parts → IsKept (history_at parts p).log (history_at parts p).events) → IsServable parts result → IsCarriable result
-servable_offset parts (Refused code) kept s = tt
-servable_offset parts (Appended q base count) kept s = omega (arith, s.1, kept_end (history_at parts q) (kept q s.0))
-servable_offset parts (Seen q start) kept s = tt

@@ -1,68 +1,55 @@
--- How a broker amid a plain trace serves one session: each call keeps what holds of the broker, and the acts of a line go on until
--- no session can act.
-use Rattle.std.proofs.Common.{◌≡◌, ◌≢◌, ℕ, zero, suc, ◌+◌, ◌-◌, ◌*◌, ◌<◌, ◌≤◌, ◌⊎◌, pos, Bool, true, false, cond, eqb, List, [], ◌∷◌, ◌++◌, length, take, drop, Some, None, unwrap_or, refl, sym, ap, subst, ◌∙◌, arith, inl, inr, append_assoc, append-nil, length-append, zero-add}
+-- How a broker amid a trace serves one session: each act keeps what holds of the broker and leaves less to do, and the acts of a line go on
+-- until no session can act.
+use Rattle.std.proofs.Common.{◌≡◌, ◌≢◌, ℕ, zero, suc, ◌+◌, ◌*◌, ◌<◌, ◌≤◌, ◌⊎◌, pos, Bool, true, false, cond, eqb, List, [], ◌∷◌, ◌++◌, length, map, drop, set, Some, None, unwrap_or, MatchBool, refl, sym, ap, subst, ◌∙◌, arith, inl, inr, append_assoc, append-nil, length-append, zero-add}
 use Rattle.std.proofs.lemmas.Bool.{ne_eqb}
-use Rattle.std.proofs.lemmas.List.{take-append-le, take_at, length-drop, take-append-drop}
+use Rattle.std.proofs.lemmas.List.{length-drop}
 use Rattle.std.proofs.lemmas.Grind.{flat_map-append}
+use Rattle.std.specs.Prelude.{slice_get}
 use Rattle.std.specs.Int.{w32}
 use Rattle.std.specs.List.{AllByRecursion, flat_map, find, range_with_len}
+use Rattle.kbytes.specs.Octets.{IsBytes}
 use Rattle.kbytes.specs.Field.{integer}
 use Rattle.kbytes.proofs.Laws.{wide_32}
 use Rattle.audit.specs.declared.account.Call.{Call}
 use Rattle.audit.specs.declared.account.CallHow.TheVariants.{Quiet, AtOnce}
+use Rattle.audit.specs.declared.account.SessionEnd.{SessionEnd}
+use Rattle.audit.specs.declared.account.SessionEnd.TheVariants.{Closed, Truncated, FrameTooLong, Refused, CallsFull}
 use Rattle.kwire.specs.declared.frame.Frame.{Frame}
 use Rattle.kwire.specs.declared.frame.Frame.TheVariants.{Whole, NotYet, TooLong}
 use Rattle.kwire.specs.declared.request.Request.{Request}
 use Rattle.trace_file.specs.declared.line.Line.{Line}
+use Rattle.trace_file.specs.Trace.{pieces_of}
 use Rattle.broker.specs.Entering.{accept_all, steps_of, shown_of}
 use Rattle.kanswer.specs.Decisions.{Decision, Decides}
-use Rattle.broker.specs.Acting.{can_act, next_to_act, shows_work, Acts}
-use Rattle.broker.specs.AtOnce.{IsHandled}
-use Rattle.broker.specs.Board.{Board, Seat, new_transcript, seat_at, transcript_at, next_call}
+use Rattle.broker.specs.Acting.{is_there, can_act, next_to_act, shows_work, end_of_input, HandlesFrame, ActsOn, Acts}
+use Rattle.broker.specs.Board.{Board, Seat, empty_seat, new_transcript, seat_at, transcript_at, next_call}
+use Rattle.broker.specs.BuiltForm.{MayWait, IsRequestBody}
 use Rattle.kanswer.specs.Waiting.{becomes_delayed, is_quiet}
-use Rattle.broker.specs.Fed.{framed_calls, IsFedBy, IsAtRest}
-use Rattle.audit.specs.Fits.{IsUnfinished}
+use Rattle.broker.specs.Fed.{framed_calls, IsInputEnd, IsFedSeat, IsAtRest}
+use Rattle.audit.specs.Fits.{IsUnfinished, EndFits}
 use Rattle.kwire.specs.Frames.{framed, IsFrameBody, next_frame_of}
 use Rattle.audit.specs.LawfulCall.{step_points}
-use Rattle.broker.specs.Turns.{Turned, answered_at_once, seat_with, with_call, how_at_once}
+use Rattle.broker.specs.Turns.{Turned, answered_at_once, left_waiting, handled, ended, seat_with, with_call, how_at_once}
 use Rattle.kwire.specs.IsRequest.{IsRequest}
-use Rattle.broker.specs.PlainStream.{IsPlainBody, IsPlainStream}
 use Rattle.broker.specs.Play.{Rests}
 use Rattle.broker.specs.Ready.{IsReady, front_body}
-use Rattle.trace_file.specs.Contents.{bytes_in, input_of}
-use Rattle.broker.specs.UnderWay.{to_come, IsUnderWay, IsServing}
+use Rattle.trace_file.specs.Contents.{bytes_in, input_of, is_named, is_shut}
+use Rattle.broker.specs.UnderWay.{IsUnderWay, IsServing}
+use Rattle.broker.proofs.AnsweredAtOnce.{undelayed, states_shown}
 use Rattle.broker.proofs.Entries.{IsFair}
 use Rattle.broker.proofs.Fair.{parts_size, decides_fair}
 use Rattle.audit.proofs.Laws.{same_or_not}
-use Rattle.broker.proofs.FedLines.{seat_set_same, seat_set_other, fed_call, fed_can_act, scanned_nothing}
-use Rattle.broker.proofs.OneCallMore.{IsSteady, steady_call}
-use Rattle.kwire.proofs.Laws.{whole_within, whole_before, whole_ends, next_body, not_too_long}
+use Rattle.broker.proofs.FedLines.{seat_set_same, seat_set_other, fed_call, fed_ended, works_named, rest_of_open, acts_open, acts_alike, scanned_nothing}
+use Rattle.broker.proofs.OneCallMore.{IsSteady, steady_call, steady_alike}
+use Rattle.broker.proofs.PlaySome.{input_bytes}
+use Rattle.broker.proofs.RequestBytes.{front_bytes, back_bytes}
+use Rattle.broker.proofs.Work.{work_of, open_work}
+use Rattle.kwire.proofs.Laws.{whole_parts}
+use Rattle.trace_file.proofs.Laws.{few_bytes}
 use Rattle.audit.specs.declared.account.TheConstants.{MOST_CALLS}
+use Rattle.trace_file.specs.declared.line.TheConstants.{MOST_TRACE_BYTES}
 
--- ---- the frame at the front
-
--- the parts of bytes that begin with a whole frame of a stream
-record IsFront (inbox : List ℕ) (end : ℕ) (body : List ℕ) : Type 0 where
-  pub ends : end ≡ 4 + length body
-  pub small : IsFrameBody body
-  pub parts : inbox ≡ framed body ++ drop (4 + length body) inbox
-
-front_parts : (inbox later : List ℕ) (bodies : List (List ℕ)) (end : ℕ) → inbox ++ later ≡ flat_map framed bodies → AllByRecursion IsFrameBody bodies → next_frame_of inbox ≡ Whole end
-    → IsFront inbox end (take (end - 4) (drop 4 inbox))
-front_parts inbox later bodies end e each whole =
-    let body = take (end - 4) (drop 4 inbox) in
-    let n = next_body inbox later bodies end e each whole in
-    let head = integer w32 (pos (length body)) in
-    let within = whole_within inbox end whole in
-    let ends : end ≡ 4 + length body = whole_ends inbox end whole in
-    let all : length (framed body) ≡ end = omega (arith, ends, wide_32.len (length body), length-append head body) in
-    let front : take end inbox ≡ framed body =
-    sym (take-append-le end inbox later within) ∙ ap (take end) (e ∙ ap (flat_map framed) n.bodies_are) ∙ take_at (framed body) (flat_map framed n.others) end all in
-    record {
-      ends = ends;
-      small = (subst (AllByRecursion IsFrameBody) n.bodies_are each).0;
-      parts = sym (take-append-drop end inbox) ∙ ap (λ (t : List ℕ). t ++ drop end inbox) front ∙ ap (λ (k : ℕ). framed body ++ drop k inbox) ends;
-    }
+-- ---- a session that can act
 
 -- each frame has its size
 frames_long : (calls : List Call) → 4 * length calls ≤ length (framed_calls calls)
@@ -71,45 +58,14 @@ frames_long (call ∷ calls) =
     let head = integer w32 (pos (length call.frame)) in
     omega (arith, frames_long calls, wide_32.len (length call.frame), length-append head call.frame, length-append (framed call.frame) (framed_calls calls))
 
-module _ (fed later : List Line) (session end : ℕ) (board : Board) (serving : IsServing fed later session board) (whole : next_frame_of (seat_at board session).inbox ≡ Whole end) where
-  stream : IsPlainStream ((seat_at board session).inbox ++ input_of session later)
-  stream = serving.running.streams session serving.there
+-- the bodies of the frames of calls
+frames_of_calls : (calls : List Call) → framed_calls calls ≡ flat_map framed (map (λ call. call.frame) calls)
+frames_of_calls [] = refl
+frames_of_calls (call ∷ calls) = ap (λ (t : List ℕ). framed call.frame ++ t) (frames_of_calls calls)
 
-  front : IsFront (seat_at board session).inbox end (front_body board session end)
-  front = front_parts (seat_at board session).inbox (input_of session later) stream.bodies end stream.whole stream.each whole
-
-  calls_few : length (transcript_at board session).calls < MOST_CALLS
-  calls_few =
-      let calls = (transcript_at board session).calls in
-      let parts = (serving.running.given.seats session serving.there).parts in
-      omega (
-        arith,
-        frames_long calls,
-        ap length parts,
-        length-append (framed_calls calls) (seat_at board session).inbox,
-        ap length (flat_map-append (bytes_in session) fed later),
-        length-append (input_of session fed) (input_of session later),
-        serving.running.few session serving.there,
-      )
-
-  pub ready : IsReady session end board
-  ready =
-      let n = next_body (seat_at board session).inbox (input_of session later) stream.bodies end stream.whole stream.each whole in
-      record {
-        there = omega (arith, serving.there, serving.running.given.size);
-        parts = parts_size board.config.topics board.parts serving.running.steady.followers;
-        alone = serving.running.alone;
-        whole = whole;
-        plain = (subst (AllByRecursion IsPlainBody) n.bodies_are stream.plain).0;
-        few = calls_few;
-        first = (serving.running.given.seats session serving.there).tame.first;
-      }
-
--- ---- one call
-
-how_plain : (b : Bool) → (cond b Quiet AtOnce ≡ Quiet) ⊎ (cond b Quiet AtOnce ≡ AtOnce)
-how_plain true = inl refl
-how_plain false = inr refl
+of_calls : (P : List ℕ → Type 0) (calls : List Call) → AllByRecursion (λ call. P call.frame) calls → AllByRecursion P (map (λ call. call.frame) calls)
+of_calls P [] all = tt
+of_calls P (call ∷ calls) all = (all.0, of_calls P calls all.1)
 
 abbrev pub calls_at : Board → ℕ → List Call
 calls_at board s = (transcript_at board s).calls
@@ -117,97 +73,245 @@ calls_at board s = (transcript_at board s).calls
 abbrev pub calls_in_seat : ℕ → Seat → List Call
 calls_in_seat s seat = (unwrap_or seat.transcript (new_transcript s)).calls
 
-module _ (fed later : List Line) (session end : ℕ) (board : Board) (serving : IsServing fed later session board) (whole : next_frame_of (seat_at board session).inbox ≡ Whole end) (request : Request) (decisions : List Decision) (asked : IsRequest (front_body board session end) request) (decided : Decides board.config request.ask decisions) (undelayed : becomes_delayed request.ask (shown_of (accept_all session (next_call board session) decisions board.parts).0) ≡ false) where
-  abbrev the_call : Call
-  the_call = record {
-    frame = front_body board session end;
-    accept = step_points (steps_of (accept_all session (next_call board session) decisions board.parts).0);
-    finish = [];
-    how = how_at_once request.ask;
+nothing_in : (xs : List ℕ) → length xs ≡ 0 → xs ≡ []
+nothing_in [] e = refl
+nothing_in (x ∷ xs) e = absurd (omega (arith, e))
+
+how_at : (b : Bool) → (cond b Quiet AtOnce ≡ Quiet) ⊎ (cond b Quiet AtOnce ≡ AtOnce)
+how_at true = inl refl
+how_at false = inr refl
+
+module _ (fed later : List Line) (session : ℕ) (board : Board) (serving : IsServing fed later session board) (can : can_act board session ≡ true) where
+  old : IsFedSeat session (input_of session fed) (is_shut session fed) (is_named session fed) (seat_at board session)
+  old = serving.running.given.seats session serving.there
+
+  going : is_there (transcript_at board session).end ≡ false
+  going = (acts_open board session serving.running.given.no_waiting can).0
+
+  works : shows_work (seat_at board session).is_shut (next_frame_of (seat_at board session).inbox) ≡ true
+  works = (acts_open board session serving.running.given.no_waiting can).1
+
+  named : is_named session fed ≡ true
+  named = works_named fed board session serving.running.given serving.there going works
+
+  -- all that it receives: the frames of its calls, what it hasn't handled yet, and what comes later
+  all_input : input_of session (fed ++ later) ≡ framed_calls (calls_at board session) ++ ((seat_at board session).inbox ++ input_of session later)
+  all_input =
+      let rest = rest_of_open (seat_at board session).inbox old.rest (is_shut session fed) (transcript_at board session) (transcript_at board session).end old.ends going in
+      flat_map-append (bytes_in session) fed later ∙ ap (λ (t : List ℕ). t ++ input_of session later) (old.parts ∙ ap (λ (t : List ℕ). framed_calls (calls_at board session) ++ t) rest)
+      ∙ append_assoc (framed_calls (calls_at board session)) (seat_at board session).inbox (input_of session later)
+
+  few_input : length (input_of session (fed ++ later)) ≤ MOST_TRACE_BYTES
+  few_input = few_bytes serving.running.text (fed ++ later) session serving.running.form.trace
+
+  pub inbox_fits : IsBytes (seat_at board session).inbox
+  inbox_fits =
+      let all = input_bytes (pieces_of serving.running.text) (fed ++ later) serving.running.form.trace.spelled session in
+      front_bytes (seat_at board session).inbox (input_of session later)
+      (back_bytes (framed_calls (calls_at board session)) ((seat_at board session).inbox ++ input_of session later) (subst IsBytes all_input all))
+
+  calls_few : length (calls_at board session) < MOST_CALLS
+  calls_few =
+      omega (
+        arith,
+        frames_long (calls_at board session),
+        ap length all_input,
+        length-append (framed_calls (calls_at board session)) ((seat_at board session).inbox ++ input_of session later),
+        few_input,
+      )
+
+  inbox_short : length (seat_at board session).inbox ≤ MOST_TRACE_BYTES
+  inbox_short =
+      omega (
+        arith,
+        ap length all_input,
+        length-append (framed_calls (calls_at board session)) ((seat_at board session).inbox ++ input_of session later),
+        length-append (seat_at board session).inbox (input_of session later),
+        few_input,
+      )
+
+  -- a fetch at the front that may have to wait would be one of the trace's
+  never : (end : ℕ) (request : Request) → next_frame_of (seat_at board session).inbox ≡ Whole end → IsRequest (front_body board session end) request → MayWait request.ask → ⊥
+  never end request whole asked waits =
+      let calls = calls_at board session in
+      let w = whole_parts (seat_at board session).inbox end inbox_fits whole in
+      let body = front_body board session end in
+      let behind = drop end (seat_at board session).inbox in
+      let frames : input_of session (fed ++ later) ≡ flat_map framed (map (λ call. call.frame) calls) ++ (framed body ++ (behind ++ input_of session later)) =
+      all_input ∙ ap (λ (t : List ℕ). t ++ ((seat_at board session).inbox ++ input_of session later)) (frames_of_calls calls)
+      ∙ ap (λ (t : List ℕ). flat_map framed (map (λ call. call.frame) calls) ++ (t ++ input_of session later)) w.parts
+      ∙ ap (λ (t : List ℕ). flat_map framed (map (λ call. call.frame) calls) ++ t) (append_assoc (framed body) behind (input_of session later)) in
+      serving.running.form.built (inr (
+        session,
+        serving.there,
+        record {
+          before = map (λ call. call.frame) calls;
+          body = body;
+          rest = behind ++ input_of session later;
+          frames = frames;
+          each = of_calls IsFrameBody calls old.each;
+          read = of_calls IsRequestBody calls old.read;
+          small = w.small;
+          request = request;
+          asked = asked;
+          waits = waits;
+        },
+      ))
+
+  pub ready : IsReady session board
+  ready = record {
+    there = omega (arith, serving.there, serving.running.given.size);
+    followers = serving.running.steady.followers;
+    declared = serving.running.declared;
+    alone = serving.running.alone;
+    few = calls_few;
+    first = old.tame.first;
+    short = inbox_short;
+    never = never;
   }
 
-  abbrev after : Board
-  after = with_call board (accept_all session (next_call board session) decisions board.parts).1 session (front_body board session end) the_call
+  -- ---- what it does leaves a broker that goes on
+
+  -- less is left to do, and the others are as they were
+  record GoesOn (turned : Turned) : Type 0 where
+    pub goes : IsServing fed later session turned.board
+    pub less : work_of (seat_at turned.board session) < work_of (seat_at board session)
 
   within : session < length board.seats
   within = omega (arith, serving.there, serving.running.given.size)
 
-  given_on : IsFedBy fed after
-  given_on =
-      let f = front fed later session end board serving whole in
-      fed_call fed board (accept_all session (next_call board session) decisions board.parts).1 session (front_body board session end) the_call serving.running.given serving.there f.small (how_plain (is_quiet request.ask)) refl f.parts
+  open_now : work_of (seat_at board session) ≡ suc (length (seat_at board session).inbox)
+  open_now = open_work board session (record { there = serving.there; goes_on = going })
 
-  steady_on : IsSteady board.config (accept_all session (next_call board session) decisions board.parts).1 (calls_at after)
-  steady_on =
-      let steady = serving.running.steady in
-      let seat = seat_with board session (front_body board session end) the_call in
-      let size = parts_size board.config.topics board.parts steady.followers in
-      let first : (transcript_at board session).first ≡ 0 = (serving.running.given.seats session serving.there).tame.first in
-      steady_call board.config board.parts (calls_at board) (calls_at after) session (next_call board session) (front_body board session end) request decisions the_call steady
-      (ap (λ (n : ℕ). n + length (calls_at board session)) first ∙ zero-add (length (calls_at board session))) asked decided
-      (subst (λ (n : ℕ). AllByRecursion (IsFair n) decisions) (sym size) (decides_fair board.config request.ask decisions decided)) undelayed refl
-      (ap (calls_in_seat session) (seat_set_same board session seat within))
-      (λ r other. ap (calls_in_seat r) (seat_set_other board session r seat other))
+  others_rest : (next : Board) (seat : Seat) → next.seats ≡ set board.seats session seat → next.waiting ≡ [] → (s : ℕ) → s < 64 → s ≢ session → can_act next s ≡ false
+  others_rest next seat seats nobody s lt other =
+      let same : seat_at next s ≡ seat_at board s = ap (λ (xs : List Seat). unwrap_or (slice_get xs s) empty_seat) seats ∙ seat_set_other board session s seat other in
+      acts_alike board next s serving.running.given.no_waiting nobody same ∙ serving.others s lt other
 
-  streams_on : (s : ℕ) → s < 64 → IsPlainStream (to_come after later s)
-  streams_on s lt =
-      let seat = seat_with board session (front_body board session end) the_call in
-      elim (same_or_not s session) [
-        | inl same ↦
-            let p = stream fed later session end board serving whole in
-            let f = front fed later session end board serving whole in
-            let inbox = (seat_at board session).inbox in
-            let n = next_body inbox (input_of session later) p.bodies end p.whole p.each whole in
-            let left : IsPlainStream (seat.inbox ++ input_of session later) = record {
-              bodies = n.others;
-              whole = ap (λ (k : ℕ). drop k inbox ++ input_of session later) (sym f.ends) ∙ n.rest;
-              each = (subst (AllByRecursion IsFrameBody) n.bodies_are p.each).1;
-              plain = (subst (AllByRecursion IsPlainBody) n.bodies_are p.plain).1;
-            } in
-            subst (λ (k : ℕ). IsPlainStream (to_come after later k)) (sym same) (subst (λ (x : Seat). IsPlainStream (x.inbox ++ input_of session later)) (sym (seat_set_same board session seat within)) left)
-        | inr other ↦ subst (λ (x : Seat). IsPlainStream (x.inbox ++ input_of s later)) (sym (seat_set_other board session s seat other)) (serving.running.streams s lt)
+  -- it ends as its input shows
+  ends_on : (end : SessionEnd) → EndFits (seat_at board session).inbox (is_shut session fed) (record (transcript_at board session) { end = Some end }) (Some end) → IsInputEnd end → GoesOn (ended board session end)
+  ends_on end fits of_input =
+      let seat : Seat = record (seat_at board session) { transcript = Some (record (transcript_at board session) { end = Some end }) } in
+      let next = (ended board session end).board in
+      let here : seat_at next session ≡ seat = seat_set_same board session seat within in
+      let over : work_of (seat_at next session) ≡ 0 = ap work_of here in
+      record {
+        goes = record {
+          running = record {
+            text = serving.running.text;
+            form = serving.running.form;
+            given = fed_ended fed board session end serving.running.given serving.there going named fits of_input;
+            steady = steady_alike board.config board.parts (calls_at board) (calls_at next) (λ s. elim (same_or_not s session) [
+              | inl same ↦ ap (calls_at next) same ∙ ap (calls_in_seat session) here ∙ ap (calls_at board) (sym same)
+              | inr other ↦ ap (calls_in_seat s) (seat_set_other board session s seat other)
+            ]) serving.running.steady;
+            declared = serving.running.declared;
+            alone = serving.running.alone;
+          };
+          there = serving.there;
+          others = others_rest next seat refl serving.running.given.no_waiting;
+        };
+        less = omega (arith, over, open_now);
+      }
+
+  -- it handles the request at the front
+  module _ (end : ℕ) (whole : next_frame_of (seat_at board session).inbox ≡ Whole end) (request : Request) (decisions : List Decision) (asked : IsRequest (front_body board session end) request) (decided : Decides board.config request.ask decisions) where
+    not_delayed : becomes_delayed request.ask (shown_of (accept_all session (next_call board session) decisions board.parts).0) ≡ false
+    not_delayed =
+        undelayed (accept_all session (next_call board session) decisions board.parts).1 request.ask (shown_of (accept_all session (next_call board session) decisions board.parts).0)
+        (never end request whole asked)
+        (states_shown board.config request.ask session (next_call board session) decisions board.parts serving.running.steady.followers serving.running.alone decided)
+
+    abbrev the_call : Call
+    the_call = record {
+      frame = front_body board session end;
+      accept = step_points (steps_of (accept_all session (next_call board session) decisions board.parts).0);
+      finish = [];
+      how = how_at_once request.ask;
+    }
+
+    abbrev after : Board
+    after = with_call board (accept_all session (next_call board session) decisions board.parts).1 session (front_body board session end) the_call
+
+    steady_on : IsSteady board.config (accept_all session (next_call board session) decisions board.parts).1 (calls_at after)
+    steady_on =
+        let steady = serving.running.steady in
+        let seat = seat_with board session (front_body board session end) the_call in
+        let size = parts_size board.config.topics board.parts steady.followers in
+        steady_call board.config board.parts (calls_at board) (calls_at after) session (next_call board session) (front_body board session end) request decisions the_call steady
+        (ap (λ (n : ℕ). n + length (calls_at board session)) old.tame.first ∙ zero-add (length (calls_at board session))) asked decided
+        (subst (λ (n : ℕ). AllByRecursion (IsFair n) decisions) (sym size) (decides_fair board.config request.ask decisions decided)) not_delayed refl
+        (ap (calls_in_seat session) (seat_set_same board session seat within))
+        (λ r other. ap (calls_in_seat r) (seat_set_other board session r seat other))
+
+    called_on : GoesOn (answered_at_once board session (front_body board session end) request (accept_all session (next_call board session) decisions board.parts))
+    called_on =
+        let w = whole_parts (seat_at board session).inbox end inbox_fits whole in
+        let body = front_body board session end in
+        let seat = seat_with board session body the_call in
+        let here : seat_at after session ≡ seat = seat_set_same board session seat within in
+        let goes : is_there (transcript_at board session).end ≡ false = going in
+        let left : work_of seat ≡ suc (length (drop (4 + length body) (seat_at board session).inbox)) = ap (λ (b : Bool). cond b 0 (suc (length (drop (4 + length body) (seat_at board session).inbox)))) goes in
+        let front : (seat_at board session).inbox ≡ framed body ++ drop (4 + length body) (seat_at board session).inbox = w.parts ∙ ap (λ (n : ℕ). framed body ++ drop n (seat_at board session).inbox) w.ends in
+        record {
+          goes = record {
+            running = record {
+              text = serving.running.text;
+              form = serving.running.form;
+              given = fed_call fed board (accept_all session (next_call board session) decisions board.parts).1 session body the_call serving.running.given serving.there w.small (how_at (is_quiet request.ask)) refl (request, asked) going named front;
+              steady = steady_on;
+              declared = serving.running.declared;
+              alone = serving.running.alone;
+            };
+            there = serving.there;
+            others = others_rest after seat refl serving.running.given.no_waiting;
+          };
+          less = omega (arith, ap work_of here, left, open_now, length-drop (4 + length body) (seat_at board session).inbox, w.ends, w.within);
+        }
+
+    handles_on : (turned : Turned) → turned ≡ handled board session (front_body board session end) request decisions → GoesOn turned
+    handles_on turned is =
+        let body = front_body board session end in
+        let came = accept_all session (next_call board session) decisions board.parts in
+        let at_once : turned ≡ answered_at_once board session body request came = is ∙ ap (λ (b : Bool). cond b (left_waiting board session body request came) (answered_at_once board session body request came)) not_delayed in
+        subst GoesOn (sym at_once) called_on
+
+  full_or_not : (end : ℕ) (turned last : Turned) → MatchBool (eqb (next_call board session) MOST_CALLS) (turned ≡ last) (HandlesFrame board session (front_body board session end) turned) → HandlesFrame board session (front_body board session end) turned
+  full_or_not end turned last acts =
+      let next : next_call board session ≡ length (calls_at board session) = ap (λ (n : ℕ). n + length (calls_at board session)) old.tame.first ∙ zero-add (length (calls_at board session)) in
+      let room : eqb (next_call board session) MOST_CALLS ≡ false = ne_eqb (next_call board session) MOST_CALLS (λ e. omega (arith, e, next, calls_few)) in
+      subst (λ (b : Bool). MatchBool b (turned ≡ last) (HandlesFrame board session (front_body board session end) turned)) room acts
+
+  input_ends : (got : ℕ) → got ≡ length (seat_at board session).inbox → (seat_at board session).is_shut ≡ true → next_frame_of (seat_at board session).inbox ≡ NotYet → GoesOn (ended board session (end_of_input got))
+  input_ends zero is shut none = ends_on Closed (sym old.is_shut ∙ shut, nothing_in (seat_at board session).inbox (sym is)) tt
+  input_ends (suc n) is shut none =
+      let rest : IsUnfinished (seat_at board session).inbox = record { not_whole = λ w. absurd (cc (none, w.1)); not_too_long = λ w. absurd (cc (none, w.1)) } in
+      let some : eqb (suc n) 0 ≡ false = ne_eqb (suc n) 0 (λ e. omega (arith, e)) in
+      let end : end_of_input (suc n) ≡ Truncated (suc n) = ap (λ (b : Bool). cond b Closed (Truncated (suc n))) some in
+      subst (λ (e : SessionEnd). GoesOn (ended board session e)) (sym end) (ends_on (Truncated (suc n)) (sym old.is_shut ∙ shut, sym is, omega arith, rest) tt)
+
+  acts_as : (frame : Frame) (turned : Turned) → next_frame_of (seat_at board session).inbox ≡ frame → ActsOn board session frame turned → GoesOn turned
+  acts_as (Whole end) turned is acts =
+      elim (full_or_not end turned (ended board session CallsFull) acts) [
+        | inl took ↦ handles_on end is took.0 took.1 took.2 took.3 turned took.4
+        | inr refused ↦
+            let w = whole_parts (seat_at board session).inbox end inbox_fits is in
+            subst GoesOn (sym refused.2) (ends_on (Refused refused.0) (front_body board session end, drop end (seat_at board session).inbox, w.parts, w.small, refused.1) tt)
       ]
+  acts_as NotYet turned is acts =
+      let shut : (seat_at board session).is_shut ≡ true = subst (λ (f : Frame). shows_work (seat_at board session).is_shut f ≡ true) is works in
+      subst GoesOn (sym acts) (input_ends (length (seat_at board session).inbox) refl shut is)
+  acts_as (TooLong size) turned is acts = subst GoesOn (sym acts) (ends_on (FrameTooLong size) is tt)
 
-  served_on : IsServing fed later session after
-  served_on = record {
-    running = record {
-      given = given_on;
-      steady = steady_on;
-      alone = serving.running.alone;
-      in_range = serving.running.in_range;
-      streams = streams_on;
-      few = serving.running.few;
-    };
-    there = serving.there;
-    others = λ s lt other. subst (λ (x : Seat). IsUnfinished x.inbox) (sym (seat_set_other board session s (seat_with board session (front_body board session end) the_call) other)) (serving.others s lt other);
-  }
+  goes_on : (turned : Turned) → Acts board session turned → GoesOn turned
+  goes_on turned acts = acts_as (next_frame_of (seat_at board session).inbox) turned refl acts
 
-  room_left : eqb (next_call board session) MOST_CALLS ≡ false
-  room_left =
-      let first : (transcript_at board session).first ≡ 0 = (serving.running.given.seats session serving.there).tame.first in
-      ne_eqb (next_call board session) MOST_CALLS (λ e. omega (arith, e, first, calls_few fed later session end board serving whole))
+pub keeps_serving : (fed later : List Line) (session : ℕ) (board : Board) (turned : Turned) → IsServing fed later session board → can_act board session ≡ true → Acts board session turned → IsServing fed later session turned.board
+keeps_serving fed later session board turned serving can acts = (goes_on fed later session board serving can turned acts).goes
 
-  acts : Acts board session (answered_at_once board session (front_body board session end) request (accept_all session (next_call board session) decisions board.parts))
-  acts = rw (whole, room_left) (inl (request, decisions, asked, decided, rw undelayed refl))
-
-pub keeps_serving : (fed later : List Line) (session end : ℕ) (board next : Board) (text more : List ℕ) → IsServing fed later session board → next_frame_of (seat_at board session).inbox ≡ Whole end
-    → IsHandled board session (front_body board session end) next text more → IsServing fed later session next
-keeps_serving fed later session end board next text more serving whole h =
-    subst (IsServing fed later session) (sym h.board_is) (served_on fed later session end board serving whole h.request h.decisions h.asked h.decided h.undelayed)
-
--- fewer bytes are left
-pub serves_less : (fed later : List Line) (session end : ℕ) (board next : Board) (text more : List ℕ) → IsServing fed later session board → next_frame_of (seat_at board session).inbox ≡ Whole end
-    → IsHandled board session (front_body board session end) next text more → length (seat_at next session).inbox < length (seat_at board session).inbox
-serves_less fed later session end board next text more serving whole h =
-    let inbox = (seat_at board session).inbox in
-    let f = front fed later session end board serving whole in
-    let parts = (accept_all session (next_call board session) h.decisions board.parts).1 in
-    let call = the_call fed later session end board serving whole h.request h.decisions h.asked h.decided h.undelayed in
-    let seat = seat_with board session (front_body board session end) call in
-    let same : seat_at next session ≡ seat =
-    ap (λ (b : Board). seat_at b session) h.board_is ∙ seat_set_same board session seat (within fed later session end board serving whole h.request h.decisions h.asked h.decided h.undelayed) in
-    let left : length (seat_at next session).inbox ≡ length (drop (4 + length (front_body board session end)) inbox) = ap (λ (x : Seat). length x.inbox) same in
-    omega (arith, left, length-drop (4 + length (front_body board session end)) inbox, f.ends, whole_before inbox end whole, whole_within inbox end whole)
+pub serves_less : (fed later : List Line) (session : ℕ) (board : Board) (turned : Turned) → IsServing fed later session board → can_act board session ≡ true → Acts board session turned
+    → work_of (seat_at turned.board session) < work_of (seat_at board session)
+serves_less fed later session board turned serving can acts = (goes_on fed later session board serving can turned acts).less
 
 -- ---- whose turn it is
 
@@ -231,22 +335,13 @@ found_nobody p a (suc n) others_false =
     let here : p a ≡ false = ap p none ∙ others_false 0 (omega arith) in
     rw here (found_nobody p (a + 1) n (λ j less. let on : a + 1 + j ≡ a + suc j = omega arith in ap p on ∙ others_false (suc j) (omega (arith, less))))
 
-shows_nothing : (frame : Frame) (rest : List ℕ) → next_frame_of rest ≡ frame → IsUnfinished rest → shows_work false frame ≡ false
-shows_nothing (Whole end) rest is u = absurd (u.not_whole (end, is))
-shows_nothing NotYet rest is u = refl
-shows_nothing (TooLong size) rest is u = absurd (u.not_too_long (size, is))
+pub nobodys_turn : (board : Board) → IsAtRest board → next_to_act board ≡ None
+nobodys_turn board rest = found_nobody (can_act board) 0 64 (λ j lt. ap (can_act board) (zero-add j) ∙ rest j lt)
 
-idle : (fed : List Line) (board : Board) (s : ℕ) → IsFedBy fed board → s < 64 → IsUnfinished (seat_at board s).inbox → can_act board s ≡ false
-idle fed board s given lt u = fed_can_act fed board s given lt ∙ shows_nothing (next_frame_of (seat_at board s).inbox) (seat_at board s).inbox refl u
-
-its_turn : (fed later : List Line) (session end : ℕ) (board : Board) → IsServing fed later session board → next_frame_of (seat_at board session).inbox ≡ Whole end → next_to_act board ≡ Some session
-its_turn fed later session end board serving whole =
-    let given = serving.running.given in
-    found_only (can_act board) 0 64 session serving.there (ap (can_act board) (zero-add session) ∙ fed_can_act fed board session given serving.there ∙ ap (shows_work false) whole)
-    (λ j lt other. ap (can_act board) (zero-add j) ∙ idle fed board j given lt (serving.others j lt other)) ∙ ap Some (zero-add session)
-
-pub nobodys_turn : (fed : List Line) (board : Board) → IsFedBy fed board → IsAtRest board → next_to_act board ≡ None
-nobodys_turn fed board given rest = found_nobody (can_act board) 0 64 (λ j lt. ap (can_act board) (zero-add j) ∙ idle fed board j given lt (rest j lt))
+its_turn : (fed later : List Line) (session : ℕ) (board : Board) → IsServing fed later session board → can_act board session ≡ true → next_to_act board ≡ Some session
+its_turn fed later session board serving can =
+    found_only (can_act board) 0 64 session serving.there (ap (can_act board) (zero-add session) ∙ can)
+    (λ j lt other. ap (can_act board) (zero-add j) ∙ serving.others j lt other) ∙ ap Some (zero-add session)
 
 -- ---- the acts of a line
 
@@ -281,32 +376,26 @@ came_on start board text session act came none next acts = (
       (subst (λ (t : List ℕ). Rests (came.0 + suc k) start (turned rest.board t)) (sym (append_assoc text act.text rest.text)) all),
 )
 
-pub came_further : (fed later : List Line) (session end : ℕ) (start board next : Board) (before text more : List ℕ) → IsServing fed later session board → next_frame_of (seat_at board session).inbox ≡ Whole end
-    → IsHandled board session (front_body board session end) next text more → ((so_far : List ℕ) × Came start board so_far × (text ≡ before ++ so_far))
+pub came_further : (fed later : List Line) (session : ℕ) (start board next : Board) (before text more : List ℕ) → IsServing fed later session board → can_act board session ≡ true
+    → ((told : List ℕ) × Acts board session (turned next told) × (more ≡ text ++ told)) → ((so_far : List ℕ) × Came start board so_far × (text ≡ before ++ so_far))
     → ((so_far : List ℕ) × Came start next so_far × (more ≡ before ++ so_far))
-came_further fed later session end start board next before text more serving whole h came =
-    let act = answered_at_once board session (front_body board session end) h.request (accept_all session (next_call board session) h.decisions board.parts) in
-    let on : Came start act.board (came.0 ++ act.text) = came_on start board came.0 session act came.1 serving.running.given.no_waiting (its_turn fed later session end board serving whole)
-    (acts fed later session end board serving whole h.request h.decisions h.asked h.decided h.undelayed) in
-    (came.0 ++ act.text, subst (λ (b : Board). Came start b (came.0 ++ act.text)) (sym h.board_is) on, h.printed ∙ ap (λ (t : List ℕ). t ++ act.text) came.2 ∙ append_assoc before came.0 act.text)
+came_further fed later session start board next before text more serving can act came = (
+  came.0 ++ act.0,
+  came_on start board came.0 session (turned next act.0) came.1 serving.running.given.no_waiting (its_turn fed later session board serving can) act.1,
+  act.2 ∙ ap (λ (t : List ℕ). t ++ act.0) came.2 ∙ append_assoc before came.0 act.0,
+)
 
--- where no whole frame is left at the front, all are at rest
-pub comes_to_rest : (fed later : List Line) (session : ℕ) (board : Board) → IsServing fed later session board → ((end : ℕ) → next_frame_of (seat_at board session).inbox ≢ Whole end) → IsUnderWay fed later board
-comes_to_rest fed later session board serving other = record {
+-- where it can't act any more, all are at rest
+pub comes_to_rest : (fed later : List Line) (session : ℕ) (board : Board) → IsServing fed later session board → can_act board session ≡ false → IsUnderWay fed later board
+comes_to_rest fed later session board serving cannot = record {
   running = serving.running;
   rest = λ s lt. elim (same_or_not s session) [
-    | inl same ↦
-        let p = serving.running.streams session serving.there in
-        let here : IsUnfinished (seat_at board session).inbox = record {
-          not_whole = λ w. other w.0 w.1;
-          not_too_long = λ w. not_too_long (seat_at board session).inbox (input_of session later) p.bodies w.0 p.whole p.each w.1;
-        } in
-        subst (λ (k : ℕ). IsUnfinished (seat_at board k).inbox) (sym same) here
+    | inl same ↦ ap (can_act board) same ∙ cannot
     | inr elsewhere ↦ serving.others s lt elsewhere
   ];
 }
 
 pub came_to_rest : (fed later : List Line) (start board : Board) (text : List ℕ) → IsUnderWay fed later board → Came start board text → (acts : ℕ) × Rests acts start (turned board text)
 came_to_rest fed later start board text way came =
-    let done = came.1 0 (turned board []) (rests_none board way.running.given.no_waiting (nobodys_turn fed board way.running.given way.rest)) in
+    let done = came.1 0 (turned board []) (rests_none board way.running.given.no_waiting (nobodys_turn board way.rest)) in
     (came.0 + 0, subst (λ (t : List ℕ). Rests (came.0 + 0) start (turned board t)) (append-nil text) done)

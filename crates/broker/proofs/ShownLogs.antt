@@ -1,10 +1,10 @@
 -- What the reply to a request that needn't wait is computed from: after the whole acceptance each log shows what it showed at
--- its entry, since looks change no state, and a produce shows no log.
-use Rattle.std.proofs.Common.{◌≡◌, ℕ, ◌+◌, ◌<◌, ℤ, pos, negsuc, Bool, true, false, cond, List, [], ◌∷◌, ◌++◌, length, get_or, map, set, Option, Some, None, unwrap_or, refl, sym, ap, subst, ◌∙◌, arith, inl, inr, append-nil}
+-- its entry, since looks change no state; and where no topic has followers, every replica has what is appended.
+use Rattle.std.proofs.Common.{◌≡◌, ℕ, zero, suc, ◌+◌, ◌≤◌, ◌<◌, ℤ, pos, negsuc, Bool, true, false, cond, List, [], ◌∷◌, ◌++◌, length, get_or, map, set, Option, Some, None, unwrap_or, refl, sym, ap, subst, ◌∙◌, arith, inl, inr, append-nil}
 use Rattle.std.proofs.lemmas.List.{length-set}
 use Rattle.std.proofs.lemmas.List.Sums.{sum_by_push}
 use Rattle.std.proofs.lemmas.List.Elements.{filter_map-append}
-use Rattle.std.specs.Prelude.{fold, max, MatchOption, MatchBool, nat_lt}
+use Rattle.std.specs.Prelude.{fold, max, min, MatchOption, MatchBool, nat_lt, slice_get}
 use Rattle.std.specs.List.{AllByRecursion, AllZip, filter_map, range_with_len}
 use Rattle.partlog.specs.declared.event.PartEvent.{PartEvent}
 use Rattle.partlog.specs.declared.event.PartEvent.TheVariants.{Look}
@@ -12,7 +12,7 @@ use Rattle.partlog.specs.Added.{added_count, log_end_of}
 use Rattle.partlog.specs.Batches.{StoredBatch, batches_of}
 use Rattle.partlog.specs.History.{History}
 use Rattle.partlog.specs.Position.{offset_by, position_of, positions_of}
-use Rattle.partlog.specs.State.{PartState, state_of}
+use Rattle.partlog.specs.State.{PartState, high_of, state_of}
 use Rattle.partlog.specs.Gauges.{gauges_of}
 use Rattle.partlog.proofs.Laws.{batches-append}
 use Rattle.kanswer.specs.declared.accepted.Accepted.{Accepted}
@@ -26,7 +26,10 @@ use Rattle.broker.specs.Entering.{entered, accept_all, shown_of}
 use Rattle.broker.specs.Board.{history_at, empty_history}
 use Rattle.broker.specs.Carried.{HasNoFollowers}
 use Rattle.broker.specs.Replying.{ShowsLog}
-use Rattle.audit.proofs.Laws.{same_or_not, get_set_same, get_set_other}
+use Rattle.audit.proofs.Laws.{same_or_not, get_set_same, get_set_other, get_there}
+use Rattle.broker.proofs.Growth.{event_of, entered_followers}
+use Rattle.broker.proofs.Entries.{IsFair, set_same, accepted_followers}
+use Rattle.broker.proofs.ResultsStand.{IsHonestAs, IsHonest, history_there, entered_end, ends_grow}
 use Rattle.broker.proofs.FetchParts.{fetch_of_no_follower}
 
 no_more : (h : List PartEvent) (by seq : ℕ) (replica : ℤ) → position_of (h ++ Look by seq ∷ []) replica ≡ position_of h replica
@@ -44,10 +47,10 @@ state_looked h by seq =
     ∙ ap (λ (n : ℕ). record { batches = batches_of h.events h.log; log_end = n; positions = positions_of h.followers (h.events ++ e ∷ []) }) end
     ∙ ap (λ (f : ℕ → ℕ). record { batches = batches_of h.events h.log; log_end = log_end_of h.events; positions = map f (range_with_len 1 h.followers) }) position
 
--- nothing but this partition is seen
+-- nothing but this partition is seen, and nothing is appended
 abbrev pub SeesOnly : ℕ → Accepted → Type 0
 SeesOnly part (Refused code) = Unit {0}
-SeesOnly part (Appended q base count) = Unit {0}
+SeesOnly part (Appended q base count) = ⊥
 SeesOnly part (Seen q start) = q ≡ part
 
 -- a decision that leaves looks alone
@@ -83,7 +86,7 @@ looked_states by seq n (AskLog part outcome ∷ decisions) parts size looks ther
 
 shows_at : (parts : List History) (part : ℕ) (result : Accepted) (state : PartState) → SeesOnly part result → state ≡ state_of (history_at parts part) → ShowsLog parts (record { result = result; state = state })
 shows_at parts part (Refused code) state only e = tt
-shows_at parts part (Appended q base count) state only e = tt
+shows_at parts part (Appended q base count) state only e = absurd only
 shows_at parts part (Seen q start) state only e = e ∙ ap (λ (i : ℕ). state_of (history_at parts i)) (sym only)
 
 pub looking_shows : (by seq n : ℕ) (decisions : List Decision) (parts : List History) → length parts ≡ n → AllByRecursion IsLooking decisions → AllByRecursion (IsThere n) decisions
@@ -113,18 +116,54 @@ abbrev pub IsPutting : Decision → Type 0
 IsPutting (Refuse code) = Unit {0}
 IsPutting (AskLog part outcome) = (state : PartState) → SeesNone (outcome state).result
 
-none_shows : (parts : List History) (result : Accepted) (state : PartState) → SeesNone result → ShowsLog parts (record { result = result; state = state })
-none_shows parts (Refused code) state none = tt
-none_shows parts (Appended q base count) state none = tt
-none_shows parts (Seen q start) state none = absurd none
+-- ---- where nobody follows, the high watermark is the log end
 
-pub putting_shows : (later : List History) (by seq : ℕ) (decisions : List Decision) (parts : List History) → AllByRecursion IsPutting decisions → AllByRecursion (ShowsLog later) (shown_of (accept_all by seq decisions parts).0)
-putting_shows later by seq [] parts puts = tt
-putting_shows later by seq (Refuse code ∷ decisions) parts puts = (tt, putting_shows later by seq decisions parts puts.1)
-putting_shows later by seq (AskLog part outcome ∷ decisions) parts puts =
+abbrev pub NoneFollow : List History → Type 0
+NoneFollow parts = AllByRecursion (λ f. f ≡ 0) (map (λ h. h.followers) parts)
+
+none_at : (parts : List History) (p : ℕ) → NoneFollow parts → (history_at parts p).followers ≡ 0
+none_at [] p none = refl
+none_at (h ∷ parts) zero none = none.0
+none_at (h ∷ parts) (suc p) none = none_at parts p none.1
+
+high_alone : (h : History) → h.followers ≡ 0 → high_of (state_of h) ≡ log_end_of h.events
+high_alone h none = ap (λ (f : ℕ). fold min (log_end_of h.events) (positions_of f h.events)) none
+
+put_shows : (later : List History) (by seq part : ℕ) (found : History) (result : Accepted) (entry : Entry) → SeesNone result → IsHonestAs part (state_of found) result entry → found.followers ≡ 0
+    → NoneFollow later → log_end_of (entered found by seq entry).events ≤ log_end_of (history_at later part).events → ShowsLog later (record { result = result; state = state_of (entered found by seq entry) })
+put_shows later by seq part found (Refused code) entry none honest alone others grown = tt
+put_shows later by seq part found (Appended q base count) entry none honest alone others grown =
+    let left = entered found by seq entry in
+    let end : log_end_of left.events ≡ log_end_of found.events + added_count (event_of by seq entry) = entered_end found by seq entry in
+    let adds : added_count (event_of by seq entry) ≡ count = ap (λ (x : Entry). added_count (event_of by seq x)) honest.3.1 in
+    let then : high_of (state_of left) ≡ log_end_of left.events = high_alone left (entered_followers found by seq entry ∙ alone) in
+    let now : high_of (state_of (history_at later q)) ≡ log_end_of (history_at later q).events = high_alone (history_at later q) (none_at later q others) in
+    let same : log_end_of (history_at later q).events ≡ log_end_of (history_at later part).events = ap (λ (i : ℕ). log_end_of (history_at later i).events) honest.0 in
+    let some : 0 < base + count = omega (arith, honest.2) in
+    ((some, omega (arith, honest.1, end, adds, then)), (some, omega (arith, honest.1, end, adds, now, same, grown)))
+put_shows later by seq part found (Seen q start) entry none honest alone others grown = absurd none
+
+pub putting_shows : (by seq n : ℕ) (decisions : List Decision) (parts : List History) → length parts ≡ n → AllByRecursion (IsFair n) decisions → AllByRecursion IsHonest decisions → NoneFollow parts → AllByRecursion IsPutting decisions
+    → AllByRecursion (ShowsLog (accept_all by seq decisions parts).1) (shown_of (accept_all by seq decisions parts).0)
+putting_shows by seq n [] parts size fair honest alone puts = tt
+putting_shows by seq n (Refuse code ∷ decisions) parts size fair honest alone puts = (tt, putting_shows by seq n decisions parts size fair.1 honest.1 alone puts.1)
+putting_shows by seq n (AskLog part outcome ∷ decisions) parts size fair honest alone puts =
     let found = history_at parts part in
-    let left = entered found by seq (outcome (state_of found)).entry in
-    (none_shows later (outcome (state_of found)).result (state_of left) (puts.0 (state_of found)), putting_shows later by seq decisions (set parts part left) puts.1)
+    let came = outcome (state_of found) in
+    let left = entered found by seq came.entry in
+    let parts1 = set parts part left in
+    let size1 : length parts1 ≡ n = length-set parts part left ∙ size in
+    let within : part < length parts = omega (arith, size, fair.0.0) in
+    let there : slice_get parts part ≡ Some found = get_there parts part (empty_history 0) within in
+    let alone1 : NoneFollow parts1 = subst (AllByRecursion (λ f. f ≡ 0)) (sym (set_same (λ (h : History). h.followers) parts part found left there (entered_followers found by seq came.entry))) alone in
+    let later = (accept_all by seq decisions parts1).1 in
+    let others : NoneFollow later = subst (AllByRecursion (λ f. f ≡ 0)) (sym (accepted_followers by seq n decisions parts1 size1 fair.1)) alone1 in
+    let grown = ends_grow by seq n decisions parts1 size1 fair.1 part in
+    let stands : log_end_of left.events ≤ log_end_of (history_at parts1 part).events =
+    history_there parts part part left within (λ k. log_end_of left.events ≤ k) (λ e. omega arith) (λ ne. absurd (ne refl)) in (
+      put_shows later by seq part found came.result came.entry (puts.0 (state_of found)) (honest.0 (state_of found)) (none_at parts part alone) others (omega (arith, grown, stands)),
+      putting_shows by seq n decisions parts1 size1 fair.1 honest.1 alone1 puts.1,
+    )
 
 either_none : (b : Bool) (x y : Outcome) → SeesNone x.result → SeesNone y.result → SeesNone (cond b x y).result
 either_none true x y a c = a

@@ -16,6 +16,7 @@ use Rattle.kwire.specs.declared.request.Request.{Request}
 use Rattle.broker.specs.Entering.{Noted, accept_all, shown_of}
 use Rattle.kanswer.specs.Decisions.{Decision}
 use Rattle.broker.specs.Acting.{is_there, can_act, next_to_act, HandlesFrame, ActsOn, Acts}
+use Rattle.broker.specs.Ready.{has_ended}
 use Rattle.broker.specs.Board.{Board, Seat, Waiting, empty_seat, new_transcript, seat_at, transcript_at, next_call}
 use Rattle.broker.specs.Completing.{is_satisfied_now, is_answerable_now, completed, unless_none, answered_in, scan_sessions, scanned}
 use Rattle.kanswer.specs.Waiting.{becomes_delayed}
@@ -28,12 +29,8 @@ use Rattle.audit.specs.declared.account.TheConstants.{MOST_CALLS}
 
 -- ---- the measure
 
-abbrev is_over : Option Transcript → Bool
-is_over None = false
-is_over (Some transcript) = is_there transcript.end
-
 abbrev pub work_of : Seat → ℕ
-work_of seat = cond (is_over seat.transcript) 0 (suc (length seat.inbox))
+work_of seat = cond (has_ended seat.transcript) 0 (suc (length seat.inbox))
 
 abbrev pub work_on : List Seat → ℕ
 work_on [] = 0
@@ -87,7 +84,7 @@ opening_seats = record { count = length-replicate 64 empty_seat; bytes = empty_s
 
 -- ---- scans
 
-over_is : (transcript : Option Transcript) (session : ℕ) → is_there (unwrap_or transcript (new_transcript session)).end ≡ is_over transcript
+over_is : (transcript : Option Transcript) (session : ℕ) → is_there (unwrap_or transcript (new_transcript session)).end ≡ has_ended transcript
 over_is None session = refl
 over_is (Some transcript) session = refl
 
@@ -152,7 +149,7 @@ pub record IsOpen (board : Board) (session : ℕ) : Type 0 where
   pub there : session < 64
   pub goes_on : is_there (transcript_at board session).end ≡ false
 
-open_work : (board : Board) (session : ℕ) → IsOpen board session → work_of (seat_at board session) ≡ suc (length (seat_at board session).inbox)
+pub open_work : (board : Board) (session : ℕ) → IsOpen board session → work_of (seat_at board session) ≡ suc (length (seat_at board session).inbox)
 open_work board session h =
     let seat = seat_at board session in
     ap (λ (b : Bool). cond b 0 (suc (length seat.inbox))) (sym (over_is seat.transcript session) ∙ h.goes_on)

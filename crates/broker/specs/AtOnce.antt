@@ -5,12 +5,10 @@ use Rattle.audit.specs.declared.account.Point.{Point}
 use Rattle.kwire.specs.declared.request.Request.{Request}
 use Rattle.broker.specs.Entering.{accept_all, steps_of, shown_of}
 use Rattle.kanswer.specs.Decisions.{Decision, Decides}
-use Rattle.broker.specs.Board.{Board, next_call}
 use Rattle.kwire.specs.Configuration.{Configuration}
 use Rattle.kanswer.specs.Waiting.{becomes_delayed}
 use Rattle.audit.specs.LawfulCall.{step_points}
-use Rattle.broker.specs.Turns.{text_at_once, answered_at_once}
-use Rattle.kwire.specs.IsRequest.{IsRequest}
+use Rattle.broker.specs.Turns.{text_at_once}
 
 -- by the call of this number of a session
 pub record IsAnsweredAtOnce (config : Configuration) (by seq : ℕ) (request : Request) (before after : List History) (points : List Point) (text more : List ℕ) : Type 0 where
@@ -20,13 +18,3 @@ pub record IsAnsweredAtOnce (config : Configuration) (by seq : ℕ) (request : R
   pub histories : after ≡ (accept_all by seq decisions before).1
   pub points_are : points ≡ step_points (steps_of (accept_all by seq decisions before).0)
   pub printed : more ≡ text ++ text_at_once config by request (shown_of (accept_all by seq decisions before).0)
-
--- the frame at the front of a session's bytes, which has this body, was handled so
-pub record IsHandled (board : Board) (session : ℕ) (body : List ℕ) (later : Board) (text more : List ℕ) : Type 0 where
-  pub request : Request
-  pub decisions : List Decision
-  pub asked : IsRequest body request
-  pub decided : Decides board.config request.ask decisions
-  pub undelayed : becomes_delayed request.ask (shown_of (accept_all session (next_call board session) decisions board.parts).0) ≡ false
-  pub board_is : later ≡ (answered_at_once board session body request (accept_all session (next_call board session) decisions board.parts)).board
-  pub printed : more ≡ text ++ (answered_at_once board session body request (accept_all session (next_call board session) decisions board.parts)).text

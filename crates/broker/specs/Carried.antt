@@ -1,23 +1,52 @@
--- Decisions were carried out: the histories are those that accepting leaves, and its results and points stand behind those
+-- Decisions were carried out: the histories are those that accepting leaves, and its results and points stand after those
 -- that came before.
-use Rattle.std.specs.Prelude.{◌≡◌, ℕ, ℤ, List, ◌++◌, map, Option, is_some}
+use Rattle.std.specs.Prelude.{◌≡◌, ◌<◌, ◌≤◌, ℕ, ℤ, List, [], ◌∷◌, ◌++◌, length, map, Option, is_some}
 use Rattle.std.specs.List.{AllByRecursion, AllZip}
 use Rattle.partlog.specs.History.{History}
-use Rattle.broker.specs.declared.came.Came.{Came}
+use Rattle.audit.specs.declared.account.Point.{Point}
+use Rattle.kanswer.specs.declared.accepted.Accepted.{Accepted}
 use Rattle.broker.specs.declared.accept.Terms.{Terms}
 use Rattle.kwire.specs.declared.config.Topic.{Topic}
 use Rattle.kwire.specs.declared.request.ProduceTopic.{ProduceTopic}
 use Rattle.kwire.specs.declared.request.FetchTopic.{FetchTopic}
-use Rattle.kwire.specs.Configuration.{Configuration, part_of}
-use Rattle.kanswer.specs.Decisions.{Decision, ProduceDecides, produce_parts, fetch_parts, fetch_decision}
-use Rattle.broker.specs.Entering.{accept_all, steps_of, shown_of}
+use Rattle.kwire.specs.declared.config.TheConstants.{MOST_NAME_BYTES, MOST_PARTITIONS, MOST_FOLLOWERS}
+use Rattle.kwire.specs.Configuration.{Configuration, partitions_of, part_of}
+use Rattle.kanswer.specs.declared.accepted.Accepted.TheVariants.{Refused}
+use Rattle.partlog.specs.State.{PartState as State, state_of}
+use Rattle.kanswer.specs.Decisions.{Outcome, Decision, Refuse, AskLog, ProduceDecides, produce_parts, fetch_parts, fetch_decision}
+use Rattle.broker.specs.Entering.{entered, accept_all, steps_of, shown_of}
 use Rattle.kanswer.specs.Waiting.{results_of}
 use Rattle.audit.specs.LawfulCall.{step_points}
+
+-- what came of a request so far: a result for each partition that was named, and the points of the entries that were left
+pub record Came : Type 0 where
+  pub accepted : List Accepted
+  pub points : List Point
+
+-- the log of a partition was asked: its history has the entry of the outcome, whose result and point stand after those that came before
+pub record IsEntered (by seq part : ℕ) (outcome : State → Outcome) (before after : History) (came later : Came) : Type 0 where
+  pub history : after ≡ entered before by seq (outcome (state_of before)).entry
+  pub accepted : later.accepted ≡ came.accepted ++ (outcome (state_of before)).result ∷ []
+  pub points : later.points ≡ came.points ++ record { part = part; place = length before.events } ∷ []
+
+-- what was decided of one partition, which has this number and this history, was carried out
+abbrev pub IsSettled : ℕ → ℕ → ℕ → Decision → History → History → Came → Came → Type 0
+IsSettled by seq part (Refuse code) before after came later =
+    (after ≡ before) × (later ≡ record { accepted = came.accepted ++ Refused code ∷ []; points = came.points })
+IsSettled by seq part (AskLog number outcome) before after came later = (number ≡ part) × IsEntered by seq part outcome before after came later
 
 pub record IsCarried (by seq : ℕ) (decisions : List Decision) (before after : List History) (came later : Came) : Type 0 where
   pub histories : after ≡ (accept_all by seq decisions before).1
   pub accepted : later.accepted ≡ came.accepted ++ results_of (shown_of (accept_all by seq decisions before).0)
   pub points : later.points ≡ came.points ++ step_points (steps_of (accept_all by seq decisions before).0)
+
+-- topics as they may be declared
+abbrev pub IsDeclared : Topic → Type 0
+IsDeclared topic = (length topic.name ≤ MOST_NAME_BYTES) × (0 < topic.partitions) × (topic.followers ≤ MOST_FOLLOWERS)
+
+pub record AreDeclared (topics : List Topic) : Type 0 where
+  pub each : AllByRecursion IsDeclared topics
+  pub few : partitions_of topics ≤ MOST_PARTITIONS
 
 -- no topic has followers
 abbrev pub HasNoFollowers : List Topic → Type 0

@@ -12,7 +12,7 @@ use Rattle.audit.specs.Histories.{no_state}
 use Rattle.audit.specs.LawfulCall.{Step}
 use Rattle.broker.specs.Board.{history_at}
 
--- a history with an entry behind it, which a call of a pass left
+-- a history with one entry more, which a call of a pass left
 abbrev pub entered : History → ℕ → ℕ → Entry → History
 entered h by seq (Put count batch) = record h {
   log = h.log ++ stamped (log_end_of h.events) batch;

@@ -1,5 +1,5 @@
--- What is read of the named partitions as their logs are: of one that is seen its numbers and the batches that the reply takes
--- of it, of the others nothing.
+-- What is read of the named partitions as their logs are: of one that was appended its numbers, of one that is seen its numbers and
+-- the batches that the reply takes of it, of the others nothing.
 use Rattle.std.specs.Prelude.{ℕ, ◌+◌, ℤ, List, [], ◌∷◌, length, sum_by, map, if◌then◌else◌}
 use Rattle.partlog.specs.History.{History}
 use Rattle.partlog.specs.State.{PartState as State, state_of}
@@ -19,12 +19,19 @@ nothing_read = record { numbers = record { end = 0; high = 0; visible = 0; bytes
 
 abbrev pub state_now : List History → Accepted → State
 state_now parts (Refused code) = state_of (empty_history 0)
-state_now parts (Appended part base count) = state_of (empty_history 0)
+state_now parts (Appended part base count) = state_of (history_at parts part)
 state_now parts (Seen part start) = state_of (history_at parts part)
 
 abbrev pub shown_in_logs : List History → List Accepted → List Shown
 shown_in_logs parts accepted = map (λ became. record { result = became; state = state_now parts became }) accepted
 
+-- for a produce
+abbrev pub numbers_now : List History → Accepted → Reading
+numbers_now parts (Refused code) = nothing_read
+numbers_now parts (Appended part base count) = record { numbers = numbers_of (state_of (history_at parts part)); records = [] }
+numbers_now parts (Seen part start) = nothing_read
+
+-- for a fetch
 abbrev pub reading_now : List History → ℤ → FetchPart → Accepted → Budget → Reading
 reading_now parts replica asked (Refused code) budget = nothing_read
 reading_now parts replica asked (Appended part base count) budget = nothing_read
@@ -33,7 +40,7 @@ reading_now parts replica asked (Seen part start) budget = record {
   records = joined (read_of replica asked start (state_of (history_at parts part)) budget);
 }
 
--- what is left behind it
+-- what is left after it
 abbrev pub left_now : List History → ℤ → FetchPart → Accepted → Budget → Budget
 left_now parts replica asked (Refused code) budget = budget
 left_now parts replica asked (Appended part base count) budget = budget

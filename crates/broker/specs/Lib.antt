@@ -12,23 +12,19 @@ pub mod Completing
 pub mod Acting
 -- what a trace comes to on one thread
 pub mod Play
--- streams of requests that wait for nothing
-pub mod PlainStream
--- traces whose sessions receive such streams
-pub mod ArePlainStreams
 -- traces of the form that is built so far
-pub mod PlainForm
--- histories and calls in which nothing waits
-pub mod Steady
--- what a broker keeps of the lines that it was given
-pub mod Fed
--- decisions that were carried out
-pub mod Carried
+pub mod BuiltForm
 -- a broker amid a trace
 pub mod UnderWay
+-- what it keeps of the lines that it was given
+pub mod Fed
+-- its histories and calls, in which nothing waits
+pub mod Steady
+-- decisions that were carried out
+pub mod Carried
 -- ==== the words of private functions
 
--- a broker that can handle the frame at the front of a session's bytes
+-- what a session can do by itself, and a broker in which it may
 pub mod Ready
 -- a request that needn't wait was accepted and answered
 pub mod AtOnce
@@ -36,3 +32,5 @@ pub mod AtOnce
 pub mod Replying
 -- what is read of the named partitions as their logs are
 pub mod Gathered
+-- whether a body is that of a fetch that may have to wait
+pub mod KindOf

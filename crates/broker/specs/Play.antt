@@ -46,7 +46,7 @@ Plays board (line ∷ lines) turned =
     (here : Turned) × (rest : Turned) × PlaysLine board line here × Plays here.board lines rest
     × (turned ≡ record { board = rest.board; text = here.text ++ rest.text })
 
--- a trace's account and all that is printed: what each line prints, and the summary behind the last
+-- a trace's account and all that is printed: what each line prints, and the summary after the last
 pub record IsPlay (config : Configuration) (lines : List Line) (account : Account) (text : List ℕ) : Type 0 where
   pub last : Turned
   pub played : Plays (opening config) lines last

@@ -25,7 +25,7 @@ pub record Turned : Type 0 where
   pub board : Board
   pub text : List ℕ
 
--- the session's first frame, which has this body, is taken out of its inbox, and the call stands behind its others
+-- the session's first frame, which has this body, is taken out of its inbox, and the call stands after its others
 abbrev pub seat_with : Board → ℕ → List ℕ → Call → Seat
 seat_with board session body call = record (seat_at board session) {
   inbox = drop (4 + length body) (seat_at board session).inbox;

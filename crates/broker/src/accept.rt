@@ -1,62 +1,49 @@
 //! Accepting a request: each partition that it names is decided in order, and where its log is asked it gets an entry.
 
-ghost use Rattle.std.specs.Prelude.{◌≡◌, ◌<◌, ◌∷◌, [], ◌++◌, List as Items, length, OnOk, IfSome, IfNone, unwrap_or, ℕ, ℤ, pos, ◌≤◌};
-ghost use Rattle.kanswer.specs.declared.accepted.Accepted.TheVariants.{Refused};
-ghost use Rattle.partlog.specs.History.{History};
+ghost use Rattle.std.specs.Prelude.{◌≡◌, ◌<◌, ◌∷◌, [], ◌++◌, List as Items, length, OnOk, IfSome, IfNone, unwrap_or, ℕ, pos, ◌≤◌};
 ghost use Rattle.partlog.specs.State.{PartState, state_of};
 ghost use Rattle.kbatch.specs.Kept.{count_of};
 ghost use Rattle.kwire.specs.Configuration.{partitions_of, part_of};
-ghost use Rattle.kanswer.specs.Decisions.{Decision, AskLog, Refuse, Outcome, look, append_outcome, BatchDecides, ProduceDecides, fetch_decision, is_acks, Decides};
-ghost use Rattle.broker.specs.Board.{history_at};
-ghost use Rattle.broker.specs.Carried.{IsCarried, HasNoFollowers, OnTerms, HasProduced, fetch_decisions};
-ghost use Rattle.broker.specs.PlainStream.{IsPlainAsk};
+ghost use Rattle.kanswer.specs.Decisions.{Decision, Outcome, look, append_outcome, BatchDecides, ProduceDecides, fetch_outcome, fetch_decision, is_acks, Decides};
+ghost use Rattle.broker.specs.Carried.{IsEntered, IsSettled, IsCarried, HasNoFollowers, OnTerms, HasProduced, fetch_decisions};
+ghost use Rattle.kanswer.specs.LogReadings.{IsCarriable};
 
 use crate::came::Came;
 use kanswer::{Accepted, code_of};
-use kbatch::{Batch, BatchFault, read_batch};
-use kbytes::{List, NoMemory};
-use kwire::{Ask, Config, FetchPart, FetchTopic, ProducePart, ProduceTopic, Request};
+use kbatch::{BatchView, view_batch};
+use kbytes::NoMemory;
+use kwire::{
+    AskView, Config, FetchPart, FetchTopicView, ProducePartView, ProduceTopicView, RequestView,
+};
 use partlog::{LogFault, PartLog, Who};
-use std::alloc::Global;
-
-// A partition is refused before its log is asked, and no log changes.
-fn refuse(came: &mut Came, became: Accepted) -> Result<(), NoMemory>
-    ensures { OnOk result ((code : ℤ) → became ≡ Refused code
-        → (by seq : ℕ) (parts : Items History) → IsCarried by seq (Refuse code ∷ []) parts parts came.old came.new) }
-{
-    came.note(became)
-}
 
 // The log is looked at, and this became of the partition.
 fn look_at(
-    parts: &mut [PartLog],
+    log: &mut PartLog,
     who: Who,
     part: u32,
     became: Accepted,
     came: &mut Came,
 ) -> Result<(), NoMemory>
-    requires { part < length parts.old }
-    ensures { OnOk result ((outcome : PartState → Outcome) → outcome (state_of (history_at parts.old part)) ≡ look became
-        → IsCarried who.by who.seq (AskLog part outcome ∷ []) parts.old parts.new came.old came.new) }
+    requires { IsCarriable became }
+    ensures { OnOk result ((outcome : PartState → Outcome) → outcome (state_of log.old) ≡ look became
+        → IsEntered who.by who.seq part outcome log.old log.new came.old came.new) }
 {
-    let place = parts[part as usize].look(who)?;
+    let place = log.look(who)?;
     came.note_at(became, part, place)
 }
 
 // The batch is put at the end of the log, where there is room.
 fn put(
-    parts: &mut [PartLog],
+    log: &mut PartLog,
     who: Who,
     part: u32,
-    batch: &Batch,
+    batch: &BatchView<'_>,
     came: &mut Came,
 ) -> Result<(), NoMemory>
-    requires { part < length parts.old }
-    ensures { OnOk result (IsCarried who.by who.seq (AskLog part (append_outcome part (count_of batch.now) batch.now) ∷ [])
-        parts.old parts.new came.old came.new) }
+    ensures { OnOk result (IsEntered who.by who.seq part (append_outcome part (count_of batch.now) batch.now) log.old log.new came.old came.new) }
 {
-    let _log = parts[part as usize].log();
-    match parts[part as usize].append(who, batch) {
+    match log.append_view(who, batch) {
         Ok(placed) => came.note_at(
             Accepted::Appended {
                 part,
@@ -66,44 +53,43 @@ fn put(
             part,
             placed.place,
         ),
-        Err(LogFault::LogFull) => look_at(parts, who, part, Accepted::Refused { code: 6 }, came),
+        Err(LogFault::LogFull) => look_at(log, who, part, Accepted::Refused { code: 6 }, came),
         Err(LogFault::NoMemory) => Err(NoMemory),
     }
 }
 
 // The bytes are put at the end of the log, where they are a batch.
 fn put_bytes(
-    alloc: Global,
-    parts: &mut [PartLog],
+    log: &mut PartLog,
     who: Who,
     part: u32,
     bytes: &[u8],
     came: &mut Came,
 ) -> Result<(), NoMemory>
-    requires { part < length parts.old }
     ensures { OnOk result ((decision : Decision) × BatchDecides part bytes.now decision
-        × IsCarried who.by who.seq (decision ∷ []) parts.old parts.new came.old came.new) }
+        × IsSettled who.by who.seq part decision log.old log.new came.old came.new) }
 {
-    match read_batch(alloc, bytes) {
-        Ok(batch) => put(parts, who, part, &batch, came),
-        Err(fault) => match fault {
-            BatchFault::NoMemory => Err(NoMemory),
-            _ => refuse(
-                came,
-                Accepted::Refused {
-                    code: code_of(&fault),
-                },
-            ),
-        },
+    match view_batch(bytes) {
+        Ok(batch) => put(log, who, part, &batch, came),
+        Err(fault) => came.note(Accepted::Refused {
+            code: code_of(&fault),
+        }),
     }
 }
 
-fn records_of(part: &ProducePart) -> &[u8]
+/// Which call asks, and with what topics.
+#[derive(Clone, Copy, Debug)]
+pub struct Asking<'a> {
+    pub config: &'a Config,
+    pub who: Who,
+}
+
+fn records_of<'a>(part: &ProducePartView<'a>) -> &'a [u8]
     ensures { result.now ≡ unwrap_or part.now.records [] }
 {
-    match &part.records {
+    match part.records {
         None => &[],
-        Some(records) => records.as_slice(),
+        Some(records) => records,
     }
 }
 
@@ -125,56 +111,44 @@ impl Terms {
 
 // One partition of a produce.
 fn accept_produce_part(
-    alloc: Global,
-    config: &Config,
+    call: &Asking<'_>,
     parts: &mut [PartLog],
-    who: Who,
     terms: Terms,
     topic: &[u8],
-    part: &ProducePart,
+    part: &ProducePartView<'_>,
     came: &mut Came,
 ) -> Result<(), NoMemory>
-    requires { length parts.old ≡ partitions_of config.now.topics }
-    ensures { OnOk result ((decision : Decision) × OnTerms terms (λ id. ProduceDecides config.now id terms.acks (topic.now, part.now) decision)
-        × IsCarried who.by who.seq (decision ∷ []) parts.old parts.new came.old came.new) }
+    requires { length parts.old ≡ partitions_of call.now.config.now.topics }
+    ensures { OnOk result ((decision : Decision) × OnTerms terms (λ id. ProduceDecides call.now.config.now id terms.acks (topic.now, part.now) decision)
+        × IsCarried call.now.who.by call.now.who.seq (decision ∷ []) parts.old parts.new came.old came.new) }
 {
     if terms.is_transactional {
-        return refuse(came, Accepted::Refused { code: 42 });
+        return came.note(Accepted::Refused { code: 42 });
     }
-    let Some(number) = config.part_of(topic, part.index) else {
-        return refuse(came, Accepted::Refused { code: 3 });
+    let Some(number) = call.config.part_of(topic, part.index) else {
+        return came.note(Accepted::Refused { code: 3 });
     };
     if !terms.has_known_acks() {
-        return refuse(came, Accepted::Refused { code: 21 });
+        return came.note(Accepted::Refused { code: 21 });
     }
-    put_bytes(alloc, parts, who, number, records_of(part), came)
+    let log = &mut parts[number as usize];
+    put_bytes(log, call.who, number, records_of(part), came)
 }
 
 // One topic of a produce.
 fn accept_produce_topic(
-    alloc: Global,
-    config: &Config,
+    call: &Asking<'_>,
     parts: &mut [PartLog],
-    who: Who,
     terms: Terms,
-    topic: &ProduceTopic,
+    topic: &ProduceTopicView<'_>,
     came: &mut Came,
 ) -> Result<(), NoMemory>
-    requires { length parts.old ≡ partitions_of config.now.topics }
+    requires { length parts.old ≡ partitions_of call.now.config.now.topics }
     ensures size { OnOk result (length parts.new ≡ length parts.old) }
-    ensures carried { OnOk result (HasProduced config.now terms who.by who.seq (topic.now ∷ []) parts.old parts.new came.old came.new) }
+    ensures carried { OnOk result (HasProduced call.now.config.now terms call.now.who.by call.now.who.seq (topic.now ∷ []) parts.old parts.new came.old came.new) }
 {
     for part in topic.parts.as_slice() {
-        accept_produce_part(
-            alloc,
-            config,
-            parts,
-            who,
-            terms,
-            topic.name.as_slice(),
-            part,
-            came,
-        )?;
+        accept_produce_part(call, parts, terms, topic.name, part, came)?;
     }
     Ok(())
 }
@@ -182,19 +156,17 @@ fn accept_produce_topic(
 // Carries out a produce: each named partition in the order of the request. After want of memory those before one may have
 // their entries.
 fn accept_produce(
-    alloc: Global,
-    config: &Config,
+    call: &Asking<'_>,
     parts: &mut [PartLog],
-    who: Who,
     terms: Terms,
-    topics: &[ProduceTopic],
+    topics: &[ProduceTopicView<'_>],
     came: &mut Came,
 ) -> Result<(), NoMemory>
-    requires { length parts.old ≡ partitions_of config.now.topics }
-    ensures { OnOk result (HasProduced config.now terms who.by who.seq topics.now parts.old parts.new came.old came.new) }
+    requires { length parts.old ≡ partitions_of call.now.config.now.topics }
+    ensures { OnOk result (HasProduced call.now.config.now terms call.now.who.by call.now.who.seq topics.now parts.old parts.new came.old came.new) }
 {
     for topic in topics {
-        accept_produce_topic(alloc, config, parts, who, terms, topic, came)?;
+        accept_produce_topic(call, parts, terms, topic, came)?;
     }
     Ok(())
 }
@@ -211,60 +183,64 @@ fn offset_within(asked: &FetchPart, end: u64) -> Option<u64>
     if offset > end { None } else { Some(offset) }
 }
 
+// What a fetch asks of one partition, whose topic has no followers.
+fn fetch_from(
+    log: &mut PartLog,
+    who: Who,
+    replica: i32,
+    part: u32,
+    asked: &FetchPart,
+    came: &mut Came,
+) -> Result<(), NoMemory>
+    ensures { OnOk result (IsEntered who.by who.seq part (fetch_outcome 0 replica asked.now part) log.old log.new came.old came.new) }
+{
+    if replica >= 0 {
+        return look_at(log, who, part, Accepted::Refused { code: 9 }, came);
+    }
+    let Some(offset) = offset_within(asked, log.numbers().end) else {
+        return look_at(log, who, part, Accepted::Refused { code: 1 }, came);
+    };
+    let start = log.locate(offset);
+    look_at(log, who, part, Accepted::Seen { part, start }, came)
+}
+
 // One partition of a fetch, where no topic has followers.
 fn accept_fetch_part(
-    config: &Config,
+    call: &Asking<'_>,
     parts: &mut [PartLog],
-    who: Who,
     replica: i32,
     topic: &[u8],
     asked: &FetchPart,
     came: &mut Came,
 ) -> Result<(), NoMemory>
-    requires size { length parts.old ≡ partitions_of config.now.topics }
-    requires alone { HasNoFollowers config.now.topics }
-    ensures { OnOk result (IsCarried who.by who.seq
-        (fetch_decision config.now replica (topic.now, asked.now) (part_of config.now topic.now asked.now.index) ∷ [])
+    requires size { length parts.old ≡ partitions_of call.now.config.now.topics }
+    requires alone { HasNoFollowers call.now.config.now.topics }
+    ensures { OnOk result (IsCarried call.now.who.by call.now.who.seq
+        (fetch_decision call.now.config.now replica (topic.now, asked.now) (part_of call.now.config.now topic.now asked.now.index) ∷ [])
         parts.old parts.new came.old came.new) }
 {
-    let Some(part) = config.part_of(topic, asked.index) else {
-        return refuse(came, Accepted::Refused { code: 3 });
+    let Some(part) = call.config.part_of(topic, asked.index) else {
+        return came.note(Accepted::Refused { code: 3 });
     };
-    if replica >= 0 {
-        return look_at(parts, who, part, Accepted::Refused { code: 9 }, came);
-    }
-    let log = &parts[part as usize];
-    let Some(offset) = offset_within(asked, log.numbers().end) else {
-        return look_at(parts, who, part, Accepted::Refused { code: 1 }, came);
-    };
-    let start = log.locate(offset);
-    look_at(parts, who, part, Accepted::Seen { part, start }, came)
+    let log = &mut parts[part as usize];
+    fetch_from(log, call.who, replica, part, asked, came)
 }
 
 // One topic of a fetch.
 fn accept_fetch_topic(
-    config: &Config,
+    call: &Asking<'_>,
     parts: &mut [PartLog],
-    who: Who,
     replica: i32,
-    topic: &FetchTopic,
+    topic: &FetchTopicView<'_>,
     came: &mut Came,
 ) -> Result<(), NoMemory>
-    requires size { length parts.old ≡ partitions_of config.now.topics }
-    requires alone { HasNoFollowers config.now.topics }
+    requires size { length parts.old ≡ partitions_of call.now.config.now.topics }
+    requires alone { HasNoFollowers call.now.config.now.topics }
     ensures size { OnOk result (length parts.new ≡ length parts.old) }
-    ensures carried { OnOk result (IsCarried who.by who.seq (fetch_decisions config.now replica (topic.now ∷ [])) parts.old parts.new came.old came.new) }
+    ensures carried { OnOk result (IsCarried call.now.who.by call.now.who.seq (fetch_decisions call.now.config.now replica (topic.now ∷ [])) parts.old parts.new came.old came.new) }
 {
     for part in topic.parts.as_slice() {
-        accept_fetch_part(
-            config,
-            parts,
-            who,
-            replica,
-            topic.name.as_slice(),
-            part,
-            came,
-        )?;
+        accept_fetch_part(call, parts, replica, topic.name, part, came)?;
     }
     Ok(())
 }
@@ -272,41 +248,37 @@ fn accept_fetch_topic(
 // Carries out a fetch, where no topic has followers: each named partition in the order of the request. After want of memory
 // those before one may have their entries.
 fn accept_fetch(
-    config: &Config,
+    call: &Asking<'_>,
     parts: &mut [PartLog],
-    who: Who,
     replica: i32,
-    topics: &[FetchTopic],
+    topics: &[FetchTopicView<'_>],
     came: &mut Came,
 ) -> Result<(), NoMemory>
-    requires size { length parts.old ≡ partitions_of config.now.topics }
-    requires alone { HasNoFollowers config.now.topics }
-    ensures { OnOk result (IsCarried who.by who.seq (fetch_decisions config.now replica topics.now) parts.old parts.new came.old came.new) }
+    requires size { length parts.old ≡ partitions_of call.now.config.now.topics }
+    requires alone { HasNoFollowers call.now.config.now.topics }
+    ensures { OnOk result (IsCarried call.now.who.by call.now.who.seq (fetch_decisions call.now.config.now replica topics.now) parts.old parts.new came.old came.new) }
 {
     for topic in topics {
-        accept_fetch_topic(config, parts, who, replica, topic, came)?;
+        accept_fetch_topic(call, parts, replica, topic, came)?;
     }
     Ok(())
 }
 
-/// Carries out a request that waits for nothing, where no topic has followers. After want of memory some of the named
+/// Carries out a request, where no topic has followers. After want of memory some of the named
 /// partitions may have their entries, and the logs may only be dropped.
 pub fn accept(
-    alloc: Global,
-    config: &Config,
+    call: &Asking<'_>,
     parts: &mut [PartLog],
-    who: Who,
-    request: &Request,
+    request: &RequestView<'_>,
     came: &mut Came,
 ) -> Result<(), NoMemory>
-    requires plain { IsPlainAsk request.now.ask }
-    requires size { length parts.old ≡ partitions_of config.now.topics }
-    requires alone { HasNoFollowers config.now.topics }
-    ensures { OnOk result ((decisions : Items Decision) × Decides config.now request.now.ask decisions
-        × IsCarried who.by who.seq decisions parts.old parts.new came.old came.new) }
+    requires size { length parts.old ≡ partitions_of call.now.config.now.topics }
+    requires alone { HasNoFollowers call.now.config.now.topics }
+    ensures { OnOk result ((decisions : Items Decision) × Decides call.now.config.now request.now.ask decisions
+        × IsCarried call.now.who.by call.now.who.seq decisions parts.old parts.new came.old came.new) }
 {
     match &request.ask {
-        Ask::Produce {
+        AskView::Produce {
             transactional,
             acks,
             topics,
@@ -316,13 +288,13 @@ pub fn accept(
                 is_transactional: transactional.is_some(),
                 acks: *acks,
             };
-            accept_produce(alloc, config, parts, who, terms, topics.as_slice(), came)
+            accept_produce(call, parts, terms, topics.as_slice(), came)
         }
-        Ask::Fetch {
+        AskView::Fetch {
             replica,
             topics,
             ..
-        } => accept_fetch(config, parts, who, *replica, topics.as_slice(), came),
-        Ask::Metadata { .. } | Ask::Versions { .. } => Ok(()),
+        } => accept_fetch(call, parts, *replica, topics.as_slice(), came),
+        AskView::Metadata { .. } | AskView::Versions { .. } => Ok(()),
     }
 }

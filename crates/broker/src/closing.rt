@@ -1,47 +1,46 @@
 //! What the one-thread broker did, as the account of a run.
 
-ghost use Rattle.std.specs.Prelude.{◌≡◌, [], ◌∷◌, map, option_to_list, reverse, IfOk, OnOk};
+ghost use Rattle.std.specs.Prelude.{◌≡◌, ◌<◌, ◌^◌, [], ◌∷◌, map, option_to_list, reverse, All, IfOk, OnOk};
 ghost use Rattle.std.specs.List.{flat_map, AllByRecursion};
+ghost use Rattle.partlog.specs.Added.{log_end_of};
 ghost use Rattle.broker.specs.Board.{account_of, part_account, passes_of, put_before};
-ghost use Rattle.broker.specs.Fed.{IsPlainCall};
+ghost use Rattle.broker.specs.Fed.{IsCallAtOnce};
 ghost use Rattle.audit.specs.Histories.{calls_in};
 
 use crate::desk::Desk;
 use audit::{Account, PartAccount, Transcript};
-use kbytes::{List, NoMemory, copied};
+use kbytes::{List, NoMemory};
 use kwire::Config;
 use partlog::PartLog;
 use std::alloc::Global;
 
-// A copy of a partition's log and history.
-fn part_account(alloc: Global, part: &PartLog) -> Result<PartAccount, NoMemory>
-    ensures { IfOk result (λ account. account ≡ part_account part.now) }
+// A partition's log and history, handed over as they stand.
+fn part_account(part: PartLog) -> PartAccount
+    ensures account { result ≡ part_account part }
+    ensures few { log_end_of result.events < 2 ^ 64 }
 {
-    let log = copied(alloc, part.log())?;
-    let mut events = List::new(alloc);
-    for event in part.events() {
-        events.push(*event)?;
-    }
-    Ok(PartAccount {
-        followers: part.followers(),
+    let followers = part.followers();
+    let (log, events) = part.into_parts();
+    PartAccount {
+        followers,
         log,
         events,
-    })
+    }
 }
 
 // The same of each partition, in order.
-#[tactic(auto, using(crate::proofs::Closings::map_more))]
-fn part_accounts(alloc: Global, parts: &[PartLog]) -> Result<List<PartAccount>, NoMemory>
-    ensures { IfOk result (λ accounts. accounts ≡ map part_account parts.now) }
+fn part_accounts(alloc: Global, parts: List<PartLog>) -> Result<List<PartAccount>, NoMemory>
+    ensures accounts { IfOk result (λ accounts. accounts ≡ map part_account parts) }
+    ensures few { IfOk result (λ accounts. All (λ part. log_end_of part.events < 2 ^ 64) accounts) }
 {
     let mut accounts = List::new(alloc);
-    for part in parts {
-        accounts.push(part_account(alloc, part)?)?;
+    for part in parts.into_vec() {
+        accounts.push(part_account(part))?;
     }
     Ok(accounts)
 }
 
-// Puts the list of a session before the passes, which stand in reverse. Sessions behind the last named one have none.
+// Puts the list of a session before the passes, which stand in reverse. Sessions after the last named one have none.
 fn put_before(
     alloc: Global,
     passes: &mut List<List<Transcript>>,
@@ -93,16 +92,17 @@ pub fn account(
     parts: List<PartLog>,
     desks: List<Desk>,
 ) -> Result<Account, NoMemory>
-    requires { AllByRecursion IsPlainCall (flat_map calls_in (passes_of desks)) }
-    ensures { IfOk result (λ account. account ≡ account_of (record {
+    requires { AllByRecursion IsCallAtOnce (flat_map calls_in (passes_of desks)) }
+    ensures account { IfOk result (λ account. account ≡ account_of (record {
       config = config;
       parts = parts;
       clock = [];
       seats = desks;
       waiting = [];
     })) }
+    ensures few { IfOk result (λ account. All (λ part. log_end_of part.events < 2 ^ 64) account.parts) }
 {
-    let accounts = part_accounts(alloc, parts.as_slice())?;
+    let accounts = part_accounts(alloc, parts)?;
     let passes = passes_of(alloc, desks)?;
     let mut wins = List::new(alloc);
     wins.push(0)?;

@@ -1,10 +1,11 @@
 //! A session of the one-thread broker.
 
-ghost use Rattle.std.specs.Prelude.{◌≡◌, ◌≤◌, ◌∷◌, [], ◌++◌, ◌-◌, length, drop, take, Some, None, unwrap_or, IfOk, OnOk};
+ghost use Rattle.std.specs.Prelude.{◌≡◌, ◌≤◌, ◌∷◌, [], ◌++◌, ◌-◌, length, drop, take, true, Some, None, unwrap_or, if◌then◌else◌, IfOk, OnOk};
 ghost use Rattle.broker.specs.Board.{empty_seat, new_transcript};
+ghost use Rattle.broker.specs.Ready.{has_ended, has_work};
 ghost use Rattle.kwire.specs.Frames.{next_frame_of};
 
-use audit::{Call, Transcript};
+use audit::{Call, SessionEnd, Transcript};
 use kbytes::{Bytes, List, NoMemory, copied};
 use kwire::{Frame, Inbox, next_frame};
 use std::alloc::Global;
@@ -58,17 +59,41 @@ impl Desk {
         }
     }
 
-    /// A line names the session, which has this number and hasn't ended, and brings it these bytes. After want of memory it
-    /// counts as named, and no byte was brought.
+    fn has_ended(&self) -> bool
+        ensures { result ≡ has_ended self.now.transcript }
+    {
+        match &self.transcript {
+            None => false,
+            Some(transcript) => transcript.end.is_some(),
+        }
+    }
+
+    /// A line names the session, which has this number, and brings it these bytes. Those for a session that has ended are
+    /// dropped. After want of memory it counts as named, and no byte was brought.
     pub fn feed(&mut self, session: u32, bytes: &[u8]) -> Result<(), NoMemory>
         ensures { OnOk result (self.new ≡ record {
-          inbox = self.old.inbox ++ bytes.now;
+          inbox = if has_ended self.old.transcript then self.old.inbox else self.old.inbox ++ bytes.now;
           is_shut = self.old.is_shut;
           transcript = Some (unwrap_or self.old.transcript (new_transcript session));
         }) }
     {
         self.open(session);
+        if self.has_ended() {
+            return Ok(());
+        }
         self.inbox.feed(bytes)
+    }
+
+    /// A line names the session, which has this number, and ends its input.
+    pub fn shut(&mut self, session: u32)
+        ensures { self.new ≡ record {
+          inbox = self.old.inbox;
+          is_shut = true;
+          transcript = Some (unwrap_or self.old.transcript (new_transcript session));
+        } }
+    {
+        self.open(session);
+        self.is_shut = true;
     }
 
     /// What stands at the front of the bytes that it received.
@@ -76,6 +101,27 @@ impl Desk {
         ensures { result ≡ next_frame_of self.now.inbox }
     {
         next_frame(self.inbox.bytes())
+    }
+
+    /// Whether it has something to do: it hasn't ended, and a whole frame is at the front, or one that is too long, or no more
+    /// input comes.
+    pub fn has_work(&self) -> bool
+        ensures { result ≡ has_work self.now }
+    {
+        if self.has_ended() {
+            return false;
+        }
+        match self.front() {
+            Frame::Whole { .. } | Frame::TooLong { .. } => true,
+            Frame::NotYet => self.is_shut,
+        }
+    }
+
+    /// How many bytes it received that nobody has handled yet.
+    pub fn left(&self) -> usize
+        ensures { result ≡ length self.now.inbox }
+    {
+        self.inbox.bytes().len()
     }
 
     /// The body of the frame at the front, which ends before the place `end`.
@@ -115,6 +161,20 @@ impl Desk {
             transcript.calls.push(call)?;
         }
         Ok(())
+    }
+
+    /// The session, which was named, ends so. What it received beyond that stays where it is.
+    pub fn end(&mut self, session: u32, end: SessionEnd)
+        ensures { self.new ≡ record {
+          inbox = self.old.inbox;
+          is_shut = self.old.is_shut;
+          transcript = Some (record (unwrap_or self.old.transcript (new_transcript session)) { end = Some end });
+        } }
+    {
+        self.open(session);
+        if let Some(transcript) = &mut self.transcript {
+            transcript.end = Some(end);
+        }
     }
 
     /// What it did, once a line named it.

@@ -1,7 +1,7 @@
 //! The one-thread broker: sessions, partitions, and what a line of a trace brings.
 //!
-//! The layer above may ask whether all that the sessions of a trace receive is of the form that is built, make a `Lone`, hand
-//! it the lines, and close it for the account.
+//! The layer above may ask whether a trace needs a broker whose requests wait, which isn't built yet, make a `Lone`, hand it the
+//! lines, and close it for the account.
 #![tactic(auto)]
 
 mod accept;
@@ -11,10 +11,10 @@ mod closing;
 mod desk;
 mod lone;
 mod opening;
-mod plain;
 mod promises;
 mod reply;
+mod waits;
 
 pub use lone::Lone;
-pub use plain::are_plain_streams;
 pub use promises::lines_play;
+pub use waits::needs_waiting;

@@ -6,14 +6,14 @@ ghost use Rattle.kanswer.specs.Waiting.{Shown};
 ghost use Rattle.kanswer.specs.Answer.{answer};
 ghost use Rattle.kanswer.specs.LogReadings.{AreReadings, IsCarriable, HasCarriable, named_count, budget_of};
 ghost use Rattle.kwire.specs.IsRequest.{IsRequest};
-ghost use Rattle.broker.specs.Gathered.{reading_now, left_now, readings_now, left_behind, bytes_read, most_left, shown_in_logs, nothing_read};
+ghost use Rattle.broker.specs.Carried.{AreDeclared};
+ghost use Rattle.broker.specs.Gathered.{numbers_now, reading_now, left_now, readings_now, left_behind, bytes_read, most_left, shown_in_logs};
 ghost use Rattle.kwire.specs.Spelling.{spelling};
-ghost use Rattle.broker.specs.PlainStream.{IsPlainAsk};
 ghost use Rattle.broker.specs.Replying.{HasLog, ShowsLogs};
 
-use kanswer::{Accepted, Budget, Reading, answer, read_nothing, read_part};
+use kanswer::{Accepted, Budget, Reading, answer, read_asked, read_nothing, read_numbers};
 use kbytes::{Bytes, List, NoMemory};
-use kwire::{Ask, Config, FetchPart, FetchTopic, Request, reply_bytes};
+use kwire::{AskView, Config, FetchPart, FetchTopicView, RequestView, reply_bytes};
 use partlog::PartLog;
 use std::alloc::Global;
 
@@ -36,9 +36,7 @@ fn read_one(
         Accepted::Refused { .. } | Accepted::Appended { .. } => Ok(read_nothing(alloc)),
         Accepted::Seen { part, start } => {
             let log = &parts[part as usize];
-            let _log = log.log();
-            let _numbers = log.numbers();
-            read_part(alloc, replica, asked, start, log, budget)
+            read_asked(alloc, replica, asked, start, log, budget)
         }
     }
 }
@@ -71,7 +69,7 @@ fn read_fetch(
     alloc: Global,
     parts: &[PartLog],
     replica: i32,
-    topics: &[FetchTopic],
+    topics: &[FetchTopicView<'_>],
     accepted: &[Accepted],
     budget: Budget,
 ) -> Result<List<Reading>, NoMemory>
@@ -101,13 +99,31 @@ fn read_fetch(
     Ok(readings)
 }
 
-// For a produce that doesn't ask for all replicas no log is read.
-fn read_none(alloc: Global, accepted: &[Accepted]) -> Result<List<Reading>, NoMemory>
-    ensures { IfOk result (λ readings. readings ≡ map (λ became. nothing_read) accepted.now) }
+// Of an appended partition the numbers of its log are read.
+fn read_numbers_of(alloc: Global, parts: &[PartLog], became: &Accepted) -> Reading
+    requires { HasLog parts.now became.now }
+    ensures read { result ≡ numbers_now parts.now became.now }
+    ensures offset { HasCarriable result }
+{
+    match *became {
+        Accepted::Appended { part, .. } => read_numbers(alloc, &parts[part as usize]),
+        Accepted::Refused { .. } | Accepted::Seen { .. } => read_nothing(alloc),
+    }
+}
+
+// What is read for a request that is no fetch: no log's records.
+fn read_all_numbers(
+    alloc: Global,
+    parts: &[PartLog],
+    accepted: &[Accepted],
+) -> Result<List<Reading>, NoMemory>
+    requires { AllByRecursion (HasLog parts.now) accepted.now }
+    ensures read { IfOk result (λ readings. readings ≡ map (numbers_now parts.now) accepted.now) }
+    ensures offsets { IfOk result (All HasCarriable) }
 {
     let mut readings = List::new(alloc);
-    for _became in accepted {
-        readings.push(read_nothing(alloc))?;
+    for became in accepted {
+        readings.push(read_numbers_of(alloc, parts, became))?;
     }
     Ok(readings)
 }
@@ -116,10 +132,9 @@ fn read_none(alloc: Global, accepted: &[Accepted]) -> Result<List<Reading>, NoMe
 fn gather(
     alloc: Global,
     parts: &[PartLog],
-    request: &Request,
+    request: &RequestView<'_>,
     accepted: &[Accepted],
 ) -> Result<List<Reading>, NoMemory>
-    requires plain { IsPlainAsk request.now.ask }
     requires size { length accepted.now ≡ named_count request.now.ask }
     requires logs { AllByRecursion (HasLog parts.now) accepted.now }
     ensures read { IfOk result (λ readings. AreReadings request.now.ask accepted.now readings (shown_in_logs parts.now accepted.now)) }
@@ -129,32 +144,31 @@ fn gather(
 {
     let budget = Budget::of(request);
     match &request.ask {
-        Ask::Fetch {
+        AskView::Fetch {
             replica,
             topics,
             ..
         } => read_fetch(alloc, parts, *replica, topics.as_slice(), accepted, budget),
-        Ask::Produce { .. } => read_none(alloc, accepted),
-        Ask::Metadata { .. } => read_none(alloc, accepted),
-        Ask::Versions { .. } => read_none(alloc, accepted),
+        AskView::Produce { .. } | AskView::Metadata { .. } | AskView::Versions { .. } => {
+            read_all_numbers(alloc, parts, accepted)
+        }
     }
 }
 
-/// The frame of the reply, from what became of each named partition and from the logs as they are. A fetch reads the logs of the
-/// partitions that are seen; a produce that doesn't ask for all replicas needs none. The request was read from a body, so
-/// that its reply has a frame.
+/// The frame of the reply, from what became of each named partition and from the logs as they are. The request was read from a
+/// body, so that its reply has a frame.
 pub fn reply_frame(
     alloc: Global,
     config: &Config,
     parts: &[PartLog],
-    request: &Request,
+    request: &RequestView<'_>,
     accepted: &[Accepted],
 ) -> Result<Bytes, NoMemory>
-    requires plain { IsPlainAsk request.now.ask }
     requires size { length accepted.now ≡ named_count request.now.ask }
     requires logs { AllByRecursion (HasLog parts.now) accepted.now }
     requires offsets { All IsCarriable accepted.now }
     requires asked { (body : Items ℕ) × IsRequest body request.now }
+    requires declared { AreDeclared config.now.topics }
     ensures { IfOk result (λ frame. (shown : Items Shown) → ShowsLogs parts.now request.now.ask accepted.now shown
         → frame ≡ spelling (answer config.now request.now shown)) }
 {

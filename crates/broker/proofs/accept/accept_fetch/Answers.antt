@@ -7,13 +7,13 @@ use Rattle.broker.proofs.accept.accept_fetch.Goals as goal
 
 pub loop-topic-preserved : goal.loop-topic-preserved
 loop-topic-preserved c =
-    let config = c.args.config.now in
+    let config = c.args.call.now.config.now in
     let i = c.loop-topic.topic-index in
     let ts = c.args.topics.now in
     let same = to_z-of_z w32 c.args.replica c.ranges.replica in
-    let d = subst (λ (r : ℤ). IsCarried c.args.who.by c.args.who.seq (fetch_decisions config r (c.topic-item.result ∷ [])) c.loop-topic.parts c.accept_fetch_topic.new.parts c.loop-topic.came c.accept_fetch_topic.new.came) same c.in_ok-accept_fetch_topic.ensures.carried in
-    let before = subst (λ (r : ℤ). IsCarried c.args.who.by c.args.who.seq (fetch_decisions config r (take i ts)) c.args.parts.now c.loop-topic.parts c.args.came.now c.loop-topic.came) same c.loop-topic.invariant.carried in
+    let d = subst (λ (r : ℤ). IsCarried c.args.call.now.who.by c.args.call.now.who.seq (fetch_decisions config r (c.topic-item.result ∷ [])) c.loop-topic.parts c.accept_fetch_topic.new.parts c.loop-topic.came c.accept_fetch_topic.new.came) same c.in_ok-accept_fetch_topic.ensures.carried in
+    let before = subst (λ (r : ℤ). IsCarried c.args.call.now.who.by c.args.call.now.who.seq (fetch_decisions config r (take i ts)) c.args.parts.now c.loop-topic.parts c.args.came.now c.loop-topic.came) same c.loop-topic.invariant.carried in
     record {
       size = c.in_ok-accept_fetch_topic.ensures.size ∙ c.loop-topic.invariant.size;
-      carried = subst (λ (r : ℤ). IsCarried c.args.who.by c.args.who.seq (fetch_decisions config r (take (i + 1) ts)) c.args.parts.now c.accept_fetch_topic.new.parts c.args.came.now c.accept_fetch_topic.new.came) (sym same) (fetched_on config c.args.replica c.args.who.by c.args.who.seq (take i ts) (c.topic-item.result ∷ []) (take (i + 1) ts) c.args.parts.now c.loop-topic.parts c.accept_fetch_topic.new.parts c.args.came.now c.loop-topic.came c.accept_fetch_topic.new.came (fetch_next_topic ts i c.topic-item.result (omega (arith, c.loop-topic-test.true)) c.topic-item.is) before d);
+      carried = subst (λ (r : ℤ). IsCarried c.args.call.now.who.by c.args.call.now.who.seq (fetch_decisions config r (take (i + 1) ts)) c.args.parts.now c.accept_fetch_topic.new.parts c.args.came.now c.accept_fetch_topic.new.came) (sym same) (fetched_on config c.args.replica c.args.call.now.who.by c.args.call.now.who.seq (take i ts) (c.topic-item.result ∷ []) (take (i + 1) ts) c.args.parts.now c.loop-topic.parts c.accept_fetch_topic.new.parts c.args.came.now c.loop-topic.came c.accept_fetch_topic.new.came (fetch_next_topic ts i c.topic-item.result (omega (arith, c.loop-topic-test.true)) c.topic-item.is) before d);
     }

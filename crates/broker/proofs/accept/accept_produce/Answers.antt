@@ -5,7 +5,7 @@ use Rattle.broker.proofs.accept.accept_produce.Goals as goal
 pub loop-topic-init : goal.loop-topic-init
 loop-topic-init c = record {
   size = refl;
-  carried = produced_none c.args.config.now c.args.terms c.args.who.by c.args.who.seq _ c.args.parts.now c.args.came.now refl;
+  carried = produced_none c.args.call.now.config.now c.args.terms c.args.call.now.who.by c.args.call.now.who.seq _ c.args.parts.now c.args.came.now refl;
 }
 
 pub loop-topic-preserved : goal.loop-topic-preserved
@@ -13,5 +13,5 @@ loop-topic-preserved c =
     let d = c.in_ok-accept_produce_topic.ensures in
     record {
       size = d.size ∙ c.loop-topic.invariant.size;
-      carried = produced_on c.args.config.now c.args.terms c.args.who.by c.args.who.seq _ (c.topic-item.result ∷ []) _ c.args.parts.now c.loop-topic.parts c.accept_produce_topic.new.parts c.args.came.now c.loop-topic.came c.accept_produce_topic.new.came (produce_next_topic c.args.topics.now c.loop-topic.topic-index c.topic-item.result (omega (arith, c.loop-topic-test.true)) c.topic-item.is) c.loop-topic.invariant.carried d.carried;
+      carried = produced_on c.args.call.now.config.now c.args.terms c.args.call.now.who.by c.args.call.now.who.seq _ (c.topic-item.result ∷ []) _ c.args.parts.now c.loop-topic.parts c.accept_produce_topic.new.parts c.args.came.now c.loop-topic.came c.accept_produce_topic.new.came (produce_next_topic c.args.topics.now c.loop-topic.topic-index c.topic-item.result (omega (arith, c.loop-topic-test.true)) c.topic-item.is) c.loop-topic.invariant.carried d.carried;
     }

@@ -1,61 +1,115 @@
-use Rattle.std.proofs.Common.{◌≡◌, ◌≢◌, ℕ, ◌++◌, ◌∷◌, [], List, length, sym, ap, subst, ◌∙◌, arith, append-nil}
+use Rattle.std.proofs.Common.{◌≡◌, ◌++◌, ◌∷◌, [], List, length, sym, ap, subst, ◌∙◌, arith, append-nil}
 use Rattle.trace_file.specs.declared.line.Line.{Line}
-use Rattle.trace_file.specs.declared.line.Line.TheVariants.{Feed}
+use Rattle.trace_file.specs.declared.line.Line.TheVariants.{Feed, Shut}
 use Rattle.broker.specs.Board.{Board}
 use Rattle.broker.specs.Play.{Rests, brought}
 use Rattle.broker.specs.UnderWay.{IsUnderWay, IsServing}
-use Rattle.broker.proofs.Calling.{feed_there, feed_serving, feed_made, still_line}
+use Rattle.broker.proofs.Calling.{feed_there, feed_serving, feed_made, shut_there, shut_serving, shut_made, still_line}
+use Rattle.broker.proofs.DecisionSteps.{on_ok}
 use Rattle.broker.proofs.Serving.{turned}
 use Rattle.broker.proofs.lone.Lone.event.Goals as goal
 
-feeds : (fed later : List Line) (board : Board) (line : Line) (session : ℕ) (bytes : List ℕ) → line ≡ Feed session bytes → IsUnderWay fed (line ∷ later) board → IsUnderWay fed (Feed session bytes ∷ later) board
-feeds fed later board line session bytes is way = subst (λ (l : Line). IsUnderWay fed (l ∷ later) board) is way
+-- the same, as the line is known
+as_it_is : (fed later : List Line) (board : Board) (line known : Line) → line ≡ known → IsUnderWay fed (line ∷ later) board → IsUnderWay fed (known ∷ later) board
+as_it_is fed later board line known is way = subst (λ (l : Line). IsUnderWay fed (l ∷ later) board) is way
+
+-- ---- bytes
 
 pub bounds-as_mut_slice-session : goal.bounds-as_mut_slice-session
 bounds-as_mut_slice-session c =
-    let u = c.requires.under_way in
-    let way = feeds u.0 u.1 c.args.self.now c.args.line.now c.in-Feed.session c.in-Feed.bytes c.in-Feed.is u.2 in
-    omega (arith, feed_there u.0 u.1 c.args.self.now c.in-Feed.session c.in-Feed.bytes way, way.running.given.size, ap length c.as_mut_slice.ensures.value, ap (λ (b : Board). length b.seats) c.self.view_is)
+    let u = c.requires in
+    let way = as_it_is u.0 u.1 c.args.self.now c.args.line.now (Feed c.in-Feed.session c.in-Feed.bytes) c.in-Feed.is u.2 in
+    omega (arith, feed_there u.0 u.1 c.args.self.now c.in-Feed.session c.in-Feed.bytes way, ap length c.as_mut_slice.ensures.value, ap (λ (b : Board). length b.seats) c.self.view_is)
 
 pub serve-requires : goal.serve-requires
 serve-requires c =
-    let u = c.requires.under_way in
-    let session = c.in-Feed.session in
-    let bytes = c.in-Feed.bytes in
-    let way = feeds u.0 u.1 c.args.self.now c.args.line.now session bytes c.in-Feed.is u.2 in
-    let next = feed_made c.self.inside.config c.self.inside.parts c.self.inside.desks c.as_mut_slice.result.now c.args.self.now u.0 u.1 session bytes c.as_slice.result.now c.index-as_mut_slice-session.result c.feed.new.self
-    c.self.view_is way c.as_mut_slice.ensures.value c.index-as_mut_slice-session.is c.as_slice.ensures c.in_ok-feed.ensures in
-    (u.0 ++ Feed session bytes ∷ [], u.1, subst (IsServing (u.0 ++ Feed session bytes ∷ []) u.1 session) (sym next) (feed_serving u.0 u.1 c.args.self.now session bytes way))
-
-pub returns-in_ok-serve-clause-played : goal.returns-in_ok-serve-clause-played
-returns-in_ok-serve-clause-played c =
-    let u = c.requires.under_way in
-    let session = c.in-Feed.session in
-    let bytes = c.in-Feed.bytes in
-    let way = feeds u.0 u.1 c.args.self.now c.args.line.now session bytes c.in-Feed.is u.2 in
-    let next = feed_made c.self.inside.config c.self.inside.parts c.self.inside.desks c.as_mut_slice.result.now c.args.self.now u.0 u.1 session bytes c.as_slice.result.now c.index-as_mut_slice-session.result c.feed.new.self
-    c.self.view_is way c.as_mut_slice.ensures.value c.index-as_mut_slice-session.is c.as_slice.ensures c.in_ok-feed.ensures in
-    let r = c.in_ok-serve.ensures.rests in
-    let from : Rests r.0 (brought c.args.self.now c.args.line.now) (turned c.serve.new.self r.1) =
-    subst (λ (b : Board). Rests r.0 b (turned c.serve.new.self r.1)) (next ∙ ap (brought c.args.self.now) (sym c.in-Feed.is)) r.2 in
-    (r.1, (r.0, from), r.3)
-
-pub returns-in_ok-serve-clause-goes_on : goal.returns-in_ok-serve-clause-goes_on
-returns-in_ok-serve-clause-goes_on c fed later h =
-    let session = c.in-Feed.session in
-    let bytes = c.in-Feed.bytes in
-    let way = feeds fed later c.args.self.now c.args.line.now session bytes c.in-Feed.is h in
-    let next = feed_made c.self.inside.config c.self.inside.parts c.self.inside.desks c.as_mut_slice.result.now c.args.self.now fed later session bytes c.as_slice.result.now c.index-as_mut_slice-session.result c.feed.new.self
-    c.self.view_is way c.as_mut_slice.ensures.value c.index-as_mut_slice-session.is c.as_slice.ensures c.in_ok-feed.ensures in
-    let serving = subst (IsServing (fed ++ Feed session bytes ∷ []) later session) (sym next) (feed_serving fed later c.args.self.now session bytes way) in
-    subst (λ (l : Line). IsUnderWay (fed ++ l ∷ []) later c.serve.new.self) (sym c.in-Feed.is) (c.in_ok-serve.ensures.goes_on (fed ++ Feed session bytes ∷ []) later serving)
-
-pub returns-in_default : goal.returns-in_default
-returns-in_default c =
-    let u = c.requires.under_way in
+    let u = c.requires in
     let board = c.args.self.now in
-    let other : (session : ℕ) (bytes : List ℕ) → c.args.line.now ≢ Feed session bytes = λ session bytes e. c.in_default.not-Feed session bytes e in
-    record {
-      played = ([], (still_line u.0 u.1 board c.args.line.now c.requires.plain other u.2).0, sym (append-nil c.args.out.now));
-      goes_on = λ fed later way. (still_line fed later board c.args.line.now c.requires.plain other way).1;
-    }
+    let session = c.in-Feed.session in
+    let bytes = c.in-Feed.bytes in
+    let way = as_it_is u.0 u.1 board c.args.line.now (Feed session bytes) c.in-Feed.is u.2 in
+    let next = feed_made c.self.inside.config c.self.inside.parts c.self.inside.desks c.as_mut_slice.result.now board session bytes c.as_slice.result.now c.index-as_mut_slice-session.result c.feed.new.self
+    c.self.view_is (feed_there u.0 u.1 board session bytes way) c.as_mut_slice.ensures.value c.index-as_mut_slice-session.is c.as_slice.ensures c.in_ok-feed-in-Feed.ensures in
+    (u.0 ++ Feed session bytes ∷ [], u.1, subst (IsServing (u.0 ++ Feed session bytes ∷ []) u.1 session) (sym next) (feed_serving u.0 u.1 board session bytes way))
+
+pub returns-in_ok-feed-in-Feed-clause-played : goal.returns-in_ok-feed-in-Feed-clause-played
+returns-in_ok-feed-in-Feed-clause-played c =
+    let u = c.requires in
+    let board = c.args.self.now in
+    let session = c.in-Feed.session in
+    let bytes = c.in-Feed.bytes in
+    let way = as_it_is u.0 u.1 board c.args.line.now (Feed session bytes) c.in-Feed.is u.2 in
+    let next = feed_made c.self.inside.config c.self.inside.parts c.self.inside.desks c.as_mut_slice.result.now board session bytes c.as_slice.result.now c.index-as_mut_slice-session.result c.feed.new.self
+    c.self.view_is (feed_there u.0 u.1 board session bytes way) c.as_mut_slice.ensures.value c.index-as_mut_slice-session.is c.as_slice.ensures c.in_ok-feed-in-Feed.ensures in
+    on_ok c.serve.result c.serve.ensures.rests (λ r.
+    (r.1, (r.0, subst (λ (b : Board). Rests r.0 b (turned c.serve.new.self r.1)) (next ∙ ap (brought board) (sym c.in-Feed.is)) r.2), r.3))
+
+pub returns-in_ok-feed-in-Feed-clause-goes_on : goal.returns-in_ok-feed-in-Feed-clause-goes_on
+returns-in_ok-feed-in-Feed-clause-goes_on c =
+    let board = c.args.self.now in
+    let session = c.in-Feed.session in
+    let bytes = c.in-Feed.bytes in
+    on_ok c.serve.result c.serve.ensures.goes_on (λ goes fed later h.
+    let way = as_it_is fed later board c.args.line.now (Feed session bytes) c.in-Feed.is h in
+    let next = feed_made c.self.inside.config c.self.inside.parts c.self.inside.desks c.as_mut_slice.result.now board session bytes c.as_slice.result.now c.index-as_mut_slice-session.result c.feed.new.self
+    c.self.view_is (feed_there fed later board session bytes way) c.as_mut_slice.ensures.value c.index-as_mut_slice-session.is c.as_slice.ensures c.in_ok-feed-in-Feed.ensures in
+    let serving = subst (IsServing (fed ++ Feed session bytes ∷ []) later session) (sym next) (feed_serving fed later board session bytes way) in
+    subst (λ (l : Line). IsUnderWay (fed ++ l ∷ []) later c.serve.new.self) (sym c.in-Feed.is) (goes (fed ++ Feed session bytes ∷ []) later serving))
+
+-- ---- the end of an input
+
+pub bounds-as_mut_slice-session-in-Shut : goal.bounds-as_mut_slice-session-in-Shut
+bounds-as_mut_slice-session-in-Shut c =
+    let u = c.requires in
+    let way = as_it_is u.0 u.1 c.args.self.now c.args.line.now (Shut c.in-Shut.session) c.in-Shut.is u.2 in
+    omega (arith, shut_there u.0 u.1 c.args.self.now c.in-Shut.session way, ap length c.as_mut_slice-in-Shut.ensures.value, ap (λ (b : Board). length b.seats) c.self-in-Shut.view_is)
+
+pub serve-requires-in-Shut : goal.serve-requires-in-Shut
+serve-requires-in-Shut c =
+    let u = c.requires in
+    let board = c.args.self.now in
+    let session = c.in-Shut.session in
+    let way = as_it_is u.0 u.1 board c.args.line.now (Shut session) c.in-Shut.is u.2 in
+    let next = shut_made c.self-in-Shut.inside.config c.self-in-Shut.inside.parts c.self-in-Shut.inside.desks c.as_mut_slice-in-Shut.result.now board session c.index-as_mut_slice-session-in-Shut.result c.shut.new.self
+    c.self-in-Shut.view_is (shut_there u.0 u.1 board session way) c.as_mut_slice-in-Shut.ensures.value c.index-as_mut_slice-session-in-Shut.is c.shut.ensures in
+    (u.0 ++ Shut session ∷ [], u.1, subst (IsServing (u.0 ++ Shut session ∷ []) u.1 session) (sym next) (shut_serving u.0 u.1 board session way))
+
+pub returns-in-Shut-clause-played : goal.returns-in-Shut-clause-played
+returns-in-Shut-clause-played c =
+    let u = c.requires in
+    let board = c.args.self.now in
+    let session = c.in-Shut.session in
+    let way = as_it_is u.0 u.1 board c.args.line.now (Shut session) c.in-Shut.is u.2 in
+    let next = shut_made c.self-in-Shut.inside.config c.self-in-Shut.inside.parts c.self-in-Shut.inside.desks c.as_mut_slice-in-Shut.result.now board session c.index-as_mut_slice-session-in-Shut.result c.shut.new.self
+    c.self-in-Shut.view_is (shut_there u.0 u.1 board session way) c.as_mut_slice-in-Shut.ensures.value c.index-as_mut_slice-session-in-Shut.is c.shut.ensures in
+    on_ok c.serve-in-Shut.result c.serve-in-Shut.ensures.rests (λ r.
+    (r.1, (r.0, subst (λ (b : Board). Rests r.0 b (turned c.serve-in-Shut.new.self r.1)) (next ∙ ap (brought board) (sym c.in-Shut.is)) r.2), r.3))
+
+pub returns-in-Shut-clause-goes_on : goal.returns-in-Shut-clause-goes_on
+returns-in-Shut-clause-goes_on c =
+    let board = c.args.self.now in
+    let session = c.in-Shut.session in
+    on_ok c.serve-in-Shut.result c.serve-in-Shut.ensures.goes_on (λ goes fed later h.
+    let way = as_it_is fed later board c.args.line.now (Shut session) c.in-Shut.is h in
+    let next = shut_made c.self-in-Shut.inside.config c.self-in-Shut.inside.parts c.self-in-Shut.inside.desks c.as_mut_slice-in-Shut.result.now board session c.index-as_mut_slice-session-in-Shut.result c.shut.new.self
+    c.self-in-Shut.view_is (shut_there fed later board session way) c.as_mut_slice-in-Shut.ensures.value c.index-as_mut_slice-session-in-Shut.is c.shut.ensures in
+    let serving = subst (IsServing (fed ++ Shut session ∷ []) later session) (sym next) (shut_serving fed later board session way) in
+    subst (λ (l : Line). IsUnderWay (fed ++ l ∷ []) later c.serve-in-Shut.new.self) (sym c.in-Shut.is) (goes (fed ++ Shut session ∷ []) later serving))
+
+-- ---- the others
+
+pub returns-in-Topic-clause-played : goal.returns-in-Topic-clause-played
+returns-in-Topic-clause-played c =
+    let u = c.requires in
+    ([], (still_line u.0 u.1 c.args.self.now c.args.line.now c.in-Topic.is u.2).0, sym (append-nil c.args.out.now))
+
+pub returns-in-Topic-clause-goes_on : goal.returns-in-Topic-clause-goes_on
+returns-in-Topic-clause-goes_on c fed later way = (still_line fed later c.args.self.now c.args.line.now c.in-Topic.is way).1
+
+pub returns-in-Topic-3-clause-played : goal.returns-in-Topic-3-clause-played
+returns-in-Topic-3-clause-played c =
+    let u = c.requires in
+    ([], (still_line u.0 u.1 c.args.self.now c.args.line.now c.in-Topic.is u.2).0, sym (append-nil c.args.out.now))
+
+pub returns-in-Topic-3-clause-goes_on : goal.returns-in-Topic-3-clause-goes_on
+returns-in-Topic-3-clause-goes_on c fed later way = (still_line fed later c.args.self.now c.args.line.now c.in-Topic.is way).1

@@ -1,11 +1,11 @@
 use Rattle.std.proofs.Common.{◌↔◌, length}
 use Rattle.kbytes.specs.Octets.{IsBytes}
-use Rattle.broker.specs.PlainStream.{IsPlainStream}
-use Rattle.broker.proofs.plain.is_plain_stream.Given as goal
+use Rattle.broker.specs.BuiltForm.{HoldsWaitingFetch}
+use Rattle.broker.proofs.waits.holds_waiting_fetch.Given as goal
 
 abbrev pub invariant-loop-end : goal.invariant-loop-end
 invariant-loop-end l = record {
-  same : IsPlainStream l.stream ↔ IsPlainStream l.rest;
+  same : HoldsWaitingFetch l.stream ↔ HoldsWaitingFetch l.rest;
   bytes : IsBytes l.rest;
 }
 
