@@ -2,19 +2,21 @@
 
 ghost use Rattle.std.specs.Prelude.{◌≡◌, Some, None};
 ghost use Rattle.kafka_room.specs.declared.exit.Stop.TheVariants.{WriteFault, NoMemory as OutOfMemory};
-ghost use Rattle.kafka_room.specs.Codes.{exit_code_of};
+ghost use Rattle.kafka_room.specs.Codes.{exit_code_of, bad_line_of, stop_of};
 
 use audit::Account;
 use kbytes::NoMemory;
 use outside::Failed;
 use std::alloc::AllocError;
-use trace_file::LineFault;
+use trace_file::{LineFault, TraceFault};
 
 /// What stopped a run.
 #[derive(Clone, Copy, Debug, PartialEq, Eq)]
 pub enum Stop {
     /// The words are no command that is built.
     Usage,
+    /// The text isn't a trace: its first bad line.
+    BadLine(LineFault),
     /// A read of the source failed.
     ReadFault,
     /// A write to the sink failed.
@@ -31,10 +33,33 @@ impl Stop {
     {
         match self {
             Stop::Usage => 1,
+            Stop::BadLine(_) => 2,
             Stop::ReadFault => 3,
             Stop::WriteFault => 4,
             Stop::NoMemory => 6,
             Stop::Unbuilt => 7,
+        }
+    }
+
+    /// The first bad line, where that stopped the run.
+    pub fn bad_line(self) -> Option<LineFault>
+        ensures { result ≡ bad_line_of self }
+    {
+        match self {
+            Stop::BadLine(fault) => Some(fault),
+            Stop::Usage | Stop::ReadFault | Stop::WriteFault | Stop::NoMemory | Stop::Unbuilt =>
+                None,
+        }
+    }
+}
+
+impl From<TraceFault> for Stop {
+    ghost from_gives = { λ fault e. e ≡ stop_of fault };
+
+    fn from(fault: TraceFault) -> Stop {
+        match fault {
+            TraceFault::Bad(fault) => Stop::BadLine(fault),
+            TraceFault::NoMemory => Stop::NoMemory,
         }
     }
 }
@@ -93,11 +118,11 @@ impl<P: Drop, C: Drop> Exit<P, C> {
 
     /// The run was stopped, with no account.
     pub fn stopped(stop: Stop, port: P, clock: C) -> Exit<P, C>
-        ensures { result ≡ record { code = exit_code_of stop; line = None; account = None; port = Some port; clock = Some clock } }
+        ensures { result ≡ record { code = exit_code_of stop; line = bad_line_of stop; account = None; port = Some port; clock = Some clock } }
     {
         Exit {
             code: stop.code(),
-            line: None,
+            line: stop.bad_line(),
             account: None,
             port: Some(port),
             clock: Some(clock),
@@ -110,7 +135,7 @@ pub fn exit_text(code: u8) -> &'static str {
     match code {
         0 => "done",
         1 => "the command line is faulty: see kafka_room --help",
-        2 => "the trace has a bad line",
+        2 => "the input is no trace",
         3 => "the input can't be read",
         4 => "the output can't be written",
         5 => "the port failed",

@@ -15,6 +15,7 @@ use outside::{StdSink, StdSource};
 use run::run;
 use std::process::ExitCode;
 use std::{env, io};
+use trace_file::LineFault;
 
 const HELP: &str = "\
 kafka_room: the request purgatory of a Kafka broker
@@ -24,19 +25,24 @@ Usage:
   kafka_room --help     prints this text
   kafka_room --version  prints the version
 
-A trace, of the form that is built so far, has topics first, then bytes, and its end:
-  topic NAME N 0        declares a topic with N partitions and no followers
+A trace has topics first, and its end last. Its lines are:
+  topic NAME N F        declares a topic with N partitions and F followers
   bytes S HEX           session S, which is 0 to 63, receives these bytes
+  close S               the input of session S ended
+  clock T               the moment becomes T, in milliseconds
   end                   the trace ends
 
-All bytes of a session are whole frames of requests that wait for nothing, which may be
-cut anywhere over several lines:
-  Produce v3            with acks 0 or 1
-  Fetch v4              with a max_wait of at most 0
+The bytes of a session are frames, which may be cut anywhere over several lines, of
+Produce v3, Fetch v4, Metadata v1 and ApiVersions v0. A session ends where its input
+did, or at a frame that is too long or refused; what comes for it later is dropped.
+
+Of the form that is built so far are the traces in which nothing may wait: F is 0, no
+line is `clock`, and no fetch has a max_wait above 0.
 
 Exit codes:
   0  all was done and written
   1  the command line is faulty
+  2  the input is no trace: its first bad line is told
   3  the input can't be read
   4  the output can't be written
   6  no memory was left
@@ -49,7 +55,7 @@ Examples:
 
 const VERSION: &str = "kafka_room 0.1.0\n";
 
-// The words of the command line behind the program's name.
+// The words of the command line after the program's name.
 fn words(rt: &HostRuntime) -> io::Result<Vec<String>> {
     let mut words = Vec::new(rt.alloc());
     for word in env::args(rt)?.skip(1) {
@@ -65,6 +71,17 @@ fn ended(rt: &HostRuntime, code: u8) -> ExitCode {
         let _ = rt.eprintln(format_args!("kafka_room: {text}"));
     }
     ExitCode::from(code)
+}
+
+// Ends as the run did. Of a text that is no trace the first bad line is told.
+fn ended_run(rt: &HostRuntime, code: u8, line: Option<LineFault>) -> ExitCode {
+    match line {
+        Some(fault) => {
+            let _ = rt.eprintln(format_args!("kafka_room: {fault}"));
+            ExitCode::from(code)
+        }
+        None => ended(rt, code),
+    }
 }
 
 fn shown(rt: &HostRuntime, text: &str) -> ExitCode {
@@ -106,5 +123,5 @@ fn main(rt: HostRuntime) -> ExitCode {
         NoPort::new(),
         NoClock,
     );
-    ended(&rt, exit.code)
+    ended_run(&rt, exit.code, exit.line)
 }

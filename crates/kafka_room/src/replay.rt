@@ -1,62 +1,53 @@
 //! The replay of a trace, on one thread.
 
-ghost use Rattle.std.specs.Prelude.{◌≡◌, ◌≤◌, ◌++◌, [], ℕ, List as Items, Some, IfOk, IfErr, OnOk, OnErr, IsErrOf, IfSome, IfNone, ◌⊎◌};
+ghost use Rattle.std.specs.Prelude.{◌≡◌, ◌≤◌, ◌++◌, [], ℕ, false, List as Items, Some, IfOk, IfErr, OnOk, OnErr, IsErrOf, IfSome, IsSome, ◌⊎◌};
 ghost use Rattle.std.specs.Io.KnownBytes.{Appends, Keeps, IsAtEnd};
-ghost use Rattle.std.specs.List.{All};
 ghost use Rattle.outside.specs.Causes.{Rose};
-ghost use Rattle.trace_file.specs.declared.line.Line.{Line as TheLine};
 ghost use Rattle.audit.specs.IsLawful.{IsLawful};
-ghost use Rattle.broker.specs.PlainForm.{IsPlainForm};
+ghost use Rattle.trace_file.specs.Trace.{IsTrace};
+ghost use Rattle.broker.specs.BuiltForm.{IsBuiltForm};
 ghost use Rattle.broker.specs.Play.{Plays};
-ghost use Rattle.kafka_room.specs.LinesFront.{IsLinesFront};
-ghost use Rattle.kafka_room.specs.Replay.{IsReplayOf, IsReplay, IsReplayFront, IsOtherForm};
-ghost use Rattle.trace_file.specs.Contents.{configuration_of};
-ghost use Rattle.trace_file.specs.Trace.{IsPlainLine};
 ghost use Rattle.broker.specs.UnderWay.{IsUnderWay};
+ghost use Rattle.kafka_room.specs.Codes.{bad_line_of};
+ghost use Rattle.kafka_room.specs.LinesFront.{IsLinesFront};
+ghost use Rattle.kafka_room.specs.Replay.{IsReplayOf, IsReplay, IsReplayFront, IsFirstBadOf, IsWaitingTrace};
 
 use crate::exit::Stop;
-use crate::streams::{Input, read_all, write_all};
+use crate::streams::{read_all, write_all};
 use audit::{Account, put_summary};
-use broker::{Lone, are_plain_streams};
-use kbytes::{Bytes, NoMemory};
+use broker::{Lone, needs_waiting};
+use kbytes::{Bytes, List};
 use outside::{Sink, Source};
 use std::alloc::Global;
-use trace_file::{Line, PlainTrace, REPLAY_PORT, read_plain_trace};
+use trace_file::{Line, REPLAY_PORT, config_of, read_trace};
 
-// Reads a text of the form that is built. `None` comes exactly where it is none.
-fn read_form(alloc: Global, text: &[u8]) -> Result<Option<PlainTrace>, NoMemory>
-    ensures form { IfOk result (λ o. IfSome o (λ trace. IsPlainForm text.now trace.lines)) }
-    ensures config { IfOk result (λ o. IfSome o (λ trace. trace.config ≡ configuration_of REPLAY_PORT trace.lines)) }
-    ensures none { IfOk result (λ o. IfNone o ((lines : Items TheLine) → IsPlainForm text.now lines → ⊥)) }
-{
-    let Some(trace) = read_plain_trace(alloc, text)? else {
-        return Ok(None);
-    };
-    if are_plain_streams(alloc, trace.lines.as_slice())? {
-        Ok(Some(trace))
-    } else {
-        Ok(None)
-    }
-}
-
-// Reads the source's trace.
-fn prepare<S: Source>(alloc: Global, source: &mut S) -> Result<PlainTrace, Stop>
-    ensures form { IfOk result (λ trace. (text : Items ℕ) × IsPlainForm text trace.lines × IfSome (S.left source.old) (λ t. t ≡ text)) }
-    ensures config { IfOk result (λ trace. trace.config ≡ configuration_of REPLAY_PORT trace.lines) }
+// Reads the lines of the source's trace. Its text isn't kept.
+fn read_lines<S: Source>(alloc: Global, source: &mut S) -> Result<List<Line>, Stop>
+    ensures trace { IfOk result (λ lines. (text : Items ℕ) × IsTrace text lines × IfSome (S.left source.old) (λ t. t ≡ text)) }
     ensures end { OnOk result (IsAtEnd (S.left source.new)) }
     ensures read_fault { IsErrOf result Stop.ReadFault → Rose (S.faults source.old) (S.faults source.new) }
-    ensures unbuilt { IsErrOf result Stop.Unbuilt → IsOtherForm (S.left source.old) }
-    ensures only { IfErr result (λ stop. (stop ≡ Stop.ReadFault) ⊎ (stop ≡ Stop.NoMemory) ⊎ (stop ≡ Stop.Unbuilt)) }
+    ensures bad_line { IfErr result (λ stop. IfSome (bad_line_of stop) (IsFirstBadOf (S.left source.old))) }
+    ensures only { IfErr result (λ stop. (stop ≡ Stop.ReadFault) ⊎ (stop ≡ Stop.NoMemory) ⊎ IsSome (bad_line_of stop)) }
 {
-    let input = read_all(alloc, source)?;
-    let text = match input {
-        Input::Whole(text) => text,
-        Input::TooLong => return Err(Stop::Unbuilt),
-    };
-    match read_form(alloc, text.as_slice())? {
-        Some(trace) => Ok(trace),
-        None => Err(Stop::Unbuilt),
+    let text = read_all(alloc, source)?;
+    let lines = read_trace(alloc, text.as_slice(), false)?;
+    Ok(lines)
+}
+
+// Reads the lines of the source's trace, where it is of the form that is built.
+fn prepare<S: Source>(alloc: Global, source: &mut S) -> Result<List<Line>, Stop>
+    ensures form { IfOk result (λ lines. (text : Items ℕ) × IsBuiltForm text lines × IfSome (S.left source.old) (λ t. t ≡ text)) }
+    ensures end { OnOk result (IsAtEnd (S.left source.new)) }
+    ensures read_fault { IsErrOf result Stop.ReadFault → Rose (S.faults source.old) (S.faults source.new) }
+    ensures bad_line { IfErr result (λ stop. IfSome (bad_line_of stop) (IsFirstBadOf (S.left source.old))) }
+    ensures unbuilt { IsErrOf result Stop.Unbuilt → IsWaitingTrace (S.left source.old) }
+    ensures only { IfErr result (λ stop. (stop ≡ Stop.ReadFault) ⊎ (stop ≡ Stop.NoMemory) ⊎ (stop ≡ Stop.Unbuilt) ⊎ IsSome (bad_line_of stop)) }
+{
+    let lines = read_lines(alloc, source)?;
+    if needs_waiting(alloc, lines.as_slice())? {
+        return Err(Stop::Unbuilt);
     }
+    Ok(lines)
 }
 
 // Plays the lines one after the other, and writes what each prints before the next.
@@ -66,8 +57,7 @@ fn play_lines<K: Sink>(
     lone: &mut Lone,
     sink: &mut K,
 ) -> Result<(), Stop>
-    requires plain { All IsPlainLine lines.now }
-    requires under_way { IsUnderWay [] lines.now lone.old }
+    requires { IsUnderWay [] lines.now lone.old }
     ensures played { OnOk result ((text : Items ℕ) × Plays lone.old lines.now (record { board = lone.new; text = text })
         × Appends (K.written sink.old) (K.written sink.new) text) }
     ensures under_way { OnOk result (IsUnderWay lines.now [] lone.new) }
@@ -85,20 +75,19 @@ fn play_lines<K: Sink>(
     Ok(())
 }
 
-// Plays a trace to its end, and writes the summary behind the last line's text.
-fn play<K: Sink>(alloc: Global, trace: PlainTrace, sink: &mut K) -> Result<Account, Stop>
-    requires form { (text : Items ℕ) × IsPlainForm text trace.lines }
-    requires config { trace.config ≡ configuration_of REPLAY_PORT trace.lines }
-    ensures replay { IfOk result (λ account. (text : Items ℕ) × IsReplayOf trace.lines account text
+// Plays a trace to its end, and writes the summary after the lines' text.
+fn play<K: Sink>(alloc: Global, lines: &[Line], sink: &mut K) -> Result<Account, Stop>
+    requires { (text : Items ℕ) × IsBuiltForm text lines.now }
+    ensures replay { IfOk result (λ account. (text : Items ℕ) × IsReplayOf lines.now account text
         × Appends (K.written sink.old) (K.written sink.new) text) }
-    ensures front { (text : Items ℕ) → IsPlainForm text trace.lines → OnErr result ((written : Items ℕ) × IsReplayFront (Some text) written
+    ensures front { (text : Items ℕ) → IsBuiltForm text lines.now → OnErr result ((written : Items ℕ) × IsReplayFront (Some text) written
         × Appends (K.written sink.old) (K.written sink.new) written) }
     ensures failed { IsErrOf result Stop.WriteFault → Rose (K.faults sink.old) (K.faults sink.new) }
     ensures only { IfErr result (λ stop. (stop ≡ Stop.WriteFault) ⊎ (stop ≡ Stop.NoMemory)) }
 {
-    let PlainTrace { config, lines } = trace;
+    let config = config_of(alloc, lines, REPLAY_PORT)?;
     let mut lone = Lone::make(alloc, config)?;
-    play_lines(alloc, lines.as_slice(), &mut lone, sink)?;
+    play_lines(alloc, lines, &mut lone, sink)?;
     let account = lone.close()?;
     let mut summary = Bytes::new(alloc);
     put_summary(alloc, &account, &mut summary)?;
@@ -122,11 +111,13 @@ pub fn replay<S: Source, K: Sink>(
         ⊎ ((written : Items ℕ) × IsReplayFront (S.left source.old) written × Appends (K.written sink.old) (K.written sink.new) written) }
     ensures end { OnOk result (IsAtEnd (S.left source.new)) }
     ensures end_written { IsErrOf result Stop.WriteFault → IsAtEnd (S.left source.new) }
-    ensures silent { IsErrOf result Stop.ReadFault ⊎ IsErrOf result Stop.Unbuilt → Keeps (K.written sink.old) (K.written sink.new) }
+    ensures silent { IfErr result (λ stop. (stop ≡ Stop.ReadFault) ⊎ (stop ≡ Stop.Unbuilt) ⊎ IsSome (bad_line_of stop)
+        → Keeps (K.written sink.old) (K.written sink.new)) }
     ensures read_fault { IsErrOf result Stop.ReadFault → Rose (S.faults source.old) (S.faults source.new) }
     ensures write_fault { IsErrOf result Stop.WriteFault → Rose (K.faults sink.old) (K.faults sink.new) }
-    ensures unbuilt { IsErrOf result Stop.Unbuilt → IsOtherForm (S.left source.old) }
+    ensures bad_line { IfErr result (λ stop. IfSome (bad_line_of stop) (IsFirstBadOf (S.left source.old))) }
+    ensures unbuilt { IsErrOf result Stop.Unbuilt → IsWaitingTrace (S.left source.old) }
 {
-    let trace = prepare(alloc, source)?;
-    play(alloc, trace, sink)
+    let lines = prepare(alloc, source)?;
+    play(alloc, lines.as_slice(), sink)
 }

@@ -1,11 +1,11 @@
 //! The whole program, above the outside that it is handed.
 
-ghost use Rattle.std.specs.Prelude.{◌≡◌, ◌∷◌, [], ◌↔◌, ◌⊎◌, ℕ, List, Some, None, map, codes, IfSome, IsSome, IsTrue};
+ghost use Rattle.std.specs.Prelude.{◌≡◌, ◌∷◌, [], ◌↔◌, ◌⊎◌, ℕ, List, Some, map, codes, IfSome, IsSome, IsTrue};
 ghost use Rattle.std.specs.Io.KnownBytes.{Appends, Keeps, IsAtEnd};
 ghost use Rattle.std.specs.String.{string_bytes};
 ghost use Rattle.outside.specs.Causes.{Rose};
 ghost use Rattle.audit.specs.IsLawful.{IsLawful};
-ghost use Rattle.kafka_room.specs.Replay.{IsReplay, IsReplayFront, IsOtherForm, IsSilent, IsNewPort};
+ghost use Rattle.kafka_room.specs.Replay.{IsReplay, IsReplayFront, IsFirstBadOf, IsWaitingTrace, IsSilent, IsNewPort};
 
 use crate::exit::{Exit, Stop};
 use crate::replay::replay;
@@ -58,14 +58,17 @@ where
     ensures end { (result.code ≡ 0) ⊎ (result.code ≡ 4) → IsAtEnd (S.left source.new) }
     // With any other code nothing was written.
     ensures silent { IsSilent result.code → Keeps (K.written sink.old) (K.written sink.new) }
-    // When each code comes.
-    ensures codes { (result.code ≡ 1) ⊎ (result.code ≡ 0) ⊎ (result.code ≡ 4) ⊎ (result.code ≡ 3) ⊎ (result.code ≡ 6) ⊎ (result.code ≡ 7) }
+    // When each code comes. With 0 and 4 the text is a trace in which nothing may wait, by what was printed, and a trace has
+    // no bad line.
+    ensures codes { (result.code ≡ 1) ⊎ (result.code ≡ 2) ⊎ (result.code ≡ 0) ⊎ (result.code ≡ 4) ⊎ (result.code ≡ 3) ⊎ (result.code ≡ 6) ⊎ (result.code ≡ 7) }
     ensures usage { (result.code ≡ 1) ↔ (map (λ word. string_bytes word) words.now ≡ codes "replay" ∷ [] → ⊥) }
     ensures read_fault { result.code ≡ 3 → Rose (S.faults source.old) (S.faults source.new) }
     ensures write_fault { result.code ≡ 4 → Rose (K.faults sink.old) (K.faults sink.new) }
-    ensures unbuilt { result.code ≡ 7 → IsOtherForm (S.left source.old) }
-    // No line is told yet, and what wasn't used is handed back.
-    ensures line { result.line ≡ None }
+    ensures unbuilt { result.code ≡ 7 → IsWaitingTrace (S.left source.old) }
+    // A bad line is told exactly with code 2: it is the first of the text.
+    ensures line { IsSome result.line ↔ (result.code ≡ 2) }
+    ensures bad_line { IfSome result.line (IsFirstBadOf (S.left source.old)) }
+    // What wasn't used is handed back.
     ensures port { result.port ≡ Some port }
     ensures clock { result.clock ≡ Some clock }
 {

@@ -14,16 +14,7 @@ use trace_file::MOST_TRACE_BYTES;
 /// The most bytes that are read at a time.
 const PIECE: usize = 65_536;
 
-/// What a source gave.
-#[derive(Debug, Drop)]
-pub enum Input {
-    /// All that it had left.
-    Whole(Bytes),
-    /// More bytes than a trace may have: it wasn't read on.
-    TooLong,
-}
-
-// One read, put behind the text. It answers how many bytes came.
+// One read, put at the end of the text. It answers how many bytes came.
 fn read_piece<S: Source>(source: &mut S, room: &mut [u8], text: &mut Bytes) -> Result<usize, Stop>
     requires { 0 < length room.old }
     ensures came { IfOk result (λ n. (piece : List ℕ) × (length piece ≡ n) × (n ≤ length room.old)
@@ -49,7 +40,7 @@ fn make_room(alloc: Global) -> Result<Vec<u8>, AllocError>
 }
 
 /// Reads the source until it ends, fails, or has given one byte more than a trace may have.
-pub fn read_all<S: Source>(alloc: Global, source: &mut S) -> Result<Input, Stop>
+pub fn read_all<S: Source>(alloc: Global, source: &mut S) -> Result<Bytes, Stop>
     ensures input { IfOk result (IsInput (S.left source.old) (S.left source.new)) }
     ensures later { S.faults source.old ≤ S.faults source.new }
     ensures failed { IsErrOf result Stop.ReadFault → Rose (S.faults source.old) (S.faults source.new) }
@@ -61,10 +52,10 @@ pub fn read_all<S: Source>(alloc: Global, source: &mut S) -> Result<Input, Stop>
         let want = PIECE.min(MOST_TRACE_BYTES + 1 - text.len());
         let came = read_piece(source, &mut room[..want], &mut text)?;
         if came == 0 {
-            return Ok(Input::Whole(text));
+            return Ok(text);
         }
     }
-    Ok(Input::TooLong)
+    Ok(text)
 }
 
 /// Writes the whole part. Where a write fails, the front of the part was written.

@@ -14,6 +14,7 @@ use std::alloc::Global;
 use std::sync::Wait;
 use std::test::*;
 use std::thread::Threads;
+use trace_file::{LineFault, LineKind};
 
 const TOPIC: &str = "topic t 1 0\n";
 
@@ -224,17 +225,61 @@ fn each_write_that_fails_leaves_the_front_of_the_output(rt: HostRuntime) -> Resu
 }
 
 #[test]
-fn a_frame_of_eight_mebibytes_that_is_no_request_is_another_form(
-    rt: HostRuntime,
-) -> Result<(), Fail> {
+fn a_bad_line_is_told_and_nothing_is_written(rt: HostRuntime) -> Result<(), Fail> {
     let alloc = rt.alloc();
-    let mut text = joined(alloc, &[TOPIC, TO_0, "00800000"])?;
+    let text = joined(alloc, &[TOPIC, TO_0, PRODUCE, A, "\nclose 64\nend\n"])?;
+    let refused = run_with(&rt, alloc, &["replay"], text, &[], &[])?;
+    assert_eq!(rt; refused.exit.code, 2);
+    let fault = LineFault {
+        line: 3,
+        kind: LineKind::Number,
+    };
+    assert_eq!(rt; refused.exit.line, Some(fault));
+    assert!(rt; refused.sink.bytes().is_empty());
+    Ok(())
+}
+
+#[test]
+fn a_trace_that_may_wait_is_of_another_form(rt: HostRuntime) -> Result<(), Fail> {
+    let alloc = rt.alloc();
+    let text = joined(alloc, &[TOPIC, "clock 5\nend\n"])?;
+    let other = run_with(&rt, alloc, &["replay"], text, &[], &[])?;
+    assert_eq!(rt; other.exit.code, 7);
+    assert!(rt; other.exit.line.is_none());
+    assert!(rt; other.sink.bytes().is_empty());
+    Ok(())
+}
+
+// The trace of a frame of eight mebibytes, whose size is told by these digits, and what it prints.
+fn long_frame<R: Threads + Wait + Sync>(rt: &R, alloc: Global, size: &str) -> Result<Ran, Fail> {
+    let mut text = joined(alloc, &[TOPIC, TO_0, size])?;
     for _ in 0..262_144 {
         text.extend(b"0000000000000000000000000000000000000000000000000000000000000000")?;
     }
     text.extend(b"\nend\n")?;
-    let other = run_with(&rt, alloc, &["replay"], text, &[], &[])?;
-    assert_eq!(rt; other.exit.code, 7);
-    assert!(rt; other.sink.bytes().is_empty());
+    run_with(rt, alloc, &["replay"], text, &[], &[])
+}
+
+#[test]
+fn a_frame_of_eight_mebibytes_is_read_and_one_more_byte_is_too_long(
+    rt: HostRuntime,
+) -> Result<(), Fail> {
+    let alloc = rt.alloc();
+    let table = [
+        ("00800000", "end 0 refused unsupported 0 0\n"),
+        ("00800001", "end 0 too-long 8388609\n"),
+    ];
+    for (size, end) in table {
+        let ran = long_frame(&rt, alloc, size)?;
+        assert_eq!(rt; ran.exit.code, 0, "size {size}");
+        let printed = joined(
+            alloc,
+            &[
+                end,
+                "part 0 end 0 high 0 batches 0 bytes 0\nsession 0 calls 0 replies 0 parked 0\ndone\n",
+            ],
+        )?;
+        assert_eq!(rt; ran.sink.bytes(), printed.as_slice(), "size {size}");
+    }
     Ok(())
 }

@@ -11,8 +11,8 @@ use Rattle.kafka_room.proofs.Replays.{front_of_lines, front_within}
 use Rattle.kafka_room.proofs.Writes.{front_behind}
 use Rattle.kafka_room.proofs.replay.play_lines.Goals as goal
 
-pub event-requires-clause-under_way : goal.event-requires-clause-under_way
-event-requires-clause-under_way g c =
+pub event-requires : goal.event-requires
+event-requires g c =
     let lines = c.args.lines.now in
     let i = c.loop-line.line-index in
     let rest = lines_left lines i c.line-item.result c.loop-line-test.true c.line-item.is in
