@@ -4,13 +4,19 @@
 //! what it writes is the same each time.
 #![tactic(auto)]
 
+mod calls;
 mod checksum;
 mod fault;
 mod figure;
+mod lane;
+mod operation;
 mod size;
+mod table;
+mod ticket;
 mod timers;
 mod turns;
 mod watchers;
+mod words;
 
 use fault::Fault;
 use figure::Figure;
@@ -22,6 +28,7 @@ use std::sync::Wait;
 use std::thread::Threads;
 use std::time::Clock;
 use std::{env, io};
+use turns::Beside;
 
 // Whether the one word of the command line is `measure`, and whether it has no word.
 fn asked(rt: &HostRuntime) -> io::Result<Option<Size>> {
@@ -44,6 +51,20 @@ fn show(rt: &HostRuntime, size: Size, figure: &Figure) -> io::Result<()> {
     }
 }
 
+fn run_table<R: Threads + Clock + Sync>(
+    rt: &R,
+    alloc: Global,
+    size: Size,
+    figures: &mut List<Figure>,
+) -> Result<(), Fault> {
+    for kind in table::KINDS {
+        for threads in [1, 2, 4] {
+            figures.push(table::calls(rt, alloc, size, kind, threads)?)?;
+        }
+    }
+    Ok(())
+}
+
 fn run<R: Threads + Wait + Clock + Sync>(
     rt: &R,
     alloc: Global,
@@ -51,7 +72,10 @@ fn run<R: Threads + Wait + Clock + Sync>(
 ) -> Result<List<Figure>, Fault> {
     let mut figures = List::new(alloc);
     for threads in [1, 2, 4] {
-        figures.push(turns::empty(rt, alloc, size, threads)?)?;
+        figures.push(turns::empty(rt, alloc, size, threads, Beside::Mutex)?)?;
+    }
+    for threads in [1, 2, 4] {
+        figures.push(turns::empty(rt, alloc, size, threads, Beside::Tickets)?)?;
     }
     for threads in [1, 2, 4] {
         figures.push(turns::mixed(rt, alloc, size, threads)?)?;
@@ -61,6 +85,7 @@ fn run<R: Threads + Wait + Clock + Sync>(
     }
     figures.push(watchers::steps(rt, alloc, size)?)?;
     figures.push(checksum::megabyte(rt, alloc, size)?)?;
+    run_table(rt, alloc, size, &mut figures)?;
     Ok(figures)
 }
 
@@ -70,6 +95,10 @@ fn show_all(rt: &HostRuntime, size: Size, figures: &[Figure]) -> io::Result<()> 
         show(rt, size, figure)?;
         came_to ^= figure.came_to;
     }
+    println!(rt;
+        "words of a table of 193 gauges and 80 passes: {} bytes",
+        lane::bytes()
+    )?;
     match size {
         Size::Tiny => Ok(()),
         Size::Whole => println!(rt; "the steps came to {came_to}"),

@@ -1,10 +1,11 @@
-//! Turns of a lock on some threads, beside those of std's `Mutex`.
+//! Turns of a lock on some threads, beside those of std's `Mutex` or of a ticket lock.
 ghost use Rattle.std.specs.Prelude.{◌≡◌, ◌≤◌, [], ◌∷◌, All, IfOk};
 ghost use Rattle.turn_lock.specs.Locks.{lock_id, lock_name, AreFresh, IsPassOf, IsReady};
 
 use crate::fault::Fault;
 use crate::figure::{Figure, for_each};
 use crate::size::Size;
+use crate::ticket::TicketLock;
 use kbytes::{List, NoMemory};
 use std::alloc::Global;
 use std::sync::{Mutex, Wait};
@@ -21,6 +22,24 @@ struct Load {
     turns: u64,
     inside: u32,
     outside: u32,
+}
+
+/// The lock that the turns stand beside.
+#[derive(Clone, Copy, Debug)]
+pub enum Beside {
+    /// std's `Mutex`, which serves in any order.
+    Mutex,
+    /// A ticket lock of two atomics, which serves in order and keeps no value.
+    Tickets,
+}
+
+impl Beside {
+    fn name(self) -> &'static str {
+        match self {
+            Beside::Mutex => "Mutex",
+            Beside::Tickets => "a ticket lock",
+        }
+    }
 }
 
 fn worked(start: u64, steps: u32) -> u64 {
@@ -90,6 +109,17 @@ fn lock_often(rt: &impl Wait, mutex: &Mutex<Tally>, load: Load) {
     }
 }
 
+fn serve_often(rt: &impl Wait, lock: &TicketLock, load: Load) -> u64 {
+    let mut row = 1;
+    for _ in 0..load.turns {
+        let ticket = lock.take(rt);
+        row = worked(row, load.inside);
+        lock.end(ticket);
+        row = worked(row, load.outside);
+    }
+    row
+}
+
 /// The passes of a lock, to be handed to threads.
 fn handed_out(
     alloc: Global,
@@ -144,12 +174,42 @@ fn under_a_mutex<R: Threads + Wait + Sync>(
     Ok(mutex.into_inner().row)
 }
 
+fn by_tickets<R: Threads + Wait + Sync>(
+    rt: &R,
+    alloc: Global,
+    threads: u32,
+    load: Load,
+) -> Result<u64, NoMemory> {
+    let lock = TicketLock::new();
+    let rows = map_indices(
+        rt,
+        alloc,
+        threads as usize,
+        &|_: usize| serve_often(rt, &lock, load),
+    )?;
+    Ok(rows.len() as u64)
+}
+
+fn beside_it<R: Threads + Wait + Sync>(
+    rt: &R,
+    alloc: Global,
+    threads: u32,
+    load: Load,
+    beside: Beside,
+) -> Result<u64, NoMemory> {
+    match beside {
+        Beside::Mutex => under_a_mutex(rt, alloc, threads, load),
+        Beside::Tickets => by_tickets(rt, alloc, threads, load),
+    }
+}
+
 fn measured<R: Threads + Wait + Clock + Sync>(
     rt: &R,
     alloc: Global,
     name: &str,
     threads: u32,
     load: Load,
+    beside: Beside,
 ) -> Result<Figure, Fault>
     requires { 1 ≤ threads }
 {
@@ -157,15 +217,15 @@ fn measured<R: Threads + Wait + Clock + Sync>(
     let turns_came_to = in_turns(rt, alloc, threads, load)?;
     let ours = start.elapsed(rt)?;
     let start = Instant::now(rt)?;
-    let mutex_came_to = under_a_mutex(rt, alloc, threads, load)?;
+    let others_came_to = beside_it(rt, alloc, threads, load, beside)?;
     let theirs = start.elapsed(rt)?;
     let turns = load.turns.saturating_mul(u64::from(threads));
     Ok(Figure {
         name: format!(in alloc; "{name}, threads: {threads}")?,
-        baseline: "Mutex",
+        baseline: beside.name(),
         ours: for_each(ours, turns),
         theirs: for_each(theirs, turns),
-        came_to: turns_came_to ^ mutex_came_to,
+        came_to: turns_came_to ^ others_came_to,
     })
 }
 
@@ -175,6 +235,7 @@ pub fn empty<R: Threads + Wait + Clock + Sync>(
     alloc: Global,
     size: Size,
     threads: u32,
+    beside: Beside,
 ) -> Result<Figure, Fault>
     requires { 1 ≤ threads }
 {
@@ -183,7 +244,11 @@ pub fn empty<R: Threads + Wait + Clock + Sync>(
         inside: 0,
         outside: 0,
     };
-    measured(rt, alloc, "empty turns", threads, load)
+    let name = match beside {
+        Beside::Mutex => "empty turns",
+        Beside::Tickets => "empty turns beside a ticket lock",
+    };
+    measured(rt, alloc, name, threads, load, beside)
 }
 
 /// Turns of a microsecond, each after ten microseconds elsewhere.
@@ -200,5 +265,12 @@ pub fn mixed<R: Threads + Wait + Clock + Sync>(
         inside: MICROSECOND,
         outside: 10 * MICROSECOND,
     };
-    measured(rt, alloc, "turns of 1 us after 10 us", threads, load)
+    measured(
+        rt,
+        alloc,
+        "turns of 1 us after 10 us",
+        threads,
+        load,
+        Beside::Mutex,
+    )
 }
