@@ -1,5 +1,5 @@
 #!/usr/bin/env python3
-"""Plays random traces by the model and by the proved program, and compares codes and output byte for byte.
+"""Plays random traces by the model and by the proved program, and compares codes, output and errors byte for byte.
 
 It stops at the first that differs, and shows where. The trace is left in the folder that is named.
 """
@@ -20,41 +20,42 @@ PROGRAM = ROOT / "crates" / "kafka_room" / "out" / "kafka_room"
 KINDS = ["plain", "waiting", "spoiled"]
 
 
-def waits_for_nothing(body):
-    try:
-        request = wire.read_request(body)
-    except wire.Refused:
-        return False
-    if request.key == 0:
-        return request.fields["acks"] in (0, 1)
-    return request.key == 1 and request.fields["wait"] <= 0
+def holds_waiting_fetch(data):
+    """Whether a fetch that may wait is among the frames up to the first that is refused or too long."""
+    while True:
+        kind, body = wire.next_frame(data)
+        if kind != "whole":
+            return False
+        try:
+            request = wire.read_request(body)
+        except wire.Refused:
+            return False
+        if request.key == 1 and request.fields["wait"] > 0:
+            return True
+        data = data[4 + len(body):]
 
 
 def is_built(lines):
-    """Whether a trace is of the form that the program takes so far: no followers, no close and clock lines, and whole frames alone, of
-    requests that wait for nothing."""
+    """Whether a trace is of the form that the program takes so far: no followers, no clock lines, and no fetch that may wait."""
     received = {}
     for kind, what in lines:
-        if kind in ("close", "clock") or kind == "topic" and what.followers > 0:
+        if kind == "clock" or kind == "topic" and what.followers > 0:
             return False
         if kind == "bytes":
             received[what[0]] = received.get(what[0], b"") + what[1]
-    for data in received.values():
-        while data:
-            kind, body = wire.next_frame(data)
-            if kind != "whole" or not waits_for_nothing(body):
-                return False
-            data = data[4 + len(body):]
-    return True
+    return not any(holds_waiting_fetch(data) for data in received.values())
+
+
+UNBUILT = b"kafka_room: a trace of this form isn't built yet\n"
 
 
 def wanted(text):
-    """The exit code and the output for this text."""
+    """The exit code, the output and the errors for this text."""
     try:
         lines = traces.read(text)
-    except traces.Bad:
-        return 7, b""
-    return (0, broker.play(lines)) if is_built(lines) else (7, b"")
+    except traces.Bad as bad:
+        return 2, b"", f"kafka_room: {bad.told()}\n".encode()
+    return (0, broker.play(lines), b"") if is_built(lines) else (7, b"", UNBUILT)
 
 
 def first_difference(ours, theirs):
@@ -82,12 +83,13 @@ def main():
         codes = {}
         for seed in range(chosen.first, chosen.first + chosen.count):
             text = generate.made(kind, seed)
-            code, output = wanted(text)
+            code, output, errors = wanted(text)
             ran = subprocess.run([chosen.program, "replay"], input=text, capture_output=True, timeout=60)
-            if (ran.returncode, ran.stdout) != (code, output):
+            if (ran.returncode, ran.stdout, ran.stderr) != (code, output, errors):
                 left = chosen.folder / f"{kind}_{seed}.trace"
                 left.write_bytes(text)
-                print(f"{left} differs: the model ends with {code}, the program with {ran.returncode}; {first_difference(output, ran.stdout)}")
+                print(f"{left} differs: the model ends with {code}, the program with {ran.returncode}; "
+                      f"{first_difference(errors + output, ran.stderr + ran.stdout)}")
                 return 1
             codes[code] = codes.get(code, 0) + 1
         told = ", ".join(f"{count} with code {code}" for code, count in sorted(codes.items()))

@@ -1,6 +1,7 @@
 """Random traces, by kind, each from a seed of its own."""
 
 import random
+import struct
 
 import batches
 import wire
@@ -61,7 +62,7 @@ def produce(random_, declared, waits):
     return wire.produce_request(
         random_.randrange(100),
         named(random_, declared, lambda: (some_batch(random_),)),
-        acks=random_.choice([-1, -1, 1, 0, 2] if waits else [0, 1, 1]),
+        acks=random_.choice([-1, -1, 1, 0, 2] if waits else [-1, 0, 1, 1, 2]),
         timeout=random_.choice([-1, 0, 1, 10, 1000]),
         transactional=b"x" if random_.random() < 0.05 else None,
     )
@@ -89,14 +90,16 @@ def other(random_, declared):
         wire.versions_request(5, version=random_.choice([1, 3, -1]), rest=b"\2k\2"),
         wire.frame(wire.header(random_.choice([2, 4, 19, -1]), 0, 1)),
         wire.produce_request(6, [(b"t", [(index, b"")]), (b"t", [(index, b"")])]),
-        wire.fetch_request(7, [(b"t", [(part, 0, 1) for part in range(random_.choice([64, 65]))])], version=random_.choice([4, 4, 3])),
+        wire.fetch_request(7, [(b"t", [(part, 0, 1) for part in range(random_.choice([64, 65]))])], version=random_.choice([4, 4, 3]), wait=0),
         wire.fetch_request(8, [], isolation=random_.choice([0, 2, -1]), wait=0),
         wire.frame(b""),
     ])
 
 
 def broken(random_, frame):
-    """A byte of a frame is another, or the frame is cut."""
+    """A byte of a frame is another, or the frame is cut, or its size is one that no frame has."""
+    if random_.random() < 0.2:
+        return struct.pack(">i", random_.choice([-1, -2 ** 31, 2 ** 31 - 1, 8_388_609, 8_388_608])) + frame[4:]
     if random_.random() < 0.3:
         return frame[:random_.randrange(len(frame))]
     place = random_.randrange(len(frame))
@@ -123,14 +126,14 @@ def events(random_, declared, waits):
         session = random_.choice([0, 0, 1, 2, 63])
         if session in closed:
             continue
-        if waits and kind < 0.28:
+        if 0.2 <= kind < 0.28:
             closed.add(session)
             yield b"close %d" % session
             continue
         frame = random_.choice([produce, fetch])(random_, declared, waits)
-        if random_.random() < (0.15 if waits else 0.03):
+        if random_.random() < 0.15:
             frame = other(random_, declared)
-        if random_.random() < (0.05 if waits else 0.02):
+        if random_.random() < 0.05:
             frame = broken(random_, frame)
         if random_.random() < 0.2:
             frame += fetch(random_, declared, waits)

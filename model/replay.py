@@ -11,7 +11,7 @@ def main():
     try:
         lines = traces.read(sys.stdin.buffer.read())
     except traces.Bad as bad:
-        print(f"line {bad.line}: {bad.kind}", file=sys.stderr)
+        print(f"kafka_room: {bad.told()}", file=sys.stderr)
         return 2
     sys.stdout.buffer.write(broker.play(lines))
     return 0

@@ -7,6 +7,19 @@ MOST_MOMENT = 10 ** 15
 MOST_COUNT = 4_294_967_295
 WORDS = {b"topic": 4, b"bytes": 3, b"close": 2, b"clock": 2, b"end": 1}
 DIGITS = b"0123456789abcdefABCDEF"
+# What the program tells of each kind of bad line.
+SENTENCES = {
+    "Word": "a line begins with topic, bytes, close, clock or end",
+    "Form": "a line has as many words as its kind, and one space between two words",
+    "Number": "a session is a number from 0 to 63, a moment from 0 to 10^15, partitions and followers from 0 to 4294967295, "
+              "with no leading zeros",
+    "Hex": "bytes are written as pairs of hex digits",
+    "BadTopic": "a topic has a new name of at most 249 letters, digits, dots, underscores and hyphens, at least 1 partition, "
+                "at most 64 with those of other topics, and at most 8 followers",
+    "Order": "topics stand first and end last, the clock never goes back, and nothing more comes for a session that is closed",
+    "NoEnd": "the line end is missing",
+    "TooLong": "a trace has at most 67108864 bytes",
+}
 
 
 class Bad(Exception):
@@ -15,6 +28,9 @@ class Bad(Exception):
     def __init__(self, line, kind):
         super().__init__(line, kind)
         self.line, self.kind = line, kind
+
+    def told(self):
+        return f"line {self.line}: {SENTENCES[self.kind]}"
 
 
 class _Kind(Exception):
