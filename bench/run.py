@@ -17,6 +17,8 @@ PROGRAM = ROOT / "crates" / "kafka_room" / "out" / "kafka_room"
 YARDSTICK = ["basenc", "--base16", "-d"]
 # The least of so many runs counts.
 RUNS = 3
+# The bytes of a short line.
+LINE = 100
 
 
 class Wrong(Exception):
@@ -103,6 +105,17 @@ def large(count):
     yield b"end\n"
 
 
+def cut(count, each):
+    """The same, the bytes of each frame cut over lines of so many bytes."""
+    one = batch(bytes(1048504))
+    yield b"topic t 1 0\n"
+    for number in range(count):
+        request = produce(number, 0, one)
+        for at in range(0, len(request), each):
+            yield fed(0, request[at:at + each])
+    yield b"end\n"
+
+
 def write(folder, lines):
     """Line by line, so that this process stays small: what the system tells of a child's memory begins with its parent's."""
     with open(folder / "trace", "wb") as trace, open(folder / "digits", "wb") as digits:
@@ -164,6 +177,13 @@ def show(name, requests, seconds, memory, plain, size):
     print(f"  {seconds / plain:.1f} times the yardstick's {plain:.3f} s", flush=True)
 
 
+def show_lines(program, folder, batches):
+    seconds, _, plain, _ = measured(program, folder, cut(batches, LINE), batches, batches)
+    lines = batches * -(-len(produce(0, 0, batch(bytes(1048504)))) // LINE)
+    print(f"short lines: {lines} lines of {LINE} bytes")
+    print(f"  {seconds:.3f} s, {lines / seconds:.0f} lines/s; {seconds / plain:.1f} times the yardstick", flush=True)
+
+
 def show_growth(program, folder, first):
     print("growth: one partition", flush=True)
     before = None
@@ -180,6 +200,7 @@ def main():
     options.add_argument("program", nargs="?", type=pathlib.Path, default=PROGRAM)
     options.add_argument("--small", type=int, default=20000, metavar="N", help="requests, every second one a fetch")
     options.add_argument("--large", type=int, default=31, metavar="N", help="batches of 1,048,576 bytes, at most 31")
+    options.add_argument("--lines", type=int, default=20, metavar="N", help="batches of 1,048,576 bytes in short lines")
     options.add_argument("--growth", type=int, default=10000, metavar="N", help="the requests of the first of three runs")
     chosen = options.parse_args()
     if not os.access(chosen.program, os.X_OK):
@@ -195,6 +216,7 @@ def main():
                 ("large batches", large(chosen.large), chosen.large, chosen.large),
             ]:
                 show(title, requests, *measured(chosen.program, folder, lines, requests, produces))
+            show_lines(chosen.program, folder, chosen.lines)
             show_growth(chosen.program, folder, chosen.growth)
         except Wrong as wrong:
             print(wrong, file=sys.stderr)
