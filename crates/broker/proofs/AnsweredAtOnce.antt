@@ -15,7 +15,7 @@ use Rattle.kwire.specs.declared.request.Ask.TheVariants.{Produce, Fetch, Metadat
 use Rattle.kanswer.specs.LogReadings.{named_count}
 use Rattle.kwire.specs.Configuration.{Configuration, partitions_of, followers_of}
 use Rattle.kanswer.specs.Decisions.{Decision, Refuse, AskLog, Decides, produce_parts, fetch_parts}
-use Rattle.broker.specs.Entering.{accept_all, shown_of, steps_of}
+use Rattle.plain_broker.specs.Entering.{accept_all, shown_of, steps_of}
 use Rattle.broker.specs.Carried.{HasNoFollowers}
 use Rattle.kanswer.specs.Waiting.{Shown, results_of, states_of, becomes_delayed, produce_need, value_of, gauge_value}
 use Rattle.opcond.specs.Tally.{tally}
@@ -26,13 +26,13 @@ use Rattle.broker.specs.Carried.{Came}
 use Rattle.kwire.specs.declared.request.Request.{Request}
 use Rattle.kanswer.specs.Answer.{answer}
 use Rattle.broker.specs.AtOnce.{IsAnsweredAtOnce}
-use Rattle.broker.specs.Turns.{text_at_once}
+use Rattle.plain_broker.specs.Turns.{text_at_once}
 use Rattle.broker.specs.Carried.{IsCarried}
 use Rattle.kanswer.specs.Waiting.{is_quiet}
 use Rattle.audit.specs.LawfulCall.{step_points}
 use Rattle.trace_file.specs.PrintedLine.{reply_line}
-use Rattle.broker.proofs.Entries.{IsFair, accepted_size}
-use Rattle.broker.proofs.Fair.{decides_fair, parts_size}
+use Rattle.plain_broker.proofs.Entries.{IsFair, accepted_size}
+use Rattle.plain_broker.proofs.Fair.{decides_fair, parts_size}
 use Rattle.broker.proofs.FetchParts.{none_follow}
 use Rattle.broker.proofs.ShownLogs.{NoneFollow, IsThere, IsLooking, looking_shows, putting_shows, all_put, all_look}
 use Rattle.broker.proofs.ResultsStand.{IsServable, all_servable, decides_honest, decided_count, results_count, servable_log}

@@ -23,27 +23,27 @@ use Rattle.trace_file.specs.declared.line.Line.{Line}
 use Rattle.trace_file.specs.declared.line.Line.TheVariants.{Topic, Feed, Shut, Clock, End}
 use Rattle.trace_file.specs.IsInOrder.{MayFollow}
 use Rattle.trace_file.specs.Contents.{bytes_in, names, shuts, is_named, is_shut}
-use Rattle.broker.specs.Entering.{accept_all, steps_of, shown_of}
-use Rattle.broker.specs.Acting.{can_act, end_of_input, HandlesFrame, Acts}
+use Rattle.plain_broker.specs.Entering.{accept_all, steps_of, shown_of}
+use Rattle.plain_broker.specs.Acting.{can_act, end_of_input, HandlesFrame, Acts}
 use Rattle.broker.specs.AtOnce.{IsAnsweredAtOnce}
-use Rattle.broker.specs.Board.{Board, Seat, empty_seat, new_transcript, seat_at, transcript_at, next_call}
+use Rattle.plain_broker.specs.Board.{Board, Seat, empty_seat, new_transcript, seat_at, transcript_at, next_call}
 use Rattle.broker.specs.BuiltForm.{IsBuiltForm, calls_for_waiting}
 use Rattle.broker.specs.Carried.{AreDeclared, HasNoFollowers}
-use Rattle.broker.specs.Fed.{IsFedBy}
+use Rattle.plain_broker.specs.Fed.{IsFedBy}
 use Rattle.kwire.specs.Configuration.{Configuration}
 use Rattle.kwire.specs.Frames.{next_frame_of}
 use Rattle.audit.specs.LawfulCall.{step_points}
-use Rattle.broker.specs.Turns.{Turned, answered_at_once, left_waiting, handled, ended, seat_with, how_at_once}
+use Rattle.plain_broker.specs.Turns.{Turned, answered_at_once, left_waiting, handled, ended, seat_with, how_at_once}
 use Rattle.kwire.specs.declared.frame.WireFault.{WireFault}
 use Rattle.kwire.specs.IsRequest.{IsRequest}
 use Rattle.kwire.specs.Refusal.{IsRefused}
-use Rattle.broker.specs.Play.{brought, Rests, PlaysLine}
+use Rattle.plain_broker.specs.Play.{brought, Rests, PlaysLine}
 use Rattle.broker.specs.Ready.{IsReady, has_ended, has_work, front_body}
-use Rattle.broker.specs.Steady.{IsSteady}
+use Rattle.plain_broker.specs.Steady.{IsSteady}
 use Rattle.broker.specs.UnderWay.{IsUnderWay, IsServing}
 use Rattle.audit.proofs.Laws.{same_or_not, get_there}
-use Rattle.broker.proofs.FedLines.{seat_set_same, seat_set_other, seat_fed, seat_closed, fed_feed, fed_shut, fed_same, over_is, acts_where_works, acts_alike}
-use Rattle.broker.proofs.OneCallMore.{steady_alike}
+use Rattle.plain_broker.proofs.FedLines.{seat_set_same, seat_set_other, seat_fed, seat_closed, fed_feed, fed_shut, fed_same, over_is, acts_where_works, acts_alike}
+use Rattle.plain_broker.proofs.OneCallMore.{steady_alike}
 use Rattle.broker.proofs.Serving.{calls_at, calls_in_seat, turned, nobodys_turn, rests_none}
 use Rattle.kwire.proofs.Laws.{whole_ends}
 use Rattle.trace_file.proofs.Laws.{few_sessions}

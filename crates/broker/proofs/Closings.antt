@@ -7,11 +7,11 @@ use Rattle.partlog.specs.declared.clock_event.ClockEvent.{ClockEvent}
 use Rattle.audit.specs.declared.account.Account.{Account}
 use Rattle.audit.specs.declared.account.PartAccount.{PartAccount}
 use Rattle.audit.specs.declared.account.Transcript.{Transcript}
-use Rattle.broker.specs.Board.{Seat, put_before, passes_of, part_account, account_of}
+use Rattle.plain_broker.specs.Board.{Seat, put_before, passes_of, part_account, account_of}
 use Rattle.kwire.specs.Configuration.{Configuration}
-use Rattle.broker.specs.Fed.{IsCallAtOnce}
+use Rattle.plain_broker.specs.Fed.{IsCallAtOnce}
 use Rattle.audit.specs.Histories.{calls_in}
-use Rattle.broker.proofs.LawfulAtRest.{none_won}
+use Rattle.plain_broker.proofs.LawfulAtRest.{none_won}
 
 -- the lists of these seats before those of others
 abbrev pub passes_before : List Seat → List (List Transcript) → List (List Transcript)

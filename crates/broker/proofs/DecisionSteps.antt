@@ -21,8 +21,8 @@ use Rattle.broker.specs.Carried.{Came}
 use Rattle.kanswer.specs.declared.accepted.Accepted.{Accepted}
 use Rattle.kanswer.specs.declared.accepted.Accepted.TheVariants.{Refused, Appended}
 use Rattle.kanswer.specs.Decisions.{Put, Outcome, Decision, Refuse, AskLog, look, append_outcome}
-use Rattle.broker.specs.Entering.{Noted, entered, accept_all, steps_of, shown_of}
-use Rattle.broker.specs.Board.{history_at, empty_history}
+use Rattle.plain_broker.specs.Entering.{Noted, entered, accept_all, steps_of, shown_of}
+use Rattle.plain_broker.specs.Board.{history_at, empty_history}
 use Rattle.broker.specs.Carried.{IsEntered, IsSettled, IsCarried}
 use Rattle.kanswer.specs.Waiting.{results_of}
 use Rattle.audit.specs.LawfulCall.{step_points, Step}

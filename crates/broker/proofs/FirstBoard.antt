@@ -11,7 +11,7 @@ use Rattle.audit.specs.declared.account.Call.{Call}
 use Rattle.kwire.specs.declared.config.Topic.{Topic as TheTopic}
 use Rattle.trace_file.specs.declared.line.Line.{Line}
 use Rattle.trace_file.specs.declared.line.Line.TheVariants.{Topic, Feed, Shut, Clock, End}
-use Rattle.broker.specs.Board.{Seat, empty_seat, empty_history, new_transcript, seat_at, transcript_at, opening}
+use Rattle.plain_broker.specs.Board.{Seat, empty_seat, empty_history, new_transcript, seat_at, transcript_at, opening}
 use Rattle.broker.specs.Carried.{IsDeclared, AreDeclared, HasNoFollowers}
 use Rattle.kwire.specs.Configuration.{Configuration, followers_of, partitions_of}
 use Rattle.audit.specs.Histories.{owner_of}
@@ -20,11 +20,11 @@ use Rattle.audit.specs.IsLawful.{places_in}
 use Rattle.broker.specs.BuiltForm.{IsBuiltForm, calls_for_waiting}
 use Rattle.broker.specs.Ready.{has_work}
 use Rattle.trace_file.specs.Contents.{topic_in, configuration_of}
-use Rattle.broker.specs.Steady.{IsWhole, AllBelow, the_owner, all_points, IsSteady}
+use Rattle.plain_broker.specs.Steady.{IsWhole, AllBelow, the_owner, all_points, IsSteady}
 use Rattle.broker.specs.UnderWay.{IsUnderWay}
 use Rattle.audit.proofs.Laws.{some_is}
-use Rattle.broker.proofs.Fair.{parts_size}
-use Rattle.broker.proofs.FedLines.{BringsNoTime, or_neither, fed_opening, acts_where_works}
+use Rattle.plain_broker.proofs.Fair.{parts_size}
+use Rattle.plain_broker.proofs.FedLines.{BringsNoTime, or_neither, fed_opening, acts_where_works}
 use Rattle.trace_file.specs.declared.line.TheConstants.{REPLAY_PORT}
 
 replicate_at : {X : Type 0} (n : ℕ) (x : X) (s : ℕ) → unwrap_or (slice_get (replicate n x) s) x ≡ x

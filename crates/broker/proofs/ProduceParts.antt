@@ -15,7 +15,7 @@ use Rattle.kwire.specs.Configuration.{Configuration, part_of}
 use Rattle.kanswer.specs.Decisions.{Decision, Refuse, BatchDecides, ProduceDecides, is_acks, produce_parts, fetch_parts, fetch_decision}
 use Rattle.broker.specs.Carried.{IsCarried, OnTerms, HasProduced, fetch_decisions}
 use Rattle.broker.proofs.DecisionSteps.{carried_on, carried_none, all_zip_append}
-use Rattle.broker.proofs.Entries.{accepted_size}
+use Rattle.plain_broker.proofs.Entries.{accepted_size}
 
 pub produce_with_id : (config : Configuration) (acks : ℤ) (named : List ℕ × ProducePart) (id : Option (List ℕ)) → is_some id ≡ true → ProduceDecides config id acks named (Refuse (pos 42))
 produce_with_id config acks named None e = absurd cc

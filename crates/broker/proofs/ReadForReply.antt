@@ -21,7 +21,7 @@ use Rattle.kanswer.specs.declared.accepted.Accepted.{Accepted}
 use Rattle.kanswer.specs.declared.accepted.Accepted.TheVariants.{Refused, Appended, Seen}
 use Rattle.kanswer.specs.declared.accepted.Reading.{Reading}
 use Rattle.kanswer.specs.declared.accepted.Budget.{Budget}
-use Rattle.broker.specs.Board.{history_at, empty_history}
+use Rattle.plain_broker.specs.Board.{history_at, empty_history}
 use Rattle.kanswer.specs.Waiting.{at_least_zero}
 use Rattle.kanswer.specs.Answer.{is_readable, read_of, batches_as, budget_after, first_budget}
 use Rattle.kanswer.specs.LogReadings.{AreReadings, HasNumbers, ProduceReadings, HasRecords, FetchReadings, named_count, budget_of}

@@ -17,13 +17,13 @@ use Rattle.kwire.specs.declared.request.FetchPart.{FetchPart}
 use Rattle.kwire.specs.declared.request.ProducePart.{ProducePart}
 use Rattle.kwire.specs.Configuration.{Configuration, followers_of, part_of}
 use Rattle.kanswer.specs.Decisions.{Entry, Put, Looked, Followed, Outcome, Decision, Refuse, AskLog, Decides, BatchDecides, ProduceDecides, fetch_decision, fetch_outcome, in_range_outcome, offset_of, look, is_acks, produce_parts, fetch_parts}
-use Rattle.broker.specs.Entering.{entered, accept_all, shown_of}
+use Rattle.plain_broker.specs.Entering.{entered, accept_all, shown_of}
 use Rattle.kanswer.specs.LogReadings.{named_count}
-use Rattle.broker.specs.Board.{history_at, empty_history}
+use Rattle.plain_broker.specs.Board.{history_at, empty_history}
 use Rattle.kanswer.specs.Waiting.{results_of}
 use Rattle.broker.specs.Replying.{HasLog}
-use Rattle.broker.proofs.Entries.{IsFair}
-use Rattle.broker.proofs.Growth.{entered_events, event_of}
+use Rattle.plain_broker.proofs.Entries.{IsFair}
+use Rattle.plain_broker.proofs.Growth.{entered_events, event_of}
 use Rattle.audit.proofs.Laws.{same_or_not, get_set_same, get_set_other}
 
 -- the outcome speaks of its own partition, and of an append at the log end

@@ -19,31 +19,31 @@ use Rattle.kwire.specs.declared.frame.Frame.TheVariants.{Whole, NotYet, TooLong}
 use Rattle.kwire.specs.declared.request.Request.{Request}
 use Rattle.trace_file.specs.declared.line.Line.{Line}
 use Rattle.trace_file.specs.Trace.{pieces_of}
-use Rattle.broker.specs.Entering.{accept_all, steps_of, shown_of}
+use Rattle.plain_broker.specs.Entering.{accept_all, steps_of, shown_of}
 use Rattle.kanswer.specs.Decisions.{Decision, Decides}
-use Rattle.broker.specs.Acting.{is_there, can_act, next_to_act, shows_work, end_of_input, HandlesFrame, ActsOn, Acts}
-use Rattle.broker.specs.Board.{Board, Seat, empty_seat, new_transcript, seat_at, transcript_at, next_call}
+use Rattle.plain_broker.specs.Acting.{is_there, can_act, next_to_act, shows_work, end_of_input, HandlesFrame, ActsOn, Acts}
+use Rattle.plain_broker.specs.Board.{Board, Seat, empty_seat, new_transcript, seat_at, transcript_at, next_call}
 use Rattle.broker.specs.BuiltForm.{MayWait, IsRequestBody}
 use Rattle.kanswer.specs.Waiting.{becomes_delayed, is_quiet}
-use Rattle.broker.specs.Fed.{framed_calls, IsInputEnd, IsFedSeat, IsAtRest}
+use Rattle.plain_broker.specs.Fed.{framed_calls, IsInputEnd, IsFedSeat, IsAtRest}
 use Rattle.audit.specs.Fits.{IsUnfinished, EndFits}
 use Rattle.kwire.specs.Frames.{framed, IsFrameBody, next_frame_of}
 use Rattle.audit.specs.LawfulCall.{step_points}
-use Rattle.broker.specs.Turns.{Turned, answered_at_once, left_waiting, handled, ended, seat_with, with_call, how_at_once}
+use Rattle.plain_broker.specs.Turns.{Turned, answered_at_once, left_waiting, handled, ended, seat_with, with_call, how_at_once}
 use Rattle.kwire.specs.IsRequest.{IsRequest}
-use Rattle.broker.specs.Play.{Rests}
+use Rattle.plain_broker.specs.Play.{Rests}
 use Rattle.broker.specs.Ready.{IsReady, front_body}
 use Rattle.trace_file.specs.Contents.{bytes_in, input_of, is_named, is_shut}
 use Rattle.broker.specs.UnderWay.{IsUnderWay, IsServing}
 use Rattle.broker.proofs.AnsweredAtOnce.{undelayed, states_shown}
-use Rattle.broker.proofs.Entries.{IsFair}
-use Rattle.broker.proofs.Fair.{parts_size, decides_fair}
+use Rattle.plain_broker.proofs.Entries.{IsFair}
+use Rattle.plain_broker.proofs.Fair.{parts_size, decides_fair}
 use Rattle.audit.proofs.Laws.{same_or_not}
-use Rattle.broker.proofs.FedLines.{seat_set_same, seat_set_other, fed_call, fed_ended, works_named, rest_of_open, acts_open, acts_alike, scanned_nothing}
-use Rattle.broker.proofs.OneCallMore.{IsSteady, steady_call, steady_alike}
-use Rattle.broker.proofs.PlaySome.{input_bytes}
-use Rattle.broker.proofs.RequestBytes.{front_bytes, back_bytes}
-use Rattle.broker.proofs.Work.{work_of, open_work}
+use Rattle.plain_broker.proofs.FedLines.{seat_set_same, seat_set_other, fed_call, fed_ended, works_named, rest_of_open, acts_open, acts_alike, scanned_nothing}
+use Rattle.plain_broker.proofs.OneCallMore.{IsSteady, steady_call, steady_alike}
+use Rattle.plain_broker.proofs.PlaySome.{input_bytes}
+use Rattle.plain_broker.proofs.RequestBytes.{front_bytes, back_bytes}
+use Rattle.plain_broker.proofs.Work.{work_of, open_work}
 use Rattle.kwire.proofs.Laws.{whole_parts}
 use Rattle.trace_file.proofs.Laws.{few_bytes}
 use Rattle.audit.specs.declared.account.TheConstants.{MOST_CALLS}

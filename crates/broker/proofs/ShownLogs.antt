@@ -22,13 +22,13 @@ use Rattle.kwire.specs.declared.request.FetchPart.{FetchPart}
 use Rattle.kwire.specs.declared.request.ProducePart.{ProducePart}
 use Rattle.kwire.specs.Configuration.{Configuration, followers_of, part_of}
 use Rattle.kanswer.specs.Decisions.{Entry, Put, Looked, Outcome, Decision, Refuse, AskLog, BatchDecides, ProduceDecides, fetch_decision, fetch_outcome, in_range_outcome, look, is_acks}
-use Rattle.broker.specs.Entering.{entered, accept_all, shown_of}
-use Rattle.broker.specs.Board.{history_at, empty_history}
+use Rattle.plain_broker.specs.Entering.{entered, accept_all, shown_of}
+use Rattle.plain_broker.specs.Board.{history_at, empty_history}
 use Rattle.broker.specs.Carried.{HasNoFollowers}
 use Rattle.broker.specs.Replying.{ShowsLog}
 use Rattle.audit.proofs.Laws.{same_or_not, get_set_same, get_set_other, get_there}
-use Rattle.broker.proofs.Growth.{event_of, entered_followers}
-use Rattle.broker.proofs.Entries.{IsFair, set_same, accepted_followers}
+use Rattle.plain_broker.proofs.Growth.{event_of, entered_followers}
+use Rattle.plain_broker.proofs.Entries.{IsFair, set_same, accepted_followers}
 use Rattle.broker.proofs.ResultsStand.{IsHonestAs, IsHonest, history_there, entered_end, ends_grow}
 use Rattle.broker.proofs.FetchParts.{fetch_of_no_follower}
 

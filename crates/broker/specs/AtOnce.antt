@@ -3,12 +3,12 @@ use Rattle.std.specs.Prelude.{ℕ, ◌≡◌, false, List, ◌++◌}
 use Rattle.partlog.specs.History.{History}
 use Rattle.audit.specs.declared.account.Point.{Point}
 use Rattle.kwire.specs.declared.request.Request.{Request}
-use Rattle.broker.specs.Entering.{accept_all, steps_of, shown_of}
+use Rattle.plain_broker.specs.Entering.{accept_all, steps_of, shown_of}
 use Rattle.kanswer.specs.Decisions.{Decision, Decides}
 use Rattle.kwire.specs.Configuration.{Configuration}
 use Rattle.kanswer.specs.Waiting.{becomes_delayed}
 use Rattle.audit.specs.LawfulCall.{step_points}
-use Rattle.broker.specs.Turns.{text_at_once}
+use Rattle.plain_broker.specs.Turns.{text_at_once}
 
 -- by the call of this number of a session
 pub record IsAnsweredAtOnce (config : Configuration) (by seq : ℕ) (request : Request) (before after : List History) (points : List Point) (text more : List ℕ) : Type 0 where

@@ -14,7 +14,7 @@ use Rattle.kwire.specs.Configuration.{Configuration, partitions_of, part_of}
 use Rattle.kanswer.specs.declared.accepted.Accepted.TheVariants.{Refused}
 use Rattle.partlog.specs.State.{PartState as State, state_of}
 use Rattle.kanswer.specs.Decisions.{Outcome, Decision, Refuse, AskLog, ProduceDecides, produce_parts, fetch_parts, fetch_decision}
-use Rattle.broker.specs.Entering.{entered, accept_all, steps_of, shown_of}
+use Rattle.plain_broker.specs.Entering.{entered, accept_all, steps_of, shown_of}
 use Rattle.kanswer.specs.Waiting.{results_of}
 use Rattle.audit.specs.LawfulCall.{step_points}
 

@@ -3,8 +3,7 @@ use Rattle.std.specs.Prelude.{ℕ, ◌≡◌, ◌<◌, ◌≤◌, ◌-◌, Bool,
 use Rattle.audit.specs.declared.account.Transcript.{Transcript}
 use Rattle.kwire.specs.declared.frame.Frame.TheVariants.{Whole}
 use Rattle.kwire.specs.declared.request.Request.{Request}
-use Rattle.broker.specs.Acting.{is_there, shows_work}
-use Rattle.broker.specs.Board.{Board, Seat, seat_at, transcript_at}
+use Rattle.plain_broker.specs.Board.{Board, Seat, seat_at, transcript_at}
 use Rattle.broker.specs.BuiltForm.{MayWait}
 use Rattle.broker.specs.Carried.{AreDeclared, HasNoFollowers}
 use Rattle.kwire.specs.Configuration.{followers_of}
@@ -12,14 +11,6 @@ use Rattle.kwire.specs.Frames.{next_frame_of}
 use Rattle.kwire.specs.IsRequest.{IsRequest}
 use Rattle.audit.specs.declared.account.TheConstants.{MOST_CALLS}
 use Rattle.trace_file.specs.declared.line.TheConstants.{MOST_TRACE_BYTES}
-
-abbrev pub has_ended : Option Transcript → Bool
-has_ended None = false
-has_ended (Some transcript) = is_there transcript.end
-
--- it hasn't ended, and its inbox shows something to do
-abbrev pub has_work : Seat → Bool
-has_work seat = not (has_ended seat.transcript) && shows_work seat.is_shut (next_frame_of seat.inbox)
 
 -- the body of the frame that stands at the front and ends before this place
 abbrev pub front_body : Board → ℕ → ℕ → List ℕ

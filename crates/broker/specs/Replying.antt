@@ -7,7 +7,7 @@ use Rattle.partlog.specs.State.{PartState as State, high_of, state_of}
 use Rattle.kwire.specs.declared.request.Ask.{Ask}
 use Rattle.kanswer.specs.declared.accepted.Accepted.{Accepted}
 use Rattle.kanswer.specs.declared.accepted.Accepted.TheVariants.{Refused, Appended, Seen}
-use Rattle.broker.specs.Board.{history_at}
+use Rattle.plain_broker.specs.Board.{history_at}
 use Rattle.kanswer.specs.Waiting.{Shown, results_of}
 
 -- every replica has the records before this offset

@@ -1,12 +1,12 @@
 -- A broker amid a trace of the form that is built: what it was given, what is to come, and what holds.
 use Rattle.std.specs.Prelude.{ℕ, ◌≡◌, ◌≢◌, ◌<◌, false, List, ◌++◌}
 use Rattle.trace_file.specs.declared.line.Line.{Line}
-use Rattle.broker.specs.Acting.{can_act}
-use Rattle.broker.specs.Board.{Board, transcript_at}
+use Rattle.plain_broker.specs.Acting.{can_act}
+use Rattle.plain_broker.specs.Board.{Board, transcript_at}
 use Rattle.broker.specs.BuiltForm.{IsBuiltForm}
 use Rattle.broker.specs.Carried.{AreDeclared, HasNoFollowers}
-use Rattle.broker.specs.Fed.{IsFedBy, IsAtRest}
-use Rattle.broker.specs.Steady.{IsSteady}
+use Rattle.plain_broker.specs.Fed.{IsFedBy, IsAtRest}
+use Rattle.plain_broker.specs.Steady.{IsSteady}
 use Rattle.trace_file.specs.declared.line.TheConstants.{MOST_SESSIONS}
 
 -- between two acts

@@ -3,8 +3,8 @@
 ghost use Rattle.std.specs.Prelude.{◌≡◌, ◌<◌, ◌^◌, [], ◌∷◌, map, option_to_list, reverse, All, IfOk, OnOk};
 ghost use Rattle.std.specs.List.{flat_map, AllByRecursion};
 ghost use Rattle.partlog.specs.Added.{log_end_of};
-ghost use Rattle.broker.specs.Board.{account_of, part_account, passes_of, put_before};
-ghost use Rattle.broker.specs.Fed.{IsCallAtOnce};
+ghost use Rattle.plain_broker.specs.Board.{account_of, part_account, passes_of, put_before};
+ghost use Rattle.plain_broker.specs.Fed.{IsCallAtOnce};
 ghost use Rattle.audit.specs.Histories.{calls_in};
 
 use crate::desk::Desk;

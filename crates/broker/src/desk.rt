@@ -1,7 +1,7 @@
 //! A session of the one-thread broker.
 
 ghost use Rattle.std.specs.Prelude.{◌≡◌, ◌≤◌, ◌∷◌, [], ◌++◌, ◌-◌, length, drop, take, true, Some, None, unwrap_or, if◌then◌else◌, IfOk, OnOk};
-ghost use Rattle.broker.specs.Board.{empty_seat, new_transcript};
+ghost use Rattle.plain_broker.specs.Board.{empty_seat, new_transcript};
 ghost use Rattle.broker.specs.Ready.{has_ended, has_work};
 ghost use Rattle.kwire.specs.Frames.{next_frame_of};
 
@@ -21,7 +21,7 @@ pub struct Desk {
 }
 
 impl Model for Desk {
-    ghost use Rattle.broker.specs.Board.{Seat};
+    ghost use Rattle.plain_broker.specs.Board.{Seat};
 
     ghost Value = { Seat };
 

@@ -11,10 +11,8 @@ mod closing;
 mod desk;
 mod lone;
 mod opening;
-mod promises;
 mod reply;
 mod waits;
 
 pub use lone::Lone;
-pub use promises::lines_play;
 pub use waits::needs_waiting;

@@ -10,11 +10,11 @@ ghost use Rattle.kwire.specs.declared.frame.Frame.TheVariants.{Whole};
 ghost use Rattle.kwire.specs.Frames.{next_frame_of};
 ghost use Rattle.kwire.specs.Views.{ask_of};
 ghost use Rattle.trace_file.specs.declared.line.TheConstants.{MOST_TRACE_BYTES};
-ghost use Rattle.broker.specs.Acting.{HandlesFrame, Acts, end_of_input};
-ghost use Rattle.broker.specs.Board.{opening, account_of, seat_at};
-ghost use Rattle.broker.specs.Fed.{IsFedBy};
-ghost use Rattle.broker.specs.Turns.{how_at_once, ended};
-ghost use Rattle.broker.specs.Play.{Rests, PlaysLine};
+ghost use Rattle.plain_broker.specs.Acting.{HandlesFrame, Acts, end_of_input};
+ghost use Rattle.plain_broker.specs.Board.{opening, account_of, seat_at};
+ghost use Rattle.plain_broker.specs.Fed.{IsFedBy};
+ghost use Rattle.plain_broker.specs.Turns.{how_at_once, ended};
+ghost use Rattle.plain_broker.specs.Play.{Rests, PlaysLine};
 ghost use Rattle.broker.specs.Ready.{IsReady, front_body};
 ghost use Rattle.broker.specs.UnderWay.{IsUnderWay, IsServing};
 
@@ -41,7 +41,7 @@ pub struct Lone {
 
 impl Model for Lone {
     ghost use Rattle.std.specs.Prelude.{[]};
-    ghost use Rattle.broker.specs.Board.{Board};
+    ghost use Rattle.plain_broker.specs.Board.{Board};
 
     ghost Value = { Board };
 

@@ -1,7 +1,7 @@
 //! What the one-thread broker keeps before the first line.
 
 ghost use Rattle.std.specs.Prelude.{◌≡◌, ◌++◌, map, replicate, IfOk, OnOk};
-ghost use Rattle.broker.specs.Board.{empty_history, empty_seat, most_sessions};
+ghost use Rattle.plain_broker.specs.Board.{empty_history, empty_seat, most_sessions};
 ghost use Rattle.kwire.specs.Configuration.{followers_of};
 
 use crate::desk::Desk;

@@ -5,12 +5,12 @@ use Rattle.std.specs.Io.KnownBytes.{Consumes, IsAtEnd}
 use Rattle.std.specs.List.{count_by}
 use Rattle.audit.specs.declared.account.Account.{Account}
 use Rattle.trace_file.specs.declared.line.Line.{Line}
-use Rattle.broker.specs.Board.{Board, opening, account_of}
+use Rattle.plain_broker.specs.Board.{Board, opening, account_of}
 use Rattle.kwire.specs.Configuration.{Configuration}
-use Rattle.broker.specs.Turns.{Turned}
+use Rattle.plain_broker.specs.Turns.{Turned}
 use Rattle.kafka_room.specs.LinesFront.{IsLinesFront}
 use Rattle.broker.specs.BuiltForm.{IsBuiltForm, NeedsWaiting}
-use Rattle.broker.specs.Play.{Plays}
+use Rattle.plain_broker.specs.Play.{Plays}
 use Rattle.audit.specs.Printed.{summary_of}
 use Rattle.kafka_room.specs.Replay.{IsReplayOf, IsReplay, IsReplayFront, IsFirstBadOf, IsWaitingTrace}
 use Rattle.trace_file.specs.Contents.{configuration_of}

@@ -5,7 +5,7 @@ use Rattle.trace_file.specs.declared.line.Line.{Line}
 use Rattle.trace_file.specs.declared.line.TheConstants.{REPLAY_PORT}
 use Rattle.audit.specs.IsLawful.{IsLawful}
 use Rattle.broker.specs.BuiltForm.{IsBuiltForm, NeedsWaiting}
-use Rattle.broker.specs.Play.{IsPlay}
+use Rattle.plain_broker.specs.Play.{IsPlay}
 use Rattle.audit.specs.RunOf.{IsRunOf}
 use Rattle.trace_file.specs.declared.line.LineFault.{LineFault}
 use Rattle.trace_file.specs.Contents.{configuration_of}

@@ -6,7 +6,7 @@ ghost use Rattle.outside.specs.Causes.{Rose};
 ghost use Rattle.audit.specs.IsLawful.{IsLawful};
 ghost use Rattle.trace_file.specs.Trace.{IsTrace};
 ghost use Rattle.broker.specs.BuiltForm.{IsBuiltForm};
-ghost use Rattle.broker.specs.Play.{Plays};
+ghost use Rattle.plain_broker.specs.Play.{Plays};
 ghost use Rattle.broker.specs.UnderWay.{IsUnderWay};
 ghost use Rattle.kafka_room.specs.Codes.{bad_line_of};
 ghost use Rattle.kafka_room.specs.LinesFront.{IsLinesFront};

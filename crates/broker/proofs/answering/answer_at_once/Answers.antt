@@ -1,18 +1,18 @@
 use Rattle.std.proofs.Common.{◌≡◌, ℕ, List, [], ◌∷◌, ◌++◌, subst, sym, ap, ◌∙◌, append-nil, length, codes}
 use Rattle.audit.specs.declared.account.Point.{Point}
 use Rattle.broker.specs.AtOnce.{IsAnsweredAtOnce}
-use Rattle.broker.specs.Entering.{accept_all, shown_of}
+use Rattle.plain_broker.specs.Entering.{accept_all, shown_of}
 use Rattle.std.specs.List.{AllByRecursion}
 use Rattle.std.specs.Fmt.{decimal}
 use Rattle.hex.specs.Hex.{encode_lower}
 use Rattle.kanswer.specs.declared.accepted.Accepted.{Accepted}
 use Rattle.kwire.specs.declared.request.Request.{Request}
 use Rattle.kanswer.specs.Waiting.{is_quiet}
-use Rattle.broker.specs.Turns.{text_at_once}
+use Rattle.plain_broker.specs.Turns.{text_at_once}
 use Rattle.broker.specs.Replying.{HasLog, ShowsLogs}
 use Rattle.trace_file.specs.PrintedLine.{line_of}
 use Rattle.broker.proofs.AnsweredAtOnce.{replied_now, shown_now_is, told, not_told, answered}
-use Rattle.broker.proofs.Fair.{parts_size}
+use Rattle.plain_broker.proofs.Fair.{parts_size}
 use Rattle.broker.proofs.answering.answer_at_once.Goals as goal
 use Rattle.broker.proofs.answering.answer_at_once.Goals.{then-not-is_quiet+in_ok-frame+in_ok-put_reply_line, else-not-is_quiet}
 

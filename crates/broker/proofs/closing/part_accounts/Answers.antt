@@ -3,7 +3,7 @@ use Rattle.std.proofs.lemmas.List.{map-append}
 use Rattle.std.proofs.lemmas.List.Elements.{All-push}
 use Rattle.partlog.specs.Added.{log_end_of}
 use Rattle.audit.specs.declared.account.PartAccount.{PartAccount}
-use Rattle.broker.specs.Board.{part_account}
+use Rattle.plain_broker.specs.Board.{part_account}
 use Rattle.broker.proofs.closing.part_accounts.Goals as goal
 
 pub loop-part-preserved : goal.loop-part-preserved

@@ -1,6 +1,6 @@
 use Rattle.std.proofs.Common.{◌≡◌, ◌<◌, ◌^◌, map, All}
 use Rattle.partlog.specs.Added.{log_end_of}
-use Rattle.broker.specs.Board.{part_account}
+use Rattle.plain_broker.specs.Board.{part_account}
 use Rattle.broker.proofs.closing.part_accounts.Given as goal
 
 abbrev pub invariant-loop-part : goal.invariant-loop-part

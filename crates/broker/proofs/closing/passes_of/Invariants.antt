@@ -1,5 +1,5 @@
 use Rattle.std.proofs.Common.{◌≡◌, length, reverse}
-use Rattle.broker.specs.Board.{passes_of}
+use Rattle.plain_broker.specs.Board.{passes_of}
 use Rattle.broker.proofs.Closings.{passes_before}
 use Rattle.broker.proofs.closing.passes_of.Given as goal
 

@@ -1,5 +1,5 @@
 use Rattle.std.proofs.Common.{◌≡◌, replicate}
-use Rattle.broker.specs.Board.{empty_seat}
+use Rattle.plain_broker.specs.Board.{empty_seat}
 use Rattle.broker.proofs.opening.open_desks.Given as goal
 
 abbrev pub invariant-loop-number : goal.invariant-loop-number

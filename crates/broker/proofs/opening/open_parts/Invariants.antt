@@ -1,5 +1,5 @@
 use Rattle.std.proofs.Common.{◌≡◌, map, take}
-use Rattle.broker.specs.Board.{empty_history}
+use Rattle.plain_broker.specs.Board.{empty_history}
 use Rattle.kwire.specs.Configuration.{followers_of}
 use Rattle.broker.proofs.opening.open_parts.Given as goal
 

@@ -1,5 +1,5 @@
 use Rattle.std.proofs.Common.{◌≡◌, ◌++◌, replicate}
-use Rattle.broker.specs.Board.{empty_history}
+use Rattle.plain_broker.specs.Board.{empty_history}
 use Rattle.broker.proofs.opening.put_parts.Given as goal
 
 abbrev pub invariant-loop-number : goal.invariant-loop-number

@@ -3,8 +3,8 @@ use Rattle.std.proofs.KnownBytes.{Appends-nil, Appends-trans}
 use Rattle.std.proofs.lemmas.Result.{err_from_is_err_and}
 use Rattle.std.specs.Io.KnownBytes.{Appends}
 use Rattle.trace_file.specs.declared.line.Line.{Line}
-use Rattle.broker.specs.Board.{opening}
-use Rattle.broker.specs.Turns.{Turned}
+use Rattle.plain_broker.specs.Board.{opening}
+use Rattle.plain_broker.specs.Turns.{Turned}
 use Rattle.audit.specs.Printed.{summary_of}
 use Rattle.trace_file.specs.Contents.{configuration_of}
 use Rattle.broker.specs.UnderWay.{IsUnderWay}

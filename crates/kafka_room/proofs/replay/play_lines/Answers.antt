@@ -3,8 +3,8 @@ use Rattle.std.proofs.KnownBytes.{Appends-trans}
 use Rattle.std.proofs.lemmas.Result.{err_from_is_err_and}
 use Rattle.std.specs.Io.KnownBytes.{Appends}
 use Rattle.trace_file.specs.declared.line.Line.{Line}
-use Rattle.broker.specs.Turns.{Turned}
-use Rattle.broker.specs.Play.{Plays}
+use Rattle.plain_broker.specs.Turns.{Turned}
+use Rattle.plain_broker.specs.Play.{Plays}
 use Rattle.broker.specs.UnderWay.{IsUnderWay}
 use Rattle.broker.proofs.Laws.{plays_on, lines_left, lines_more}
 use Rattle.kafka_room.proofs.Replays.{front_of_lines, front_within}

@@ -1,6 +1,6 @@
 use Rattle.std.proofs.Common.{◌≤◌, ℕ, List, take, drop}
 use Rattle.std.specs.Io.KnownBytes.{Appends}
-use Rattle.broker.specs.Play.{Plays}
+use Rattle.plain_broker.specs.Play.{Plays}
 use Rattle.broker.specs.UnderWay.{IsUnderWay}
 use Rattle.kafka_room.proofs.replay.play_lines.Given as goal
 

@@ -4,8 +4,8 @@ use Rattle.std.specs.Int.{w32}
 use mir.Val.{SFits}
 use Rattle.kwire.specs.declared.frame.Frame.TheVariants.{Whole, NotYet, TooLong}
 use Rattle.audit.specs.declared.account.SessionEnd.TheVariants.{FrameTooLong}
-use Rattle.broker.specs.Board.{Seat, seat_at}
-use Rattle.broker.specs.Acting.{end_of_input}
+use Rattle.plain_broker.specs.Board.{Seat, seat_at}
+use Rattle.plain_broker.specs.Acting.{end_of_input}
 use Rattle.broker.proofs.DecisionSteps.{on_ok}
 use Rattle.broker.proofs.Calling.{seat_shown, front_shown, did_frame, did_end, acts_at_end, acts_too_long}
 use Rattle.broker.proofs.lone.Lone.act.Goals as goal

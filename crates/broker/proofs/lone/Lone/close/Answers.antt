@@ -1,10 +1,10 @@
 use Rattle.std.proofs.Common.{sym, subst}
 use Rattle.std.specs.List.{AllByRecursion, flat_map}
-use Rattle.broker.specs.Board.{Board, passes_of}
-use Rattle.broker.specs.Fed.{IsCallAtOnce}
+use Rattle.plain_broker.specs.Board.{Board, passes_of}
+use Rattle.plain_broker.specs.Fed.{IsCallAtOnce}
 use Rattle.audit.specs.Histories.{calls_in}
-use Rattle.broker.proofs.LawfulAtRest.{all_plain}
-use Rattle.broker.proofs.FedLines.{fed_tame}
+use Rattle.plain_broker.proofs.LawfulAtRest.{all_plain}
+use Rattle.plain_broker.proofs.FedLines.{fed_tame}
 use Rattle.broker.proofs.lone.Lone.close.Goals as goal
 
 pub account-requires : goal.account-requires

@@ -1,8 +1,8 @@
 use Rattle.std.proofs.Common.{◌≡◌, ◌++◌, ◌∷◌, [], List, length, sym, ap, subst, ◌∙◌, arith, append-nil}
 use Rattle.trace_file.specs.declared.line.Line.{Line}
 use Rattle.trace_file.specs.declared.line.Line.TheVariants.{Feed, Shut}
-use Rattle.broker.specs.Board.{Board}
-use Rattle.broker.specs.Play.{Rests, brought}
+use Rattle.plain_broker.specs.Board.{Board}
+use Rattle.plain_broker.specs.Play.{Rests, brought}
 use Rattle.broker.specs.UnderWay.{IsUnderWay, IsServing}
 use Rattle.broker.proofs.Calling.{feed_there, feed_serving, feed_made, shut_there, shut_serving, shut_made, still_line}
 use Rattle.broker.proofs.DecisionSteps.{on_ok}

@@ -1,5 +1,5 @@
 use Rattle.std.proofs.Common.{true, false, length, ap, arith}
-use Rattle.broker.specs.Board.{Board}
+use Rattle.plain_broker.specs.Board.{Board}
 use Rattle.broker.proofs.Calling.{work_shown}
 use Rattle.broker.proofs.Serving.{turned, ready, keeps_serving, serves_less, came_further, comes_to_rest, came_to_rest}
 use Rattle.broker.proofs.lone.Lone.serve.Goals as goal

@@ -1,9 +1,9 @@
 use Rattle.std.proofs.Common.{◌≡◌, ℕ, List, ◌++◌}
 use Rattle.trace_file.specs.declared.line.Line.{Line}
-use Rattle.broker.specs.Board.{seat_at}
+use Rattle.plain_broker.specs.Board.{seat_at}
 use Rattle.broker.specs.UnderWay.{IsServing}
 use Rattle.broker.proofs.Serving.{Came}
-use Rattle.broker.proofs.Work.{work_of}
+use Rattle.plain_broker.proofs.Work.{work_of}
 use Rattle.broker.proofs.lone.Lone.serve.Given as goal
 
 abbrev pub invariant-loop-self : goal.invariant-loop-self

@@ -1,9 +1,9 @@
 use Rattle.std.proofs.Common.{◌≡◌, ℕ, ◌-◌, ◌++◌, List, length, take, drop, set, sym, ap, subst, ◌∙◌, arith}
 use Rattle.partlog.specs.History.{History}
 use Rattle.broker.specs.AtOnce.{IsAnsweredAtOnce}
-use Rattle.broker.specs.Board.{Seat, seat_at}
+use Rattle.plain_broker.specs.Board.{Seat, seat_at}
 use Rattle.kwire.specs.declared.request.Request.{Request}
-use Rattle.broker.specs.Turns.{how_at_once}
+use Rattle.plain_broker.specs.Turns.{how_at_once}
 use Rattle.kwire.specs.IsRequest.{IsRequest}
 use Rattle.broker.specs.Ready.{front_body}
 use Rattle.broker.proofs.Calling.{parts_written, desk_written, seat_shown, board_of, call_of, noted, counted_at, call_made, handles, refused}

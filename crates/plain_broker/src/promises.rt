@@ -5,7 +5,7 @@ ghost use Rattle.kbytes.specs.Octets.{IsBytes};
 ghost use Rattle.audit.specs.declared.account.Account.{Account};
 ghost use Rattle.trace_file.specs.declared.line.Line.{Line};
 ghost use Rattle.kwire.specs.Configuration.{Configuration};
-ghost use Rattle.broker.specs.Play.{IsPlay};
+ghost use Rattle.plain_broker.specs.Play.{IsPlay};
 ghost use Rattle.trace_file.specs.Contents.{input_of};
 
 /// Law: with any configuration, lines play to one account and one text. What the lines bring need only be bytes: they may be

@@ -1,6 +1,6 @@
-use Rattle.broker.proofs.PlayOnce.{play_is_one}
-use Rattle.broker.proofs.PlaySome.{lines_play}
-use Rattle.broker.proofs.promises.lines_play.Goals as goal
+use Rattle.plain_broker.proofs.PlayOnce.{play_is_one}
+use Rattle.plain_broker.proofs.PlaySome.{lines_play}
+use Rattle.plain_broker.proofs.promises.lines_play.Goals as goal
 
 pub returns-clause-some : goal.returns-clause-some
 returns-clause-some c = lines_play

@@ -12,8 +12,8 @@ use Rattle.partlog.specs.History.{History}
 use Rattle.partlog.specs.State.{state_of, state_before, state_at, front_of}
 use Rattle.partlog.proofs.Laws.{batches-append}
 use Rattle.kanswer.specs.Decisions.{Entry, Put, Followed, Looked}
-use Rattle.broker.specs.Entering.{entered}
-pub use Rattle.broker.specs.Steady.{Longer, IsWhole}
+use Rattle.plain_broker.specs.Entering.{entered}
+pub use Rattle.plain_broker.specs.Steady.{Longer, IsWhole}
 
 pub longer_self : (h : History) → Longer h h
 longer_self h = record { followers = refl; more = []; bytes = []; events = sym (append-nil h.events); log = sym (append-nil h.log) }

@@ -10,10 +10,14 @@ use Rattle.trace_file.specs.declared.line.Line.{Line}
 use Rattle.kwire.specs.Frames.{framed, IsFrameBody}
 use Rattle.audit.specs.Fits.{EndFits}
 use Rattle.trace_file.specs.Contents.{input_of, is_named, is_shut}
-use Rattle.broker.specs.Acting.{can_act}
-use Rattle.broker.specs.Board.{Board, Seat, new_transcript, seat_at}
-use Rattle.broker.specs.BuiltForm.{IsRequestBody}
+use Rattle.plain_broker.specs.Acting.{can_act}
+use Rattle.plain_broker.specs.Board.{Board, Seat, new_transcript, seat_at}
+use Rattle.kwire.specs.declared.request.Request.{Request}
+use Rattle.kwire.specs.IsRequest.{IsRequest}
 use Rattle.trace_file.specs.declared.line.TheConstants.{MOST_SESSIONS}
+
+abbrev pub IsRequestBody : List ℕ → Type 0
+IsRequestBody body = (request : Request) × IsRequest body request
 
 -- a call that needn't wait
 abbrev pub IsCallAtOnce : Call → Type 0

@@ -10,7 +10,7 @@ use Rattle.kanswer.specs.Decisions.{Entry, Put, Followed, Looked, Decision, Refu
 use Rattle.kanswer.specs.Waiting.{Shown}
 use Rattle.audit.specs.Histories.{no_state}
 use Rattle.audit.specs.LawfulCall.{Step}
-use Rattle.broker.specs.Board.{history_at}
+use Rattle.plain_broker.specs.Board.{history_at}
 
 -- a history with one entry more, which a call of a pass left
 abbrev pub entered : History → ℕ → ℕ → Entry → History

@@ -11,8 +11,9 @@ use Rattle.kanswer.specs.Decisions.{Decision, Decides}
 use Rattle.kwire.specs.Frames.{next_frame_of}
 use Rattle.kwire.specs.IsRequest.{IsRequest}
 use Rattle.kwire.specs.Refusal.{IsRefused}
-use Rattle.broker.specs.Board.{Board, seat_at, transcript_at, next_call, most_sessions}
-use Rattle.broker.specs.Turns.{Turned, handled, ended}
+use Rattle.audit.specs.declared.account.Transcript.{Transcript}
+use Rattle.plain_broker.specs.Board.{Board, Seat, seat_at, transcript_at, next_call, most_sessions}
+use Rattle.plain_broker.specs.Turns.{Turned, handled, ended}
 use Rattle.audit.specs.declared.account.TheConstants.{MOST_CALLS}
 
 abbrev pub is_there : Option SessionEnd → Bool
@@ -24,6 +25,14 @@ abbrev pub shows_work : Bool → Frame → Bool
 shows_work is_shut (Whole end) = true
 shows_work is_shut NotYet = is_shut
 shows_work is_shut (TooLong size) = true
+
+abbrev pub has_ended : Option Transcript → Bool
+has_ended None = false
+has_ended (Some transcript) = is_there transcript.end
+
+-- it hasn't ended, and its inbox shows something to do
+abbrev pub has_work : Seat → Bool
+has_work seat = not (has_ended seat.transcript) && shows_work seat.is_shut (next_frame_of seat.inbox)
 
 -- it hasn't ended, no request of it waits, and its inbox shows something to do
 abbrev pub can_act : Board → ℕ → Bool

@@ -20,22 +20,22 @@ use Rattle.trace_file.specs.declared.line.Line.{Line}
 use Rattle.trace_file.specs.declared.line.Line.TheVariants.{Topic, Feed, Shut, Clock, End}
 use Rattle.kanswer.specs.Decisions.{Decision, Refuse, AskLog, Decides, ProduceDecides, BatchDecides, append_outcome, code_of, produce_parts, is_acks}
 use Rattle.kwire.specs.Configuration.{part_of}
-use Rattle.broker.specs.Acting.{is_there, next_to_act, Acts, ActsOn, HandlesFrame}
-use Rattle.broker.specs.Board.{Board, seat_at, transcript_at, next_call, opening, account_of}
-use Rattle.broker.specs.Completing.{scanned}
+use Rattle.plain_broker.specs.Acting.{is_there, next_to_act, Acts, ActsOn, HandlesFrame}
+use Rattle.plain_broker.specs.Board.{Board, seat_at, transcript_at, next_call, opening, account_of}
+use Rattle.plain_broker.specs.Completing.{scanned}
 use Rattle.kwire.specs.Configuration.{Configuration}
 use Rattle.kwire.specs.Frames.{next_frame_of}
-use Rattle.broker.specs.Turns.{Turned, handled, ended}
-use Rattle.broker.specs.Play.{brought, Rests, Plays, IsPlay}
+use Rattle.plain_broker.specs.Turns.{Turned, handled, ended}
+use Rattle.plain_broker.specs.Play.{brought, Rests, Plays, IsPlay}
 use Rattle.audit.specs.Printed.{summary_of}
 use Rattle.kwire.specs.IsRequest.{IsRequest}
 use Rattle.kwire.specs.Refusal.{IsRefused}
 use Rattle.trace_file.specs.Contents.{bytes_in, input_of}
 use Rattle.trace_file.specs.IsLine.{IsLine}
 use Rattle.trace_file.specs.Trace.{pieces_of, IsTrace}
-use Rattle.broker.proofs.RequestBytes.{HasBytes, CarriesBytes, request_bytes, none_are_bytes, front_bytes, back_bytes, both_bytes}
+use Rattle.plain_broker.proofs.RequestBytes.{HasBytes, CarriesBytes, request_bytes, none_are_bytes, front_bytes, back_bytes, both_bytes}
 use Rattle.kwire.proofs.Laws.{request_or_refusal}
-use Rattle.broker.proofs.Work.{AreSeats, work_on, seats_set, inbox_bytes, opening_seats, scanned_as_much, acts_less, its_turn}
+use Rattle.plain_broker.proofs.Work.{AreSeats, work_on, seats_set, inbox_bytes, opening_seats, scanned_as_much, acts_less, its_turn}
 use Rattle.audit.specs.declared.account.TheConstants.{MOST_CALLS}
 
 -- ---- what is decided

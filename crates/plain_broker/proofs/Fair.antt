@@ -22,8 +22,8 @@ use Rattle.kwire.specs.Configuration.{Configuration, partitions_of, followers_of
 use Rattle.kanswer.specs.Decisions.{Entry, Put, Followed, Looked, Outcome, Decision, Refuse, Decides, ProduceDecides, BatchDecides, append_outcome, fetch_decision, fetch_outcome, in_range_outcome, offset_of, look, code_of, produce_parts, fetch_parts, is_acks}
 use Rattle.kanswer.proofs.Laws.{batch_sized}
 use Rattle.audit.proofs.Laws.{some_is}
-use Rattle.broker.proofs.Growth.{IsSized}
-use Rattle.broker.proofs.Entries.{IsFair}
+use Rattle.plain_broker.proofs.Growth.{IsSized}
+use Rattle.plain_broker.proofs.Entries.{IsFair}
 
 index_within : (before n partitions p : ℕ) (b : Bool) → (b ≡ true → n < partitions) → cond b (Some (before + n)) None ≡ Some p → p < before + partitions
 index_within before n partitions p true lt e = omega (arith, lt refl, some_is (before + n) p e)

@@ -10,16 +10,16 @@ use Rattle.kwire.specs.declared.frame.Frame.TheVariants.{Whole, NotYet, TooLong}
 use Rattle.kwire.specs.declared.request.Request.{Request}
 use Rattle.trace_file.specs.declared.line.Line.{Line}
 use Rattle.trace_file.specs.declared.line.Line.TheVariants.{Topic, Feed, Shut, Clock, End}
-use Rattle.broker.specs.Entering.{Noted, accept_all, shown_of}
+use Rattle.plain_broker.specs.Entering.{Noted, accept_all, shown_of}
 use Rattle.kanswer.specs.Decisions.{Decision}
-use Rattle.broker.specs.Acting.{HandlesFrame, ActsOn}
-use Rattle.broker.specs.Board.{Board, Waiting, seat_at, next_call}
-use Rattle.broker.specs.Completing.{is_satisfied_now, is_answerable_now, completed, unless_none, answered_in, scan_sessions, scanned}
+use Rattle.plain_broker.specs.Acting.{HandlesFrame, ActsOn}
+use Rattle.plain_broker.specs.Board.{Board, Waiting, seat_at, next_call}
+use Rattle.plain_broker.specs.Completing.{is_satisfied_now, is_answerable_now, completed, unless_none, answered_in, scan_sessions, scanned}
 use Rattle.kwire.specs.Configuration.{Configuration}
 use Rattle.kanswer.specs.Waiting.{becomes_delayed}
 use Rattle.kwire.specs.Frames.{next_frame_of}
-use Rattle.broker.specs.Turns.{Turned, answered_at_once, left_waiting, handled}
-use Rattle.broker.specs.Play.{brought, Rests, PlaysLine, Plays}
+use Rattle.plain_broker.specs.Turns.{Turned, answered_at_once, left_waiting, handled}
+use Rattle.plain_broker.specs.Play.{brought, Rests, PlaysLine, Plays}
 use Rattle.audit.specs.declared.account.TheConstants.{MOST_CALLS}
 
 -- one line more is played behind the others

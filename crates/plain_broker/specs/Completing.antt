@@ -17,9 +17,9 @@ use Rattle.audit.specs.LawfulCall.{Step, operation_parts, part_in}
 use Rattle.audit.specs.Histories.{clock_part, no_state}
 use Rattle.opcond.specs.Tally.{tally}
 use Rattle.trace_file.specs.PrintedLine.{reply_line}
-use Rattle.broker.specs.Board.{Board, Waiting, history_at, most_sessions, seat_at, transcript_at, next_call}
-use Rattle.broker.specs.Entering.{entered}
-use Rattle.broker.specs.Turns.{Turned}
+use Rattle.plain_broker.specs.Board.{Board, Waiting, history_at, most_sessions, seat_at, transcript_at, next_call}
+use Rattle.plain_broker.specs.Entering.{entered}
+use Rattle.plain_broker.specs.Turns.{Turned}
 
 -- the present state of a partition of an operation
 abbrev pub present : List History → Option ℕ → State

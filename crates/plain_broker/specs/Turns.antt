@@ -17,8 +17,8 @@ use Rattle.audit.specs.LawfulCall.{step_points}
 use Rattle.audit.specs.Histories.{clock_part}
 use Rattle.audit.specs.Printed.{end_line}
 use Rattle.trace_file.specs.PrintedLine.{reply_line}
-use Rattle.broker.specs.Board.{Board, Seat, seat_at, transcript_at, next_call}
-use Rattle.broker.specs.Entering.{Noted, accept_all, steps_of, shown_of}
+use Rattle.plain_broker.specs.Board.{Board, Seat, seat_at, transcript_at, next_call}
+use Rattle.plain_broker.specs.Entering.{Noted, accept_all, steps_of, shown_of}
 
 -- what the broker keeps afterwards, and what it prints
 pub record Turned : Type 0 where

@@ -15,7 +15,7 @@ use Rattle.kwire.specs.Configuration.{Configuration, followers_of}
 use Rattle.audit.specs.Histories.{Owner, owner_of, owners_of, history_of, points_of}
 use Rattle.audit.specs.LawfulCall.{Step, IsAcceptance, step_points, is_delayed}
 use Rattle.audit.specs.IsLawful.{places_in, is_point}
-use Rattle.broker.specs.Turns.{how_at_once}
+use Rattle.plain_broker.specs.Turns.{how_at_once}
 use Rattle.kwire.specs.declared.config.TheConstants.{MOST_PARTITIONS}
 
 -- the later history goes on from the earlier one

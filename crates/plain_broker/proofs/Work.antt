@@ -13,18 +13,17 @@ use Rattle.audit.specs.declared.account.Transcript.{Transcript}
 use Rattle.kwire.specs.declared.frame.Frame.{Frame}
 use Rattle.kwire.specs.declared.frame.Frame.TheVariants.{Whole, NotYet, TooLong}
 use Rattle.kwire.specs.declared.request.Request.{Request}
-use Rattle.broker.specs.Entering.{Noted, accept_all, shown_of}
+use Rattle.plain_broker.specs.Entering.{Noted, accept_all, shown_of}
 use Rattle.kanswer.specs.Decisions.{Decision}
-use Rattle.broker.specs.Acting.{is_there, can_act, next_to_act, HandlesFrame, ActsOn, Acts}
-use Rattle.broker.specs.Ready.{has_ended}
-use Rattle.broker.specs.Board.{Board, Seat, Waiting, empty_seat, new_transcript, seat_at, transcript_at, next_call}
-use Rattle.broker.specs.Completing.{is_satisfied_now, is_answerable_now, completed, unless_none, answered_in, scan_sessions, scanned}
+use Rattle.plain_broker.specs.Acting.{has_ended, is_there, can_act, next_to_act, HandlesFrame, ActsOn, Acts}
+use Rattle.plain_broker.specs.Board.{Board, Seat, Waiting, empty_seat, new_transcript, seat_at, transcript_at, next_call}
+use Rattle.plain_broker.specs.Completing.{is_satisfied_now, is_answerable_now, completed, unless_none, answered_in, scan_sessions, scanned}
 use Rattle.kanswer.specs.Waiting.{becomes_delayed}
 use Rattle.kwire.specs.Frames.{next_frame_of}
-use Rattle.broker.specs.Turns.{Turned, seat_with, answered_at_once, left_waiting, handled, ended}
+use Rattle.plain_broker.specs.Turns.{Turned, seat_with, answered_at_once, left_waiting, handled, ended}
 use Rattle.kwire.proofs.Laws.{whole_parts}
 use Rattle.audit.proofs.Laws.{some_is}
-use Rattle.broker.proofs.RequestBytes.{none_are_bytes}
+use Rattle.plain_broker.proofs.RequestBytes.{none_are_bytes}
 use Rattle.audit.specs.declared.account.TheConstants.{MOST_CALLS}
 
 -- ---- the measure

@@ -11,12 +11,12 @@ use Rattle.kwire.specs.declared.request.Request.{Request}
 use Rattle.trace_file.specs.declared.line.Line.{Line}
 use Rattle.kanswer.specs.Decisions.{Decides}
 use Rattle.kwire.specs.Configuration.{Configuration}
-use Rattle.broker.specs.Acting.{next_to_act, Acts, ActsOn, HandlesFrame}
-use Rattle.broker.specs.Board.{Board, seat_at, next_call, opening, account_of}
-use Rattle.broker.specs.Completing.{scanned}
+use Rattle.plain_broker.specs.Acting.{next_to_act, Acts, ActsOn, HandlesFrame}
+use Rattle.plain_broker.specs.Board.{Board, seat_at, next_call, opening, account_of}
+use Rattle.plain_broker.specs.Completing.{scanned}
 use Rattle.kwire.specs.Frames.{next_frame_of}
-use Rattle.broker.specs.Turns.{Turned, handled, ended}
-use Rattle.broker.specs.Play.{brought, Rests, PlaysLine, Plays, IsPlay}
+use Rattle.plain_broker.specs.Turns.{Turned, handled, ended}
+use Rattle.plain_broker.specs.Play.{brought, Rests, PlaysLine, Plays, IsPlay}
 use Rattle.audit.specs.Printed.{summary_of}
 use Rattle.audit.proofs.Laws.{some_is}
 use Rattle.kwire.proofs.Laws.{same_request, same_refusal, not_both}

@@ -14,13 +14,13 @@ use Rattle.audit.specs.Histories.{owner_of, owners_of, history_of, before_in, at
 use Rattle.kanswer.specs.Decisions.{Entry, Put, Followed, Looked, Decision, Refuse, AskLog}
 use Rattle.audit.specs.LawfulCall.{IsStep, IsEntry, step_points, shown_as_accepted}
 use Rattle.audit.specs.IsLawful.{places_in}
-use Rattle.broker.specs.Board.{history_at, empty_history}
-use Rattle.broker.specs.Entering.{Noted, entered, accept_all, steps_of, shown_of}
+use Rattle.plain_broker.specs.Board.{history_at, empty_history}
+use Rattle.plain_broker.specs.Entering.{Noted, entered, accept_all, steps_of, shown_of}
 use Rattle.kanswer.specs.Waiting.{Shown}
 use Rattle.kanswer.specs.declared.accepted.Accepted.TheVariants.{Refused}
 use Rattle.kbatch.specs.Stamp.{stamped}
-use Rattle.broker.proofs.Growth.{Longer, IsWhole, IsSized, longer_on, entered_longer, entered_whole, entered_events, entered_followers, entered_length, event_of, before_kept, at_kept, put_batches}
-pub use Rattle.broker.specs.Steady.{the_owner, AllWhole, Follows}
+use Rattle.plain_broker.proofs.Growth.{Longer, IsWhole, IsSized, longer_on, entered_longer, entered_whole, entered_events, entered_followers, entered_length, event_of, before_kept, at_kept, put_batches}
+pub use Rattle.plain_broker.specs.Steady.{the_owner, AllWhole, Follows}
 use Rattle.audit.proofs.Laws.{same_or_not, get_set_same, get_set_other, get_there, get_seam, some_is}
 
 -- The later history has entries of one call behind those of the earlier one, and these are their places.

@@ -24,17 +24,16 @@ use Rattle.audit.specs.Histories.{all_calls, ticks_of}
 use Rattle.audit.specs.Fits.{EndFits, IsUnfinished}
 use Rattle.audit.specs.RunOf.{IsTraceEnd, IsNotCut, IsSessionOf, IsRunOf}
 use Rattle.trace_file.specs.Contents.{configuration_of, bytes_in, names, shuts, input_of, is_named, is_shut, sessions_of, rising_from}
-use Rattle.broker.specs.Board.{Board, Seat, Waiting, empty_seat, new_transcript, seat_at, transcript_at, opening, put_before, passes_of, account_of}
-use Rattle.broker.specs.BuiltForm.{IsRequestBody, calls_for_waiting}
-use Rattle.broker.specs.Ready.{has_ended, has_work}
-use Rattle.broker.specs.Turns.{Turned, with_call, seat_with, ended}
-use Rattle.broker.specs.Completing.{scanned, scan_sessions, answered_in, unless_none}
-use Rattle.broker.specs.Acting.{is_there, can_act, shows_work}
-use Rattle.broker.specs.Play.{brought}
+use Rattle.plain_broker.specs.Board.{Board, Seat, Waiting, empty_seat, new_transcript, seat_at, transcript_at, opening, put_before, passes_of, account_of}
+use Rattle.plain_broker.specs.Fed.{IsRequestBody}
+use Rattle.plain_broker.specs.Turns.{Turned, with_call, seat_with, ended}
+use Rattle.plain_broker.specs.Completing.{scanned, scan_sessions, answered_in, unless_none}
+use Rattle.plain_broker.specs.Acting.{has_ended, has_work, is_there, can_act, shows_work}
+use Rattle.plain_broker.specs.Play.{brought}
 use Rattle.audit.proofs.Laws.{same_or_not, get_set_same, get_set_other, get_there, all_append}
 use Rattle.kwire.proofs.Laws.{frame_kept}
-pub use Rattle.broker.specs.Fed.{framed_calls, IsInputEnd, IsRest, transcript_in, IsFedSeat, IsFedBy, IsAtRest}
-use Rattle.broker.proofs.LawfulAtRest.{IsCallAtOnce, IsTameTranscript, AreTame, passes_get, all_plain}
+pub use Rattle.plain_broker.specs.Fed.{framed_calls, IsInputEnd, IsRest, transcript_in, IsFedSeat, IsFedBy, IsAtRest}
+use Rattle.plain_broker.proofs.LawfulAtRest.{IsCallAtOnce, IsTameTranscript, AreTame, passes_get, all_plain}
 use Rattle.trace_file.specs.declared.line.TheConstants.{REPLAY_PORT}
 
 -- ---- the lines

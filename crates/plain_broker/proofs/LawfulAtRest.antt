@@ -20,12 +20,12 @@ use Rattle.audit.specs.Histories.{Owner, owner_of, clock_owner_of, owners_of, ow
 use Rattle.kanswer.specs.Waiting.{is_quiet}
 use Rattle.audit.specs.LawfulCall.{Step, IsLawfulCall, LooksAtClock, Completes, is_delayed}
 use Rattle.audit.specs.IsLawful.{IsLawful, IsWholeLog, places_in, is_point, is_won_by, is_won_as, EndsAs, EndWell, FollowOn}
-use Rattle.broker.specs.Board.{Board, Seat, empty_seat, transcript_at, new_transcript, put_before, passes_of, part_account, account_of}
-pub use Rattle.broker.specs.Fed.{IsCallAtOnce, IsTameTranscript}
-use Rattle.broker.proofs.Growth.{longer_self}
+use Rattle.plain_broker.specs.Board.{Board, Seat, empty_seat, transcript_at, new_transcript, put_before, passes_of, part_account, account_of}
+pub use Rattle.plain_broker.specs.Fed.{IsCallAtOnce, IsTameTranscript}
+use Rattle.plain_broker.proofs.Growth.{longer_self}
 use Rattle.audit.proofs.Laws.{same_or_not, some_is}
-use Rattle.broker.proofs.Entries.{the_owner, AllWhole, Follows}
-use Rattle.broker.proofs.OneCallMore.{IsSteady, IsDone}
+use Rattle.plain_broker.proofs.Entries.{the_owner, AllWhole, Follows}
+use Rattle.plain_broker.proofs.OneCallMore.{IsSteady, IsDone}
 
 -- the seats from this number on
 abbrev pub AreTame : ℕ → List Seat → Type 0

@@ -19,14 +19,14 @@ use Rattle.kanswer.specs.Decisions.{Decision, Decides}
 use Rattle.kanswer.specs.Waiting.{becomes_delayed}
 use Rattle.audit.specs.LawfulCall.{step_points}
 use Rattle.audit.specs.IsLawful.{places_in, is_point}
-use Rattle.broker.specs.Board.{empty_history}
-use Rattle.broker.specs.Entering.{Noted, accept_all, steps_of, shown_of}
-use Rattle.broker.specs.Turns.{how_at_once}
-pub use Rattle.broker.specs.Steady.{IsDone, StaysDone, all_points, IsSteady}
-use Rattle.broker.proofs.Growth.{longer_on}
+use Rattle.plain_broker.specs.Board.{empty_history}
+use Rattle.plain_broker.specs.Entering.{Noted, accept_all, steps_of, shown_of}
+use Rattle.plain_broker.specs.Turns.{how_at_once}
+pub use Rattle.plain_broker.specs.Steady.{IsDone, StaysDone, all_points, IsSteady}
+use Rattle.plain_broker.proofs.Growth.{longer_on}
 use Rattle.audit.proofs.Laws.{same_or_not, get_there, get_seam, get_front, get_within, get_behind, some_is}
-use Rattle.broker.proofs.Counting.{AllBelow, below_more, range_below, rises_on, count_one, count_point, places_append}
-use Rattle.broker.proofs.Entries.{the_owner, Left, AllLeft, IsFair, Follows, accepted_left, accepted_size, accepted_shows, accepted_followers, accepted_nowhere}
+use Rattle.plain_broker.proofs.Counting.{AllBelow, below_more, range_below, rises_on, count_one, count_point, places_append}
+use Rattle.plain_broker.proofs.Entries.{the_owner, Left, AllLeft, IsFair, Follows, accepted_left, accepted_size, accepted_shows, accepted_followers, accepted_nowhere}
 
 same_owner : (by seq by1 seq1 : ℕ) → the_owner by seq ≡ the_owner by1 seq1 → (by ≡ by1) × (seq ≡ seq1)
 same_owner by seq by1 seq1 e =

@@ -8,10 +8,10 @@ use Rattle.trace_file.specs.declared.line.Line.{Line}
 use Rattle.trace_file.specs.declared.line.Line.TheVariants.{Topic, Feed, Shut, Clock, End}
 use Rattle.kwire.specs.Configuration.{Configuration}
 use Rattle.audit.specs.Printed.{summary_of}
-use Rattle.broker.specs.Board.{Board, seat_at, transcript_at, opening, account_of}
-use Rattle.broker.specs.Turns.{Turned}
-use Rattle.broker.specs.Completing.{scanned}
-use Rattle.broker.specs.Acting.{is_there, next_to_act, Acts}
+use Rattle.plain_broker.specs.Board.{Board, seat_at, transcript_at, opening, account_of}
+use Rattle.plain_broker.specs.Turns.{Turned}
+use Rattle.plain_broker.specs.Completing.{scanned}
+use Rattle.plain_broker.specs.Acting.{is_there, next_to_act, Acts}
 
 -- a line names its session
 abbrev pub with_seat : Board → ℕ → List ℕ → Bool → Board
