@@ -2,22 +2,24 @@
 use Rattle.std.proofs.Common.{◌≡◌, ◌≤◌, ◌+◌, ℕ, false, eqb, List, [], ◌∷◌, ◌++◌, length, take, Option, Some, None, IfSome, inl, inr, refl, sym, ap, subst, ◌∙◌, arith, append-nil, length-append}
 use Rattle.std.proofs.lemmas.List.{take_all, take-append-le}
 use Rattle.std.specs.Io.KnownBytes.{Consumes, IsAtEnd}
-use Rattle.std.specs.List.{count_by}
+use Rattle.std.specs.List.{count_by, AllByRecursion, AllZip}
 use Rattle.audit.specs.declared.account.Account.{Account}
 use Rattle.trace_file.specs.declared.line.Line.{Line}
 use Rattle.plain_broker.specs.Board.{Board, opening, account_of}
 use Rattle.kwire.specs.Configuration.{Configuration}
 use Rattle.plain_broker.specs.Turns.{Turned}
 use Rattle.kafka_room.specs.LinesFront.{IsLinesFront}
-use Rattle.broker.specs.BuiltForm.{IsBuiltForm, NeedsWaiting}
 use Rattle.plain_broker.specs.Play.{Plays}
 use Rattle.audit.specs.Printed.{summary_of}
-use Rattle.kafka_room.specs.Replay.{IsReplayOf, IsReplay, IsReplayFront, IsFirstBadOf, IsWaitingTrace}
+use Rattle.kafka_room.specs.Replay.{IsReplayOf, IsReplay, IsReplayFront, IsFirstBadOf}
 use Rattle.trace_file.specs.Contents.{configuration_of}
 use Rattle.kafka_room.specs.Streams.{IsInput}
-use Rattle.trace_file.specs.Trace.{IsTrace}
-use Rattle.broker.specs.UnderWay.{IsUnderWay}
-use Rattle.broker.proofs.Laws.{before_first, board_lawful, plays_keep, play_is_one, front_of_play, trace_plays, fed_tame, fed_run, form_still}
+use Rattle.trace_file.specs.IsLine.{IsLine}
+use Rattle.trace_file.specs.Trace.{IsTrace, pieces_of}
+use Rattle.trace_file.specs.declared.line.Line.TheVariants.{Topic, Feed, Shut, Clock, End}
+use Rattle.broker.specs.Kept.{IsPlayable}
+use Rattle.plain_broker.specs.Declared.{AreDeclared}
+use Rattle.plain_broker.proofs.Laws.{play_is_lawful, play_is_run, trace_declared, play_is_one, front_of_play, trace_plays, lines_left}
 use Rattle.trace_file.specs.declared.line.TheConstants.{MOST_TRACE_BYTES, REPLAY_PORT}
 use Rattle.trace_file.specs.declared.line.LineFault.{LineFault}
 use Rattle.trace_file.specs.declared.line.TraceFault.{TraceFault}
@@ -68,40 +70,45 @@ text_of left new text input size = (read_whole left new text input size, told le
     told (Some trace) None text consumed at = absurd consumed
     told (Some trace) (Some rest) text consumed at = consumed ∙ ap (λ (r : List ℕ). text ++ r) at ∙ append-nil text
 
--- a trace that was read, in which something may wait
-pub waiting_told : (left : Option (List ℕ)) (text : List ℕ) (lines : List Line) → IsTrace text lines → NeedsWaiting lines → IfSome left (λ trace. trace ≡ text) → IsWaitingTrace left
-waiting_told None text lines trace waits told = tt
-waiting_told (Some had) text lines trace waits told = (lines, subst (λ (t : List ℕ). IsTrace t lines) (sym told) trace, waits)
+-- ---- the lines
+
+playable : (piece : List ℕ) (line : Line) → IsLine piece line → IsPlayable line
+playable piece (Topic name partitions followers) is = tt
+playable piece (Feed session bytes) is = is.in_range
+playable piece (Shut session) is = is.in_range
+playable piece (Clock t) is = is.in_range
+playable piece End is = tt
+
+lines_playable : (pieces : List (List ℕ)) (lines : List Line) → AllZip IsLine pieces lines → AllByRecursion IsPlayable lines
+lines_playable [] [] each = tt
+lines_playable [] (line ∷ lines) each = absurd each
+lines_playable (piece ∷ pieces) [] each = absurd each
+lines_playable (piece ∷ pieces) (line ∷ lines) each = (playable piece line each.0, lines_playable pieces lines each.1)
+
+-- the lines of a trace can be played
+pub trace_playable : (text : List ℕ) (lines : List Line) → IsTrace text lines → AllByRecursion IsPlayable lines
+trace_playable text lines trace = lines_playable (pieces_of text) lines trace.spelled
+
+all_left : (lines : List Line) (i : ℕ) → AllByRecursion IsPlayable lines → AllByRecursion IsPlayable (drop i lines)
+all_left lines zero all = all
+all_left [] (suc i) all = tt
+all_left (line ∷ lines) (suc i) all = all_left lines i all.1
+
+pub playable_at : (lines : List Line) (i : ℕ) (line : Line) → AllByRecursion IsPlayable lines → i < length lines → line ≡ get_or lines i line → IsPlayable line
+playable_at lines i line all lt is = (subst (AllByRecursion IsPlayable) (lines_left lines i line lt is) (all_left lines i all)).0
 
 -- ---- what was played
 
--- the lines were played to the last
-replayed : (text : List ℕ) (lines : List Line) (last : Turned) → IsBuiltForm text lines → Plays (opening (configuration_of REPLAY_PORT lines)) lines last → IsUnderWay lines [] last.board
-    → IsReplayOf lines (account_of last.board) (last.text ++ summary_of (account_of last.board))
-replayed text lines last form played way =
-    let given = way.running.given in
-    let config = plays_keep (opening (configuration_of REPLAY_PORT lines)) lines last played in record {
-      lawful = board_lawful last.board given.no_clock (fed_tame lines last.board given) way.running.steady;
-      run = fed_run lines last.board given way.rest config (form_still text lines form);
-      played = record { last = last; played = played; accounted = refl; printed = refl };
-      only = λ other more p. play_is_one (configuration_of REPLAY_PORT lines) lines other (account_of last.board) more (last.text ++ summary_of (account_of last.board)) p (record { last = last; played = played; accounted = refl; printed = refl });
+-- the account and the text to which the lines were played
+pub replayed : (text : List ℕ) (lines : List Line) (account : Account) (printed : List ℕ) → IsTrace text lines → IsPlay (configuration_of REPLAY_PORT lines) lines account printed
+    → IsReplayOf lines account printed
+replayed text lines account printed trace played =
+    let config = configuration_of REPLAY_PORT lines in record {
+      lawful = play_is_lawful config lines account printed (trace_declared text lines REPLAY_PORT trace) played;
+      run = play_is_run text lines REPLAY_PORT account printed trace played;
+      played = played;
+      only = λ other more p. play_is_one config lines other account more printed p played;
     }
-
--- the same, as the slice of the lines and the broker are known
-pub before_lines : (text : List ℕ) (lines slice : List Line) (config : Configuration) (lone : Board) → IsBuiltForm text lines → slice ≡ lines → config ≡ configuration_of REPLAY_PORT lines → lone ≡ opening config
-    → IsUnderWay [] slice lone
-before_lines text lines slice config lone form same configured made =
-    subst (λ (ls : List Line). IsUnderWay [] ls lone) (sym same) (subst (IsUnderWay [] lines) (sym (made ∙ ap opening configured)) (before_first text lines form))
-
-pub played_from : (lines slice : List Line) (config : Configuration) (lone : Board) (last : Turned) → slice ≡ lines → config ≡ configuration_of REPLAY_PORT lines → lone ≡ opening config → Plays lone slice last
-    → Plays (opening (configuration_of REPLAY_PORT lines)) lines last
-played_from lines slice config lone last same configured made played =
-    subst (λ (ls : List Line). Plays (opening (configuration_of REPLAY_PORT lines)) ls last) same (subst (λ (b : Board). Plays b slice last) (made ∙ ap opening configured) played)
-
-pub replayed_as : (text : List ℕ) (lines : List Line) (last : Turned) (account : Account) → IsBuiltForm text lines → Plays (opening (configuration_of REPLAY_PORT lines)) lines last → IsUnderWay lines [] last.board
-    → account ≡ account_of last.board → IsReplayOf lines account (last.text ++ summary_of account)
-replayed_as text lines last account form played way is =
-    subst (λ (a : Account). IsReplayOf lines a (last.text ++ summary_of a)) (sym is) (replayed text lines last form played way)
 
 -- all that the lines up to here print stands written
 pub front_of_lines : (start : Board) (lines done more : List Line) (last : Turned) → lines ≡ done ++ more → Plays start done last → IsLinesFront start lines last.text
@@ -112,31 +119,32 @@ pub front_within : (start : Board) (lines done more : List Line) (last : Turned)
 front_within start lines done more last n parts played = record { done = done; more = more; parts = parts; last = last; played = played; count = n; front = refl }
 
 -- it is one of the text of the play, to which these lines come
-pub front_of_text : (text : List ℕ) (lines : List Line) (written : List ℕ) → IsBuiltForm text lines → IsLinesFront (opening (configuration_of REPLAY_PORT lines)) lines written → IsReplayFront (Some text) written
-front_of_text text lines written form f =
+pub front_of_text : (text : List ℕ) (lines : List Line) (written : List ℕ) → IsTrace text lines → IsLinesFront (opening (configuration_of REPLAY_PORT lines)) lines written → IsReplayFront (Some text) written
+front_of_text text lines written trace f =
     let config = configuration_of REPLAY_PORT lines in
-    let play = trace_plays config text lines form.trace in
+    let play = trace_plays config text lines trace in
     let k = front_of_play config lines f.done f.more f.last f.count play.0 play.1 f.parts f.played play.2 in
-    record { lines = lines; form = form; account = play.0; text = play.1; played = play.2; count = k.0; front = f.front ∙ k.1 }
+    record { lines = lines; trace = trace; account = play.0; text = play.1; played = play.2; count = k.0; front = f.front ∙ k.1 }
 
--- the same, as the slice of the lines and the broker are known
-pub front_from : (text : List ℕ) (lines slice : List Line) (config : Configuration) (lone : Board) (written : List ℕ) → IsBuiltForm text lines → slice ≡ lines → config ≡ configuration_of REPLAY_PORT lines → lone ≡ opening config
-    → IsLinesFront lone slice written → IsReplayFront (Some text) written
-front_from text lines slice config lone written form same configured made front =
-    front_of_text text lines written form
-    (subst (λ (ls : List Line). IsLinesFront (opening (configuration_of REPLAY_PORT lines)) ls written) same (subst (λ (b : Board). IsLinesFront b slice written) (made ∙ ap opening configured) front))
-
-told_form : (left : Option (List ℕ)) (text : List ℕ) (lines : List Line) → IsBuiltForm text lines → IfSome left (λ trace. trace ≡ text) → IfSome left (λ trace. IsBuiltForm trace lines)
-told_form None text lines form told = tt
-told_form (Some trace) text lines form told = subst (λ (t : List ℕ). IsBuiltForm t lines) (sym told) form
+told_trace : (left : Option (List ℕ)) (text : List ℕ) (lines : List Line) → IsTrace text lines → IfSome left (λ had. had ≡ text) → IfSome left (λ had. IsTrace had lines)
+told_trace None text lines trace told = tt
+told_trace (Some had) text lines trace told = subst (λ (t : List ℕ). IsTrace t lines) (sym told) trace
 
 -- what the lines that were read came to
-pub replay_of : (left : Option (List ℕ)) (text : List ℕ) (lines slice : List Line) (account : Account) (printed : List ℕ) → IsBuiltForm text lines → slice ≡ lines → IfSome left (λ trace. trace ≡ text)
+pub replay_of : (left : Option (List ℕ)) (text : List ℕ) (lines slice : List Line) (account : Account) (printed : List ℕ) → IsTrace text lines → slice ≡ lines → IfSome left (λ had. had ≡ text)
     → IsReplayOf slice account printed → IsReplay left account printed
-replay_of left text lines slice account printed form same told h =
-    record { lines = lines; form = told_form left text lines form told; replay = subst (λ (ls : List Line). IsReplayOf ls account printed) same h }
+replay_of left text lines slice account printed trace same told h =
+    record { lines = lines; trace = told_trace left text lines trace told; replay = subst (λ (ls : List Line). IsReplayOf ls account printed) same h }
 
 -- where the source tells what it had, that is the text that was read
-pub front_of_source : (left : Option (List ℕ)) (text written : List ℕ) → IfSome left (λ trace. trace ≡ text) → IsReplayFront (Some text) written → IsReplayFront left written
+pub front_of_source : (left : Option (List ℕ)) (text written : List ℕ) → IfSome left (λ had. had ≡ text) → IsReplayFront (Some text) written → IsReplayFront left written
 front_of_source left text written told f =
-    record { lines = f.lines; form = told_form left text f.lines f.form told; account = f.account; text = f.text; played = f.played; count = f.count; front = f.front }
+    record { lines = f.lines; trace = told_trace left text f.lines f.trace told; account = f.account; text = f.text; played = f.played; count = f.count; front = f.front }
+
+-- ---- a trace is replayed
+
+-- what has a trace has no bad line
+pub has_no_bad_line : (left : Option (List ℕ)) (line : Option LineFault) → HasTrace left → IsSome line → IfSome line (IsFirstBadOf left) → ⊥
+has_no_bad_line None line has some bad = has
+has_no_bad_line (Some text) None has some bad = absurd some
+has_no_bad_line (Some text) (Some fault) has some bad = trace_or_bad text has.0 fault has.1 bad

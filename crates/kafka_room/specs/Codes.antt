@@ -4,7 +4,7 @@ use Rattle.trace_file.specs.declared.line.LineFault.{LineFault}
 use Rattle.trace_file.specs.declared.line.TraceFault.{TraceFault}
 use Rattle.trace_file.specs.declared.line.TraceFault.TheVariants as trace
 use Rattle.kafka_room.specs.declared.exit.Stop.{Stop}
-use Rattle.kafka_room.specs.declared.exit.Stop.TheVariants.{Usage, BadLine, ReadFault, WriteFault, NoMemory, Unbuilt}
+use Rattle.kafka_room.specs.declared.exit.Stop.TheVariants.{Usage, BadLine, ReadFault, WriteFault, NoMemory}
 
 abbrev pub exit_code_of : Stop → ℕ
 exit_code_of Usage = 1
@@ -12,7 +12,6 @@ exit_code_of (BadLine fault) = 2
 exit_code_of ReadFault = 3
 exit_code_of WriteFault = 4
 exit_code_of NoMemory = 6
-exit_code_of Unbuilt = 7
 
 abbrev pub bad_line_of : Stop → Option LineFault
 bad_line_of Usage = None
@@ -20,7 +19,6 @@ bad_line_of (BadLine fault) = Some fault
 bad_line_of ReadFault = None
 bad_line_of WriteFault = None
 bad_line_of NoMemory = None
-bad_line_of Unbuilt = None
 
 -- a text that isn't read as a trace
 abbrev pub stop_of : TraceFault → Stop

@@ -1,9 +1,11 @@
--- What is written of lines that weren't played to the last.
-use Rattle.std.specs.Prelude.{ℕ, ◌≡◌, ◌++◌, List, take}
+-- What is written of lines: of those that were played to the last, and of those that weren't.
+use Rattle.std.specs.Prelude.{ℕ, ◌≡◌, ◌++◌, List, take, Option}
+use Rattle.std.specs.Io.KnownBytes.{Appends}
 use Rattle.trace_file.specs.declared.line.Line.{Line}
 use Rattle.plain_broker.specs.Board.{Board}
 use Rattle.plain_broker.specs.Turns.{Turned}
 use Rattle.plain_broker.specs.Play.{Plays}
+use Rattle.broker.specs.Kept.{Kept, StandsFor}
 
 -- the front of what the first so many of these lines print
 pub record IsLinesFront (start : Board) (lines : List Line) (written : List ℕ) : Type 0 where
@@ -14,3 +16,13 @@ pub record IsLinesFront (start : Board) (lines : List Line) (written : List ℕ)
   pub played : Plays start done last
   pub count : ℕ
   pub front : written ≡ take count last.text
+
+-- from each board that the broker stands for the lines are played to one that it then stands for, and what they print is written
+abbrev pub LinesPlayed : Option (List ℕ) → Option (List ℕ) → Kept → Kept → List Line → Type 0
+LinesPlayed before after kept later lines =
+    (start : Board) → StandsFor kept start → (last : Turned) × Plays start lines last × StandsFor later last.board × Appends before after last.text
+
+-- such a front is written
+abbrev pub LinesFront : Option (List ℕ) → Option (List ℕ) → Kept → List Line → Type 0
+LinesFront before after kept lines =
+    (start : Board) → StandsFor kept start → (written : List ℕ) × IsLinesFront start lines written × Appends before after written

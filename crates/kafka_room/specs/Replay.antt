@@ -4,7 +4,6 @@ use Rattle.audit.specs.declared.account.Account.{Account}
 use Rattle.trace_file.specs.declared.line.Line.{Line}
 use Rattle.trace_file.specs.declared.line.TheConstants.{REPLAY_PORT}
 use Rattle.audit.specs.IsLawful.{IsLawful}
-use Rattle.broker.specs.BuiltForm.{IsBuiltForm, NeedsWaiting}
 use Rattle.plain_broker.specs.Play.{IsPlay}
 use Rattle.audit.specs.RunOf.{IsRunOf}
 use Rattle.trace_file.specs.declared.line.LineFault.{LineFault}
@@ -23,13 +22,13 @@ pub record IsReplayOf (lines : List Line) (account : Account) (text : List ℕ) 
 -- `left` is what the source had, where it tells
 pub record IsReplay (left : Option (List ℕ)) (account : Account) (text : List ℕ) : Type 0 where
   pub lines : List Line
-  pub form : IfSome left (λ trace. IsBuiltForm trace lines)
+  pub trace : IfSome left (λ had. IsTrace had lines)
   pub replay : IsReplayOf lines account text
 
 -- what a replay that came to no end wrote: a front of the text to which the lines that were read play
 pub record IsReplayFront (left : Option (List ℕ)) (written : List ℕ) : Type 0 where
   pub lines : List Line
-  pub form : IfSome left (λ trace. IsBuiltForm trace lines)
+  pub trace : IfSome left (λ had. IsTrace had lines)
   pub account : Account
   pub text : List ℕ
   pub played : IsPlay (configuration_of REPLAY_PORT lines) lines account text
@@ -40,13 +39,14 @@ pub record IsReplayFront (left : Option (List ℕ)) (written : List ℕ) : Type 
 abbrev pub IsFirstBadOf : Option (List ℕ) → LineFault → Type 0
 IsFirstBadOf left fault = IfSome left (λ trace. IsFirstBad trace false fault)
 
--- what the source had, where it tells, is a trace in which something may wait
-abbrev pub IsWaitingTrace : Option (List ℕ) → Type 0
-IsWaitingTrace left = IfSome left (λ trace. (lines : List Line) × IsTrace trace lines × NeedsWaiting lines)
+-- what the source had is a trace, where it tells
+abbrev pub HasTrace : Option (List ℕ) → Type 0
+HasTrace None = ⊥
+HasTrace (Some text) = (lines : List Line) × IsTrace text lines
 
 -- the codes of a run that writes nothing
 abbrev pub IsSilent : ℕ → Type 0
-IsSilent code = (code ≡ 1) ⊎ (code ≡ 2) ⊎ (code ≡ 3) ⊎ (code ≡ 7)
+IsSilent code = (code ≡ 1) ⊎ (code ≡ 2) ⊎ (code ≡ 3)
 
 -- a port that was never used
 pub record IsNewPort (opened_with : Option ℕ) (given : ℕ) (is_ended : Bool) (retired : ℕ) : Type 0 where

@@ -22,8 +22,6 @@ pub enum Stop {
     /// A write to the sink failed.
     WriteFault,
     NoMemory,
-    /// The trace is of a form that isn't built yet.
-    Unbuilt,
 }
 
 impl Stop {
@@ -37,7 +35,6 @@ impl Stop {
             Stop::ReadFault => 3,
             Stop::WriteFault => 4,
             Stop::NoMemory => 6,
-            Stop::Unbuilt => 7,
         }
     }
 
@@ -47,8 +44,7 @@ impl Stop {
     {
         match self {
             Stop::BadLine(fault) => Some(fault),
-            Stop::Usage | Stop::ReadFault | Stop::WriteFault | Stop::NoMemory | Stop::Unbuilt =>
-                None,
+            Stop::Usage | Stop::ReadFault | Stop::WriteFault | Stop::NoMemory => None,
         }
     }
 }
@@ -92,8 +88,7 @@ impl From<Failed> for Stop {
 /// What a run answers. The port and the clock are those that were handed in.
 #[derive(Debug, Drop)]
 pub struct Exit<P: Drop, C: Drop> {
-    /// 0 done, 1 a faulty command line, 2 a bad line, 3 a read fault, 4 a write fault, 5 a port fault, 6 no memory, 7 a
-    /// trace of a form that isn't built yet.
+    /// 0 done, 1 a faulty command line, 2 a bad line, 3 a read fault, 4 a write fault, 5 a port fault, 6 no memory.
     pub code: u8,
     /// The first bad line, with code 2 alone.
     pub line: Option<LineFault>,
@@ -139,7 +134,6 @@ pub fn exit_text(code: u8) -> &'static str {
         3 => "the input can't be read",
         4 => "the output can't be written",
         5 => "the port failed",
-        6 => "no memory was left",
-        _ => "a trace of this form isn't built yet",
+        _ => "no memory was left",
     }
 }

@@ -1,21 +1,20 @@
 //! The replay of a trace, on one thread.
 
 ghost use Rattle.std.specs.Prelude.{◌≡◌, ◌≤◌, ◌++◌, [], ℕ, false, List as Items, Some, IfOk, IfErr, OnOk, OnErr, IsErrOf, IfSome, IsSome, ◌⊎◌};
+ghost use Rattle.std.specs.List.{AllByRecursion};
 ghost use Rattle.std.specs.Io.KnownBytes.{Appends, Keeps, IsAtEnd};
 ghost use Rattle.outside.specs.Causes.{Rose};
 ghost use Rattle.audit.specs.IsLawful.{IsLawful};
 ghost use Rattle.trace_file.specs.Trace.{IsTrace};
-ghost use Rattle.broker.specs.BuiltForm.{IsBuiltForm};
-ghost use Rattle.plain_broker.specs.Play.{Plays};
-ghost use Rattle.broker.specs.UnderWay.{IsUnderWay};
+ghost use Rattle.broker.specs.Kept.{IsPlayable};
 ghost use Rattle.kafka_room.specs.Codes.{bad_line_of};
-ghost use Rattle.kafka_room.specs.LinesFront.{IsLinesFront};
-ghost use Rattle.kafka_room.specs.Replay.{IsReplayOf, IsReplay, IsReplayFront, IsFirstBadOf, IsWaitingTrace};
+ghost use Rattle.kafka_room.specs.LinesFront.{LinesPlayed, LinesFront};
+ghost use Rattle.kafka_room.specs.Replay.{IsReplayOf, IsReplay, IsReplayFront, IsFirstBadOf};
 
 use crate::exit::Stop;
 use crate::streams::{read_all, write_all};
-use audit::{Account, put_summary};
-use broker::{Lone, needs_waiting};
+use audit::{Account, print_replay};
+use broker::Lone;
 use kbytes::{Bytes, List};
 use outside::{Sink, Source};
 use std::alloc::Global;
@@ -34,22 +33,6 @@ fn read_lines<S: Source>(alloc: Global, source: &mut S) -> Result<List<Line>, St
     Ok(lines)
 }
 
-// Reads the lines of the source's trace, where it is of the form that is built.
-fn prepare<S: Source>(alloc: Global, source: &mut S) -> Result<List<Line>, Stop>
-    ensures form { IfOk result (λ lines. (text : Items ℕ) × IsBuiltForm text lines × IfSome (S.left source.old) (λ t. t ≡ text)) }
-    ensures end { OnOk result (IsAtEnd (S.left source.new)) }
-    ensures read_fault { IsErrOf result Stop.ReadFault → Rose (S.faults source.old) (S.faults source.new) }
-    ensures bad_line { IfErr result (λ stop. IfSome (bad_line_of stop) (IsFirstBadOf (S.left source.old))) }
-    ensures unbuilt { IsErrOf result Stop.Unbuilt → IsWaitingTrace (S.left source.old) }
-    ensures only { IfErr result (λ stop. (stop ≡ Stop.ReadFault) ⊎ (stop ≡ Stop.NoMemory) ⊎ (stop ≡ Stop.Unbuilt) ⊎ IsSome (bad_line_of stop)) }
-{
-    let lines = read_lines(alloc, source)?;
-    if needs_waiting(alloc, lines.as_slice())? {
-        return Err(Stop::Unbuilt);
-    }
-    Ok(lines)
-}
-
 // Plays the lines one after the other, and writes what each prints before the next.
 fn play_lines<K: Sink>(
     alloc: Global,
@@ -57,12 +40,9 @@ fn play_lines<K: Sink>(
     lone: &mut Lone,
     sink: &mut K,
 ) -> Result<(), Stop>
-    requires { IsUnderWay [] lines.now lone.old }
-    ensures played { OnOk result ((text : Items ℕ) × Plays lone.old lines.now (record { board = lone.new; text = text })
-        × Appends (K.written sink.old) (K.written sink.new) text) }
-    ensures under_way { OnOk result (IsUnderWay lines.now [] lone.new) }
-    ensures front { OnErr result ((written : Items ℕ) × IsLinesFront lone.old lines.now written
-        × Appends (K.written sink.old) (K.written sink.new) written) }
+    requires { AllByRecursion IsPlayable lines.now }
+    ensures played { OnOk result (LinesPlayed (K.written sink.old) (K.written sink.new) lone.old lone.new lines.now) }
+    ensures front { OnErr result (LinesFront (K.written sink.old) (K.written sink.new) lone.old lines.now) }
     ensures later { K.faults sink.old ≤ K.faults sink.new }
     ensures failed { IsErrOf result Stop.WriteFault → Rose (K.faults sink.old) (K.faults sink.new) }
     ensures only { IfErr result (λ stop. (stop ≡ Stop.WriteFault) ⊎ (stop ≡ Stop.NoMemory)) }
@@ -77,10 +57,10 @@ fn play_lines<K: Sink>(
 
 // Plays a trace to its end, and writes the summary after the lines' text.
 fn play<K: Sink>(alloc: Global, lines: &[Line], sink: &mut K) -> Result<Account, Stop>
-    requires { (text : Items ℕ) × IsBuiltForm text lines.now }
+    requires { (text : Items ℕ) × IsTrace text lines.now }
     ensures replay { IfOk result (λ account. (text : Items ℕ) × IsReplayOf lines.now account text
         × Appends (K.written sink.old) (K.written sink.new) text) }
-    ensures front { (text : Items ℕ) → IsBuiltForm text lines.now → OnErr result ((written : Items ℕ) × IsReplayFront (Some text) written
+    ensures front { (text : Items ℕ) → IsTrace text lines.now → OnErr result ((written : Items ℕ) × IsReplayFront (Some text) written
         × Appends (K.written sink.old) (K.written sink.new) written) }
     ensures failed { IsErrOf result Stop.WriteFault → Rose (K.faults sink.old) (K.faults sink.new) }
     ensures only { IfErr result (λ stop. (stop ≡ Stop.WriteFault) ⊎ (stop ≡ Stop.NoMemory)) }
@@ -90,7 +70,7 @@ fn play<K: Sink>(alloc: Global, lines: &[Line], sink: &mut K) -> Result<Account,
     play_lines(alloc, lines, &mut lone, sink)?;
     let account = lone.close()?;
     let mut summary = Bytes::new(alloc);
-    put_summary(alloc, &account, &mut summary)?;
+    print_replay(alloc, &account, &mut summary)?;
     write_all(sink, summary.as_slice())?;
     Ok(account)
 }
@@ -111,13 +91,12 @@ pub fn replay<S: Source, K: Sink>(
         ⊎ ((written : Items ℕ) × IsReplayFront (S.left source.old) written × Appends (K.written sink.old) (K.written sink.new) written) }
     ensures end { OnOk result (IsAtEnd (S.left source.new)) }
     ensures end_written { IsErrOf result Stop.WriteFault → IsAtEnd (S.left source.new) }
-    ensures silent { IfErr result (λ stop. (stop ≡ Stop.ReadFault) ⊎ (stop ≡ Stop.Unbuilt) ⊎ IsSome (bad_line_of stop)
+    ensures silent { IfErr result (λ stop. (stop ≡ Stop.ReadFault) ⊎ IsSome (bad_line_of stop)
         → Keeps (K.written sink.old) (K.written sink.new)) }
     ensures read_fault { IsErrOf result Stop.ReadFault → Rose (S.faults source.old) (S.faults source.new) }
     ensures write_fault { IsErrOf result Stop.WriteFault → Rose (K.faults sink.old) (K.faults sink.new) }
     ensures bad_line { IfErr result (λ stop. IfSome (bad_line_of stop) (IsFirstBadOf (S.left source.old))) }
-    ensures unbuilt { IsErrOf result Stop.Unbuilt → IsWaitingTrace (S.left source.old) }
 {
-    let lines = prepare(alloc, source)?;
+    let lines = read_lines(alloc, source)?;
     play(alloc, lines.as_slice(), sink)
 }

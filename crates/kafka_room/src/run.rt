@@ -5,7 +5,7 @@ ghost use Rattle.std.specs.Io.KnownBytes.{Appends, Keeps, IsAtEnd};
 ghost use Rattle.std.specs.String.{string_bytes};
 ghost use Rattle.outside.specs.Causes.{Rose};
 ghost use Rattle.audit.specs.IsLawful.{IsLawful};
-ghost use Rattle.kafka_room.specs.Replay.{IsReplay, IsReplayFront, IsFirstBadOf, IsWaitingTrace, IsSilent, IsNewPort};
+ghost use Rattle.kafka_room.specs.Replay.{IsReplay, IsReplayFront, IsFirstBadOf, HasTrace, IsSilent, IsNewPort};
 
 use crate::exit::{Exit, Stop};
 use crate::replay::replay;
@@ -58,13 +58,15 @@ where
     ensures end { (result.code ≡ 0) ⊎ (result.code ≡ 4) → IsAtEnd (S.left source.new) }
     // With any other code nothing was written.
     ensures silent { IsSilent result.code → Keeps (K.written sink.old) (K.written sink.new) }
-    // When each code comes. With 0 and 4 the text is a trace in which nothing may wait, by what was printed, and a trace has
-    // no bad line.
-    ensures codes { (result.code ≡ 1) ⊎ (result.code ≡ 2) ⊎ (result.code ≡ 0) ⊎ (result.code ≡ 4) ⊎ (result.code ≡ 3) ⊎ (result.code ≡ 6) ⊎ (result.code ≡ 7) }
+    // When each code comes. With 0 and 4 the text is a trace, by what was printed, and a trace has no bad line.
+    ensures codes { (result.code ≡ 1) ⊎ (result.code ≡ 2) ⊎ (result.code ≡ 0) ⊎ (result.code ≡ 4) ⊎ (result.code ≡ 3) ⊎ (result.code ≡ 6) }
     ensures usage { (result.code ≡ 1) ↔ (map (λ word. string_bytes word) words.now ≡ codes "replay" ∷ [] → ⊥) }
     ensures read_fault { result.code ≡ 3 → Rose (S.faults source.old) (S.faults source.new) }
     ensures write_fault { result.code ≡ 4 → Rose (K.faults sink.old) (K.faults sink.new) }
-    ensures unbuilt { result.code ≡ 7 → IsWaitingTrace (S.left source.old) }
+    // A trace is replayed to its end, unless a fault of the source or the sink or want of memory stops it.
+    ensures complete { map (λ word. string_bytes word) words.now ≡ codes "replay" ∷ [] → HasTrace (S.left source.old)
+        → (Rose (S.faults source.old) (S.faults source.new) → ⊥) → (Rose (K.faults sink.old) (K.faults sink.new) → ⊥)
+        → (result.code ≡ 0) ⊎ (result.code ≡ 6) }
     // A bad line is told exactly with code 2: it is the first of the text.
     ensures line { IsSome result.line ↔ (result.code ≡ 2) }
     ensures bad_line { IfSome result.line (IsFirstBadOf (S.left source.old)) }
