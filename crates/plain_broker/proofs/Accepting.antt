@@ -98,6 +98,21 @@ kept_accepted clock ledger by n before (AskLog part outcome ∷ decisions) parts
     subst (λ (ps : List Point). IsKept (owners_at (accept_all by seq decisions parts1).1 clock) (put ledger by (before ++ ps ∷ []))) (append_assoc points (point ∷ []) others)
     (kept_accepted clock ledger by n before decisions parts1 (points ++ point ∷ []) (length-set parts part left ∙ size) few fair.1 one)
 
+-- the same where the call's number is told in another way
+pub kept_accepted_at : (clock : List ClockEvent) (ledger : ℕ → List (List Point)) (by seq n : ℕ) (before : List (List Point)) (decisions : List Decision) (parts : List History) (points : List Point)
+    → seq ≡ length before → length parts ≡ n → n ≤ 64 → AllByRecursion (IsFair n) decisions → IsKept (owners_at parts clock) (put ledger by (before ++ points ∷ []))
+    → IsKept (owners_at (accept_all by seq decisions parts).1 clock) (put ledger by (before ++ (points ++ step_points (steps_of (accept_all by seq decisions parts).0)) ∷ []))
+kept_accepted_at clock ledger by seq n before decisions parts points is size few fair kept =
+    subst (λ (k : ℕ). IsKept (owners_at (accept_all by k decisions parts).1 clock) (put ledger by (before ++ (points ++ step_points (steps_of (accept_all by k decisions parts).0)) ∷ []))) (sym is)
+    (kept_accepted clock ledger by n before decisions parts points size few fair kept)
+
+pub kept_look_at : (parts : List History) (clock : List ClockEvent) (ledger : ℕ → List (List Point)) (by seq : ℕ) (before : List (List Point)) (points : List Point)
+    → seq ≡ length before → IsKept (owners_at parts clock) (put ledger by (before ++ points ∷ []))
+    → IsKept (owners_at parts (clock ++ clocks.Look by seq ∷ [])) (put ledger by (before ++ (points ++ clock_point clock ∷ []) ∷ []))
+kept_look_at parts clock ledger by seq before points is kept =
+    subst (λ (k : ℕ). IsKept (owners_at parts (clock ++ clocks.Look by k ∷ [])) (put ledger by (before ++ (points ++ clock_point clock ∷ []) ∷ []))) (sym is)
+    (kept_look parts clock ledger by before points kept)
+
 -- ---- the partitions that are named in what came of it
 
 one_within : (n : ℕ) (result : Accepted) (ps : List ℕ) → IsWithin n result → AllBelow n ps → AllBelow n (cons_option (part_in result) ps)

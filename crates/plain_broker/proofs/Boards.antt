@@ -52,7 +52,7 @@ module _ (config : Configuration) (parts later : List History) (clock behind : L
     calls = stand.calls;
     done = all_done_on stand.front stand.done;
     waits = waiting_on w stand.call stand.waits;
-    session = stand.session;
+    own = stand.own;
     going = stand.going;
   }
 
@@ -120,19 +120,19 @@ module _ (board : Board) (later : List History) (behind : List ClockEvent) (s : 
 
 find_none : {X : Type 0} (p : X → Bool) (xs : List X) → list_any p xs ≡ false → find p xs ≡ None
 find_none {X = X} p [] none = refl
-find_none {X = X} p (x ∷ xs) none = by_test (p x) none
+find_none {X = X} p (x ∷ xs) none = by_test (p x) (find_none p xs) none
   where
-    by_test : (b : Bool) → (b || list_any p xs) ≡ false → cond b (Some x) (find p xs) ≡ None
-    by_test true e = absurd cc
-    by_test false e = find_none p xs e
+    by_test : (b : Bool) → (list_any p xs ≡ false → find p xs ≡ None) → (b || list_any p xs) ≡ false → cond b (Some x) (find p xs) ≡ None
+    by_test true on e = absurd cc
+    by_test false on e = on e
 
 pub find_is : {X : Type 0} (p : X → Bool) (xs : List X) (x : X) → find p xs ≡ Some x → p x ≡ true
 find_is p [] x e = absurd cc
-find_is p (y ∷ xs) x e = by_test (p y) refl e
+find_is p (y ∷ xs) x e = by_test (p y) refl (find_is p xs x) e
   where
-    by_test : (b : Bool) → p y ≡ b → cond b (Some y) (find p xs) ≡ Some x → p x ≡ true
-    by_test true is f = ap p (sym (some_is y x f)) ∙ is
-    by_test false is f = find_is p xs x f
+    by_test : (b : Bool) → p y ≡ b → (find p xs ≡ Some x → p x ≡ true) → cond b (Some y) (find p xs) ≡ Some x → p x ≡ true
+    by_test true is on f = ap p (sym (some_is y x f)) ∙ is
+    by_test false is on f = on f
 
 -- nothing waits of a session that can act
 pub none_waits : (waiting : List Waiting) (s : ℕ) → list_any (λ w. w.session == s) waiting ≡ false → waiting_of waiting s ≡ None
@@ -169,32 +169,32 @@ without waiting s = filter (λ other. not (other.session == s)) waiting
 
 pub waits_no_more : (waiting : List Waiting) (s : ℕ) → waiting_of (without waiting s) s ≡ None
 waits_no_more [] s = refl
-waits_no_more (w ∷ waiting) s = by_test (w.session == s) refl
+waits_no_more (w ∷ waiting) s = by_test (w.session == s) refl (waits_no_more waiting s)
   where
-    by_test : (b : Bool) → (w.session == s) ≡ b → waiting_of (cond (not b) (w ∷ without waiting s) (without waiting s)) s ≡ None
-    by_test true is = waits_no_more waiting s
-    by_test false is = ap (λ (b : Bool). cond b (Some w) (waiting_of (without waiting s) s)) is ∙ waits_no_more waiting s
+    by_test : (b : Bool) → (w.session == s) ≡ b → waiting_of (without waiting s) s ≡ None → waiting_of (cond (not b) (w ∷ without waiting s) (without waiting s)) s ≡ None
+    by_test true is rest = rest
+    by_test false is rest = ap (λ (b : Bool). cond b (Some w) (waiting_of (without waiting s) s)) is ∙ rest
 
 pub waits_still : (waiting : List Waiting) (s r : ℕ) → r ≢ s → waiting_of (without waiting s) r ≡ waiting_of waiting r
 waits_still [] s r other = refl
-waits_still (w ∷ waiting) s r other = by_test (w.session == s) refl
+waits_still (w ∷ waiting) s r other = by_test (w.session == s) refl (waits_still waiting s r other)
   where
-    by_test : (b : Bool) → (w.session == s) ≡ b → waiting_of (cond (not b) (w ∷ without waiting s) (without waiting s)) r ≡ waiting_of (w ∷ waiting) r
-    by_test true is =
+    by_test : (b : Bool) → (w.session == s) ≡ b → waiting_of (without waiting s) r ≡ waiting_of waiting r → waiting_of (cond (not b) (w ∷ without waiting s) (without waiting s)) r ≡ waiting_of (w ∷ waiting) r
+    by_test true is rest =
         let no : eqb w.session r ≡ false = ne_eqb w.session r (λ e. other (sym e ∙ eqb-true w.session s is)) in
-        waits_still waiting s r other ∙ sym (ap (λ (b : Bool). cond b (Some w) (waiting_of waiting r)) no)
-    by_test false is = ap (λ (o : Option Waiting). cond (w.session == r) (Some w) o) (waits_still waiting s r other)
+        rest ∙ sym (ap (λ (b : Bool). cond b (Some w) (waiting_of waiting r)) no)
+    by_test false is rest = ap (λ (o : Option Waiting). cond (w.session == r) (Some w) o) rest
 
 without_get : (waiting : List Waiting) (s i : ℕ) (x : Waiting) → slice_get (without waiting s) i ≡ Some x → (j : ℕ) × (slice_get waiting j ≡ Some x) × (x.session ≢ s)
 without_get [] s i x e = absurd cc
-without_get (w ∷ waiting) s i x e = by_test (w.session == s) refl i e
+without_get (w ∷ waiting) s i x e = by_test (w.session == s) refl (λ k. without_get waiting s k x) i e
   where
-    by_test : (b : Bool) → (w.session == s) ≡ b → (k : ℕ) → slice_get (cond (not b) (w ∷ without waiting s) (without waiting s)) k ≡ Some x → (j : ℕ) × (slice_get (w ∷ waiting) j ≡ Some x) × (x.session ≢ s)
-    by_test true is k f = let found = without_get waiting s k x f in (suc found.0, found.1, found.2)
-    by_test false is zero f = (zero, f, λ same.
+    by_test : (b : Bool) → (w.session == s) ≡ b → ((k : ℕ) → slice_get (without waiting s) k ≡ Some x → (j : ℕ) × (slice_get waiting j ≡ Some x) × (x.session ≢ s)) → (k : ℕ) → slice_get (cond (not b) (w ∷ without waiting s) (without waiting s)) k ≡ Some x → (j : ℕ) × (slice_get (w ∷ waiting) j ≡ Some x) × (x.session ≢ s)
+    by_test true is on k f = let found = on k f in (suc found.0, found.1, found.2)
+    by_test false is on zero f = (zero, f, λ same.
         let yes : (w.session == s) ≡ true = ap (λ (y : Waiting). y.session == s) (some_is w x f) ∙ eq-eqb x.session s same in
         absurd (cc (yes, is)))
-    by_test false is (suc k) f = let found = without_get waiting s k x f in (suc found.0, found.1, found.2)
+    by_test false is on (suc k) f = let found = on k f in (suc found.0, found.1, found.2)
 
 pub alone_still : (waiting : List Waiting) (s : ℕ) → WaitAlone waiting → WaitAlone (without waiting s)
 alone_still waiting s alone i x e =
@@ -208,7 +208,7 @@ finished finish how [] call = refl
 finished finish how (x ∷ []) call = refl
 finished finish how (x ∷ y ∷ front) call = ap (λ (cs : List Call). x ∷ cs) (finished finish how (y ∷ front) call)
 
-nothing_last : (front : List Call) (call : Call) → [] ≡ front ++ call ∷ [] → ⊥
+pub nothing_last : (front : List Call) (call : Call) → [] ≡ front ++ call ∷ [] → ⊥
 nothing_last [] call e = absurd cc
 nothing_last (x ∷ front) call e = absurd cc
 

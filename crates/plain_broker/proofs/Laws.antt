@@ -40,3 +40,7 @@ pub use Rattle.plain_broker.proofs.PlaySome.{lines_play, input_bytes, trace_play
 pub use Rattle.plain_broker.proofs.PlayOnce.{play_is_one, front_of_play}
 -- parts of bytes
 pub use Rattle.plain_broker.proofs.RequestBytes.{front_bytes, back_bytes, both_bytes, none_are_bytes}
+-- the topics of a trace, and what its play is
+pub use Rattle.plain_broker.proofs.RunOfLines.{trace_declared, play_is_run}
+-- a board between two lines is sound and at rest, and its account is lawful
+pub use Rattle.plain_broker.proofs.Resting.{IsSettled, opening_settled, rests_settled, plays_settled, settled_rests, play_rests, play_is_lawful}

@@ -28,6 +28,10 @@ put_same {X = X} f i x j same = ap (λ (b : Bool). cond b x (f j)) (eq-eqb j i s
 pub put_other : {X : Type 0} (f : ℕ → X) (i : ℕ) (x : X) (j : ℕ) → j ≢ i → put f i x j ≡ f j
 put_other {X = X} f i x j other = ap (λ (b : Bool). cond b x (f j)) (ne_eqb j i other)
 
+-- what was there is given again
+pub put_again : {X : Type 0} (f : ℕ → X) (i : ℕ) (x : X) → x ≡ f i → (j : ℕ) → put f i x j ≡ f j
+put_again f i x is j = elim (same_or_not j i) [ inl same ↦ put_same f i x j same ∙ is ∙ sym (ap f same) | inr other ↦ put_other f i x j other ]
+
 -- an item of a list with one more behind
 pub push_get : {X : Type 0} (xs : List X) (x y : X) (k : ℕ) → slice_get (xs ++ x ∷ []) k ≡ Some y → (slice_get xs k ≡ Some y) ⊎ ((k ≡ length xs) × (y ≡ x))
 push_get [] x y zero e = inr (refl, some_is y x (sym e))

@@ -28,3 +28,17 @@ mod RequestBytes
 mod Work
 -- lines play to something
 mod PlaySome
+-- what holds of a board as a request comes, and as a session ends
+mod Acts
+-- what holds of a board as a waiting request is answered
+mod Answering
+-- the account of a sound board is lawful
+mod Lawful
+-- a play keeps its board sound
+mod Playing
+-- between two lines nothing that waits is answerable
+mod Resting
+-- what a board is to the lines that it was fed
+mod FedLines
+-- the account of a play of a trace is that of the run of its lines
+mod RunOfLines

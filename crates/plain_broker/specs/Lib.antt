@@ -22,5 +22,5 @@ pub mod GoesOn
 pub mod Kept
 -- what holds of a board between two steps
 pub mod Sound
--- what a board is to the lines that it was fed
-pub mod Fed
+-- small boards, written out
+pub mod Worked

@@ -61,7 +61,7 @@ pub record WaitsLast (config : Configuration) (parts : List History) (clock : Li
   pub calls : transcript.calls ≡ front ++ call ∷ []
   pub done : AreDone config parts clock front
   pub waits : IsWaiting config parts clock w call
-  pub session : w.session ≡ session
+  pub own : w.session ≡ session
   pub going : transcript.end ≡ None
 
 -- the calls of a session, of which this request waits or none
