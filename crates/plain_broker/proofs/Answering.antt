@@ -58,9 +58,6 @@ module _ (board : Board) (w : Waiting) (h : IsSound board) (found : waiting_of b
   few : length board.parts ≤ 64
   few = omega (arith, h.sound.histories.few)
 
-  before : List (List Point)
-  before = map points_of last.front
-
   is_seq : seq ≡ length (map points_of last.front)
   is_seq =
       let size : length t.calls ≡ length last.front + 1 = ap length last.calls ∙ length-append last.front (last.call ∷ []) in

@@ -181,7 +181,7 @@ module _ (board : Board) (h : IsSound board) where
     same = refl;
     follows = λ p k e. (part_account k, parts_get p k e, longer_self k);
     more = [];
-    clock = sym (append-nil board.clock);
+    events = sym (append-nil board.clock);
   }
 
   owned_here : (parts : List History) (p : ℕ) → owners_in (slice_get (map part_account parts) p) ≡ owners_here (slice_get parts p)
@@ -251,19 +251,19 @@ module _ (board : Board) (h : IsSound board) where
   neither false y e = (refl, e)
 
   le_and_not : (a b : ℕ) → a ≤ b → nat_le a b ≡ false → ⊥
-  le_and_not a b le no = absurd (cc (le-leb a b le, no))
+  le_and_not a b le not_now = absurd (cc (le-leb a b le, not_now))
 
   not_answerable : (w : Waiting) → is_answerable_now board w ≡ false → IsAnswerable w.operation (values_of w.request.ask (shown_in board.parts w.steps)) (moment_of board.clock) → ⊥
-  not_answerable w no (inl enough) =
-      le_and_not w.operation.least (tally w.operation.needs (values_of w.request.ask (shown_in board.parts w.steps))) enough (neither (is_satisfied_now board w) (is_overdue_now board w) no).0
-  not_answerable w no (inr late) = le_and_not w.operation.deadline (moment_of board.clock) late (neither (is_satisfied_now board w) (is_overdue_now board w) no).1
+  not_answerable w not_now (inl enough) =
+      le_and_not w.operation.least (tally w.operation.needs (values_of w.request.ask (shown_in board.parts w.steps))) enough (neither (is_satisfied_now board w) (is_overdue_now board w) not_now).0
+  not_answerable w not_now (inr late) = le_and_not w.operation.deadline (moment_of board.clock) late (neither (is_satisfied_now board w) (is_overdue_now board w) not_now).1
 
   parked_lawful : (w : Waiting) (call : Call) → IsWaiting board.config board.parts board.clock w call → is_answerable_now board w ≡ false → IsLawfulCall (account_of board) call
-  parked_lawful w call waits no =
+  parked_lawful w call waits not_now =
       let account = account_of board in
       let d = waits.delayed account account_goes in
       let still : IsAnswerable (operation_in account w.request w.steps d.looks) (values_of w.request.ask (shown_at_last account w.steps)) (moment_of account.clock) → ⊥ =
-      λ answerable. not_answerable w no (subst (λ (ss : List Shown). IsAnswerable w.operation (values_of w.request.ask ss) (moment_of board.clock)) (last_shown w.steps)
+      λ answerable. not_answerable w not_now (subst (λ (ss : List Shown). IsAnswerable w.operation (values_of w.request.ask ss) (moment_of board.clock)) (last_shown w.steps)
       (subst (λ (op : Operation). IsAnswerable op (values_of w.request.ask (shown_at_last account w.steps)) (moment_of board.clock)) d.operation answerable)) in
       inl (record {
         whole = record { request = w.request; steps = w.steps; looks = d.looks; accepted = d.accepted; entries = d.entries };

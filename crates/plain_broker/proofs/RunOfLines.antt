@@ -15,13 +15,15 @@ use Rattle.partlog.specs.declared.clock_event.ClockEvent.TheVariants as clocks
 use Rattle.audit.specs.declared.account.Account.{Account}
 use Rattle.audit.specs.declared.account.Transcript.{Transcript}
 use Rattle.audit.specs.declared.account.Call.{Call}
+use Rattle.audit.specs.declared.account.Point.{Point}
 use Rattle.audit.specs.declared.account.CallHow.{CallHow}
 use Rattle.audit.specs.declared.account.CallHow.TheVariants.{Quiet, AtOnce, Satisfied, Expired, Parked, Cut}
 use Rattle.audit.specs.declared.account.SessionEnd.{SessionEnd}
 use Rattle.audit.specs.declared.account.SessionEnd.TheVariants.{Closed, Truncated, FrameTooLong, Refused, CallsFull, ReadFault, WriteFault, NoMemory}
 use Rattle.audit.specs.declared.account.TheConstants.{MOST_CALLS}
 use Rattle.audit.specs.Fits.{EndFits, IsUnfinished, LastIsParked}
-use Rattle.audit.specs.Histories.{all_calls}
+use Rattle.audit.specs.Histories.{all_calls, clock_part, ticks_of}
+use Rattle.audit.specs.LawfulCall.{operation_parts, step_points}
 use Rattle.audit.specs.RunOf.{IsTraceEnd, IsNotCut, IsSessionOf, IsRunOf}
 use Rattle.audit.proofs.Laws.{same_or_not, get_there}
 use Rattle.kanswer.specs.Decisions.{Decision}
@@ -41,11 +43,11 @@ use Rattle.trace_file.specs.Trace.{pieces_of, IsTrace}
 use Rattle.trace_file.proofs.Laws.{few_sessions}
 use Rattle.plain_broker.specs.Acting.{is_there, shows_work, can_act, next_to_act, end_of_input, HandlesFrame, Acts, ActsOn}
 use Rattle.plain_broker.specs.Board.{Board, Seat, Waiting, empty_seat, new_transcript, seat_at, transcript_at, next_call, put_before, passes_of, opening, account_of}
-use Rattle.plain_broker.specs.Completing.{look_all, last_call, is_satisfied_now, is_answerable_now, completed, unless_none, answered_in, scan_sessions, scanned}
+use Rattle.plain_broker.specs.Completing.{look_all, last_call, is_satisfied_now, is_answerable_now, completed_as, completed, unless_none, answered_in, scan_sessions, scanned}
 use Rattle.plain_broker.specs.Declared.{IsDeclared, AreDeclared}
-use Rattle.plain_broker.specs.Entering.{Noted, accept_all, shown_of}
+use Rattle.plain_broker.specs.Entering.{Noted, accept_all, steps_of, shown_of}
 use Rattle.plain_broker.specs.Play.{brought, Rests, Plays, IsPlay}
-use Rattle.plain_broker.specs.Turns.{Turned, answered_at_once, left_waiting, handled, ended}
+use Rattle.plain_broker.specs.Turns.{Turned, how_at_once, answered_at_once, left_waiting, handled, ended}
 use Rattle.plain_broker.proofs.Acts.{ticks_looked}
 use Rattle.plain_broker.proofs.Boards.{IsSound, WaitsLast, Stand, waiting_of, seat_there, nothing_last}
 use Rattle.plain_broker.proofs.Calls.{IsOver}
@@ -139,7 +141,13 @@ completed_fed fed board w sound h own =
     known_named fed board s h lt (λ none.
         nothing_last last.front last.call (sym (ap (λ (o : Option Transcript). (unwrap_or o (new_transcript s)).calls) none) ∙ last.calls)) in
     let looked = ticks_alike fed board.clock (board.clock ++ clocks.Look s seq ∷ []) (ticks_looked board.clock s seq) (looked_moment board.clock s seq) h.ticks in
-    either (is_satisfied_now board w) _ _ (fed_finished fed board _ s h lt h.ticks found _ (Satisfied 0) refl last.going) (fed_finished fed board _ s h lt looked found _ (Expired 0) refl last.going)
+    let looks = look_all s seq (operation_parts w.steps) board.parts in
+    let late : List Point = record { part = clock_part; place = length board.clock } ∷ looks.0 in
+    let at_once = completed_as board w board.clock looks.0 (Satisfied 0) looks.1 in
+    let too_late = completed_as board w (board.clock ++ clocks.Look s seq ∷ []) late (Expired 0) looks.1 in
+    either (is_satisfied_now board w) at_once too_late
+    (fed_finished fed board at_once s h lt h.ticks found looks.0 (Satisfied 0) refl last.going)
+    (fed_finished fed board too_late s h lt looked found late (Expired 0) refl last.going)
   where
     either : (b : Bool) (x y : Board) → IsFedBy fed x → IsFedBy fed y → IsFedBy fed (cond b x y)
     either true x y p q = p
@@ -188,9 +196,11 @@ module _ (fed : List Line) (board : Board) (s : ℕ) (h : IsFedBy fed board) (se
       let came = accept_all s (next_call board s) decisions board.parts in
       let seq = next_call board s in
       let looked = ticks_alike fed board.clock (board.clock ++ clocks.Look s seq ∷ []) (ticks_looked board.clock s seq) (looked_moment board.clock s seq) h.ticks in
+      let done : Call = record { frame = body; accept = step_points (steps_of came.0); finish = []; how = how_at_once request.ask } in
+      let waits : Call = record { frame = body; accept = step_points (steps_of came.0) ++ record { part = clock_part; place = length board.clock } ∷ []; finish = []; how = Parked } in
       either (becomes_delayed request.ask (shown_of came.0)) (left_waiting board s body request came) (answered_at_once board s body request came)
-      (fed_call fed board (left_waiting board s body request came).board s h o.there looked found body _ refl o.goes_on small refl front)
-      (fed_call fed board (answered_at_once board s body request came).board s h o.there h.ticks found body _ refl o.goes_on small refl front)
+      (fed_call fed board (left_waiting board s body request came).board s h o.there looked found body waits refl o.goes_on small refl front)
+      (fed_call fed board (answered_at_once board s body request came).board s h o.there h.ticks found body done refl o.goes_on small refl front)
     where
       either : (b : Bool) (x y : Turned) → IsFedBy fed x.board → IsFedBy fed y.board → IsFedBy fed (cond b x y).board
       either true x y p q = p
@@ -457,7 +467,7 @@ fed_run fed port board h settled config = record {
       let small : s < 64 = omega (arith, lt, sessions_few fed 64 h.few) in
       some_session fed board s (is_named s fed) settled small (omega (arith, lt, passes_count fed board h)) (h.seats s small);
   whole = none_cut (all_calls (account_of board)) (all_uncut board settled.sound);
-  ticks = sym (append-nil _) ∙ h.ticks [] ∙ ap (rising_from 0) (append-nil fed) ∙ sym (append-nil (rising_from 0 fed));
+  ticks = sym (append-nil (ticks_of board.clock)) ∙ h.ticks [] ∙ ap (rising_from 0) (append-nil fed) ∙ sym (append-nil (rising_from 0 fed));
 }
 
 pub play_is_run : (text : List ℕ) (lines : List Line) (port : ℕ) (account : Account) (printed : List ℕ) → IsTrace text lines → IsPlay (configuration_of port lines) lines account printed
