@@ -132,12 +132,12 @@ either_seats true x y p q = p
 either_seats false x y p q = q
 
 -- what the first line brings are bytes
-line_bytes : (line : Line) (lines : List Line) → ((session : ℕ) → IsBytes (input_of session (line ∷ lines))) → (s : ℕ) (bytes : List ℕ) → line ≡ Feed s bytes → IsBytes bytes
+pub line_bytes : (line : Line) (lines : List Line) → ((session : ℕ) → IsBytes (input_of session (line ∷ lines))) → (s : ℕ) (bytes : List ℕ) → line ≡ Feed s bytes → IsBytes bytes
 line_bytes line lines fits s bytes is =
     let here : IsBytes (input_of s (Feed s bytes ∷ lines)) = subst (λ (l : Line). IsBytes (input_of s (l ∷ lines))) is (fits s) in
     front_bytes bytes (input_of s lines) (rw (eq-eqb s) at here)
 
-brought_seats : (board : Board) (line : Line) → AreSeats board.seats → ((s : ℕ) (bytes : List ℕ) → line ≡ Feed s bytes → IsBytes bytes) → AreSeats (brought board line).seats
+pub brought_seats : (board : Board) (line : Line) → AreSeats board.seats → ((s : ℕ) (bytes : List ℕ) → line ≡ Feed s bytes → IsBytes bytes) → AreSeats (brought board line).seats
 brought_seats board (Topic name partitions followers) are fits = are
 brought_seats board (Feed session bytes) are fits =
     let inbox = (seat_at board session).inbox in
