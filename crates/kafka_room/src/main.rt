@@ -25,32 +25,38 @@ Usage:
   kafka_room --help     prints this text
   kafka_room --version  prints the version
 
-A trace has topics first, and its end last. Its lines are:
-  topic NAME N F        declares a topic with N partitions and F followers
-  bytes S HEX           session S, which is 0 to 63, receives these bytes
-  close S               the input of session S ended
-  clock T               the moment becomes T, in milliseconds
-  end                   the trace ends
+A trace has topics first and its end last, one space between two words, and
+numbers without sign or leading zeros. It has at most 67108864 bytes.
+  topic NAME N F  a topic with N partitions, at most 64 with all others, and F
+                  followers, 0 to 8. NAME is new: 1 to 249 of A-Z a-z 0-9 . _ -
+  bytes S HEX     session S, 0 to 63, receives bytes, as pairs of hex digits
+  close S         the input of session S ended: no more lines name it
+  clock T         the moment is T ms, 0 to 10^15. It never goes back
+  end             the trace ends
 
-The bytes of a session are frames, which may be cut anywhere over several lines, of
-Produce v3, Fetch v4, Metadata v1 and ApiVersions v0. A session ends where its input
-did, or at a frame that is too long or refused; what comes for it later is dropped.
+The bytes of a session are frames, which lines may cut anywhere: Produce v3,
+Fetch v4, Metadata v1 and ApiVersions v0. A produce with acks -1 waits until
+all followers have fetched past it, a fetch until there are its least bytes,
+and each no longer than its own time. The session's next frame waits with it.
 
-Of the form that is built so far are the traces in which nothing may wait: F is 0, no
-line is `clock`, and no fetch has a max_wait above 0.
+Printed after each line:
+  reply S HEX     a reply of session S, the whole frame
+  end S CAUSE     session S ended: closed, truncated BYTES, too-long SIZE, or
+                  refused bad-request AT, unknown-api KEY, unsupported KEY
+                  VERSION, too-many COUNT or twice TOPIC PARTITION
+and after the last, for each partition and each session that a line named:
+  part P end LOG_END high HIGH_WATERMARK batches COUNT bytes BYTES
+  session S calls COUNT replies COUNT parked 1-OR-0, which is 1 where it waits
+  done
 
 Exit codes:
-  0  all was done and written
-  1  the command line is faulty
-  2  the input is no trace: its first bad line is told
-  3  the input can't be read
-  4  the output can't be written
-  6  no memory was left
-  7  the trace is of a form that isn't built yet
+  0  all was done and written        3  the input can't be read
+  1  the command line is faulty      4  the output can't be written
+  2  the input is no trace: its      6  no memory was left
+     first bad line is told
 
-Examples:
-  kafka_room replay < examples/produce.trace
-  kafka_room replay < examples/fetch.trace
+Examples: kafka_room replay < examples/produce.trace
+          kafka_room replay < examples/acks_all.trace
 ";
 
 const VERSION: &str = "kafka_room 0.1.0\n";

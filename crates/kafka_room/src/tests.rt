@@ -239,17 +239,6 @@ fn a_bad_line_is_told_and_nothing_is_written(rt: HostRuntime) -> Result<(), Fail
     Ok(())
 }
 
-#[test]
-fn a_trace_that_may_wait_is_of_another_form(rt: HostRuntime) -> Result<(), Fail> {
-    let alloc = rt.alloc();
-    let text = joined(alloc, &[TOPIC, "clock 5\nend\n"])?;
-    let other = run_with(&rt, alloc, &["replay"], text, &[], &[])?;
-    assert_eq!(rt; other.exit.code, 7);
-    assert!(rt; other.exit.line.is_none());
-    assert!(rt; other.sink.bytes().is_empty());
-    Ok(())
-}
-
 // The trace of a frame of eight mebibytes, whose size is told by these digits, and what it prints.
 fn long_frame<R: Threads + Wait + Sync>(rt: &R, alloc: Global, size: &str) -> Result<Ran, Fail> {
     let mut text = joined(alloc, &[TOPIC, TO_0, size])?;
