@@ -1,5 +1,5 @@
 -- A call is accepted, waits and is completed: what holds of it in every account that goes on from there.
-use Rattle.std.proofs.Common.{◌≡◌, ℕ, ◌≤◌, Bool, true, false, cond, List, [], ◌∷◌, ◌++◌, length, map, refl, sym, ap, subst, ◌∙◌, arith, append-nil}
+use Rattle.std.proofs.Common.{◌≡◌, ℕ, ◌≤◌, Bool, true, false, cond, List, [], ◌∷◌, ◌++◌, length, refl, sym, ap, subst, ◌∙◌, append-nil}
 use Rattle.std.proofs.lemmas.Bool.{leb-true}
 use Rattle.std.specs.Prelude.{nat_le}
 use Rattle.std.specs.List.{AllByRecursion}
@@ -12,7 +12,7 @@ use Rattle.audit.specs.declared.account.Call.{Call}
 use Rattle.audit.specs.declared.account.CallHow.TheVariants.{Quiet, AtOnce, Satisfied, Expired, Parked}
 use Rattle.audit.specs.declared.account.Point.{Point}
 use Rattle.audit.specs.Histories.{moment_at}
-use Rattle.audit.specs.LawfulCall.{Step, IsAcceptance, LooksAtClock, Completes, is_delayed, operation_parts, step_points, operation_in, shown_as_completed}
+use Rattle.audit.specs.LawfulCall.{Step, IsAcceptance, LooksAtClock, Completes, is_delayed, operation_parts, step_points, shown_as_completed}
 use Rattle.kanswer.specs.Decisions.{Decision, Decides}
 use Rattle.kanswer.specs.Waiting.{Shown, becomes_delayed, is_quiet, operation_of, results_of, values_of}
 use Rattle.kwire.specs.Configuration.{Configuration}
@@ -22,7 +22,7 @@ use Rattle.opcond.specs.Operation.{Operation}
 use Rattle.opcond.specs.Tally.{IsSatisfied, IsOverdue, tally}
 use Rattle.plain_broker.specs.Board.{Waiting}
 use Rattle.plain_broker.specs.Entering.{Noted, accept_all, steps_of, shown_of}
-use Rattle.plain_broker.specs.GoesOn.{AllWhole, AllLonger, GoesOn, HaveGrown}
+use Rattle.plain_broker.specs.GoesOn.{AllWhole, AllLonger, GoesOn}
 use Rattle.plain_broker.specs.Turns.{how_at_once}
 use Rattle.plain_broker.proofs.Growth.{looked_moment}
 use Rattle.plain_broker.proofs.Entries.{IsFair, ShowsAccepted, accepted_shows, accepted_left, accepted_size}
