@@ -25,18 +25,12 @@ use Rattle.plain_broker.specs.Entering.{Noted, accept_all, steps_of, shown_of}
 use Rattle.plain_broker.specs.GoesOn.{AllWhole, AllLonger, GoesOn}
 use Rattle.plain_broker.specs.Turns.{how_at_once}
 use Rattle.plain_broker.proofs.Growth.{looked_moment}
-use Rattle.plain_broker.proofs.Entries.{IsFair, ShowsAccepted, accepted_shows, accepted_left, accepted_size}
-use Rattle.plain_broker.proofs.Going.{left_longer, grown_parts, grown_clock, goes_back, clock_point, clock_looked, clock_moment}
+use Rattle.plain_broker.proofs.Entries.{IsFair, ShowsAccepted, accepted_shows, accepted_longer, accepted_size}
+use Rattle.plain_broker.proofs.Going.{grown_parts, grown_clock, goes_back, clock_point, clock_looked, clock_moment}
 use Rattle.plain_broker.proofs.Accepting.{accepted_within, look_decisions, look_points, looked, looks_fair, looks_look, looks_shown, shown_in}
 pub use Rattle.plain_broker.specs.Sound.{AllBelow, IsOver, IsDone, IsDelayedAs, IsWaiting, AreDone, WaitsLast}
 
 -- ---- accepted
-
--- the histories go on as a request is accepted
-pub accepted_longer : (by seq : ℕ) (decisions : List Decision) (parts : List History) → AllWhole parts → AllByRecursion (IsFair (length parts)) decisions → AllLonger parts (accept_all by seq decisions parts).1
-accepted_longer by seq decisions parts whole fair =
-    left_longer by seq (step_points (steps_of (accept_all by seq decisions parts).0)) parts (accept_all by seq decisions parts).1
-    (accepted_left by seq (length parts) decisions parts refl whole fair)
 
 either_over : (b : Bool) → IsOver (cond b Quiet AtOnce)
 either_over true = tt
@@ -136,7 +130,7 @@ module _ (config : Configuration) (parts : List History) (clock : List ClockEven
   left = looked by seq (operation_parts w.steps) parts
 
   pub left_on : AllLonger parts left
-  left_on = accepted_longer by seq (look_decisions (operation_parts w.steps)) parts whole (looks_fair (length parts) (operation_parts w.steps) waits.within)
+  left_on = accepted_longer by seq (length parts) (look_decisions (operation_parts w.steps)) parts refl (looks_fair (length parts) (operation_parts w.steps) waits.within)
 
   pub done_satisfied : nat_le w.operation.least (tally w.operation.needs (values_of w.request.ask (shown_in parts w.steps))) ≡ true
       → IsDone config left clock (record call { finish = looks; how = Satisfied 0 })

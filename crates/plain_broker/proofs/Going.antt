@@ -14,7 +14,6 @@ use Rattle.audit.specs.LawfulCall.{IsClockLook}
 use Rattle.audit.proofs.Laws.{same_or_not, get_set_same, get_set_other, get_seam, some_is}
 use Rattle.kwire.specs.Configuration.{Configuration}
 use Rattle.plain_broker.proofs.Growth.{longer_self, longer_on}
-use Rattle.plain_broker.proofs.Entries.{AllLeft}
 pub use Rattle.plain_broker.specs.GoesOn.{Longer, AllLonger, HaveGrown, GoesOn, Carried}
 
 -- ---- histories
@@ -37,9 +36,6 @@ set_longer parts p h later there longer q k e =
           (later, ap (slice_get (set parts p later)) same ∙ get_set_same parts p later (slice_get_within parts p h there), subst (λ (x : History). Longer x later) is longer)
       | inr other ↦ (k, get_set_other parts p q later other ∙ e, longer_self k)
     ]
-
-pub left_longer : (by seq : ℕ) (points : List Point) (parts later : List History) → AllLeft by seq points parts later → AllLonger parts later
-left_longer by seq points parts later all p h e = let l = all p h e in (l.0, l.1, l.2.longer)
 
 -- ---- histories and the clock
 

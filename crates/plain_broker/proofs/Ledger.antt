@@ -12,8 +12,7 @@ use Rattle.audit.specs.Histories.{Owner}
 use Rattle.audit.specs.IsLawful.{places_in, is_point}
 use Rattle.audit.proofs.Laws.{same_or_not, get_seam, get_front, some_is, all_append}
 use Rattle.plain_broker.specs.GoesOn.{the_owner}
-use Rattle.plain_broker.proofs.Counting.{AllBelow, rises_on, places_append}
-use Rattle.plain_broker.proofs.Entries.{places_here, places_other}
+use Rattle.plain_broker.proofs.Counting.{AllBelow, rises_on, places_append, places_here, places_other}
 pub use Rattle.plain_broker.specs.Kept.{IsKept}
 
 -- ---- tables and lists

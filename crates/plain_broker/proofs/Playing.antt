@@ -25,7 +25,7 @@ use Rattle.plain_broker.specs.Board.{Board, Seat, Waiting, empty_history, empty_
 use Rattle.plain_broker.specs.Completing.{is_answerable_now, completed, unless_none, answered_in, scan_sessions, scanned}
 use Rattle.plain_broker.specs.GoesOn.{the_owner, AllWhole, IsWhole, HaveGrown}
 use Rattle.plain_broker.specs.Kept.{IsKept, owners_here, owners_at}
-use Rattle.plain_broker.specs.Play.{brought, with_seat, Rests, Plays}
+use Rattle.plain_broker.specs.Play.{brought, with_seat}
 use Rattle.plain_broker.specs.Turns.{Turned, ended}
 use Rattle.plain_broker.proofs.Counting.{AllBelow, rises_on}
 use Rattle.plain_broker.proofs.Fair.{followers_size}
@@ -34,7 +34,7 @@ use Rattle.plain_broker.proofs.Accepting.{kept_tick}
 use Rattle.plain_broker.proofs.Boards.{IsSound, session_on, sound_alike, find_is, none_waits, waiting_of, ledger_of}
 use Rattle.plain_broker.proofs.Acts.{handled_sound, ended_sound}
 use Rattle.plain_broker.proofs.Answering.{completed_sound}
-use Rattle.plain_broker.proofs.Work.{IsOpen, its_turn}
+use Rattle.plain_broker.proofs.Work.{IsOpen}
 
 -- ---- before the first line
 
@@ -210,16 +210,3 @@ act_sound board s (TooLong size) turned h o acts = subst (λ (t : Turned). IsSou
 
 pub acts_sound : (board : Board) (s : ℕ) (turned : Turned) → IsSound board → IsOpen board s → Acts board s turned → IsSound turned.board
 acts_sound board s turned h o acts = act_sound board s (next_frame_of (seat_at board s).inbox) turned h o acts
-
-pub rests_sound : (acts : ℕ) (board : Board) (turned : Turned) → IsSound board → Rests acts board turned → IsSound turned.board
-rests_sound zero board turned h rests = subst (λ (t : Turned). IsSound t.board) (sym rests.1) (scanned_sound board h)
-rests_sound (suc acts) board turned h rests =
-    let here = scanned_sound board h in
-    let acted = acts_sound (scanned board).board rests.0 rests.1 here (its_turn (scanned board).board rests.0 rests.3) rests.4 in
-    subst (λ (t : Turned). IsSound t.board) (sym rests.6) (rests_sound acts rests.1.board rests.2 acted rests.5)
-
-pub plays_sound : (board : Board) (lines : List Line) (turned : Turned) → IsSound board → Plays board lines turned → IsSound turned.board
-plays_sound board [] turned h played = subst (λ (t : Turned). IsSound t.board) (sym played) h
-plays_sound board (line ∷ lines) turned h played =
-    let here = rests_sound played.2.0 (brought board line) played.0 (brought_sound board line h) played.2.1 in
-    subst (λ (t : Turned). IsSound t.board) (sym played.4) (plays_sound played.0.board lines played.1 here played.3)
