@@ -1,5 +1,5 @@
 -- A request is accepted, or completed by looks: who left the entries, and what every account shows that goes on from there.
-use Rattle.std.proofs.Common.{◌≡◌, ◌≢◌, ℕ, ◌+◌, ◌≤◌, ◌<◌, Bool, false, cond, eqb, List, [], ◌∷◌, ◌++◌, length, map, set, Option, Some, None, unwrap_or, refl, sym, ap, subst, ◌∙◌, arith, inl, inr, append_assoc, append-nil}
+use Rattle.std.proofs.Common.{◌≡◌, ◌≢◌, ℕ, ◌≤◌, ◌<◌, Bool, false, cond, eqb, List, [], ◌∷◌, ◌++◌, length, map, set, Option, Some, None, unwrap_or, refl, sym, ap, subst, ◌∙◌, arith, inl, inr, append_assoc, append-nil}
 use Rattle.std.proofs.lemmas.Bool.{ne_eqb}
 use Rattle.std.proofs.lemmas.List.{length-map, length-set, map-append}
 use Rattle.std.specs.Prelude.{slice_get}
@@ -20,7 +20,7 @@ use Rattle.kanswer.specs.Decisions.{Decision, Refuse, AskLog, Looked, look}
 use Rattle.kanswer.specs.Waiting.{Shown}
 use Rattle.plain_broker.specs.Board.{history_at, empty_history}
 use Rattle.plain_broker.specs.Completing.{look_all, present}
-use Rattle.plain_broker.specs.Entering.{entered, accept_all, steps_of, shown_of}
+use Rattle.plain_broker.specs.Entering.{entered, accept_all, steps_of}
 use Rattle.plain_broker.specs.GoesOn.{the_owner, AllWhole, Follows}
 use Rattle.plain_broker.specs.Kept.{IsKept, owners_here, owners_at}
 use Rattle.plain_broker.specs.Sound.{AllBelow}
@@ -237,8 +237,8 @@ module _ (account : Account) (by seq n : ℕ) (few : n ≤ 64) where
       let rest : shown_as_completed account steps (look_points by seq ps parts1) ≡ shown_in parts steps =
       on parts1 size1 whole1 all.1 follows ∙ shown_alike parts parts1 (λ q. one_look by seq p q parts within) steps in
       rw is (
-          ap (λ (s : PartState). record { result = step.result; state = s } ∷ shown_as_completed account steps (look_points by seq ps parts1)) at
-          ∙ ap (λ (ss : List Shown). record { result = step.result; state = state_of found } ∷ ss) rest
+      ap (λ (s : PartState). record { result = step.result; state = s } ∷ shown_as_completed account steps (look_points by seq ps parts1)) at
+      ∙ ap (λ (ss : List Shown). record { result = step.result; state = state_of found } ∷ ss) rest
       )
 
   by_part_in : (step : Step) (steps : List Step) (o : Option ℕ) (parts : List History) → part_in step.result ≡ o → ((later : List History) → Shows steps (operation_parts steps) later) → Shows (step ∷ steps) (cons_option o (operation_parts steps)) parts

@@ -1,7 +1,7 @@
 -- What holds of a board is kept by each step: a request is answered at once or left waiting, and a session ends.
-use Rattle.std.proofs.Common.{◌≡◌, ◌≢◌, ℕ, zero, suc, ◌+◌, ◌-◌, ◌≤◌, ◌<◌, Bool, true, false, ◌||◌, cond, List, [], ◌∷◌, ◌++◌, length, map, set, Option, Some, None, unwrap_or, refl, sym, ap, subst, ◌∙◌, arith, inl, inr, append-nil, append_assoc, length-append}
+use Rattle.std.proofs.Common.{◌≡◌, ℕ, ◌≤◌, ◌<◌, Bool, true, false, cond, List, [], ◌∷◌, ◌++◌, length, map, set, Option, Some, None, refl, sym, ap, subst, ◌∙◌, arith, append-nil}
 use Rattle.std.proofs.lemmas.List.{length-map, length-set, map-append}
-use Rattle.std.specs.Prelude.{slice_get, if◌then◌else◌}
+use Rattle.std.specs.Prelude.{slice_get}
 use Rattle.std.specs.List.{AllByRecursion}
 use Rattle.std.specs.List.Sorted.{IsStrictlyIncreasing}
 use Rattle.partlog.specs.declared.clock_event.ClockEvent.{ClockEvent}
@@ -10,13 +10,12 @@ use Rattle.partlog.specs.History.{History}
 use Rattle.partlog.specs.Moment.{moment_of}
 use Rattle.partlog.specs.State.{state_of}
 use Rattle.audit.specs.declared.account.Call.{Call}
-use Rattle.audit.specs.declared.account.CallHow.{CallHow}
-use Rattle.audit.specs.declared.account.CallHow.TheVariants.{Satisfied, Expired, Parked}
+use Rattle.audit.specs.declared.account.CallHow.TheVariants.{Parked}
 use Rattle.audit.specs.declared.account.Point.{Point}
 use Rattle.audit.specs.declared.account.SessionEnd.{SessionEnd}
 use Rattle.audit.specs.declared.account.Transcript.{Transcript}
 use Rattle.audit.specs.Histories.{points_of, ticks_of}
-use Rattle.audit.specs.LawfulCall.{operation_parts, step_points}
+use Rattle.audit.specs.LawfulCall.{step_points}
 use Rattle.audit.proofs.Laws.{get_there, all_append}
 use Rattle.kanswer.specs.Decisions.{Decision, Refuse, AskLog, Decides}
 use Rattle.kanswer.specs.Waiting.{becomes_delayed, operation_of, results_of}
@@ -24,19 +23,18 @@ use Rattle.kwire.specs.Configuration.{Configuration}
 use Rattle.kwire.specs.IsRequest.{IsRequest}
 use Rattle.kwire.specs.declared.request.Request.{Request}
 use Rattle.plain_broker.specs.Board.{Board, Waiting, history_at, empty_history, seat_at, transcript_at, next_call}
-use Rattle.plain_broker.specs.Completing.{look_all, finish_last, last_call, is_satisfied_now, is_overdue_now, is_answerable_now, completed_as, completed}
 use Rattle.plain_broker.specs.Entering.{Noted, entered, accept_all, steps_of, shown_of}
-use Rattle.plain_broker.specs.GoesOn.{AllWhole, HaveGrown, AllLonger}
+use Rattle.plain_broker.specs.GoesOn.{AllWhole, HaveGrown}
 use Rattle.plain_broker.specs.Kept.{IsKept, owners_at}
-use Rattle.plain_broker.specs.Turns.{Turned, how_at_once, seat_with, answered_at_once, left_waiting, handled, ended}
+use Rattle.plain_broker.specs.Turns.{how_at_once, seat_with, answered_at_once, left_waiting, handled, ended}
 use Rattle.plain_broker.proofs.Growth.{entered_whole}
-use Rattle.plain_broker.proofs.Entries.{IsFair, set_whole, accepted_size, accepted_followers}
+use Rattle.plain_broker.proofs.Entries.{accepted_longer, IsFair, set_whole, accepted_size, accepted_followers}
 use Rattle.plain_broker.proofs.Fair.{parts_size, decides_fair}
 use Rattle.plain_broker.proofs.Going.{grown_self, grown_parts, grown_clock, clock_point}
 use Rattle.plain_broker.proofs.Ledger.{put, put_again, kept_begun, kept_alike}
-use Rattle.plain_broker.proofs.Accepting.{kept_accepted_at, kept_look_at, look_decisions, look_points, looked, looks_points, looks_parts, looks_fair}
-use Rattle.plain_broker.proofs.Calls.{accepted_longer, done_at_once, waits_on, left_on, done_satisfied, done_expired}
-use Rattle.plain_broker.proofs.Boards.{IsDone, AreDone, WaitsLast, Stand, IsSession, AreHistories, IsSound, ledger_of, waiting_of, all_done_on, session_on, seat_changed, waits_more, waits_else, alone_more, waits_no_more, waits_still, without, alone_still, finished, seat_there}
+use Rattle.plain_broker.proofs.Accepting.{kept_accepted_at, kept_look_at}
+use Rattle.plain_broker.proofs.Calls.{done_at_once, waits_on}
+use Rattle.plain_broker.proofs.Boards.{IsDone, AreDone, Stand, AreHistories, IsSound, ledger_of, waiting_of, all_done_on, seat_changed, waits_more, waits_else, alone_more}
 
 -- ---- histories
 
@@ -113,7 +111,7 @@ module _ (board : Board) (s : ℕ) (body : List ℕ) (request : Request) (decisi
   at_once_sound at_once =
       let done = done_at_once board.config board.parts board.clock s seq body request decisions h.sound.histories.whole few asked decided fair at_once in
       let call : Call = record { frame = body; accept = step_points (steps_of came.0); finish = []; how = how_at_once request.ask } in
-      let grown : HaveGrown board.parts board.clock came.1 board.clock = grown_parts board.parts came.1 board.clock (accepted_longer s seq decisions board.parts h.sound.histories.whole fair) in
+      let grown : HaveGrown board.parts board.clock came.1 board.clock = grown_parts board.parts came.1 board.clock (accepted_longer s seq (length board.parts) decisions board.parts refl fair) in
       seat_changed board came.1 board.clock s (seat_with board s body call) (record t { calls = t.calls ++ call ∷ [] }) board.waiting h lt refl grown larger
       (histories_on board.config board.parts board.clock board.clock s seq decisions h.sound.histories fair refl)
       (subst (Rows came.1 board.clock) (rows call (step_points (steps_of came.0)) (append-nil (step_points (steps_of came.0)))) kept_came)
@@ -143,7 +141,7 @@ module _ (board : Board) (s : ℕ) (body : List ℕ) (request : Request) (decisi
       let points = step_points (steps_of came.0) ++ clock_point board.clock ∷ [] in
       let call : Call = record { frame = body; accept = points; finish = []; how = Parked } in
       let later : Transcript = record t { calls = t.calls ++ call ∷ [] } in
-      let grown : HaveGrown board.parts board.clock came.1 behind = grown_clock board.parts came.1 board.clock (clocks.Look s seq) (accepted_longer s seq decisions board.parts h.sound.histories.whole fair) in
+      let grown : HaveGrown board.parts board.clock came.1 behind = grown_clock board.parts came.1 board.clock (clocks.Look s seq) (accepted_longer s seq (length board.parts) decisions board.parts refl fair) in
       let looked_too = kept_look_at came.1 board.clock (ledger_of (transcript_at board)) s seq before (step_points (steps_of came.0)) is_seq kept_came in
       seat_changed board came.1 behind s (seat_with board s body call) later (board.waiting ++ w ∷ []) h lt refl grown larger
       (histories_on board.config board.parts board.clock behind s seq decisions h.sound.histories fair (ticks_looked board.clock s seq))

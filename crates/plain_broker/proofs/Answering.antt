@@ -1,43 +1,30 @@
 -- A waiting request of a board is answered, satisfied or expired: what holds of the board holds on.
-use Rattle.std.proofs.Common.{◌≡◌, ◌≢◌, ℕ, zero, suc, ◌+◌, ◌-◌, ◌≤◌, ◌<◌, Bool, true, false, ◌||◌, cond, List, [], ◌∷◌, ◌++◌, length, map, set, Option, Some, None, unwrap_or, refl, sym, ap, subst, ◌∙◌, arith, inl, inr, append-nil, append_assoc, length-append}
-use Rattle.std.proofs.lemmas.List.{length-map, length-set, map-append}
-use Rattle.std.specs.Prelude.{slice_get, if◌then◌else◌}
+use Rattle.std.proofs.Common.{◌≡◌, ℕ, ◌+◌, ◌≤◌, ◌<◌, Bool, true, false, ◌||◌, cond, List, [], ◌∷◌, ◌++◌, length, map, Option, Some, refl, sym, ap, subst, ◌∙◌, arith, append-nil, append_assoc, length-append}
+use Rattle.std.proofs.lemmas.List.{length-map, map-append}
+use Rattle.std.specs.Prelude.{if◌then◌else◌}
 use Rattle.std.specs.List.{AllByRecursion}
-use Rattle.std.specs.List.Sorted.{IsStrictlyIncreasing}
 use Rattle.partlog.specs.declared.clock_event.ClockEvent.{ClockEvent}
 use Rattle.partlog.specs.declared.clock_event.ClockEvent.TheVariants as clocks
 use Rattle.partlog.specs.History.{History}
-use Rattle.partlog.specs.Moment.{moment_of}
-use Rattle.partlog.specs.State.{state_of}
 use Rattle.audit.specs.declared.account.Call.{Call}
 use Rattle.audit.specs.declared.account.CallHow.{CallHow}
-use Rattle.audit.specs.declared.account.CallHow.TheVariants.{Satisfied, Expired, Parked}
+use Rattle.audit.specs.declared.account.CallHow.TheVariants.{Satisfied, Expired}
 use Rattle.audit.specs.declared.account.Point.{Point}
-use Rattle.audit.specs.declared.account.SessionEnd.{SessionEnd}
 use Rattle.audit.specs.declared.account.Transcript.{Transcript}
-use Rattle.audit.specs.Histories.{points_of, ticks_of}
-use Rattle.audit.specs.LawfulCall.{operation_parts, step_points}
-use Rattle.audit.proofs.Laws.{get_there, all_append}
-use Rattle.kanswer.specs.Decisions.{Decision, Refuse, AskLog, Decides}
-use Rattle.kanswer.specs.Waiting.{becomes_delayed, operation_of, results_of}
-use Rattle.kwire.specs.Configuration.{Configuration}
-use Rattle.kwire.specs.IsRequest.{IsRequest}
-use Rattle.kwire.specs.declared.request.Request.{Request}
-use Rattle.plain_broker.specs.Board.{Board, Waiting, history_at, empty_history, seat_at, transcript_at, next_call}
+use Rattle.audit.specs.Histories.{points_of}
+use Rattle.audit.specs.LawfulCall.{operation_parts}
+use Rattle.audit.proofs.Laws.{all_append}
+use Rattle.plain_broker.specs.Board.{Board, Waiting, seat_at, transcript_at}
 use Rattle.plain_broker.specs.Completing.{look_all, finish_last, last_call, is_satisfied_now, is_overdue_now, is_answerable_now, completed_as, completed}
-use Rattle.plain_broker.specs.Entering.{Noted, entered, accept_all, steps_of, shown_of}
-use Rattle.plain_broker.specs.GoesOn.{AllWhole, HaveGrown, AllLonger}
+use Rattle.plain_broker.specs.GoesOn.{HaveGrown}
 use Rattle.plain_broker.specs.Kept.{IsKept, owners_at}
-use Rattle.plain_broker.specs.Turns.{Turned, how_at_once, seat_with, answered_at_once, left_waiting, handled, ended}
-use Rattle.plain_broker.proofs.Growth.{entered_whole}
-use Rattle.plain_broker.proofs.Entries.{IsFair, set_whole, accepted_size, accepted_followers}
-use Rattle.plain_broker.proofs.Fair.{parts_size, decides_fair}
-use Rattle.plain_broker.proofs.Going.{grown_self, grown_parts, grown_clock, clock_point}
-use Rattle.plain_broker.proofs.Ledger.{put, put_again, kept_begun, kept_alike}
+use Rattle.plain_broker.proofs.Entries.{IsFair, accepted_size}
+use Rattle.plain_broker.proofs.Going.{grown_parts, grown_clock, clock_point}
+use Rattle.plain_broker.proofs.Ledger.{put, put_again, kept_alike}
 use Rattle.plain_broker.proofs.Accepting.{kept_accepted_at, kept_look_at, look_decisions, look_points, looked, looks_points, looks_parts, looks_fair}
 use Rattle.plain_broker.proofs.Acts.{ticks_looked, histories_on}
-use Rattle.plain_broker.proofs.Calls.{accepted_longer, done_at_once, waits_on, left_on, done_satisfied, done_expired}
-use Rattle.plain_broker.proofs.Boards.{IsDone, AreDone, WaitsLast, Stand, IsSession, AreHistories, IsSound, ledger_of, waiting_of, all_done_on, session_on, seat_changed, waits_more, waits_else, alone_more, waits_no_more, waits_still, without, alone_still, finished, seat_there}
+use Rattle.plain_broker.proofs.Calls.{left_on, done_satisfied, done_expired}
+use Rattle.plain_broker.proofs.Boards.{IsDone, AreDone, WaitsLast, Stand, AreHistories, IsSound, ledger_of, waiting_of, all_done_on, seat_changed, waits_no_more, waits_still, without, alone_still, finished, seat_there}
 
 module _ (board : Board) (w : Waiting) (h : IsSound board) (found : waiting_of board.waiting w.session ≡ Some w) where
   abbrev s : ℕ

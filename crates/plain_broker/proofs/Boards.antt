@@ -1,11 +1,11 @@
 -- What holds of a board stays as one session does something: its seat changes, and the histories go on.
-use Rattle.std.proofs.Common.{◌≡◌, ◌≢◌, ℕ, zero, suc, ◌+◌, ◌-◌, ◌≤◌, ◌<◌, ◌⊎◌, Bool, true, false, not, cond, eqb, List, [], ◌∷◌, ◌++◌, length, map, filter, set, Option, Some, None, unwrap_or, refl, sym, ap, subst, ◌∙◌, arith, inl, inr, eq-eqb, append-nil}
+use Rattle.std.proofs.Common.{◌≡◌, ◌≢◌, ℕ, zero, suc, ◌≤◌, ◌<◌, Bool, true, false, not, cond, eqb, List, [], ◌∷◌, ◌++◌, length, map, filter, set, Option, Some, None, unwrap_or, refl, sym, ap, subst, ◌∙◌, arith, inl, inr, eq-eqb}
 use Rattle.std.proofs.lemmas.Bool.{ne_eqb, eqb-true, cases_lt}
-use Rattle.std.proofs.lemmas.List.{length-map, length-set, map-append}
+use Rattle.std.proofs.lemmas.List.{length-set}
 use Rattle.std.proofs.lemmas.List.Folds.{find-append}
 use Rattle.std.proofs.lemmas.Option.{slice_get_past}
 use Rattle.std.specs.Prelude.{slice_get, ◌==◌, ◌||◌}
-use Rattle.std.specs.List.{AllByRecursion, find, list_any}
+use Rattle.std.specs.List.{find, list_any}
 use Rattle.std.specs.Option.{option_or}
 use Rattle.partlog.specs.declared.clock_event.ClockEvent.{ClockEvent}
 use Rattle.partlog.specs.History.{History}
@@ -16,11 +16,11 @@ use Rattle.audit.specs.declared.account.Transcript.{Transcript}
 use Rattle.audit.specs.Histories.{points_of}
 use Rattle.audit.proofs.Laws.{same_or_not, get_set_same, get_set_other, some_is}
 use Rattle.kwire.specs.Configuration.{Configuration}
-use Rattle.plain_broker.specs.Board.{Board, Seat, Waiting, empty_seat, new_transcript, seat_at, transcript_at}
+use Rattle.plain_broker.specs.Board.{Board, Seat, Waiting, empty_seat, new_transcript, transcript_at}
 use Rattle.plain_broker.specs.Completing.{finish_last}
 use Rattle.plain_broker.specs.GoesOn.{HaveGrown}
 use Rattle.plain_broker.specs.Kept.{IsKept, owners_at}
-use Rattle.plain_broker.proofs.Going.{carried_on, grown_self}
+use Rattle.plain_broker.proofs.Going.{carried_on}
 use Rattle.plain_broker.proofs.Calls.{IsDelayedAs}
 use Rattle.plain_broker.proofs.Counting.{below_more}
 use Rattle.plain_broker.proofs.Ledger.{put, put_same, put_other, kept_alike, all_on, push_get}
@@ -191,9 +191,13 @@ without_get (w ∷ waiting) s i x e = by_test (w.session == s) refl (λ k. witho
   where
     by_test : (b : Bool) → (w.session == s) ≡ b → ((k : ℕ) → slice_get (without waiting s) k ≡ Some x → (j : ℕ) × (slice_get waiting j ≡ Some x) × (x.session ≢ s)) → (k : ℕ) → slice_get (cond (not b) (w ∷ without waiting s) (without waiting s)) k ≡ Some x → (j : ℕ) × (slice_get (w ∷ waiting) j ≡ Some x) × (x.session ≢ s)
     by_test true is on k f = let found = on k f in (suc found.0, found.1, found.2)
-    by_test false is on zero f = (zero, f, λ same.
-        let yes : (w.session == s) ≡ true = ap (λ (y : Waiting). y.session == s) (some_is w x f) ∙ eq-eqb x.session s same in
-        absurd (cc (yes, is)))
+    by_test false is on zero f = (
+      zero,
+      f,
+      λ same.
+          let yes : (w.session == s) ≡ true = ap (λ (y : Waiting). y.session == s) (some_is w x f) ∙ eq-eqb x.session s same in
+          absurd (cc (yes, is)),
+    )
     by_test false is on (suc k) f = let found = on k f in (suc found.0, found.1, found.2)
 
 pub alone_still : (waiting : List Waiting) (s : ℕ) → WaitAlone waiting → WaitAlone (without waiting s)

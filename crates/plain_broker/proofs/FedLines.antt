@@ -1,5 +1,5 @@
 -- What a board is to the lines that it was fed: what each session received is the frames of its calls, and what follows them.
-use Rattle.std.proofs.Common.{◌≡◌, ◌≢◌, ℕ, zero, suc, ◌+◌, ◌≤◌, ◌<◌, ◌⊎◌, Bool, true, false, ◌||◌, not, ◌&&◌, cond, eqb, max, List, [], ◌∷◌, ◌++◌, length, drop, set, Option, Some, None, unwrap_or, MatchBool, refl, sym, ap, subst, ◌∙◌, arith, inl, inr, append-nil, append_assoc, eq-eqb}
+use Rattle.std.proofs.Common.{◌≡◌, ◌≢◌, ℕ, suc, ◌+◌, ◌<◌, Bool, true, false, ◌||◌, cond, eqb, max, List, [], ◌∷◌, ◌++◌, length, drop, set, Option, Some, None, unwrap_or, MatchBool, refl, sym, ap, subst, ◌∙◌, arith, inl, inr, append-nil, append_assoc, eq-eqb}
 use Rattle.std.proofs.lemmas.Bool.{or_cases, eqb-true, cases_Bool, ne_eqb, or_right, ltb-true}
 use Rattle.std.proofs.Math.Bool.{or-false}
 use Rattle.std.proofs.lemmas.List.{length-set, length-replicate}
@@ -8,7 +8,7 @@ use Rattle.std.proofs.lemmas.List.Sums.{fold-append}
 use Rattle.std.proofs.lemmas.List.Elements.{filter_map-append}
 use Rattle.std.proofs.lemmas.Grind.{flat_map-append}
 use Rattle.std.specs.Prelude.{slice_get, nat_lt}
-use Rattle.std.specs.List.{AllByRecursion, filter_map, flat_map, fold, list_any}
+use Rattle.std.specs.List.{AllByRecursion, filter_map, flat_map, fold}
 use Rattle.partlog.specs.declared.clock_event.ClockEvent.{ClockEvent}
 use Rattle.partlog.specs.declared.clock_event.ClockEvent.TheVariants as clocks
 use Rattle.partlog.specs.Moment.{moment_of, tick_of}
@@ -21,8 +21,7 @@ use Rattle.audit.specs.declared.account.SessionEnd.TheVariants.{Closed, Truncate
 use Rattle.audit.specs.Fits.{EndFits}
 use Rattle.audit.specs.Histories.{ticks_of}
 use Rattle.audit.proofs.Laws.{same_or_not, get_set_same, get_set_other, all_append}
-use Rattle.kwire.specs.declared.frame.Frame.{Frame}
-use Rattle.kwire.specs.declared.frame.Frame.TheVariants.{Whole, NotYet, TooLong}
+use Rattle.kwire.specs.declared.frame.Frame.TheVariants.{Whole, TooLong}
 use Rattle.kwire.specs.Configuration.{Configuration}
 use Rattle.kwire.specs.Frames.{framed, IsFrameBody, next_frame_of}
 use Rattle.kwire.proofs.Laws.{frame_kept}

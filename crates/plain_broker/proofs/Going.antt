@@ -1,5 +1,5 @@
 -- Histories that go on, and what holds in every account that goes on from them.
-use Rattle.std.proofs.Common.{◌≡◌, ℕ, ◌+◌, List, [], ◌∷◌, ◌++◌, length, take, set, Option, Some, refl, sym, ap, subst, ◌∙◌, arith, inl, inr, append_assoc, append-nil, length-append}
+use Rattle.std.proofs.Common.{◌≡◌, ℕ, ◌+◌, List, [], ◌∷◌, ◌++◌, length, take, set, Some, refl, sym, ap, subst, ◌∙◌, inl, inr, append_assoc, append-nil, length-append}
 use Rattle.std.proofs.Math.Seq.{take-append_seam}
 use Rattle.std.proofs.lemmas.Option.{slice_get_within}
 use Rattle.std.specs.Prelude.{slice_get}
@@ -14,7 +14,6 @@ use Rattle.audit.specs.LawfulCall.{IsClockLook}
 use Rattle.audit.proofs.Laws.{same_or_not, get_set_same, get_set_other, get_seam, some_is}
 use Rattle.kwire.specs.Configuration.{Configuration}
 use Rattle.plain_broker.proofs.Growth.{longer_self, longer_on}
-use Rattle.plain_broker.proofs.Entries.{AllLeft}
 pub use Rattle.plain_broker.specs.GoesOn.{Longer, AllLonger, HaveGrown, GoesOn, Carried}
 
 -- ---- histories
@@ -37,9 +36,6 @@ set_longer parts p h later there longer q k e =
           (later, ap (slice_get (set parts p later)) same ∙ get_set_same parts p later (slice_get_within parts p h there), subst (λ (x : History). Longer x later) is longer)
       | inr other ↦ (k, get_set_other parts p q later other ∙ e, longer_self k)
     ]
-
-pub left_longer : (by seq : ℕ) (points : List Point) (parts later : List History) → AllLeft by seq points parts later → AllLonger parts later
-left_longer by seq points parts later all p h e = let l = all p h e in (l.0, l.1, l.2.longer)
 
 -- ---- histories and the clock
 

@@ -1,5 +1,5 @@
 -- The account of a sound board is lawful, where nothing that waits is answerable.
-use Rattle.std.proofs.Common.{◌≡◌, ◌≢◌, ℕ, zero, suc, ◌+◌, ◌≤◌, ◌⊎◌, Bool, true, false, ◌||◌, cond, eqb, List, [], ◌∷◌, ◌++◌, map, Option, Some, None, unwrap_or, refl, sym, ap, subst, ◌∙◌, arith, inl, inr, append-nil, eq-eqb}
+use Rattle.std.proofs.Common.{◌≡◌, ℕ, zero, suc, ◌+◌, ◌≤◌, ◌⊎◌, Bool, true, false, ◌||◌, cond, eqb, List, [], ◌∷◌, ◌++◌, map, Option, Some, None, unwrap_or, refl, sym, ap, subst, ◌∙◌, arith, inl, inr, append-nil}
 use Rattle.std.proofs.lemmas.Bool.{ne_eqb, le-leb}
 use Rattle.std.proofs.lemmas.List.Sums.{sum_by-cons}
 use Rattle.std.proofs.lemmas.Option.{slice_get-map}
@@ -10,7 +10,6 @@ use Rattle.std.specs.Option.{option_map}
 use Rattle.partlog.specs.History.{History}
 use Rattle.partlog.specs.Moment.{moment_of}
 use Rattle.partlog.specs.State.{PartState, state_of}
-use Rattle.audit.specs.declared.account.Account.{Account}
 use Rattle.audit.specs.declared.account.PartAccount.{PartAccount}
 use Rattle.audit.specs.declared.account.Transcript.{Transcript}
 use Rattle.audit.specs.declared.account.Call.{Call}
@@ -18,17 +17,16 @@ use Rattle.audit.specs.declared.account.CallHow.{CallHow}
 use Rattle.audit.specs.declared.account.CallHow.TheVariants.{Quiet, AtOnce, Satisfied, Expired, Parked, Cut}
 use Rattle.audit.specs.declared.account.SessionEnd.{SessionEnd}
 use Rattle.audit.specs.declared.account.Point.{Point}
-use Rattle.audit.specs.Histories.{Owner, owner_of, clock_owner_of, owners_of, owners_in, points_of, calls_in, calls_of, call_of, all_calls, final_in, no_state}
+use Rattle.audit.specs.Histories.{Owner, clock_owner_of, owners_of, owners_in, points_of, calls_in, calls_of, call_of, all_calls, final_in}
 use Rattle.audit.specs.LawfulCall.{Step, IsLawfulCall, Completes, final_of, part_in, shown_at_last, operation_in}
 use Rattle.audit.specs.IsLawful.{IsLawful, IsWholeLog, places_in, is_point, is_won_by, is_won_as, EndsAs, EndWell, FollowOn}
-use Rattle.audit.proofs.Laws.{some_is, all_append, get_front}
+use Rattle.audit.proofs.Laws.{some_is, all_append}
 use Rattle.kanswer.specs.Waiting.{Shown, values_of}
 use Rattle.opcond.specs.Operation.{Operation}
 use Rattle.opcond.specs.Tally.{IsAnswerable, tally}
-use Rattle.kwire.specs.Configuration.{Configuration}
-use Rattle.plain_broker.specs.Board.{Board, Seat, Waiting, empty_seat, empty_history, history_at, new_transcript, seat_at, transcript_at, put_before, passes_of, part_account, account_of}
+use Rattle.plain_broker.specs.Board.{Board, Seat, Waiting, empty_seat, history_at, new_transcript, seat_at, transcript_at, put_before, passes_of, part_account, account_of}
 use Rattle.plain_broker.specs.Completing.{present, is_answerable_now, is_satisfied_now, is_overdue_now}
-use Rattle.plain_broker.specs.GoesOn.{the_owner, AllWhole, Follows, GoesOn}
+use Rattle.plain_broker.specs.GoesOn.{the_owner, AllWhole, GoesOn}
 use Rattle.plain_broker.specs.Kept.{owners_here, owners_at}
 use Rattle.plain_broker.proofs.Growth.{longer_self}
 use Rattle.plain_broker.proofs.Calls.{IsOver}

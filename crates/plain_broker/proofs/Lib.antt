@@ -42,3 +42,5 @@ mod Resting
 mod FedLines
 -- the account of a play of a trace is that of the run of its lines
 mod RunOfLines
+-- the worked trace
+mod WorkedPlays

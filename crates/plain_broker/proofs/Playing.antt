@@ -1,51 +1,40 @@
 -- A play keeps its board sound, and between two lines it is at rest: so its account is lawful.
-use Rattle.std.proofs.Common.{◌≡◌, ◌≢◌, ℕ, zero, suc, ◌+◌, ◌≤◌, ◌<◌, ◌⊎◌, Bool, true, false, ◌||◌, max, cond, eqb, List, [], ◌∷◌, ◌++◌, length, map, set, replicate, Option, Some, None, MatchBool, unwrap_or, refl, sym, ap, subst, ◌∙◌, arith, inl, inr, append-nil}
-use Rattle.std.proofs.lemmas.Bool.{cases_Bool, cases_lt, ltb-true, eqb-true}
+use Rattle.std.proofs.Common.{◌≡◌, ℕ, zero, suc, ◌≤◌, ◌<◌, ◌⊎◌, Bool, true, false, max, cond, eqb, List, [], ◌∷◌, ◌++◌, map, set, replicate, Option, Some, None, MatchBool, unwrap_or, refl, sym, ap, subst, ◌∙◌, arith, inl, inr}
+use Rattle.std.proofs.lemmas.Bool.{ltb-true, eqb-true}
 use Rattle.std.proofs.lemmas.List.{length-map, length-set, length-replicate}
-use Rattle.std.proofs.lemmas.Option.{slice_get_past}
-use Rattle.std.specs.Prelude.{slice_get, nat_lt, nat_le, ◌==◌}
-use Rattle.std.specs.List.{AllByRecursion, find, filter_map, fold, range_with_len}
+use Rattle.std.specs.Prelude.{slice_get, nat_lt, ◌==◌}
+use Rattle.std.specs.List.{filter_map, fold, range_with_len}
 use Rattle.std.specs.List.Sorted.{IsStrictlyIncreasing}
 use Rattle.partlog.specs.declared.clock_event.ClockEvent.{ClockEvent}
 use Rattle.partlog.specs.declared.clock_event.ClockEvent.TheVariants as clocks
 use Rattle.partlog.specs.History.{History}
 use Rattle.partlog.specs.Moment.{moment_of, tick_of}
-use Rattle.partlog.specs.State.{state_of}
-use Rattle.audit.specs.declared.account.Account.{Account}
 use Rattle.audit.specs.declared.account.SessionEnd.{SessionEnd}
 use Rattle.audit.specs.declared.account.SessionEnd.TheVariants.{Refused}
 use Rattle.audit.specs.declared.account.TheConstants.{MOST_CALLS}
-use Rattle.audit.specs.declared.account.Transcript.{Transcript}
 use Rattle.audit.specs.Histories.{Owner, ticks_of}
-use Rattle.audit.specs.IsLawful.{IsLawful}
-use Rattle.audit.specs.LawfulCall.{operation_parts}
-use Rattle.audit.proofs.Laws.{same_or_not, get_set_same, get_set_other, some_is}
-use Rattle.kanswer.specs.Waiting.{Shown, values_of}
+use Rattle.audit.proofs.Laws.{same_or_not, get_set_other, some_is}
 use Rattle.kwire.specs.declared.frame.Frame.{Frame}
 use Rattle.kwire.specs.declared.frame.Frame.TheVariants.{Whole, NotYet, TooLong}
 use Rattle.kwire.specs.Configuration.{Configuration, partitions_of, followers_of}
 use Rattle.kwire.specs.Frames.{next_frame_of}
-use Rattle.opcond.specs.Tally.{tally}
 use Rattle.trace_file.specs.declared.line.Line.{Line}
 use Rattle.trace_file.specs.declared.line.Line.TheVariants.{Topic, Feed, Shut, Clock, End}
-use Rattle.plain_broker.specs.Acting.{is_there, next_to_act, HandlesFrame, Acts, ActsOn}
-use Rattle.plain_broker.specs.AtRest.{IsAtRest}
-use Rattle.plain_broker.specs.Board.{Board, Seat, Waiting, empty_history, empty_seat, new_transcript, seat_at, transcript_at, next_call, history_at, opening, account_of}
-use Rattle.plain_broker.specs.Completing.{look_all, is_satisfied_now, is_overdue_now, is_answerable_now, completed_as, completed, unless_none, answered_in, scan_sessions, scanned}
+use Rattle.plain_broker.specs.Acting.{is_there, HandlesFrame, Acts, ActsOn}
+use Rattle.plain_broker.specs.Board.{Board, Seat, Waiting, empty_history, empty_seat, new_transcript, seat_at, transcript_at, next_call, opening}
+use Rattle.plain_broker.specs.Completing.{is_answerable_now, completed, unless_none, answered_in, scan_sessions, scanned}
 use Rattle.plain_broker.specs.GoesOn.{the_owner, AllWhole, IsWhole, HaveGrown}
 use Rattle.plain_broker.specs.Kept.{IsKept, owners_here, owners_at}
-use Rattle.plain_broker.specs.Play.{brought, with_seat, Rests, PlaysLine, Plays, IsPlay}
-use Rattle.plain_broker.specs.Turns.{Turned, handled, ended}
-use Rattle.plain_broker.proofs.Counting.{AllBelow, below_more, rises_on}
-use Rattle.plain_broker.proofs.Growth.{looked_moment}
+use Rattle.plain_broker.specs.Play.{brought, with_seat}
+use Rattle.plain_broker.specs.Turns.{Turned, ended}
+use Rattle.plain_broker.proofs.Counting.{AllBelow, rises_on}
 use Rattle.plain_broker.proofs.Fair.{followers_size}
 use Rattle.plain_broker.proofs.Going.{all_longer_self, grown_clock}
-use Rattle.plain_broker.proofs.Accepting.{kept_tick, looked, looks_parts, looks_states, shown_in, shown_alike}
-use Rattle.plain_broker.proofs.Boards.{AreHistories, AreSound, IsSound, WaitAlone, WaitsLast, Stand, session_on, sound_alike, find_is, none_waits, waiting_of, ledger_of, waits_no_more, waits_still, without, seat_there}
+use Rattle.plain_broker.proofs.Accepting.{kept_tick}
+use Rattle.plain_broker.proofs.Boards.{IsSound, session_on, sound_alike, find_is, none_waits, waiting_of, ledger_of}
 use Rattle.plain_broker.proofs.Acts.{handled_sound, ended_sound}
 use Rattle.plain_broker.proofs.Answering.{completed_sound}
-use Rattle.plain_broker.proofs.Lawful.{all_from_get, board_lawful}
-use Rattle.plain_broker.proofs.Work.{IsOpen, its_turn}
+use Rattle.plain_broker.proofs.Work.{IsOpen}
 
 -- ---- before the first line
 
@@ -221,16 +210,3 @@ act_sound board s (TooLong size) turned h o acts = subst (λ (t : Turned). IsSou
 
 pub acts_sound : (board : Board) (s : ℕ) (turned : Turned) → IsSound board → IsOpen board s → Acts board s turned → IsSound turned.board
 acts_sound board s turned h o acts = act_sound board s (next_frame_of (seat_at board s).inbox) turned h o acts
-
-pub rests_sound : (acts : ℕ) (board : Board) (turned : Turned) → IsSound board → Rests acts board turned → IsSound turned.board
-rests_sound zero board turned h rests = subst (λ (t : Turned). IsSound t.board) (sym rests.1) (scanned_sound board h)
-rests_sound (suc acts) board turned h rests =
-    let here = scanned_sound board h in
-    let acted = acts_sound (scanned board).board rests.0 rests.1 here (its_turn (scanned board).board rests.0 rests.3) rests.4 in
-    subst (λ (t : Turned). IsSound t.board) (sym rests.6) (rests_sound acts rests.1.board rests.2 acted rests.5)
-
-pub plays_sound : (board : Board) (lines : List Line) (turned : Turned) → IsSound board → Plays board lines turned → IsSound turned.board
-plays_sound board [] turned h played = subst (λ (t : Turned). IsSound t.board) (sym played) h
-plays_sound board (line ∷ lines) turned h played =
-    let here = rests_sound played.2.0 (brought board line) played.0 (brought_sound board line h) played.2.1 in
-    subst (λ (t : Turned). IsSound t.board) (sym played.4) (plays_sound played.0.board lines played.1 here played.3)

@@ -1,14 +1,12 @@
 -- Between two lines nothing that waits is answerable: a scan answers what is, and changes no state. So the account is lawful.
-use Rattle.std.proofs.Common.{◌≡◌, ◌≢◌, ℕ, zero, suc, ◌+◌, ◌≤◌, ◌<◌, Bool, true, false, ◌||◌, ◌&&◌, not, cond, List, [], ◌∷◌, ◌++◌, length, Option, Some, None, unwrap_or, refl, sym, ap, subst, ◌∙◌, arith, inl, inr}
+use Rattle.std.proofs.Common.{◌≡◌, ◌≢◌, ℕ, zero, suc, ◌+◌, ◌≤◌, ◌<◌, Bool, true, false, ◌||◌, ◌&&◌, not, cond, List, [], ◌∷◌, length, Option, Some, None, unwrap_or, refl, sym, ap, subst, ◌∙◌, arith, inl, inr}
 use Rattle.std.proofs.lemmas.Bool.{cases_lt}
-use Rattle.std.specs.Prelude.{slice_get, nat_le, ◌==◌}
-use Rattle.std.specs.List.{AllByRecursion, find, list_any, range_with_len}
-use Rattle.partlog.specs.declared.clock_event.ClockEvent.{ClockEvent}
+use Rattle.std.specs.Prelude.{nat_le, ◌==◌}
+use Rattle.std.specs.List.{find, list_any, range_with_len}
 use Rattle.partlog.specs.History.{History}
 use Rattle.partlog.specs.Moment.{moment_of}
 use Rattle.partlog.specs.State.{state_of}
 use Rattle.audit.specs.declared.account.Account.{Account}
-use Rattle.audit.specs.declared.account.Transcript.{Transcript}
 use Rattle.audit.specs.IsLawful.{IsLawful}
 use Rattle.audit.specs.LawfulCall.{operation_parts}
 use Rattle.audit.proofs.Laws.{same_or_not, some_is}
@@ -19,7 +17,7 @@ use Rattle.opcond.specs.Tally.{tally}
 use Rattle.trace_file.specs.declared.line.Line.{Line}
 use Rattle.plain_broker.specs.Acting.{is_there, shows_work, can_act, next_to_act}
 use Rattle.plain_broker.specs.AtRest.{IsAtRest}
-use Rattle.plain_broker.specs.Board.{Board, Seat, Waiting, new_transcript, transcript_at, history_at, opening, account_of}
+use Rattle.plain_broker.specs.Board.{Board, Seat, Waiting, new_transcript, transcript_at, history_at, opening}
 use Rattle.plain_broker.specs.Completing.{look_all, last_call, is_satisfied_now, is_answerable_now, completed, unless_none, answered_in, scan_sessions, scanned}
 use Rattle.plain_broker.specs.Declared.{AreDeclared}
 use Rattle.plain_broker.specs.Play.{brought, Rests, Plays, IsPlay}
@@ -28,7 +26,7 @@ use Rattle.plain_broker.proofs.Growth.{looked_moment}
 use Rattle.plain_broker.proofs.Accepting.{looks_parts, looks_states, shown_in, shown_alike}
 use Rattle.plain_broker.proofs.Boards.{IsSound, WaitsLast, Stand, waiting_of, waits_no_more, waits_still, without, seat_there}
 use Rattle.plain_broker.proofs.Lawful.{all_from_get, board_lawful}
-use Rattle.plain_broker.proofs.Playing.{opening_sound, empty_there, brought_sound, answered_sound, scanned_sound, acts_sound, rests_sound, plays_sound, waits_of_its_own, waits_own}
+use Rattle.plain_broker.proofs.Playing.{opening_sound, empty_there, brought_sound, answered_sound, scanned_sound, acts_sound, waits_of_its_own, waits_own}
 use Rattle.plain_broker.proofs.Work.{its_turn}
 
 -- ---- what a scan leaves as it was

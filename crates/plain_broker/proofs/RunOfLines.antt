@@ -1,5 +1,5 @@
 -- The account of a play of a trace is that of the run of its lines.
-use Rattle.std.proofs.Common.{◌≡◌, ◌≢◌, ℕ, zero, suc, ◌+◌, ◌-◌, ◌≤◌, ◌<◌, ◌⊎◌, Bool, true, false, ◌||◌, not, ◌&&◌, cond, eqb, List, [], ◌∷◌, ◌++◌, length, get_or, take, drop, Option, Some, None, unwrap_or, MatchBool, refl, sym, ap, subst, ◌∙◌, arith, inl, inr, append-nil, append_assoc, length-append, add-zero}
+use Rattle.std.proofs.Common.{◌≡◌, ◌≢◌, ℕ, zero, suc, ◌+◌, ◌-◌, ◌≤◌, ◌<◌, ◌⊎◌, Bool, true, false, ◌||◌, not, ◌&&◌, cond, List, [], ◌∷◌, ◌++◌, length, get_or, take, drop, Option, Some, None, unwrap_or, MatchBool, refl, sym, ap, subst, ◌∙◌, arith, inl, inr, append-nil, append_assoc, length-append, add-zero}
 use Rattle.std.proofs.lemmas.Bool.{cases_Bool, cases_lt, eqb-true, ne_eqb, or_right}
 use Rattle.std.proofs.lemmas.List.{drop_all, get_or-append-add}
 use Rattle.std.proofs.lemmas.List.Folds.{list_any-append}
@@ -9,15 +9,12 @@ use Rattle.std.proofs.lemmas.Option.{slice_get_past}
 use Rattle.std.specs.Prelude.{slice_get, option_to_list, ◌==◌}
 use Rattle.std.specs.List.{AllByRecursion, AllPairs, find, flat_map, list_any, range_with_len}
 use Rattle.kbytes.specs.Octets.{IsBytes}
-use Rattle.partlog.specs.History.{History}
-use Rattle.partlog.specs.declared.clock_event.ClockEvent.{ClockEvent}
 use Rattle.partlog.specs.declared.clock_event.ClockEvent.TheVariants as clocks
 use Rattle.audit.specs.declared.account.Account.{Account}
 use Rattle.audit.specs.declared.account.Transcript.{Transcript}
 use Rattle.audit.specs.declared.account.Call.{Call}
 use Rattle.audit.specs.declared.account.Point.{Point}
-use Rattle.audit.specs.declared.account.CallHow.{CallHow}
-use Rattle.audit.specs.declared.account.CallHow.TheVariants.{Quiet, AtOnce, Satisfied, Expired, Parked, Cut}
+use Rattle.audit.specs.declared.account.CallHow.TheVariants.{Satisfied, Expired, Parked}
 use Rattle.audit.specs.declared.account.SessionEnd.{SessionEnd}
 use Rattle.audit.specs.declared.account.SessionEnd.TheVariants.{Closed, Truncated, FrameTooLong, Refused, CallsFull, ReadFault, WriteFault, NoMemory}
 use Rattle.audit.specs.declared.account.TheConstants.{MOST_CALLS}
@@ -32,31 +29,31 @@ use Rattle.kwire.specs.declared.config.Topic as topics
 use Rattle.kwire.specs.declared.frame.Frame.{Frame}
 use Rattle.kwire.specs.declared.frame.Frame.TheVariants.{Whole, NotYet, TooLong}
 use Rattle.kwire.specs.declared.request.Request.{Request}
-use Rattle.kwire.specs.Configuration.{Configuration, partitions_of}
+use Rattle.kwire.specs.Configuration.{partitions_of}
 use Rattle.kwire.specs.Frames.{next_frame_of, framed, IsFrameBody}
 use Rattle.kwire.proofs.Laws.{whole_parts}
 use Rattle.trace_file.specs.declared.line.Line.{Line}
 use Rattle.trace_file.specs.declared.line.Line.TheVariants.{Topic, Feed, Shut, Clock, End}
 use Rattle.trace_file.specs.Contents.{configuration_of, topic_in, bytes_in, names, shuts, input_of, is_named, is_shut, sessions_of, rising_from}
-use Rattle.trace_file.specs.IsInOrder.{MayFollow, AreNewTopics, IsInOrder}
+use Rattle.trace_file.specs.IsInOrder.{MayFollow, AreNewTopics}
 use Rattle.trace_file.specs.Trace.{pieces_of, IsTrace}
 use Rattle.trace_file.proofs.Laws.{few_sessions}
-use Rattle.plain_broker.specs.Acting.{is_there, shows_work, can_act, next_to_act, end_of_input, HandlesFrame, Acts, ActsOn}
+use Rattle.plain_broker.specs.Acting.{is_there, shows_work, can_act, HandlesFrame, Acts, ActsOn}
 use Rattle.plain_broker.specs.Board.{Board, Seat, Waiting, empty_seat, new_transcript, seat_at, transcript_at, next_call, put_before, passes_of, opening, account_of}
 use Rattle.plain_broker.specs.Completing.{look_all, last_call, is_satisfied_now, is_answerable_now, completed_as, completed, unless_none, answered_in, scan_sessions, scanned}
 use Rattle.plain_broker.specs.Declared.{IsDeclared, AreDeclared}
-use Rattle.plain_broker.specs.Entering.{Noted, accept_all, steps_of, shown_of}
+use Rattle.plain_broker.specs.Entering.{accept_all, steps_of, shown_of}
 use Rattle.plain_broker.specs.Play.{brought, Rests, Plays, IsPlay}
 use Rattle.plain_broker.specs.Turns.{Turned, how_at_once, answered_at_once, left_waiting, handled, ended}
 use Rattle.plain_broker.proofs.Acts.{ticks_looked}
 use Rattle.plain_broker.proofs.Boards.{IsSound, WaitsLast, Stand, waiting_of, seat_there, nothing_last}
 use Rattle.plain_broker.proofs.Calls.{IsOver}
-use Rattle.plain_broker.proofs.FedLines.{IsFedBy, IsFedSeat, IsInputEnd, IsRest, HasTicks, MayCome, framed_calls, transcript_in, seat_named_is, seat_unnamed, named_below, last_named, fed_opening, fed_line, fed_call, fed_ended, fed_finished, ticks_alike, known_named, works_named}
+use Rattle.plain_broker.proofs.FedLines.{IsFedBy, IsFedSeat, IsInputEnd, IsRest, MayCome, seat_named_is, seat_unnamed, named_below, last_named, fed_opening, fed_line, fed_call, fed_ended, fed_finished, ticks_alike, known_named, works_named}
 use Rattle.plain_broker.proofs.Growth.{looked_moment}
 use Rattle.plain_broker.proofs.Lawful.{IsUncut, all_uncut, passes_get}
 use Rattle.plain_broker.proofs.LineByLine.{plays_keep}
 use Rattle.plain_broker.proofs.PlaySome.{brought_seats, input_bytes, line_bytes}
-use Rattle.plain_broker.proofs.Playing.{brought_sound, answered_sound, scanned_sound, acts_sound, rests_sound, waits_own}
+use Rattle.plain_broker.proofs.Playing.{brought_sound, answered_sound, scanned_sound, acts_sound, waits_own}
 use Rattle.plain_broker.proofs.RequestBytes.{back_bytes}
 use Rattle.plain_broker.proofs.Resting.{IsSettled, opening_settled, plays_settled}
 use Rattle.plain_broker.proofs.Work.{AreSeats, IsOpen, acts_less, inbox_bytes, its_turn, opening_seats, scanned_as_much}
@@ -139,7 +136,7 @@ completed_fed fed board w sound h own =
     let lt : s < 64 = seat_there board s last.front last.call sound.count last.calls in
     let found : is_named s fed ≡ true =
     known_named fed board s h lt (λ none.
-        nothing_last last.front last.call (sym (ap (λ (o : Option Transcript). (unwrap_or o (new_transcript s)).calls) none) ∙ last.calls)) in
+    nothing_last last.front last.call (sym (ap (λ (o : Option Transcript). (unwrap_or o (new_transcript s)).calls) none) ∙ last.calls)) in
     let looked = ticks_alike fed board.clock (board.clock ++ clocks.Look s seq ∷ []) (ticks_looked board.clock s seq) (looked_moment board.clock s seq) h.ticks in
     let looks = look_all s seq (operation_parts w.steps) board.parts in
     let late : List Point = record { part = clock_part; place = length board.clock } ∷ looks.0 in
@@ -310,7 +307,7 @@ trace_may_come text fed [] trace = tt
 trace_may_come text fed (line ∷ lines) trace = (
   record { named = λ s found. (few_sessions text (fed ++ line ∷ lines) s trace (named_in s fed lines line found), not_closed s fed lines line trace.order.pairs found) },
   line_bytes line lines (λ s. back_bytes (input_of s fed) (input_of s (line ∷ lines))
-  (subst IsBytes (flat_map-append (bytes_in s) fed (line ∷ lines)) (input_bytes (pieces_of text) (fed ++ line ∷ lines) trace.spelled s))),
+      (subst IsBytes (flat_map-append (bytes_in s) fed (line ∷ lines)) (input_bytes (pieces_of text) (fed ++ line ∷ lines) trace.spelled s))),
   trace_may_come text (fed ++ line ∷ []) lines (subst (IsTrace text) (sym (append_assoc fed (line ∷ []) lines)) trace),
 )
 

@@ -24,3 +24,5 @@ pub mod Kept
 pub mod Sound
 -- small boards, written out
 pub mod Worked
+-- a whole trace, written out
+pub mod WorkedPlay

@@ -17,8 +17,12 @@ ghost use Rattle.plain_broker.specs.Turns.{Turned};
 ghost use Rattle.plain_broker.specs.Worked.{board_with, fetched_behind, fetched_it, produced};
 ghost use Rattle.partlog.specs.declared.clock_event.ClockEvent.TheVariants.{Tick};
 ghost use Rattle.audit.specs.declared.account.CallHow.TheVariants.{Expired, Satisfied};
-ghost use Rattle.audit.specs.Histories.{clock_part};
-ghost use Rattle.audit.specs.Worked.{at};
+ghost use Rattle.audit.specs.Histories.{calls_of, clock_part};
+ghost use Rattle.audit.specs.Worked.{at, followed};
+ghost use Rattle.kbatch.specs.Batch.{IsBatch};
+ghost use Rattle.kbatch.specs.declared.record.Record.{Record};
+ghost use Rattle.kwire.specs.IsRequest.{IsRequest};
+ghost use Rattle.plain_broker.specs.WorkedPlay.{batch, body_of, follow, poll, polled, produce, worked_lines};
 ghost use Rattle.trace_file.specs.Contents.{configuration_of, input_of};
 
 /// Law: with any configuration, lines play to one account and one text. What the lines bring need only be bytes: they may be
@@ -63,4 +67,16 @@ pub fn worked_scans()
     ensures both { (all batch : List ℕ) → (transcript_at (scanned (board_with all batch fetched_behind (Tick 100 ∷ []))).board 0).calls
         ≡ produced all (at 0 2 ∷ []) (Satisfied 0) ∷ [] }
     ensures once { (all batch : List ℕ) → (scanned (board_with all batch fetched_behind [])).board.waiting ≡ [] }
+{}
+
+/// Law: a worked trace. A produce for all replicas waits, and is satisfied as its follower fetches behind its record; a
+/// consumer's fetch waits until its deadline, and expires; the account is lawful.
+pub fn worked_play()
+    ensures satisfied { (r : Record) → IsBatch batch (r ∷ []) → IsRequest (body_of produce) produce → IsRequest (body_of follow) follow
+        → IsRequest (body_of poll) poll → (account : Account) (text : List ℕ) → IsPlay followed worked_lines account text
+        → calls_of account 0 ≡ produced (body_of produce) (at 0 2 ∷ []) (Satisfied 0) ∷ [] }
+    ensures expired { (r : Record) → IsBatch batch (r ∷ []) → IsRequest (body_of produce) produce → IsRequest (body_of follow) follow
+        → IsRequest (body_of poll) poll → (account : Account) (text : List ℕ) → IsPlay followed worked_lines account text
+        → calls_of account 2 ≡ polled ∷ [] }
+    ensures lawful { (account : Account) (text : List ℕ) → IsPlay followed worked_lines account text → IsLawful account }
 {}
