@@ -1,5 +1,5 @@
 -- The account of a sound board is lawful, where nothing that waits is answerable.
-use Rattle.std.proofs.Common.{◌≡◌, ℕ, zero, suc, ◌+◌, ◌≤◌, ◌⊎◌, Bool, true, false, ◌||◌, cond, eqb, List, [], ◌∷◌, ◌++◌, map, Option, Some, None, unwrap_or, refl, sym, ap, subst, ◌∙◌, arith, inl, inr, append-nil}
+use Rattle.std.proofs.Common.{◌≡◌, ℕ, zero, suc, ◌+◌, ◌≤◌, ◌⊎◌, Bool, false, cond, eqb, List, [], ◌∷◌, ◌++◌, map, Option, Some, None, unwrap_or, refl, sym, ap, subst, ◌∙◌, arith, inl, inr, append-nil}
 use Rattle.std.proofs.lemmas.Bool.{ne_eqb, le-leb}
 use Rattle.std.proofs.lemmas.List.Sums.{sum_by-cons}
 use Rattle.std.proofs.lemmas.Option.{slice_get-map}
@@ -28,6 +28,7 @@ use Rattle.plain_broker.specs.Board.{Board, Seat, Waiting, empty_seat, history_a
 use Rattle.plain_broker.specs.Completing.{present, is_answerable_now, is_satisfied_now, is_overdue_now}
 use Rattle.plain_broker.specs.GoesOn.{the_owner, AllWhole, GoesOn}
 use Rattle.plain_broker.specs.Kept.{owners_here, owners_at}
+use Rattle.plain_broker.proofs.Cases.{neither}
 use Rattle.plain_broker.proofs.Growth.{longer_self}
 use Rattle.plain_broker.proofs.Calls.{IsOver}
 use Rattle.plain_broker.proofs.Accepting.{shown_in}
@@ -243,10 +244,6 @@ module _ (board : Board) (h : IsSound board) where
   last_shown (step ∷ steps) =
       ap (λ (s : PartState). record { result = step.result; state = s } ∷ shown_at_last (account_of board) steps) (last_present (part_in step.result))
       ∙ ap (λ (ss : List Shown). record { result = step.result; state = present board.parts (part_in step.result) } ∷ ss) (last_shown steps)
-
-  neither : (x y : Bool) → (x || y) ≡ false → (x ≡ false) × (y ≡ false)
-  neither true y e = absurd cc
-  neither false y e = (refl, e)
 
   le_and_not : (a b : ℕ) → a ≤ b → nat_le a b ≡ false → ⊥
   le_and_not a b le not_now = absurd (cc (le-leb a b le, not_now))

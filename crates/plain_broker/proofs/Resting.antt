@@ -22,6 +22,7 @@ use Rattle.plain_broker.specs.Completing.{look_all, last_call, is_satisfied_now,
 use Rattle.plain_broker.specs.Declared.{AreDeclared}
 use Rattle.plain_broker.specs.Play.{brought, Rests, Plays, IsPlay}
 use Rattle.plain_broker.specs.Turns.{Turned}
+use Rattle.plain_broker.proofs.Cases.{either_way}
 use Rattle.plain_broker.proofs.Growth.{looked_moment}
 use Rattle.plain_broker.proofs.Accepting.{looks_parts, looks_states, shown_in, shown_alike}
 use Rattle.plain_broker.proofs.Boards.{IsSound, WaitsLast, Stand, waiting_of, waits_no_more, waits_still, without, seat_there}
@@ -46,14 +47,6 @@ unmoved_answerable board later w same =
     ap (λ (shown : List Shown). satisfied shown || nat_le w.operation.deadline (moment_of later.clock)) (shown_alike board.parts later.parts same.states w.steps)
     ∙ ap (λ (m : ℕ). satisfied (shown_in board.parts w.steps) || nat_le w.operation.deadline m) same.moment
 
-either_unmoved : (board x y : Board) (b : Bool) → IsUnmoved board x → IsUnmoved board y → IsUnmoved board (cond b x y)
-either_unmoved board x y true p q = p
-either_unmoved board x y false p q = q
-
-either_waiting : (b : Bool) (x y : Board) (waiting : List Waiting) → x.waiting ≡ waiting → y.waiting ≡ waiting → (cond b x y).waiting ≡ waiting
-either_waiting true x y waiting p q = p
-either_waiting false x y waiting p q = q
-
 completed_unmoved : (board : Board) (w : Waiting) → IsSound board → waiting_of board.waiting w.session ≡ Some w → IsUnmoved board (completed board w).board
 completed_unmoved board w h found =
     let last : WaitsLast board.config board.parts board.clock w.session w (transcript_at board w.session) =
@@ -63,10 +56,10 @@ completed_unmoved board w h found =
     let states : (q : ℕ) → state_of (history_at (look_all w.session seq ps board.parts).1 q) ≡ state_of (history_at board.parts q) =
     λ q. ap (λ (parts : List History). state_of (history_at parts q)) (looks_parts w.session seq ps board.parts)
     ∙ looks_states w.session seq (length board.parts) ps board.parts refl last.waits.within q in
-    either_unmoved board _ _ (is_satisfied_now board w) (record { states = states; moment = refl }) (record { states = states; moment = looked_moment board.clock w.session seq })
+    either_way (IsUnmoved board) (is_satisfied_now board w) _ _ (record { states = states; moment = refl }) (record { states = states; moment = looked_moment board.clock w.session seq })
 
 completed_waiting : (board : Board) (w : Waiting) → (completed board w).board.waiting ≡ without board.waiting w.session
-completed_waiting board w = either_waiting (is_satisfied_now board w) _ _ (without board.waiting w.session) refl refl
+completed_waiting board w = either_way (λ (x : Board). x.waiting ≡ without board.waiting w.session) (is_satisfied_now board w) _ _ refl refl
 
 -- ---- nothing that waits of a session is answerable
 
