@@ -128,6 +128,10 @@ none_won winner (call ∷ calls) all =
     sum_by-cons (λ c. cond (is_won_by (suc winner) c) 1 0) call calls ∙ ap (λ (b : Bool). cond b 1 0 + count_by (is_won_by (suc winner)) calls) (not_won winner call.how all.0)
     ∙ omega (arith, none_won winner calls all.1)
 
+-- nothing that waits of this session is answerable
+abbrev pub Still : Board → ℕ → Type 0
+Still board s = (w : Waiting) → waiting_of board.waiting s ≡ Some w → is_answerable_now board w ≡ false
+
 -- what a session's calls show of its end
 pub record EndsRight (t : Transcript) : Type 0 where
   pub first : t.first ≡ 0
@@ -265,10 +269,6 @@ module _ (board : Board) (h : IsSound board) where
         completed = subst (λ (how : CallHow). Completes account w.request w.steps d.looks call.finish how) (sym waits.how) (d.delayed, waits.unfinished, still);
       })
 
-  -- nothing that waits of this session is answerable
-  abbrev pub Waits : ℕ → Type 0
-  Waits s = (w : Waiting) → waiting_of board.waiting s ≡ Some w → is_answerable_now board w ≡ false
-
   stands_lawful : (s q : ℕ) (call : Call) (o : Option Waiting) → ((w : Waiting) → o ≡ Some w → is_answerable_now board w ≡ false) → Stand board.config board.parts board.clock s o (transcript_at board s)
       → slice_get (transcript_at board s).calls q ≡ Some call → IsLawfulCall (account_of board) call
   stands_lawful s q call None rests stand e = inl ((all_get (IsDone board.config board.parts board.clock) (transcript_at board s).calls q call stand e).whole (account_of board) account_goes)
@@ -278,7 +278,7 @@ module _ (board : Board) (h : IsSound board) where
         | inr last ↦ subst (IsLawfulCall (account_of board)) (sym last.1) (parked_lawful w stand.call stand.waits (rests w refl))
       ]
 
-  pub board_lawful : ((s : ℕ) → Waits s) → IsLawful (account_of board)
+  pub board_lawful : ((s : ℕ) → Still board s) → IsLawful (account_of board)
   board_lawful rests = record {
     entries = record { left = entry_left; points = points_owned; ticks = h.sound.histories.ticks };
     order = the_order;

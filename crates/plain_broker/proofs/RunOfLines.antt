@@ -47,7 +47,7 @@ use Rattle.plain_broker.specs.Play.{brought, Rests, Plays, IsPlay}
 use Rattle.plain_broker.specs.Turns.{Turned, how_at_once, answered_at_once, left_waiting, handled, ended}
 use Rattle.plain_broker.proofs.Cases.{either_way}
 use Rattle.plain_broker.proofs.Acts.{ticks_looked}
-use Rattle.plain_broker.proofs.Boards.{IsSound, WaitsLast, Stand, waiting_of, seat_there, nothing_last}
+use Rattle.plain_broker.proofs.Boards.{IsSound, Stand, waiting_of, nothing_last, waits_last, waits_there}
 use Rattle.plain_broker.proofs.Calls.{IsOver}
 use Rattle.plain_broker.proofs.FedLines.{IsFedBy, IsFedSeat, IsInputEnd, IsRest, MayCome, seat_named_is, seat_unnamed, named_below, last_named, fed_opening, fed_line, fed_call, fed_ended, fed_finished, ticks_alike, known_named, works_named}
 use Rattle.plain_broker.proofs.Growth.{looked_moment}
@@ -132,9 +132,8 @@ completed_fed : (fed : List Line) (board : Board) (w : Waiting) → IsSound boar
 completed_fed fed board w sound h own =
     let s = w.session in
     let seq = last_call board s in
-    let last : WaitsLast board.config board.parts board.clock s w (transcript_at board s) =
-    subst (λ (o : Option Waiting). Stand board.config board.parts board.clock s o (transcript_at board s)) own (sound.sound.sessions s).stand in
-    let lt : s < 64 = seat_there board s last.front last.call sound.count last.calls in
+    let last = waits_last board s w sound own in
+    let lt : s < 64 = waits_there board s w sound own in
     let found : is_named s fed ≡ true =
     known_named fed board s h lt (λ none.
     nothing_last last.front last.call (sym (ap (λ (o : Option Transcript). (unwrap_or o (new_transcript s)).calls) none) ∙ last.calls)) in
