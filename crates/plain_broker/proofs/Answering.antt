@@ -24,7 +24,7 @@ use Rattle.plain_broker.proofs.Ledger.{put, put_again, kept_alike}
 use Rattle.plain_broker.proofs.Accepting.{kept_accepted_at, kept_look_at, look_decisions, look_points, looked, looks_points, looks_parts, looks_fair}
 use Rattle.plain_broker.proofs.Acts.{ticks_looked, histories_on}
 use Rattle.plain_broker.proofs.Calls.{left_on, done_satisfied, done_expired}
-use Rattle.plain_broker.proofs.Boards.{IsDone, AreDone, WaitsLast, Stand, AreHistories, IsSound, ledger_of, waiting_of, all_done_on, seat_changed, waits_no_more, waits_still, without, alone_still, finished, seat_there}
+use Rattle.plain_broker.proofs.Boards.{IsDone, AreDone, WaitsLast, Stand, AreHistories, IsSound, ledger_of, waiting_of, all_done_on, seat_changed, waits_no_more, waits_still, without, alone_still, finished, waits_last, waits_there}
 
 module _ (board : Board) (w : Waiting) (h : IsSound board) (found : waiting_of board.waiting w.session ≡ Some w) where
   abbrev s : ℕ
@@ -37,10 +37,10 @@ module _ (board : Board) (w : Waiting) (h : IsSound board) (found : waiting_of b
   seq = last_call board w.session
 
   last : WaitsLast board.config board.parts board.clock w.session w (transcript_at board w.session)
-  last = subst (λ (o : Option Waiting). Stand board.config board.parts board.clock w.session o (transcript_at board w.session)) found (h.sound.sessions w.session).stand
+  last = waits_last board w.session w h found
 
   lt : w.session < 64
-  lt = seat_there board w.session last.front last.call h.count last.calls
+  lt = waits_there board w.session w h found
 
   few : length board.parts ≤ 64
   few = omega (arith, h.sound.histories.few)

@@ -217,7 +217,7 @@ nothing_last [] call e = absurd cc
 nothing_last (x ∷ front) call e = absurd cc
 
 -- a session with a call is one of those that there may be
-pub seat_there : (board : Board) (s : ℕ) (front : List Call) (call : Call) → length board.seats ≡ 64 → (transcript_at board s).calls ≡ front ++ call ∷ [] → s < 64
+seat_there : (board : Board) (s : ℕ) (front : List Call) (call : Call) → length board.seats ≡ 64 → (transcript_at board s).calls ≡ front ++ call ∷ [] → s < 64
 seat_there board s front call count calls =
     elim (cases_lt s 64) [
       | inl lt ↦ lt
@@ -226,3 +226,11 @@ seat_there board s front call count calls =
           ap (λ (o : Option Seat). (unwrap_or (unwrap_or o empty_seat).transcript (new_transcript s)).calls) (slice_get_past board.seats s (omega (arith, past, count))) in
           absurd (nothing_last front call (sym none ∙ calls))
     ]
+
+-- a request that waits is the last call of its session
+pub waits_last : (board : Board) (s : ℕ) (w : Waiting) → IsSound board → waiting_of board.waiting s ≡ Some w → WaitsLast board.config board.parts board.clock s w (transcript_at board s)
+waits_last board s w h found = subst (λ (o : Option Waiting). Stand board.config board.parts board.clock s o (transcript_at board s)) found (h.sound.sessions s).stand
+
+-- which is one of those that there may be
+pub waits_there : (board : Board) (s : ℕ) (w : Waiting) → IsSound board → waiting_of board.waiting s ≡ Some w → s < 64
+waits_there board s w h found = let last = waits_last board s w h found in seat_there board s last.front last.call h.count last.calls

@@ -24,6 +24,7 @@ use Rattle.plain_broker.specs.Board.{Waiting}
 use Rattle.plain_broker.specs.Entering.{Noted, accept_all, steps_of, shown_of}
 use Rattle.plain_broker.specs.GoesOn.{AllWhole, AllLonger, GoesOn}
 use Rattle.plain_broker.specs.Turns.{how_at_once}
+use Rattle.plain_broker.proofs.Cases.{either_way}
 use Rattle.plain_broker.proofs.Growth.{looked_moment}
 use Rattle.plain_broker.proofs.Entries.{IsFair, ShowsAccepted, accepted_shows, accepted_longer, accepted_size}
 use Rattle.plain_broker.proofs.Going.{grown_parts, grown_clock, goes_back, clock_point, clock_looked, clock_moment}
@@ -31,10 +32,6 @@ use Rattle.plain_broker.proofs.Accepting.{accepted_within, look_decisions, look_
 pub use Rattle.plain_broker.specs.Sound.{AllBelow, IsOver, IsDone, IsDelayedAs, IsWaiting, AreDone, WaitsLast}
 
 -- ---- accepted
-
-either_over : (b : Bool) → IsOver (cond b Quiet AtOnce)
-either_over true = tt
-either_over false = tt
 
 completes : (account : Account) (request : Request) (steps : List Step) (b : Bool) → is_quiet request.ask ≡ b → is_delayed account request steps ≡ false
     → Completes account request steps [] [] (cond b Quiet AtOnce)
@@ -63,7 +60,7 @@ module _ (config : Configuration) (parts : List History) (clock : List ClockEven
   pub done_at_once : becomes_delayed request.ask (shown_of noted) ≡ false
       → IsDone config after clock (record { frame = body; accept = step_points (steps_of noted); finish = []; how = how_at_once request.ask })
   done_at_once at_once = record {
-    over = either_over (is_quiet request.ask);
+    over = either_way IsOver (is_quiet request.ask) Quiet AtOnce tt tt;
     whole = λ account on.
         let undelayed : is_delayed account request (steps_of noted) ≡ false = ap (becomes_delayed request.ask) (shows clock account on).shown ∙ at_once in
         record {

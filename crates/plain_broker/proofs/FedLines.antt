@@ -33,30 +33,27 @@ use Rattle.plain_broker.specs.Board.{Board, Seat, empty_seat, new_transcript, se
 use Rattle.plain_broker.specs.Completing.{finish_last}
 use Rattle.plain_broker.specs.Play.{brought}
 use Rattle.plain_broker.specs.Turns.{seat_with}
+use Rattle.plain_broker.proofs.Cases.{neither, no_end}
 use Rattle.plain_broker.proofs.Playing.{empty_there, ticks_more}
 
 -- ---- the lines
-
-or_neither : (x y : Bool) → (x || y) ≡ false → (x ≡ false) × (y ≡ false)
-or_neither true y e = absurd cc
-or_neither false y e = (refl, e)
 
 pub input_unnamed : (s : ℕ) (lines : List Line) → is_named s lines ≡ false → input_of s lines ≡ []
 input_unnamed s [] missing = refl
 input_unnamed s (Topic n p f ∷ lines) missing = input_unnamed s lines missing
 input_unnamed s (Feed session bytes ∷ lines) missing =
-    let parts = or_neither (eqb session s) (is_named s lines) missing in
+    let parts = neither (eqb session s) (is_named s lines) missing in
     rw parts.0 (input_unnamed s lines parts.1)
-input_unnamed s (Shut session ∷ lines) missing = input_unnamed s lines (or_neither (eqb session s) (is_named s lines) missing).1
+input_unnamed s (Shut session ∷ lines) missing = input_unnamed s lines (neither (eqb session s) (is_named s lines) missing).1
 input_unnamed s (Clock t ∷ lines) missing = input_unnamed s lines missing
 input_unnamed s (End ∷ lines) missing = input_unnamed s lines missing
 
 pub shut_unnamed : (s : ℕ) (lines : List Line) → is_named s lines ≡ false → is_shut s lines ≡ false
 shut_unnamed s [] missing = refl
 shut_unnamed s (Topic n p f ∷ lines) missing = shut_unnamed s lines missing
-shut_unnamed s (Feed session bytes ∷ lines) missing = shut_unnamed s lines (or_neither (eqb session s) (is_named s lines) missing).1
+shut_unnamed s (Feed session bytes ∷ lines) missing = shut_unnamed s lines (neither (eqb session s) (is_named s lines) missing).1
 shut_unnamed s (Shut session ∷ lines) missing =
-    let parts = or_neither (eqb session s) (is_named s lines) missing in
+    let parts = neither (eqb session s) (is_named s lines) missing in
     rw parts.0 (shut_unnamed s lines parts.1)
 shut_unnamed s (Clock t ∷ lines) missing = shut_unnamed s lines missing
 shut_unnamed s (End ∷ lines) missing = shut_unnamed s lines missing
@@ -369,10 +366,6 @@ rest_of_open : (inbox rest : List ℕ) (shut : Bool) (t : Transcript) (end : Opt
 rest_of_open inbox rest shut t None same going = same
 rest_of_open inbox rest shut t (Some end) h going = absurd cc
 
-none_of : (end : Option SessionEnd) → is_there end ≡ false → end ≡ None
-none_of None going = refl
-none_of (Some end) going = absurd cc
-
 -- a session that has a transcript was named
 pub known_named : (fed : List Line) (board : Board) (s : ℕ) → IsFedBy fed board → s < 64 → ((seat_at board s).transcript ≡ None → ⊥) → is_named s fed ≡ true
 known_named fed board s h lt known = elim (cases_Bool (is_named s fed)) [
@@ -422,7 +415,7 @@ module _ (fed : List Line) (board left : Board) (s : ℕ) (h : IsFedBy fed board
         each = all_append (λ (c : Call). IsFrameBody c.frame) t.calls (call ∷ []) old.each (subst IsFrameBody (sym is) small, tt);
         rest = rest;
         parts = old.parts ∙ ap (λ (x : List ℕ). framed_calls t.calls ++ x) (going_rest going ∙ front) ∙ sym (append_assoc (framed_calls t.calls) (framed body) rest) ∙ ap (λ (x : List ℕ). x ++ rest) (sym frames);
-        ends = subst (λ (e : Option SessionEnd). IsRest rest (is_shut s fed) later rest e) (sym (none_of t.end going)) refl;
+        ends = subst (λ (e : Option SessionEnd). IsRest rest (is_shut s fed) later rest e) (sym (no_end t.end going)) refl;
       } in
       fed_set fed fed board left s (seat_with board s body call) h lt seats clock here (λ r other. (refl, refl, refl))
 

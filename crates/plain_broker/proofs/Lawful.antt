@@ -1,5 +1,5 @@
 -- The account of a sound board is lawful, where nothing that waits is answerable.
-use Rattle.std.proofs.Common.{◌≡◌, ℕ, zero, suc, ◌+◌, ◌≤◌, ◌⊎◌, Bool, true, false, ◌||◌, cond, eqb, List, [], ◌∷◌, ◌++◌, map, Option, Some, None, unwrap_or, refl, sym, ap, subst, ◌∙◌, arith, inl, inr, append-nil}
+use Rattle.std.proofs.Common.{◌≡◌, ℕ, zero, suc, ◌+◌, ◌≤◌, ◌⊎◌, Bool, false, cond, eqb, List, [], ◌∷◌, ◌++◌, map, Option, Some, None, unwrap_or, refl, sym, ap, subst, ◌∙◌, arith, inl, inr, append-nil}
 use Rattle.std.proofs.lemmas.Bool.{ne_eqb, le-leb}
 use Rattle.std.proofs.lemmas.List.Sums.{sum_by-cons}
 use Rattle.std.proofs.lemmas.Option.{slice_get-map}
@@ -28,6 +28,7 @@ use Rattle.plain_broker.specs.Board.{Board, Seat, Waiting, empty_seat, history_a
 use Rattle.plain_broker.specs.Completing.{present, is_answerable_now, is_satisfied_now, is_overdue_now}
 use Rattle.plain_broker.specs.GoesOn.{the_owner, AllWhole, GoesOn}
 use Rattle.plain_broker.specs.Kept.{owners_here, owners_at}
+use Rattle.plain_broker.proofs.Cases.{neither}
 use Rattle.plain_broker.proofs.Growth.{longer_self}
 use Rattle.plain_broker.proofs.Calls.{IsOver}
 use Rattle.plain_broker.proofs.Accepting.{shown_in}
@@ -126,6 +127,10 @@ none_won winner [] all = refl
 none_won winner (call ∷ calls) all =
     sum_by-cons (λ c. cond (is_won_by (suc winner) c) 1 0) call calls ∙ ap (λ (b : Bool). cond b 1 0 + count_by (is_won_by (suc winner)) calls) (not_won winner call.how all.0)
     ∙ omega (arith, none_won winner calls all.1)
+
+-- nothing that waits of this session is answerable
+abbrev pub Still : Board → ℕ → Type 0
+Still board s = (w : Waiting) → waiting_of board.waiting s ≡ Some w → is_answerable_now board w ≡ false
 
 -- what a session's calls show of its end
 pub record EndsRight (t : Transcript) : Type 0 where
@@ -244,10 +249,6 @@ module _ (board : Board) (h : IsSound board) where
       ap (λ (s : PartState). record { result = step.result; state = s } ∷ shown_at_last (account_of board) steps) (last_present (part_in step.result))
       ∙ ap (λ (ss : List Shown). record { result = step.result; state = present board.parts (part_in step.result) } ∷ ss) (last_shown steps)
 
-  neither : (x y : Bool) → (x || y) ≡ false → (x ≡ false) × (y ≡ false)
-  neither true y e = absurd cc
-  neither false y e = (refl, e)
-
   le_and_not : (a b : ℕ) → a ≤ b → nat_le a b ≡ false → ⊥
   le_and_not a b le not_now = absurd (cc (le-leb a b le, not_now))
 
@@ -268,10 +269,6 @@ module _ (board : Board) (h : IsSound board) where
         completed = subst (λ (how : CallHow). Completes account w.request w.steps d.looks call.finish how) (sym waits.how) (d.delayed, waits.unfinished, still);
       })
 
-  -- nothing that waits of this session is answerable
-  abbrev pub Waits : ℕ → Type 0
-  Waits s = (w : Waiting) → waiting_of board.waiting s ≡ Some w → is_answerable_now board w ≡ false
-
   stands_lawful : (s q : ℕ) (call : Call) (o : Option Waiting) → ((w : Waiting) → o ≡ Some w → is_answerable_now board w ≡ false) → Stand board.config board.parts board.clock s o (transcript_at board s)
       → slice_get (transcript_at board s).calls q ≡ Some call → IsLawfulCall (account_of board) call
   stands_lawful s q call None rests stand e = inl ((all_get (IsDone board.config board.parts board.clock) (transcript_at board s).calls q call stand e).whole (account_of board) account_goes)
@@ -281,7 +278,7 @@ module _ (board : Board) (h : IsSound board) where
         | inr last ↦ subst (IsLawfulCall (account_of board)) (sym last.1) (parked_lawful w stand.call stand.waits (rests w refl))
       ]
 
-  pub board_lawful : ((s : ℕ) → Waits s) → IsLawful (account_of board)
+  pub board_lawful : ((s : ℕ) → Still board s) → IsLawful (account_of board)
   board_lawful rests = record {
     entries = record { left = entry_left; points = points_owned; ticks = h.sound.histories.ticks };
     order = the_order;

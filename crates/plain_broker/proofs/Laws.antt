@@ -25,8 +25,17 @@ pub use Rattle.plain_broker.proofs.Calls.{acceptance, done_at_once, waits_on, le
 
 -- what holds of a board stays as one session changes
 pub use Rattle.plain_broker.proofs.Boards.{AreSound, IsSound, session_on, sound_alike, seat_changed, waits_more, waits_else, waits_no_more, waits_still, none_waits, find_is, finished}
+-- each step keeps it: a line, a waiting request that is asked, a scan, and what a session does
+pub use Rattle.plain_broker.proofs.Boards.{waits_last, waits_there}
+pub use Rattle.plain_broker.proofs.Acts.{handled_sound, ended_sound}
+pub use Rattle.plain_broker.proofs.Answering.{completed_sound}
+pub use Rattle.plain_broker.proofs.Playing.{opening_sound, brought_sound, answered_sound, scanned_sound, acts_sound}
+-- a scan changes no state, and asks every session
+pub use Rattle.plain_broker.proofs.Resting.{IsUnmoved, unmoved_answerable, scanned_still}
+-- its account is lawful where nothing that waits is answerable
+pub use Rattle.plain_broker.proofs.Lawful.{Still, account_goes, board_lawful}
 -- how much is left to do on a board, and whose turn it is
-pub use Rattle.plain_broker.proofs.Work.{AreSeats, work_of, work_on, seats_set, inbox_bytes, opening_seats, scanned_as_much, acts_less, open_work, its_turn}
+pub use Rattle.plain_broker.proofs.Work.{AreSeats, IsOpen, work_of, work_on, seats_set, inbox_bytes, opening_seats, scanned_as_much, acts_less, open_work, its_turn}
 -- ---- plays
 
 -- lines that are played, one more at a time

@@ -1,5 +1,7 @@
 -- what the crates above may cite
 pub mod Laws
+-- what holds either way, and what the tests of a board tell
+mod Cases
 -- how histories grow, and what stays of their states
 mod Growth
 -- what accepting a request leaves in the histories
@@ -42,5 +44,7 @@ mod Resting
 mod FedLines
 -- the account of a play of a trace is that of the run of its lines
 mod RunOfLines
+-- the worked requests have bodies
+mod WorkedBodies
 -- the worked trace
 mod WorkedPlays

@@ -27,6 +27,7 @@ use Rattle.plain_broker.specs.GoesOn.{the_owner, AllWhole, IsWhole, HaveGrown}
 use Rattle.plain_broker.specs.Kept.{IsKept, owners_here, owners_at}
 use Rattle.plain_broker.specs.Play.{brought, with_seat}
 use Rattle.plain_broker.specs.Turns.{Turned, ended}
+use Rattle.plain_broker.proofs.Cases.{either_way, no_end}
 use Rattle.plain_broker.proofs.Counting.{AllBelow, rises_on}
 use Rattle.plain_broker.proofs.Fair.{followers_size}
 use Rattle.plain_broker.proofs.Going.{all_longer_self, grown_clock}
@@ -53,11 +54,7 @@ nobodys_here (n ∷ followers) zero = refl
 nobodys_here (n ∷ followers) (suc p) = nobodys_here followers p
 
 nobodys : (followers : List ℕ) (p : ℕ) → owners_at (map empty_history followers) [] p ≡ []
-nobodys followers p = either (eqb p 64)
-  where
-    either : (b : Bool) → cond b [] (owners_here (slice_get (map empty_history followers) p)) ≡ []
-    either true = refl
-    either false = nobodys_here followers p
+nobodys followers p = either_way (λ (os : List (Option Owner)). os ≡ []) (eqb p 64) [] (owners_here (slice_get (map empty_history followers) p)) refl (nobodys_here followers p)
 
 none_kept : (followers : List ℕ) → IsKept (owners_at (map empty_history followers) []) (ledger_of new_transcript)
 none_kept followers = record {
@@ -196,10 +193,6 @@ whole_sound true board s body last turned h o is = subst (λ (t : Turned). IsSou
 whole_sound false board s body last turned h o (inl took) =
     subst (λ (t : Turned). IsSound t.board) (sym took.4)
     (handled_sound board s body took.0 took.1 h o.there (none_waits board.waiting s o.no_wait) took.2 took.3 (no_end (transcript_at board s).end o.goes_on))
-  where
-    no_end : (end : Option SessionEnd) → is_there end ≡ false → end ≡ None
-    no_end None e = refl
-    no_end (Some end) e = absurd cc
 whole_sound false board s body last turned h o (inr refused) =
     subst (λ (t : Turned). IsSound t.board) (sym refused.2) (ended_sound board s (Refused refused.0) h o.there (none_waits board.waiting s o.no_wait))
 

@@ -17,15 +17,16 @@ use Rattle.opcond.specs.Tally.{tally}
 use Rattle.trace_file.specs.declared.line.Line.{Line}
 use Rattle.plain_broker.specs.Acting.{is_there, shows_work, can_act, next_to_act}
 use Rattle.plain_broker.specs.AtRest.{IsAtRest}
-use Rattle.plain_broker.specs.Board.{Board, Seat, Waiting, new_transcript, transcript_at, history_at, opening}
+use Rattle.plain_broker.specs.Board.{Board, Seat, Waiting, new_transcript, history_at, opening}
 use Rattle.plain_broker.specs.Completing.{look_all, last_call, is_satisfied_now, is_answerable_now, completed, unless_none, answered_in, scan_sessions, scanned}
 use Rattle.plain_broker.specs.Declared.{AreDeclared}
 use Rattle.plain_broker.specs.Play.{brought, Rests, Plays, IsPlay}
 use Rattle.plain_broker.specs.Turns.{Turned}
+use Rattle.plain_broker.proofs.Cases.{either_way}
 use Rattle.plain_broker.proofs.Growth.{looked_moment}
 use Rattle.plain_broker.proofs.Accepting.{looks_parts, looks_states, shown_in, shown_alike}
-use Rattle.plain_broker.proofs.Boards.{IsSound, WaitsLast, Stand, waiting_of, waits_no_more, waits_still, without, seat_there}
-use Rattle.plain_broker.proofs.Lawful.{all_from_get, board_lawful}
+use Rattle.plain_broker.proofs.Boards.{IsSound, waiting_of, waits_no_more, waits_still, without, waits_last, waits_there}
+use Rattle.plain_broker.proofs.Lawful.{Still, all_from_get, board_lawful}
 use Rattle.plain_broker.proofs.Playing.{opening_sound, empty_there, brought_sound, answered_sound, scanned_sound, acts_sound, waits_of_its_own, waits_own}
 use Rattle.plain_broker.proofs.Work.{its_turn}
 
@@ -46,32 +47,19 @@ unmoved_answerable board later w same =
     ap (λ (shown : List Shown). satisfied shown || nat_le w.operation.deadline (moment_of later.clock)) (shown_alike board.parts later.parts same.states w.steps)
     ∙ ap (λ (m : ℕ). satisfied (shown_in board.parts w.steps) || nat_le w.operation.deadline m) same.moment
 
-either_unmoved : (board x y : Board) (b : Bool) → IsUnmoved board x → IsUnmoved board y → IsUnmoved board (cond b x y)
-either_unmoved board x y true p q = p
-either_unmoved board x y false p q = q
-
-either_waiting : (b : Bool) (x y : Board) (waiting : List Waiting) → x.waiting ≡ waiting → y.waiting ≡ waiting → (cond b x y).waiting ≡ waiting
-either_waiting true x y waiting p q = p
-either_waiting false x y waiting p q = q
-
 completed_unmoved : (board : Board) (w : Waiting) → IsSound board → waiting_of board.waiting w.session ≡ Some w → IsUnmoved board (completed board w).board
 completed_unmoved board w h found =
-    let last : WaitsLast board.config board.parts board.clock w.session w (transcript_at board w.session) =
-    subst (λ (o : Option Waiting). Stand board.config board.parts board.clock w.session o (transcript_at board w.session)) found (h.sound.sessions w.session).stand in
     let seq = last_call board w.session in
     let ps = operation_parts w.steps in
     let states : (q : ℕ) → state_of (history_at (look_all w.session seq ps board.parts).1 q) ≡ state_of (history_at board.parts q) =
     λ q. ap (λ (parts : List History). state_of (history_at parts q)) (looks_parts w.session seq ps board.parts)
-    ∙ looks_states w.session seq (length board.parts) ps board.parts refl last.waits.within q in
-    either_unmoved board _ _ (is_satisfied_now board w) (record { states = states; moment = refl }) (record { states = states; moment = looked_moment board.clock w.session seq })
+    ∙ looks_states w.session seq (length board.parts) ps board.parts refl (waits_last board w.session w h found).waits.within q in
+    either_way (IsUnmoved board) (is_satisfied_now board w) _ _ (record { states = states; moment = refl }) (record { states = states; moment = looked_moment board.clock w.session seq })
 
 completed_waiting : (board : Board) (w : Waiting) → (completed board w).board.waiting ≡ without board.waiting w.session
-completed_waiting board w = either_waiting (is_satisfied_now board w) _ _ (without board.waiting w.session) refl refl
+completed_waiting board w = either_way (λ (x : Board). x.waiting ≡ without board.waiting w.session) (is_satisfied_now board w) _ _ refl refl
 
 -- ---- nothing that waits of a session is answerable
-
-abbrev pub Still : Board → ℕ → Type 0
-Still board s = (w : Waiting) → waiting_of board.waiting s ≡ Some w → is_answerable_now board w ≡ false
 
 -- one session was asked
 record IsAsked (board later : Board) (s : ℕ) : Type 0 where
@@ -125,10 +113,7 @@ scan_still a (suc n) board h still r lt =
     before q b below other = omega arith
 
 none_behind : (board : Board) (r : ℕ) → IsSound board → 64 ≤ r → Still board r
-none_behind board r h past w e =
-    let last : WaitsLast board.config board.parts board.clock r w (transcript_at board r) =
-    subst (λ (o : Option Waiting). Stand board.config board.parts board.clock r o (transcript_at board r)) e (h.sound.sessions r).stand in
-    absurd (omega (arith, past, seat_there board r last.front last.call h.count last.calls))
+none_behind board r h past w e = absurd (omega (arith, past, waits_there board r w h e))
 
 pub scanned_still : (board : Board) → IsSound board → (r : ℕ) → Still (scanned board).board r
 scanned_still board h r = elim (cases_lt r 64) [

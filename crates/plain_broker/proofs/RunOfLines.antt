@@ -45,8 +45,9 @@ use Rattle.plain_broker.specs.Declared.{IsDeclared, AreDeclared}
 use Rattle.plain_broker.specs.Entering.{accept_all, steps_of, shown_of}
 use Rattle.plain_broker.specs.Play.{brought, Rests, Plays, IsPlay}
 use Rattle.plain_broker.specs.Turns.{Turned, how_at_once, answered_at_once, left_waiting, handled, ended}
+use Rattle.plain_broker.proofs.Cases.{either_way}
 use Rattle.plain_broker.proofs.Acts.{ticks_looked}
-use Rattle.plain_broker.proofs.Boards.{IsSound, WaitsLast, Stand, waiting_of, seat_there, nothing_last}
+use Rattle.plain_broker.proofs.Boards.{IsSound, Stand, waiting_of, nothing_last, waits_last, waits_there}
 use Rattle.plain_broker.proofs.Calls.{IsOver}
 use Rattle.plain_broker.proofs.FedLines.{IsFedBy, IsFedSeat, IsInputEnd, IsRest, MayCome, seat_named_is, seat_unnamed, named_below, last_named, fed_opening, fed_line, fed_call, fed_ended, fed_finished, ticks_alike, known_named, works_named}
 use Rattle.plain_broker.proofs.Growth.{looked_moment}
@@ -131,9 +132,8 @@ completed_fed : (fed : List Line) (board : Board) (w : Waiting) → IsSound boar
 completed_fed fed board w sound h own =
     let s = w.session in
     let seq = last_call board s in
-    let last : WaitsLast board.config board.parts board.clock s w (transcript_at board s) =
-    subst (λ (o : Option Waiting). Stand board.config board.parts board.clock s o (transcript_at board s)) own (sound.sound.sessions s).stand in
-    let lt : s < 64 = seat_there board s last.front last.call sound.count last.calls in
+    let last = waits_last board s w sound own in
+    let lt : s < 64 = waits_there board s w sound own in
     let found : is_named s fed ≡ true =
     known_named fed board s h lt (λ none.
     nothing_last last.front last.call (sym (ap (λ (o : Option Transcript). (unwrap_or o (new_transcript s)).calls) none) ∙ last.calls)) in
@@ -142,13 +142,9 @@ completed_fed fed board w sound h own =
     let late : List Point = record { part = clock_part; place = length board.clock } ∷ looks.0 in
     let at_once = completed_as board w board.clock looks.0 (Satisfied 0) looks.1 in
     let too_late = completed_as board w (board.clock ++ clocks.Look s seq ∷ []) late (Expired 0) looks.1 in
-    either (is_satisfied_now board w) at_once too_late
+    either_way (IsFedBy fed) (is_satisfied_now board w) at_once too_late
     (fed_finished fed board at_once s h lt h.ticks found looks.0 (Satisfied 0) refl last.going)
     (fed_finished fed board too_late s h lt looked found late (Expired 0) refl last.going)
-  where
-    either : (b : Bool) (x y : Board) → IsFedBy fed x → IsFedBy fed y → IsFedBy fed (cond b x y)
-    either true x y p q = p
-    either false x y p q = q
 
 unless_fed : (fed : List Line) (board : Board) (s : ℕ) (o : Option Waiting) → waiting_of board.waiting s ≡ o → IsSound board → IsFedBy fed board → IsFedBy fed (unless_none board o).board
 unless_fed fed board s None e sound h = h
@@ -195,13 +191,9 @@ module _ (fed : List Line) (board : Board) (s : ℕ) (h : IsFedBy fed board) (se
       let looked = ticks_alike fed board.clock (board.clock ++ clocks.Look s seq ∷ []) (ticks_looked board.clock s seq) (looked_moment board.clock s seq) h.ticks in
       let done : Call = record { frame = body; accept = step_points (steps_of came.0); finish = []; how = how_at_once request.ask } in
       let waits : Call = record { frame = body; accept = step_points (steps_of came.0) ++ record { part = clock_part; place = length board.clock } ∷ []; finish = []; how = Parked } in
-      either (becomes_delayed request.ask (shown_of came.0)) (left_waiting board s body request came) (answered_at_once board s body request came)
+      either_way (λ (x : Turned). IsFedBy fed x.board) (becomes_delayed request.ask (shown_of came.0)) (left_waiting board s body request came) (answered_at_once board s body request came)
       (fed_call fed board (left_waiting board s body request came).board s h o.there looked found body waits refl o.goes_on small refl front)
       (fed_call fed board (answered_at_once board s body request came).board s h o.there h.ticks found body done refl o.goes_on small refl front)
-    where
-      either : (b : Bool) (x y : Turned) → IsFedBy fed x.board → IsFedBy fed y.board → IsFedBy fed (cond b x y).board
-      either true x y p q = p
-      either false x y p q = q
 
   frame_fed : (body : List ℕ) (turned : Turned) → IsFrameBody body → inbox ≡ framed body ++ drop (4 + length body) inbox → HandlesFrame board s body turned → IsFedBy fed turned.board
   frame_fed body turned small front (inl took) = subst (λ (x : Turned). IsFedBy fed x.board) (sym took.4) (calls_fed body took.0 took.1 small front)

@@ -23,6 +23,7 @@ use Rattle.kwire.specs.Frames.{next_frame_of}
 use Rattle.plain_broker.specs.Turns.{Turned, seat_with, answered_at_once, left_waiting, handled, ended}
 use Rattle.kwire.proofs.Laws.{whole_parts}
 use Rattle.audit.proofs.Laws.{some_is}
+use Rattle.plain_broker.proofs.Cases.{either_way}
 use Rattle.plain_broker.proofs.RequestBytes.{none_are_bytes}
 use Rattle.audit.specs.declared.account.TheConstants.{MOST_CALLS}
 
@@ -111,21 +112,13 @@ calls_changed board later session calls is =
       work = ap work_on is ∙ same_work board.seats session (recalled board session calls) same;
     }
 
-either_board : (board : Board) (b : Bool) (x y : Board) → IsAsMuch board x → IsAsMuch board y → IsAsMuch board (cond b x y)
-either_board board true x y p q = p
-either_board board false x y p q = q
-
-either_turned : (board : Board) (b : Bool) (x y : Turned) → IsAsMuch board x.board → IsAsMuch board y.board → IsAsMuch board (cond b x y).board
-either_turned board true x y p q = p
-either_turned board false x y p q = q
-
 completed_as_much : (board : Board) (w : Waiting) → IsAsMuch board (completed board w).board
-completed_as_much board w = either_board board (is_satisfied_now board w) _ _ (calls_changed board _ w.session _ refl) (calls_changed board _ w.session _ refl)
+completed_as_much board w = either_way (IsAsMuch board) (is_satisfied_now board w) _ _ (calls_changed board _ w.session _ refl) (calls_changed board _ w.session _ refl)
 
 unless_as_much : (board : Board) (o : Option Waiting) → IsAsMuch board (unless_none board o).board
 unless_as_much board None = as_before board
 unless_as_much board (Some w) =
-    either_turned board (is_answerable_now board w) (completed board w) (record { board = board; text = [] }) (completed_as_much board w) (as_before board)
+    either_way (λ (x : Turned). IsAsMuch board x.board) (is_answerable_now board w) (completed board w) (record { board = board; text = [] }) (completed_as_much board w) (as_before board)
 
 scan_as_much : (sessions : List ℕ) (board : Board) → IsAsMuch board (scan_sessions sessions board).board
 scan_as_much [] board = as_before board
@@ -184,15 +177,11 @@ waiting_less : (board : Board) (session : ℕ) (body : List ℕ) (request : Requ
     → IsLess board (left_waiting board session body request came).board
 waiting_less board session body request came are h within = called_less board _ session body _ are h within refl
 
-either_less : (board : Board) (b : Bool) (x y : Turned) → IsLess board x.board → IsLess board y.board → IsLess board (cond b x y).board
-either_less board true x y p q = p
-either_less board false x y p q = q
-
 handled_less : (board : Board) (session : ℕ) (body : List ℕ) (request : Request) (decisions : List Decision) → AreSeats board.seats → IsOpen board session → 4 + length body ≤ length (seat_at board session).inbox
     → IsLess board (handled board session body request decisions).board
 handled_less board session body request decisions are h within =
     let came = accept_all session (next_call board session) decisions board.parts in
-    either_less board (becomes_delayed request.ask (shown_of came.0)) (left_waiting board session body request came) (answered_at_once board session body request came)
+    either_way (λ (x : Turned). IsLess board x.board) (becomes_delayed request.ask (shown_of came.0)) (left_waiting board session body request came) (answered_at_once board session body request came)
     (waiting_less board session body request came are h within) (at_once_less board session body request came are h within)
 
 frame_less : (board : Board) (session : ℕ) (body : List ℕ) (turned : Turned) → AreSeats board.seats → IsOpen board session → 4 + length body ≤ length (seat_at board session).inbox

@@ -1,8 +1,6 @@
 -- The worked trace: its play, line by line.
 use Rattle.std.proofs.Common.{◌≡◌, ℕ, ◌+◌, ◌-◌, ℤ, pos, negsuc, Bool, false, List, [], ◌∷◌, ◌++◌, length, take, drop, Some, None, MatchBool, refl, sym, ap, subst, ◌∙◌, arith, inl, inr}
 use Rattle.std.specs.Prelude.{codes, ◌==◌}
-use Rattle.kbatch.specs.Batch.{IsBatch}
-use Rattle.kbatch.specs.declared.record.Record.{Record}
 use Rattle.audit.specs.declared.account.Account.{Account}
 use Rattle.audit.specs.declared.account.CallHow.TheVariants.{Satisfied}
 use Rattle.audit.specs.declared.account.SessionEnd.TheVariants.{CallsFull}
@@ -29,6 +27,7 @@ use Rattle.plain_broker.specs.Worked.{produced}
 use Rattle.plain_broker.specs.WorkedPlay.{batch, produce, follow, poll, body_of, worked_lines, polled}
 use Rattle.plain_broker.proofs.PlayOnce.{play_is_one}
 use Rattle.plain_broker.proofs.Resting.{play_is_lawful}
+use Rattle.plain_broker.proofs.WorkedBodies.{produce_body, follow_body, poll_body, letter, one_batch}
 
 -- ---- lines of a play
 
@@ -111,45 +110,44 @@ expired = asked_after early (lines.Clock 100)
 abbrev last : Board
 last = asked_after expired lines.End
 
-module _ (r : Record) (one_record : IsBatch batch (r ∷ [])) (produces : IsRequest (body_of produce) produce) (fetches : IsRequest (body_of follow) follow) (waits : IsRequest (body_of poll) poll) where
-  puts : PlaysLine start first_line (next start first_line 0 (end_of produce) produce (put_it ∷ []))
-  puts = one start first_line 0 (end_of produce) produce (put_it ∷ []) refl refl refl produces (inr (r ∷ [], one_record, refl), tt) refl
+puts : PlaysLine start first_line (next start first_line 0 (end_of produce) produce (put_it ∷ []))
+puts = one start first_line 0 (end_of produce) produce (put_it ∷ []) refl refl refl produce_body (inr (letter ∷ [], one_batch, refl), tt) refl
 
-  catches_up : PlaysLine parked second_line (next parked second_line 1 (end_of follow) follow (fetched_by (pos 1) ∷ []))
-  catches_up = one parked second_line 1 (end_of follow) follow (fetched_by (pos 1) ∷ []) refl refl refl fetches refl refl
+catches_up : PlaysLine parked second_line (next parked second_line 1 (end_of follow) follow (fetched_by (pos 1) ∷ []))
+catches_up = one parked second_line 1 (end_of follow) follow (fetched_by (pos 1) ∷ []) refl refl refl follow_body refl refl
 
-  comes_to_wait : PlaysLine caught_up third_line (next caught_up third_line 2 (end_of poll) poll (fetched_by (negsuc 0) ∷ []))
-  comes_to_wait = one caught_up third_line 2 (end_of poll) poll (fetched_by (negsuc 0) ∷ []) refl refl refl waits refl refl
+comes_to_wait : PlaysLine caught_up third_line (next caught_up third_line 2 (end_of poll) poll (fetched_by (negsuc 0) ∷ []))
+comes_to_wait = one caught_up third_line 2 (end_of poll) poll (fetched_by (negsuc 0) ∷ []) refl refl refl poll_body refl refl
 
-  -- the play of all lines
-  pub all_played : (t : Turned) × Plays (opening followed) worked_lines t × (t.board ≡ last)
-  all_played =
-      let nothing : Turned = record { board = last; text = [] } in
-      let at_end = on expired lines.End [] (scanned (brought expired lines.End)) nothing (nobody expired lines.End refl) refl in
-      let at_100 = on early (lines.Clock 100) (lines.End ∷ []) (scanned (brought early (lines.Clock 100))) _ (nobody early (lines.Clock 100) refl) at_end in
-      let at_99 = on polling (lines.Clock 99) (lines.Clock 100 ∷ lines.End ∷ []) (scanned (brought polling (lines.Clock 99))) _ (nobody polling (lines.Clock 99) refl) at_100 in
-      let polls = on caught_up third_line (lines.Clock 99 ∷ lines.Clock 100 ∷ lines.End ∷ []) (next caught_up third_line 2 (end_of poll) poll (fetched_by (negsuc 0) ∷ [])) _ comes_to_wait at_99 in
-      let fetches_it = on parked second_line (third_line ∷ lines.Clock 99 ∷ lines.Clock 100 ∷ lines.End ∷ []) (next parked second_line 1 (end_of follow) follow (fetched_by (pos 1) ∷ [])) _ catches_up polls in
-      let put = on start first_line (second_line ∷ third_line ∷ lines.Clock 99 ∷ lines.Clock 100 ∷ lines.End ∷ []) (next start first_line 0 (end_of produce) produce (put_it ∷ [])) _ puts fetches_it in (
-        _,
-        on (opening followed) (lines.Topic (codes "t") 1 1) (first_line ∷ second_line ∷ third_line ∷ lines.Clock 99 ∷ lines.Clock 100 ∷ lines.End ∷ []) (scanned (brought (opening followed) (lines.Topic (codes "t") 1 1))) _
-            (nobody (opening followed) (lines.Topic (codes "t") 1 1) refl) put,
-        refl,
-      )
+-- the play of all lines
+pub all_played : (t : Turned) × Plays (opening followed) worked_lines t × (t.board ≡ last)
+all_played =
+    let nothing : Turned = record { board = last; text = [] } in
+    let at_end = on expired lines.End [] (scanned (brought expired lines.End)) nothing (nobody expired lines.End refl) refl in
+    let at_100 = on early (lines.Clock 100) (lines.End ∷ []) (scanned (brought early (lines.Clock 100))) _ (nobody early (lines.Clock 100) refl) at_end in
+    let at_99 = on polling (lines.Clock 99) (lines.Clock 100 ∷ lines.End ∷ []) (scanned (brought polling (lines.Clock 99))) _ (nobody polling (lines.Clock 99) refl) at_100 in
+    let polls = on caught_up third_line (lines.Clock 99 ∷ lines.Clock 100 ∷ lines.End ∷ []) (next caught_up third_line 2 (end_of poll) poll (fetched_by (negsuc 0) ∷ [])) _ comes_to_wait at_99 in
+    let fetches_it = on parked second_line (third_line ∷ lines.Clock 99 ∷ lines.Clock 100 ∷ lines.End ∷ []) (next parked second_line 1 (end_of follow) follow (fetched_by (pos 1) ∷ [])) _ catches_up polls in
+    let put = on start first_line (second_line ∷ third_line ∷ lines.Clock 99 ∷ lines.Clock 100 ∷ lines.End ∷ []) (next start first_line 0 (end_of produce) produce (put_it ∷ [])) _ puts fetches_it in (
+      _,
+      on (opening followed) (lines.Topic (codes "t") 1 1) (first_line ∷ second_line ∷ third_line ∷ lines.Clock 99 ∷ lines.Clock 100 ∷ lines.End ∷ []) (scanned (brought (opening followed) (lines.Topic (codes "t") 1 1))) _
+          (nobody (opening followed) (lines.Topic (codes "t") 1 1) refl) put,
+      refl,
+    )
 
-  same_account : (account : Account) (text : List ℕ) → IsPlay followed worked_lines account text → account ≡ account_of last
-  same_account account text play =
-      let mine = all_played in
-      let whole : IsPlay followed worked_lines (account_of mine.0.board) (mine.0.text ++ summary_of (account_of mine.0.board)) = record { last = mine.0; played = mine.1; accounted = refl; printed = refl } in
-      (play_is_one followed worked_lines account (account_of mine.0.board) text (mine.0.text ++ summary_of (account_of mine.0.board)) play whole).0 ∙ ap account_of mine.2
+same_account : (account : Account) (text : List ℕ) → IsPlay followed worked_lines account text → account ≡ account_of last
+same_account account text play =
+    let mine = all_played in
+    let whole : IsPlay followed worked_lines (account_of mine.0.board) (mine.0.text ++ summary_of (account_of mine.0.board)) = record { last = mine.0; played = mine.1; accounted = refl; printed = refl } in
+    (play_is_one followed worked_lines account (account_of mine.0.board) text (mine.0.text ++ summary_of (account_of mine.0.board)) play whole).0 ∙ ap account_of mine.2
 
-  -- the produce was satisfied by its follower's fetch
-  pub satisfied : (account : Account) (text : List ℕ) → IsPlay followed worked_lines account text → calls_of account 0 ≡ produced (body_of produce) (at 0 2 ∷ []) (Satisfied 0) ∷ []
-  satisfied account text play = ap (λ (a : Account). calls_of a 0) (same_account account text play)
+-- the produce was satisfied by its follower's fetch
+pub satisfied : (account : Account) (text : List ℕ) → IsPlay followed worked_lines account text → calls_of account 0 ≡ produced (body_of produce) (at 0 2 ∷ []) (Satisfied 0) ∷ []
+satisfied account text play = ap (λ (a : Account). calls_of a 0) (same_account account text play)
 
-  -- the consumer's fetch expired
-  pub expires : (account : Account) (text : List ℕ) → IsPlay followed worked_lines account text → calls_of account 2 ≡ polled ∷ []
-  expires account text play = ap (λ (a : Account). calls_of a 2) (same_account account text play)
+-- the consumer's fetch expired
+pub expires : (account : Account) (text : List ℕ) → IsPlay followed worked_lines account text → calls_of account 2 ≡ polled ∷ []
+expires account text play = ap (λ (a : Account). calls_of a 2) (same_account account text play)
 
 followed_declared : AreDeclared followed.topics
 followed_declared = record { each = ((omega arith, omega arith, omega arith), tt); few = omega arith }

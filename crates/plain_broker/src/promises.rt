@@ -19,10 +19,7 @@ ghost use Rattle.partlog.specs.declared.clock_event.ClockEvent.TheVariants.{Tick
 ghost use Rattle.audit.specs.declared.account.CallHow.TheVariants.{Expired, Satisfied};
 ghost use Rattle.audit.specs.Histories.{calls_of, clock_part};
 ghost use Rattle.audit.specs.Worked.{at, followed};
-ghost use Rattle.kbatch.specs.Batch.{IsBatch};
-ghost use Rattle.kbatch.specs.declared.record.Record.{Record};
-ghost use Rattle.kwire.specs.IsRequest.{IsRequest};
-ghost use Rattle.plain_broker.specs.WorkedPlay.{batch, body_of, follow, poll, polled, produce, worked_lines};
+ghost use Rattle.plain_broker.specs.WorkedPlay.{body_of, polled, produce, worked_lines};
 ghost use Rattle.trace_file.specs.Contents.{configuration_of, input_of};
 
 /// Law: with any configuration, lines play to one account and one text. What the lines bring need only be bytes: they may be
@@ -72,11 +69,9 @@ pub fn worked_scans()
 /// Law: a worked trace. A produce for all replicas waits, and is satisfied as its follower fetches behind its record; a
 /// consumer's fetch waits until its deadline, and expires; the account is lawful.
 pub fn worked_play()
-    ensures satisfied { (r : Record) → IsBatch batch (r ∷ []) → IsRequest (body_of produce) produce → IsRequest (body_of follow) follow
-        → IsRequest (body_of poll) poll → (account : Account) (text : List ℕ) → IsPlay followed worked_lines account text
+    ensures satisfied { (account : Account) (text : List ℕ) → IsPlay followed worked_lines account text
         → calls_of account 0 ≡ produced (body_of produce) (at 0 2 ∷ []) (Satisfied 0) ∷ [] }
-    ensures expired { (r : Record) → IsBatch batch (r ∷ []) → IsRequest (body_of produce) produce → IsRequest (body_of follow) follow
-        → IsRequest (body_of poll) poll → (account : Account) (text : List ℕ) → IsPlay followed worked_lines account text
+    ensures expired { (account : Account) (text : List ℕ) → IsPlay followed worked_lines account text
         → calls_of account 2 ≡ polled ∷ [] }
     ensures lawful { (account : Account) (text : List ℕ) → IsPlay followed worked_lines account text → IsLawful account }
 {}
