@@ -1,4 +1,4 @@
-.PHONY: run build test check fmt bench compare clean
+.PHONY: run build test check fmt bench compare definitions explain clean
 
 # Without a proof: proving the program takes longer than a first look should. `make build` proves it.
 run:
@@ -28,9 +28,17 @@ bench:
 	python3 bench/run.py
 	cd crates/bench_parts && rt run -- measure
 
-# Plays random traces by the model and by the program that `make build` leaves.
+# Plays random traces by the model and by the program that `make build` leaves: 1,000 of each kind, or COUNT, or of one KIND.
 compare:
-	python3 -B model/compare.py
+	python3 -B model/compare.py $(if $(COUNT),--count $(COUNT)) $(if $(KIND),--kind $(KIND))
+
+# Runs the definitions, transcribed, on random traces and on small changes of their accounts: 100 traces, or COUNT.
+definitions:
+	python3 -B model/check_definitions.py $(COUNT)
+
+# Tells a trace and what it prints in words: `make explain TRACE=examples/fetch.trace`.
+explain:
+	@python3 -B model/explain.py $(or $(TRACE),examples/produce.trace)
 
 clean:
 	rm -rf crates/*/out

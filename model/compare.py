@@ -1,7 +1,8 @@
 #!/usr/bin/env python3
 """Plays random traces by the model and by the proved program, and compares codes, output and errors byte for byte.
 
-It stops at the first that differs, and shows where. The trace is left in the folder that is named.
+It stops at the first that differs, takes out of it each line without which it still differs, and shows where. Both traces are left
+in the folder that is named.
 """
 
 import argparse
@@ -17,7 +18,7 @@ import wire
 
 ROOT = pathlib.Path(__file__).resolve().parent.parent
 PROGRAM = ROOT / "crates" / "kafka_room" / "out" / "kafka_room"
-KINDS = ["plain", "waiting", "spoiled"]
+KINDS = ["plain", "mixed", "waiting", "spoiled"]
 
 
 def holds_waiting_fetch(data):
@@ -35,27 +36,44 @@ def holds_waiting_fetch(data):
         data = data[4 + len(body):]
 
 
-def is_built(lines):
-    """Whether a trace is of the form that the program takes so far: no followers, no clock lines, and no fetch that may wait."""
+def may_wait(lines):
+    """Whether a trace has followers, clock lines or a fetch that may wait. A program that knows no waiting ends then with code 7."""
     received = {}
     for kind, what in lines:
         if kind == "clock" or kind == "topic" and what.followers > 0:
-            return False
+            return True
         if kind == "bytes":
             received[what[0]] = received.get(what[0], b"") + what[1]
-    return not any(holds_waiting_fetch(data) for data in received.values())
+    return any(holds_waiting_fetch(data) for data in received.values())
 
 
 UNBUILT = b"kafka_room: a trace of this form isn't built yet\n"
 
 
-def wanted(text):
+def ran(program, text):
+    done = subprocess.run([program, "replay"], input=text, capture_output=True, timeout=60)
+    return done.returncode, done.stdout, done.stderr
+
+
+def wanted(text, knows_waiting):
     """The exit code, the output and the errors for this text."""
     try:
         lines = traces.read(text)
     except traces.Bad as bad:
         return 2, b"", f"kafka_room: {bad.told()}\n".encode()
-    return (0, broker.play(lines), b"") if is_built(lines) else (7, b"", UNBUILT)
+    return (0, broker.play(lines), b"") if knows_waiting or not may_wait(lines) else (7, b"", UNBUILT)
+
+
+def shrunk(text, differs):
+    """The trace without each line that it can lose and still differ."""
+    lines = text.split(b"\n")
+    place = len(lines) - 1
+    while place >= 0:
+        fewer = lines[:place] + lines[place + 1:]
+        if differs(b"\n".join(fewer)):
+            lines = fewer
+        place -= 1
+    return b"\n".join(lines)
 
 
 def first_difference(ours, theirs):
@@ -66,6 +84,39 @@ def first_difference(ours, theirs):
             show = lambda line: line[max(0, at - 40):at + 40].decode("ascii", "replace")
             return f"line {number}, byte {at}:\n  model    ..{show(a)}..\n  program  ..{show(b)}.."
     return f"the model printed {len(ours)} bytes, the program {len(theirs)}"
+
+
+def tell_difference(program, knows_waiting, text, left):
+    left.write_bytes(text)
+    code = wanted(text, knows_waiting)[0]
+
+    def differs(fewer):
+        told = wanted(fewer, knows_waiting)
+        return told[0] == code and ran(program, fewer) != told
+    small = shrunk(text, differs)
+    small_left = left.with_suffix(".small.trace")
+    small_left.write_bytes(small)
+    code, output, errors = wanted(small, knows_waiting)
+    theirs, their_output, their_errors = ran(program, small)
+    print(f"{left} differs. Of its lines these do, left in {small_left}:")
+    for line in small.split(b"\n"):
+        print("  " + (line if len(line) <= 100 else line[:97] + b"...").decode("ascii", "replace"))
+    print(f"The model ends with {code}, the program with {theirs}; {first_difference(errors + output, their_errors + their_output)}")
+
+
+def compare(kind, chosen, knows_waiting):
+    """Whether all traces of a kind agree."""
+    codes = {}
+    for seed in range(chosen.first, chosen.first + chosen.count):
+        text = generate.made(kind, seed)
+        told = wanted(text, knows_waiting)
+        if ran(chosen.program, text) != told:
+            tell_difference(chosen.program, knows_waiting, text, chosen.folder / f"{kind}_{seed}.trace")
+            return False
+        codes[told[0]] = codes.get(told[0], 0) + 1
+    told = ", ".join(f"{count} with code {code}" for code, count in sorted(codes.items()))
+    print(f"{kind}: {chosen.count} traces agree, {told}", flush=True)
+    return True
 
 
 def main():
@@ -79,22 +130,10 @@ def main():
     if not chosen.program.is_file():
         print(f"{chosen.program} isn't there: `make build` makes it", file=sys.stderr)
         return 2
-    for kind in chosen.kind or KINDS:
-        codes = {}
-        for seed in range(chosen.first, chosen.first + chosen.count):
-            text = generate.made(kind, seed)
-            code, output, errors = wanted(text)
-            ran = subprocess.run([chosen.program, "replay"], input=text, capture_output=True, timeout=60)
-            if (ran.returncode, ran.stdout, ran.stderr) != (code, output, errors):
-                left = chosen.folder / f"{kind}_{seed}.trace"
-                left.write_bytes(text)
-                print(f"{left} differs: the model ends with {code}, the program with {ran.returncode}; "
-                      f"{first_difference(errors + output, ran.stderr + ran.stdout)}")
-                return 1
-            codes[code] = codes.get(code, 0) + 1
-        told = ", ".join(f"{count} with code {code}" for code, count in sorted(codes.items()))
-        print(f"{kind}: {chosen.count} traces agree, {told}", flush=True)
-    return 0
+    knows_waiting = ran(chosen.program, b"clock 1\nend\n")[0] != 7
+    if not knows_waiting:
+        print("the program knows no waiting: it has to end with code 7 where something may wait", flush=True)
+    return 0 if all(compare(kind, chosen, knows_waiting) for kind in chosen.kind or KINDS) else 1
 
 
 if __name__ == "__main__":

@@ -213,22 +213,22 @@ def header(key, version, correlation, client=b"c"):
     return struct.pack(">hhi", key, version, correlation) + string(client)
 
 
-def produce_request(correlation, topics, acks=1, timeout=1000, transactional=None, version=3):
+def produce_request(correlation, topics, acks=1, timeout=1000, transactional=None, version=3, client=b"c"):
     """Topics of (index, bytes or None)."""
     told = [string(name) + array([struct.pack(">i", index) + records(data) for index, data in parts]) for name, parts in topics]
-    return frame(header(0, version, correlation) + string(transactional) + struct.pack(">hi", acks, timeout) + array(told))
+    return frame(header(0, version, correlation, client) + string(transactional) + struct.pack(">hi", acks, timeout) + array(told))
 
 
-def fetch_request(correlation, topics, replica=-1, wait=100, least=1, most=52_428_800, isolation=0, version=4):
+def fetch_request(correlation, topics, replica=-1, wait=100, least=1, most=52_428_800, isolation=0, version=4, client=b"c"):
     """Topics of (index, offset, most bytes)."""
     told = [string(name) + array([struct.pack(">iqi", *part) for part in parts]) for name, parts in topics]
-    return frame(header(1, version, correlation) + struct.pack(">iiiib", replica, wait, least, most, isolation) + array(told))
+    return frame(header(1, version, correlation, client) + struct.pack(">iiiib", replica, wait, least, most, isolation) + array(told))
 
 
-def metadata_request(correlation, names):
+def metadata_request(correlation, names, client=b"c"):
     asked = struct.pack(">i", -1) if names is None else array([string(name) for name in names])
-    return frame(header(3, 1, correlation) + asked)
+    return frame(header(3, 1, correlation, client) + asked)
 
 
-def versions_request(correlation, version=0, rest=b""):
-    return frame(header(18, version, correlation) + rest)
+def versions_request(correlation, version=0, rest=b"", client=b"c"):
+    return frame(header(18, version, correlation, client) + rest)

@@ -1,0 +1,94 @@
+#!/usr/bin/env python3
+"""Tells a trace and what it prints in words, builds a trace from such words, and draws a run as a timeline.
+
+    explain.py examples/fetch.trace                  what is sent, and indented below it what comes of it
+    explain.py --build words.txt > my.trace          a trace from words; - is the standard input. What is told can be built again
+    explain.py --svg run.svg examples/fetch.trace    a row for each session, a bar where a request waits, and what ended it
+    explain.py --language                            the words of which a trace is built
+
+What comes of a line is the model's play. Where NAME.out stands beside NAME.trace and is something else, the last line says so.
+"""
+
+import argparse
+import os
+import pathlib
+import sys
+
+import telling
+import timeline
+import traces
+import words
+
+
+def read(name):
+    return sys.stdin.buffer.read() if name == "-" else pathlib.Path(name).read_bytes()
+
+
+def tell(teller):
+    for line in teller.lines:
+        print(line.words)
+        for about in line.about:
+            print(f"    ({about})")
+        for told in filter(None, map(telling.event_words, line.events)):
+            print(f"    {told}")
+    for told in telling.summary_words(teller.broker):
+        print(f"    {told}")
+
+
+def is_printed_so(name, teller):
+    """Whether the output beside the trace, where there is one, is what the model prints."""
+    beside = pathlib.Path(name).with_suffix(".out")
+    if name == "-" or not beside.is_file():
+        return True
+    teller.broker.summary()
+    return beside.read_bytes() == b"".join(teller.broker.out)
+
+
+def build(name):
+    try:
+        sys.stdout.write(words.built(read(name).decode()))
+    except words.Unclear as unclear:
+        print(unclear, file=sys.stderr)
+        return 2
+    return 0
+
+
+def main():
+    options = argparse.ArgumentParser(description=__doc__, formatter_class=argparse.RawDescriptionHelpFormatter)
+    options.add_argument("trace", nargs="?", default="-", help="a trace, or - for the standard input")
+    options.add_argument("--build", metavar="WORDS", help="build a trace from a text of words")
+    options.add_argument("--svg", metavar="FILE", type=pathlib.Path, help="draw the run")
+    options.add_argument("--language", action="store_true", help="tell the language")
+    chosen = options.parse_args()
+    if chosen.language:
+        print(words.__doc__.strip())
+        return 0
+    try:
+        if chosen.build:
+            return build(chosen.build)
+        teller = telling.Teller(traces.read(read(chosen.trace)))
+    except traces.Bad as bad:
+        print(f"{chosen.trace}: {bad.told()}", file=sys.stderr)
+        return 2
+    except OSError as failed:
+        print(failed, file=sys.stderr)
+        return 2
+    if chosen.svg:
+        chosen.svg.write_text(timeline.drawn(teller))
+        return 0
+    tell(teller)
+    if not is_printed_so(chosen.trace, teller):
+        print(f"What stands in {pathlib.Path(chosen.trace).with_suffix('.out')} is something else.")
+        return 1
+    return 0
+
+
+if __name__ == "__main__":
+    try:
+        code = main()
+        sys.stdout.flush()
+    except BrokenPipeError:
+        # Whoever read has read enough.
+        os.dup2(os.open(os.devnull, os.O_WRONLY), sys.stdout.fileno())
+        code = 0
+    sys.exit(code)

@@ -1,0 +1,278 @@
+"""What happens in a trace, as the model plays it: who asks what, what waits, what each session is told, and why."""
+
+import struct
+from dataclasses import dataclass
+from typing import Any
+
+import broker
+import wire
+import words
+
+CODES = {
+    1: "offset out of range", 2: "corrupt message", 3: "unknown topic or partition", 6: "not leader or follower", 7: "request timed out",
+    9: "replica not available", 10: "message too large", 21: "invalid required acks", 35: "unsupported version", 42: "invalid request",
+    76: "unsupported compression type", 87: "invalid record",
+}
+APIS = {0: "Produce", 1: "Fetch", 3: "Metadata", 18: "ApiVersions"}
+
+
+# ---- replies in words
+
+
+def records_words(data, high):
+    """The batches of a reply, by their values where these are few."""
+    if not data:
+        return "no records"
+    told, at, bases = [], 0, []
+    while at < len(data):
+        base, length = struct.unpack(">qi", data[at:at + 12])
+        bases.append(base)
+        told += words.values_of(data[at:at + 12 + length])
+        at += 12 + length
+    if len(told) > 5 or any(value is not None and len(value) > 24 for value in told):
+        return f"{words.counted(len(told), 'record')} in {words.counted(len(data), 'byte')} from offset {bases[0]}"
+    values = " ".join("null" if value is None else words.quoted(value) for value in told)
+    return f"{values} from offset {bases[0]}"
+
+
+class Reply:
+    """A reply's frame, read from the left."""
+
+    def __init__(self, frame):
+        self.data, self.at = frame, 8
+
+    def number(self, form):
+        size = struct.calcsize(form)
+        (number,) = struct.unpack(form, self.data[self.at:self.at + size])
+        self.at += size
+        return number
+
+    def bytes(self, form):
+        length = max(0, self.number(form))
+        self.at += length
+        return self.data[self.at - length:self.at]
+
+    def several(self, item):
+        return [item() for _ in range(max(0, self.number(">i")))]
+
+    def topics(self, part):
+        def topic():
+            name = self.bytes(">h")
+            return [words.place_words(name, index) + ": " + told for index, told in self.several(part)]
+        return [told for topic in self.several(topic) for told in topic]
+
+    def produced(self):
+        index, code, base, _ = (self.number(form) for form in (">i", ">h", ">q", ">q"))
+        told = f"error {code}, {CODES[code]}" if code else f"written at offset {base}"
+        return index, told + (f", though written at offset {base}" if code and base >= 0 else "")
+
+    def fetched(self):
+        index, code, high, _ = (self.number(form) for form in (">i", ">h", ">q", ">q"))
+        self.several(lambda: (self.number(">q"), self.number(">q")))
+        data = self.bytes(">i")
+        return index, f"error {code}, {CODES[code]}" if code else f"{records_words(data, high)}, high watermark {high}"
+
+    def described(self):
+        self.several(lambda: (self.number(">i"), self.bytes(">h"), self.number(">i"), self.bytes(">h")))
+        self.number(">i")
+        return self.several(self.topic_described)
+
+    def topic_described(self):
+        code, name = self.number(">h"), words.plain(self.bytes(">h"))
+        self.number(">b")
+        replicas = [0]
+
+        def partition():
+            for form in (">h", ">i", ">i"):
+                self.number(form)
+            replicas[0] = len(self.several(lambda: self.number(">i")))
+            self.several(lambda: self.number(">i"))
+        partitions = len(self.several(partition))
+        if code:
+            return f"topic {name}: error {code}, {CODES[code]}"
+        return f"topic {name}: {words.counted(partitions, 'partition')} with {words.counted(replicas[0], 'replica')}"
+
+
+def reply_words(request, frame):
+    reply = Reply(frame)
+    if request.key == 0:
+        told = reply.topics(reply.produced)
+    elif request.key == 1:
+        reply.number(">i")
+        told = reply.topics(reply.fetched)
+    elif request.key == 3:
+        told = reply.described() or ["no topic"]
+    else:
+        code = reply.number(">h")
+        apis = reply.several(lambda: f"{APIS[reply.number('>h')]} {reply.number('>h')} to {reply.number('>h')}")
+        told = ([f"error {code}, {CODES[code]}"] if code else []) + ["versions of " + ", ".join(apis)]
+    return "; ".join(told) or "no partition"
+
+
+# ---- what happens
+
+
+@dataclass
+class Asked:
+    """A request: its few words, until when it may wait where it waits, how it came to its end, by whose doing, and what was told."""
+    what: str
+    deadline: Any = None
+    how: Any = None
+    cause: Any = None
+    told: Any = None
+
+
+@dataclass
+class Event:
+    """`kind` is asked, waits, told or ends; `what` is the request, or the words of a session's end."""
+    kind: str
+    session: int
+    what: Any
+
+
+class Watched(broker.Broker):
+    """The broker of the model, which notes what happens in each line."""
+
+    def __init__(self, topics):
+        super().__init__(topics)
+        self.events, self.asked, self.cause = [], {}, None
+
+    def note(self, kind, session, what):
+        self.events.append(Event(kind, session, what))
+
+    def line(self, kind, what):
+        self.events, self.cause = [], what[0] if kind == "bytes" else what if kind == "close" else kind
+        super().line(kind, what)
+
+    def act(self, number):
+        self.cause = number
+        super().act(number)
+
+    def handle(self, number, request):
+        asked = self.asked[number] = Asked(words.short_words(request))
+        self.note("asked", number, asked)
+        super().handle(number, request)
+        waiting = next((waiting for waiting in self.waiting if waiting.session == number), None)
+        if waiting is not None:
+            asked.deadline = waiting.deadline
+            self.note("waits", number, asked)
+        elif asked.how is None:
+            asked.how = "quiet"
+
+    def reply(self, number, request, parts):
+        asked = self.asked[number]
+        asked.cause = self.cause
+        asked.how = "at once" if asked.deadline is None else "satisfied" if self.is_satisfied(request, parts) else "expired"
+        super().reply(number, request, parts)
+        asked.told = reply_words(request, bytes.fromhex(self.out[-1].split()[2].decode()))
+        self.note("told", number, asked)
+
+    def finish(self, number, end):
+        super().finish(number, end)
+        self.note("ends", number, end)
+
+
+@dataclass
+class Told:
+    """A line of a trace: its kind and what stands behind it, its words, and what happened in it."""
+    kind: str
+    what: Any
+    words: str
+    about: list
+    events: list
+
+
+class Teller:
+    def __init__(self, lines):
+        self.broker = Watched([what for kind, what in lines if kind == "topic"])
+        self.builder = words.Builder()
+        self.inboxes = {}
+        self.lines = [self.line(kind, what) for kind, what in lines]
+
+    def line(self, kind, what):
+        told, about = self.words(kind, what)
+        has_ended = kind == "bytes" and self.broker.sessions[what[0]].end is not None
+        self.broker.line(kind, what)
+        if has_ended:
+            about.append(f"session {what[0]} has ended: this is dropped")
+        elif kind == "bytes" and self.is_unread(what[0]):
+            about.append(f"session {what[0]} waits: what comes behind its request is read later")
+        return Told(kind, what, told, about, self.broker.events)
+
+    def is_unread(self, session):
+        is_waiting = any(waiting.session == session for waiting in self.broker.waiting)
+        return is_waiting and wire.next_frame(self.broker.sessions[session].inbox)[0] != "not yet"
+
+    def words(self, kind, what):
+        if kind == "topic":
+            followers = words.counted(what.followers, "follower") if what.followers else "no followers"
+            told = f"topic {what.name.decode()} with {words.counted(what.partitions, 'partition')} and {followers}"
+        elif kind == "bytes":
+            return self.bytes_words(*what)
+        elif kind == "close":
+            told = f"session {what} closes"
+        elif kind == "clock":
+            told = f"the clock shows {what} ms"
+        else:
+            told = "end"
+        return told, []
+
+    def bytes_words(self, session, data):
+        """The words of a line of bytes: those of its frames where it is whole frames and the words give them back, else the bytes."""
+        before = self.inboxes.get(session, b"")
+        frames, rest = frames_of(before + data)
+        self.inboxes[session] = rest
+        raw = f"bytes {session} {data.hex()}"
+        told = [self.frame_words(body, number) for number, body in enumerate(frames, self.builder.requests + 1)]
+        if not before and not rest and all(told):
+            line = f"session {session} " + "; then ".join(told)
+            requests = self.builder.requests
+            try:
+                if self.builder.line(line) == raw:
+                    return line, []
+            except words.Unclear:
+                pass
+            self.builder.requests = requests
+        about = [f"session {session} has sent: {what or 'a frame that is no request'}" for what in told]
+        if rest and wire.next_frame(rest)[0] == "not yet":
+            about.append(f"session {session} has sent {words.counted(len(rest), 'byte')} of a frame")
+        return raw, about
+
+    def frame_words(self, body, number):
+        try:
+            return words.request_words(wire.read_request(body), body, number)
+        except wire.Refused:
+            return None
+
+
+def frames_of(data):
+    frames = []
+    while True:
+        kind, body = wire.next_frame(data)
+        if kind != "whole":
+            return frames, data
+        frames.append(body)
+        data = data[4 + len(body):]
+
+
+def event_words(event):
+    """What happened, in words, or None where the line's own words tell it."""
+    if event.kind == "waits":
+        return f"session {event.session} waits, at most until {event.what.deadline} ms"
+    if event.kind == "told":
+        why = {"satisfied": " (what it waited for has come)", "expired": " (its time has run out)"}.get(event.what.how, "")
+        return f"session {event.session} is told: {event.what.told}{why}"
+    if event.kind == "ends":
+        return f"session {event.session} ends: {event.what}"
+    return None
+
+
+def summary_words(played):
+    """The end of the output: each partition, and each session that was named."""
+    for number, partition in enumerate(played.partitions):
+        yield (f"partition {number}: log end {partition.log_end}, high watermark {partition.high}, "
+               f"{len(partition.batches)} {'batch' if len(partition.batches) == 1 else 'batches'} of {words.counted(partition.bytes, 'byte')}")
+    for number, session in enumerate(played.sessions):
+        if session.is_named:
+            waits = ", and waits" if any(waiting.session == number for waiting in played.waiting) else ""
+            yield f"session {number}: {words.counted(session.calls, 'call')}, {session.replies} answered{waits}"
