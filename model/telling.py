@@ -78,7 +78,7 @@ class Reply:
         return self.several(self.topic_described)
 
     def topic_described(self):
-        code, name = self.number(">h"), self.bytes(">h").decode("latin-1")
+        code, name = self.number(">h"), words.plain(self.bytes(">h"))
         self.number(">b")
         replicas = [0]
 

@@ -48,12 +48,16 @@ class Unclear(Exception):
 # ---- values between quotes
 
 
+def plain(value):
+    """The bytes as letters where they are, and else by their numbers."""
+    return "".join(chr(byte) if 0x20 <= byte < 0x7F and byte not in b'"\\' else f"\\x{byte:02x}" for byte in value)
+
+
 def quoted(value):
     """The value as words, where a long run of one byte is told as such."""
     if len(value) > 12 and value == value[:1] * len(value):
         return f"{quoted(value[:1])}*{len(value)}"
-    told = "".join(chr(byte) if 0x20 <= byte < 0x7F and byte not in b'"\\' else f"\\x{byte:02x}" for byte in value)
-    return f'"{told}"'
+    return f'"{plain(value)}"'
 
 
 def unquoted(token):
@@ -354,7 +358,7 @@ def batch_words(data):
 
 
 def place_words(name, index):
-    return f"{name.decode('latin-1')}/{index}"
+    return f"{plain(name)}/{index}"
 
 
 def parts_of(request):
@@ -400,7 +404,7 @@ def _ask_words(request, body):
     names = request.fields["names"]
     if names is None:
         return "asks for all topics", []
-    return "asks for " + ("topic " + " and ".join(name.decode("latin-1") for name in names) if names else "no topic"), []
+    return "asks for " + ("topic " + " and ".join(map(plain, names)) if names else "no topic"), []
 
 
 def _behind_client(body):

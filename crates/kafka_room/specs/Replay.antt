@@ -1,5 +1,5 @@
 -- What a replay comes to: its account is lawful, is that of the run of the trace that was read, and this is what is printed.
-use Rattle.std.specs.Prelude.{ℕ, ◌≡◌, List, [], take, Option, None, Bool, false, IfSome, ◌⊎◌}
+use Rattle.std.specs.Prelude.{ℕ, ◌≡◌, List, [], take, Option, Some, None, Bool, false, IfSome, ◌⊎◌}
 use Rattle.audit.specs.declared.account.Account.{Account}
 use Rattle.trace_file.specs.declared.line.Line.{Line}
 use Rattle.trace_file.specs.declared.line.TheConstants.{REPLAY_PORT}
