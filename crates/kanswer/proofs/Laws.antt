@@ -6,3 +6,5 @@ pub use Rattle.kanswer.proofs.DecidedOnce.{decided_once}
 pub use Rattle.kanswer.proofs.Stamped.{batch_sized}
 -- what is told from the readings is the answer over the states that were read
 pub use Rattle.kanswer.proofs.AnswersAgree.{produced_is, fetched_is}
+-- the values of an operation's gauges are those of its partitions' states, in the order of its needs
+pub use Rattle.kanswer.proofs.Values.{values_by_part}

@@ -10,3 +10,5 @@ pub mod DecidedOnce
 pub mod Stamped
 -- what is told from the readings is the answer over the states that were read
 pub mod AnswersAgree
+-- the values of an operation's gauges
+pub mod Values

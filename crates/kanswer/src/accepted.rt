@@ -1,6 +1,7 @@
 //! What became of the named partitions, and what a reply may take.
 
 ghost use Rattle.std.specs.Prelude.{◌≡◌};
+ghost use Rattle.kanswer.specs.Waiting.{reply_limit};
 
 use kbytes::Bytes;
 use kwire::{AskView, RequestView};
@@ -33,6 +34,13 @@ pub struct Budget {
 /// The most bytes of records that a reply holds, whatever is asked.
 pub const MOST_REPLY_BYTES: u64 = 52_428_800;
 
+/// The most bytes of records that a reply takes where so many are asked for.
+pub(crate) fn reply_limit(max_bytes: i32) -> u64
+    ensures { result ≡ reply_limit max_bytes }
+{
+    (max_bytes.max(0) as u64).min(MOST_REPLY_BYTES)
+}
+
 impl Budget {
     ghost use Rattle.kanswer.specs.LogReadings.{budget_of};
 
@@ -41,7 +49,7 @@ impl Budget {
         ensures { result ≡ budget_of request.now.ask }
     {
         let left = match &request.ask {
-            AskView::Fetch { max_bytes, .. } => ((*max_bytes).max(0) as u64).min(MOST_REPLY_BYTES),
+            AskView::Fetch { max_bytes, .. } => reply_limit(*max_bytes),
             AskView::Produce { .. } | AskView::Metadata { .. } | AskView::Versions { .. } => 0,
         };
         Budget { left, any: false }

@@ -78,8 +78,8 @@ pub fn read_asked(
     Ok(Reading { numbers, records })
 }
 
-// What is asked of the partition that a fetch names at this place, counted from 0 over all topics.
-fn asked_at<'a>(topics: &'a [FetchTopicView<'_>], at: u32) -> Option<&'a FetchPart>
+/// What is asked of the partition that a fetch names at this place, counted from 0 over all topics.
+pub(crate) fn asked_at<'a>(topics: &'a [FetchTopicView<'_>], at: u32) -> Option<&'a FetchPart>
     ensures { option_copied result ≡ slice_get (asked_parts topics.now) at }
 {
     let mut left = at as usize;

@@ -20,6 +20,14 @@ pub mod Moment
 pub mod Kept
 -- a log that a call looked at
 pub mod Looked
+-- the replicas that follow a partition
+pub mod Follower
+-- an offset that can be fetched from
+pub mod InRange
+-- a log that a follower fetched from
+pub mod Followed
+-- the clock's history after it was told a moment
+pub mod Ticked
 -- where reading from an offset begins
 pub mod Start
 -- whole batches: from a place on, up to a place, as many as fit, and their bytes
@@ -38,3 +46,5 @@ pub mod Rows
 pub mod Starts
 -- what is kept of a log beside its bytes and its history
 pub mod Tracked
+-- what is kept of the clock beside its history
+pub mod Timed

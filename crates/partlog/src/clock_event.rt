@@ -1,3 +1,6 @@
+/// The greatest moment, in milliseconds.
+pub const MOST_MOMENT: u64 = 1_000_000_000_000_000;
+
 /// One entry of the clock's history.
 #[derive(Clone, Copy, Debug, PartialEq, Eq)]
 pub enum ClockEvent {

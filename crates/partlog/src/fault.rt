@@ -59,3 +59,13 @@ impl fmt::Display for FollowFault {
 }
 
 impl Error for FollowFault {}
+
+impl From<NoMemory> for FollowFault {
+    ghost use Rattle.partlog.specs.declared.fault.FollowFault.TheVariants.{NoMemory as OutOfMemory};
+
+    ghost from_gives = { λ _ fault. fault ≡ OutOfMemory };
+
+    fn from(_refused: NoMemory) -> FollowFault {
+        FollowFault::NoMemory
+    }
+}

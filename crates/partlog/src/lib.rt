@@ -1,12 +1,14 @@
-//! One partition's log and history, and the entries of the clock's history.
+//! One partition's log and history, and the clock's history.
 //!
 //! The layer above sees a `PartLog` as its log's bytes, its number of followers and its whole history. It appends batches,
-//! reads the numbers that follow from the history, and hands both lists out. Each entry names the pass and the call that
-//! left it, so that a call's answer can be recomputed from the entries before it.
+//! enters what followers fetch, reads the numbers that follow from the history, and hands both lists out. A `ClockLog` is
+//! the clock's history, and its moment follows from it. Each entry names the pass and the call that left it, so that a
+//! call's answer can be recomputed from the entries before it.
 #![tactic(auto)]
 
 mod batch_start;
 mod clock_event;
+mod clock_log;
 mod event;
 mod fault;
 mod numbers;
@@ -16,7 +18,8 @@ mod promises;
 mod search;
 mod who;
 
-pub use clock_event::ClockEvent;
+pub use clock_event::{ClockEvent, MOST_MOMENT};
+pub use clock_log::ClockLog;
 pub use event::PartEvent;
 pub use fault::{FollowFault, LogFault};
 pub use numbers::Numbers;

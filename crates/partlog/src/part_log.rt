@@ -1,11 +1,13 @@
-ghost use Rattle.std.specs.Prelude.{◌≡◌, ◌↔◌, ◌+◌, ◌<◌, ◌≤◌, [], ◌++◌, length, not, IfOk, OnOk, OnErr, IsErrOf};
+ghost use Rattle.std.specs.Prelude.{◌≡◌, ◌↔◌, ◌+◌, ◌<◌, ◌≤◌, ℕ, pos, [], ◌++◌, length, not, max, slice_index, slice_set, IfOk, IfSome, IfNone, OnOk, OnErr, IsErrOf};
 ghost use Rattle.kbatch.specs.Head.{head_size};
 ghost use Rattle.kbatch.specs.Stamp.{stamped};
+ghost use Rattle.partlog.specs.Follower.{IsFollower};
+ghost use Rattle.partlog.specs.InRange.{IsInRange};
 ghost use Rattle.partlog.specs.Position.{positions_of};
 
 use crate::batch_start::BatchStart;
 use crate::event::PartEvent;
-use crate::fault::LogFault;
+use crate::fault::{FollowFault, LogFault};
 use crate::numbers::Numbers;
 use crate::placed::Placed;
 use crate::search::{numbers_at, start_from, start_of, taken_end};
@@ -54,6 +56,36 @@ fn unfetched(alloc: Global, followers: u32) -> Result<List<u64>, NoMemory>
     Ok(positions)
 }
 
+/// The place of a replica among so many followers, which are numbered from 1.
+fn follower_place(replica: i32, followers: u32) -> Option<usize>
+    ensures follower { IfSome result (λ at. (replica ≡ pos (at + 1)) × (at < followers)) }
+    ensures no_replica { IfNone result (IsFollower replica followers → ⊥) }
+{
+    if replica < 1 || replica as u32 > followers {
+        return None;
+    }
+    Some(replica as usize - 1)
+}
+
+/// An offset, where it is from 0 to the log end.
+fn offset_within(offset: i64, end: u64) -> Option<u64>
+    ensures within { IfSome result (λ at. (offset ≡ pos at) × (at ≤ end)) }
+    ensures outside { IfNone result (IsInRange offset end → ⊥) }
+{
+    if offset < 0 || offset as u64 > end {
+        return None;
+    }
+    Some(offset as u64)
+}
+
+/// A follower has fetched as far as this offset, or farther.
+fn raise_position(positions: &mut [u64], at: usize, offset: u64)
+    requires { at < length positions.old }
+    ensures { positions.new ≡ slice_set positions.old at (max (slice_index positions.old at) offset) }
+{
+    positions[at] = positions[at].max(offset);
+}
+
 /// Puts a batch's bytes at the end of a log, stamped with this base offset. They are copied once.
 fn put_stamped(log: &mut Bytes, bytes: &[u8], base: u64) -> Result<(), NoMemory>
     requires { head_size ≤ length bytes.now }
@@ -71,6 +103,7 @@ impl PartLog {
     ghost use Rattle.partlog.specs.Added.{log_end_of, bytes_of};
     ghost use Rattle.partlog.specs.Appended.{appended};
     ghost use Rattle.partlog.specs.Boundary.{IsBoundary};
+    ghost use Rattle.partlog.specs.Followed.{followed};
     ghost use Rattle.partlog.specs.Gauges.{numbers_of};
     ghost use Rattle.partlog.specs.Kept.{IsKept};
     ghost use Rattle.partlog.specs.Looked.{looked};
@@ -158,6 +191,41 @@ impl PartLog {
         ensures kept { IsKept self.new.log self.new.events }
     {
         self.append_view(who, &batch.view())
+    }
+
+    /// Enters a follower's fetch from an offset, and answers the place of the entry. `NoReplica` comes exactly where the
+    /// replica isn't one of the followers. Else `OutOfRange` comes exactly where the offset is below 0 or above the log end.
+    /// After a refusal the log is as it was.
+    pub fn follow(&mut self, who: Who, replica: i32, offset: i64) -> Result<u64, FollowFault>
+        ensures followed { OnOk result ((at : ℕ) × (offset ≡ pos at)
+            × (self.new ≡ followed self.old who.by who.seq replica at)) }
+        ensures place { IfOk result (λ place. place ≡ length self.old.events) }
+        ensures no_replica { IsErrOf result FollowFault.NoReplica ↔ (IsFollower replica self.old.followers → ⊥) }
+        ensures out_of_range { (end : ℕ) → IsErrOf result (FollowFault.OutOfRange end)
+            ↔ (IsFollower replica self.old.followers × (IsInRange offset (log_end_of self.old.events) → ⊥)
+            × (end ≡ log_end_of self.old.events)) }
+        ensures refused { OnErr result (self.new ≡ self.old) }
+        ensures was_kept { IsKept self.old.log self.old.events }
+        ensures kept { IsKept self.new.log self.new.events }
+    {
+        let Some(at) = follower_place(replica, self.followers) else {
+            return Err(FollowFault::NoReplica);
+        };
+        let log_end = self.numbers.end;
+        let Some(offset) = offset_within(offset, log_end) else {
+            return Err(FollowFault::OutOfRange { log_end });
+        };
+        let place = self.events.len() as u64;
+        self.events.push(PartEvent::Follow {
+            by: who.by,
+            seq: who.seq,
+            replica,
+            offset,
+        })?;
+        raise_position(self.positions.as_mut_slice(), at, offset);
+        let next = self.numbers.next_start();
+        self.numbers = numbers_at(self.starts.as_slice(), next, self.positions.as_slice());
+        Ok(place)
     }
 
     /// Enters a look, and answers the place of the entry. After a refusal the log is as it was.
