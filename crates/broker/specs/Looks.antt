@@ -10,7 +10,8 @@ use Rattle.audit.specs.declared.account.Point.{Point}
 use Rattle.audit.specs.Histories.{clock_part}
 use Rattle.kanswer.specs.Waiting.{gauge_value}
 use Rattle.plain_broker.specs.Board.{Board, Waiting, history_at}
-use Rattle.plain_broker.specs.Completing.{is_satisfied_now, is_overdue_now}
+use Rattle.audit.specs.LawfulCall.{operation_parts}
+use Rattle.plain_broker.specs.Completing.{completed_as, is_overdue_now, is_satisfied_now, last_call, look_all}
 use Rattle.broker.specs.Handled.{looked_by}
 
 -- the value of a need's gauge
@@ -45,3 +46,10 @@ clock_points (Satisfied winner) clock = []
 clock_points (Expired winner) clock = record { part = clock_part; place = length clock } ∷ []
 clock_points Parked clock = []
 clock_points (Cut won) clock = []
+
+-- the board once the request is completed so: its looks are left, its call is told, and it waits no more
+abbrev pub finished : Board → Waiting → CallHow → Board
+finished board w how =
+    let seq = last_call board w.session in
+    let looks = look_all w.session seq (operation_parts w.steps) board.parts in
+    completed_as board w (clock_after how w.session seq board.clock) (clock_points how board.clock ++ looks.0) how looks.1

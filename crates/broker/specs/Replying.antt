@@ -7,16 +7,12 @@ use Rattle.partlog.specs.State.{state_of}
 use Rattle.kanswer.specs.declared.accepted.Accepted.{Accepted}
 use Rattle.kanswer.specs.declared.accepted.Accepted.TheVariants.{Refused, Appended, Seen}
 use Rattle.plain_broker.specs.Board.{history_at}
+use Rattle.kanswer.specs.ByPart.{IsByPart}
 use Rattle.kanswer.specs.Waiting.{Shown, results_of}
 
 -- a partition whose log was asked is shown as its log is
 abbrev pub ShowsLog : List History → Shown → Type 0
-ShowsLog parts s = ShowsAs parts s.result s
-  where
-    ShowsAs : List History → Accepted → Shown → Type 0
-    ShowsAs parts (Refused code) s = ⊤
-    ShowsAs parts (Appended part base count) s = s.state ≡ state_of (history_at parts part)
-    ShowsAs parts (Seen part start) s = s.state ≡ state_of (history_at parts part)
+ShowsLog parts s = IsByPart (λ part. state_of (history_at parts part)) s.result s.state
 
 -- where there are so many logs, the partition that was asked has one
 abbrev pub HasLog : ℕ → Accepted → Type 0

@@ -1,6 +1,7 @@
 //! Accepting a request: each partition that it names is decided in order, and where its log is asked it gets an entry.
 
 ghost use Rattle.std.specs.Prelude.{◌≡◌, ◌<◌, ◌∷◌, [], ◌++◌, List as Items, length, map, OnOk, IfSome, IfNone, unwrap_or, ℕ, pos, ◌≤◌, ◌≤ℤ◌};
+ghost use Rattle.partlog.specs.Start.{start_of};
 ghost use Rattle.partlog.specs.State.{PartState, state_of};
 ghost use Rattle.kbatch.specs.Kept.{count_of};
 ghost use Rattle.kwire.specs.Configuration.{followers_of, partitions_of, part_of};
@@ -201,6 +202,16 @@ fn consume(
     look_at(log, who, part, Accepted::Seen { part, start }, came)
 }
 
+// Where reading from an offset begins; 0 below 0.
+fn start_at(log: &PartLog, offset: i64) -> u64
+    ensures { (at : ℕ) → offset ≡ pos at → result ≡ start_of at (state_of log.now) }
+{
+    if offset < 0 {
+        return 0;
+    }
+    log.locate(offset as u64)
+}
+
 // A replica's fetch is entered where it is a follower's and in range.
 fn follow(
     log: &mut PartLog,
@@ -213,7 +224,7 @@ fn follow(
     requires { pos 0 ≤ℤ replica }
     ensures { OnOk result (IsEntered who.by who.seq part (fetch_outcome log.old.followers replica asked.now part) log.old log.new came.old came.new) }
 {
-    let start = log.locate(asked.offset.max(0) as u64);
+    let start = start_at(log, asked.offset);
     match log.follow(who, replica, asked.offset) {
         Ok(place) => came.note_at(Accepted::Seen { part, start }, part, place),
         Err(FollowFault::NoReplica) => look_at(log, who, part, Accepted::Refused { code: 9 }, came),

@@ -1,6 +1,6 @@
 use Rattle.std.proofs.Common.{◌≡◌, [], ◌∷◌, length, take}
 use Rattle.broker.specs.Carried.{HasProduced}
-use Rattle.broker.proofs.accept.accept_produce_topic.Given as goal
+use Rattle.broker.proofs.accept.produce_topic.Given as goal
 
 abbrev pub invariant-loop-part : goal.invariant-loop-part
 invariant-loop-part l = record {

@@ -1,6 +1,6 @@
 use Rattle.std.proofs.Common.{◌≡◌, length, take}
 use Rattle.broker.specs.Carried.{HasProduced}
-use Rattle.broker.proofs.accept.accept_produce.Given as goal
+use Rattle.broker.proofs.accept.produce.Given as goal
 
 abbrev pub invariant-loop-topic : goal.invariant-loop-topic
 invariant-loop-topic l = record {
