@@ -12,7 +12,7 @@ use Rattle.std.specs.List.Sorted.{IsStrictlyIncreasing}
 use Rattle.audit.specs.declared.account.Point.{Point}
 use Rattle.audit.specs.IsLawful.{is_point, places_in}
 use Rattle.audit.proofs.Laws.{same_or_not}
-pub use Rattle.plain_broker.specs.Steady.{AllBelow}
+pub use Rattle.plain_broker.specs.Sound.{AllBelow}
 
 pub below_more : (n m : ℕ) (xs : List ℕ) → n ≤ m → AllBelow n xs → AllBelow m xs
 below_more n m [] le a = tt

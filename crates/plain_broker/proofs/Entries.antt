@@ -11,16 +11,17 @@ use Rattle.audit.specs.declared.account.Account.{Account}
 use Rattle.audit.specs.declared.account.PartAccount.{PartAccount}
 use Rattle.audit.specs.declared.account.Point.{Point}
 use Rattle.audit.specs.Histories.{owner_of, owners_of, history_of, before_in, at_in, before_point, at_point, event_at, event_in, no_state}
-use Rattle.kanswer.specs.Decisions.{Entry, Put, Followed, Looked, Decision, Refuse, AskLog}
+use Rattle.kanswer.specs.Decisions.{Entry, Put, Followed, Looked, Outcome, Decision, Refuse, AskLog}
 use Rattle.audit.specs.LawfulCall.{IsStep, IsEntry, step_points, shown_as_accepted}
 use Rattle.audit.specs.IsLawful.{places_in}
 use Rattle.plain_broker.specs.Board.{history_at, empty_history}
 use Rattle.plain_broker.specs.Entering.{Noted, entered, accept_all, steps_of, shown_of}
 use Rattle.kanswer.specs.Waiting.{Shown}
-use Rattle.kanswer.specs.declared.accepted.Accepted.TheVariants.{Refused}
+use Rattle.kanswer.specs.declared.accepted.Accepted.{Accepted}
+use Rattle.kanswer.specs.declared.accepted.Accepted.TheVariants.{Refused, Appended, Seen}
 use Rattle.kbatch.specs.Stamp.{stamped}
 use Rattle.plain_broker.proofs.Growth.{Longer, IsWhole, IsSized, longer_on, entered_longer, entered_whole, entered_events, entered_followers, entered_length, event_of, before_kept, at_kept, put_batches}
-pub use Rattle.plain_broker.specs.Steady.{the_owner, AllWhole, Follows}
+pub use Rattle.plain_broker.specs.GoesOn.{the_owner, AllWhole, Follows}
 use Rattle.audit.proofs.Laws.{same_or_not, get_set_same, get_set_other, get_there, get_seam, some_is}
 
 -- The later history has entries of one call behind those of the earlier one, and these are their places.
@@ -34,18 +35,28 @@ abbrev pub AllLeft : ℕ → ℕ → List Point → List History → List Histor
 AllLeft by seq points parts later =
     (p : ℕ) (h : History) → slice_get parts p ≡ Some h → (l : History) × (slice_get later p ≡ Some l) × Left by seq (places_in p points) h l
 
--- a decision that asks the log of one of so many partitions, and says rightly how many bytes it puts
+-- a result that names one of so many partitions, or none
+abbrev pub IsWithin : ℕ → Accepted → Type 0
+IsWithin n (Refused code) = Unit {0}
+IsWithin n (Appended part base count) = part < n
+IsWithin n (Seen part start) = part < n
+
+-- its entry says rightly how many bytes it puts, and its result names a partition that is there
+abbrev pub IsFairOutcome : ℕ → Outcome → Type 0
+IsFairOutcome n outcome = IsSized outcome.entry × IsWithin n outcome.result
+
+-- a decision that asks the log of one of so many partitions, and has fair outcomes
 abbrev pub IsFair : ℕ → Decision → Type 0
 IsFair n (Refuse code) = Unit {0}
-IsFair n (AskLog part outcome) = (part < n) × ((state : PartState) → IsSized (outcome state).entry)
+IsFair n (AskLog part outcome) = (part < n) × ((state : PartState) → IsFairOutcome n (outcome state))
 
-event_owner : (by seq : ℕ) (entry : Entry) → owner_of (event_of by seq entry) ≡ the_owner by seq
+pub event_owner : (by seq : ℕ) (entry : Entry) → owner_of (event_of by seq entry) ≡ the_owner by seq
 event_owner by seq (Put count batch) = refl
 event_owner by seq (Followed replica offset) = refl
 event_owner by seq Looked = refl
 
 -- the histories with one more entry are whole
-set_whole : (parts : List History) (part : ℕ) (h : History) → AllWhole parts → part < length parts → IsWhole h → AllWhole (set parts part h)
+pub set_whole : (parts : List History) (part : ℕ) (h : History) → AllWhole parts → part < length parts → IsWhole h → AllWhole (set parts part h)
 set_whole parts part h whole within w p k e =
     elim (same_or_not p part) [
       | inl same ↦
@@ -54,11 +65,11 @@ set_whole parts part h whole within w p k e =
       | inr other ↦ whole p k (sym (get_set_other parts part p h other) ∙ e)
     ]
 
-places_here : (part place : ℕ) (points : List Point) → places_in part (record { part = part; place = place } ∷ points) ≡ place ∷ places_in part points
+pub places_here : (part place : ℕ) (points : List Point) → places_in part (record { part = part; place = place } ∷ points) ≡ place ∷ places_in part points
 places_here part place points =
     let yes : eqb part part ≡ true = eq-eqb part part refl in rw yes refl
 
-places_other : (p part place : ℕ) (points : List Point) → p ≢ part → places_in p (record { part = part; place = place } ∷ points) ≡ places_in p points
+pub places_other : (p part place : ℕ) (points : List Point) → p ≢ part → places_in p (record { part = part; place = place } ∷ points) ≡ places_in p points
 places_other p part place points ne =
     let no : eqb part p ≡ false = ne_eqb part p (λ e. ne (sym e)) in rw no refl
 
@@ -97,7 +108,7 @@ accepted_left by seq n (AskLog part outcome ∷ decisions) parts size whole fair
     let within : part < length parts = omega (arith, size, fair.0.0) in
     let there : slice_get parts part ≡ Some found = get_there parts part (empty_history 0) within in
     let parts1 = set parts part left in
-    let whole1 : AllWhole parts1 = set_whole parts part left whole within (entered_whole found by seq entry (whole part found there) (fair.0.1 (state_of found))) in
+    let whole1 : AllWhole parts1 = set_whole parts part left whole within (entered_whole found by seq entry (whole part found there) (fair.0.1 (state_of found)).0) in
     let rest = accepted_left by seq n decisions parts1 (length-set parts part left ∙ size) whole1 fair.1 in
     let points = step_points (steps_of (accept_all by seq decisions parts1).0) in
     elim (same_or_not p part) [
@@ -136,7 +147,7 @@ slice_map [] k e is = absurd cc
 slice_map (x ∷ es) zero e is = ap (λ (y : PartEvent). Some (owner_of y)) (some_is x e is)
 slice_map (x ∷ es) (suc k) e is = slice_map es k e is
 
-shows_entry : (by seq : ℕ) (account : Account) (part : ℕ) (found : History) (entry : Entry) (pa : PartAccount) → IsWhole found → IsSized entry → slice_get account.parts part ≡ Some pa
+pub shows_entry : (by seq : ℕ) (account : Account) (part : ℕ) (found : History) (entry : Entry) (pa : PartAccount) → IsWhole found → IsSized entry → slice_get account.parts part ≡ Some pa
     → Longer (entered found by seq entry) (history_of pa) → ShowsEntry by seq account part found entry
 shows_entry by seq account part found entry pa whole sized there longer =
     let n = length found.events in
@@ -159,7 +170,7 @@ pub record ShowsAccepted (by seq : ℕ) (account : Account) (decisions : List De
   pub shown : shown_as_accepted account (steps_of noted) ≡ shown_of noted
   pub owned : AllByRecursion (λ point. slice_get (owners_of account point.part) point.place ≡ Some (the_owner by seq)) (step_points (steps_of noted))
 
-is_entry : (by seq : ℕ) (account : Account) (part : ℕ) (found : History) (entry : Entry) → IsWhole found → IsSized entry → ShowsEntry by seq account part found entry
+pub is_entry : (by seq : ℕ) (account : Account) (part : ℕ) (found : History) (entry : Entry) → IsWhole found → IsSized entry → ShowsEntry by seq account part found entry
     → IsEntry account (record { part = part; place = length found.events }) entry
 is_entry by seq account part found (Put count batch) whole sized s =
     let before = λ (state : PartState). state.batches ++ record { base = state.log_end; count = count; bytes = stamped state.log_end batch } ∷ [] in
@@ -180,7 +191,7 @@ accepted_shows by seq n (AskLog part outcome ∷ decisions) parts account size f
     let within : part < length parts = omega (arith, size, fair.0.0) in
     let there : slice_get parts part ≡ Some found = get_there parts part (empty_history 0) within in
     let found_whole : IsWhole found = whole part found there in
-    let sized : IsSized came.entry = fair.0.1 (state_of found) in
+    let sized : IsSized came.entry = (fair.0.1 (state_of found)).0 in
     let parts1 = set parts part left in
     let size1 : length parts1 ≡ n = length-set parts part left ∙ size in
     let whole1 : AllWhole parts1 = set_whole parts part left whole within (entered_whole found by seq came.entry found_whole sized) in

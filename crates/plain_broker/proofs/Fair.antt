@@ -23,7 +23,7 @@ use Rattle.kanswer.specs.Decisions.{Entry, Put, Followed, Looked, Outcome, Decis
 use Rattle.kanswer.proofs.Laws.{batch_sized}
 use Rattle.audit.proofs.Laws.{some_is}
 use Rattle.plain_broker.proofs.Growth.{IsSized}
-use Rattle.plain_broker.proofs.Entries.{IsFair}
+use Rattle.plain_broker.proofs.Entries.{IsFair, IsFairOutcome}
 
 index_within : (before n partitions p : ℕ) (b : Bool) → (b ≡ true → n < partitions) → cond b (Some (before + n)) None ≡ Some p → p < before + partitions
 index_within before n partitions p true lt e = omega (arith, lt refl, some_is (before + n) p e)
@@ -54,38 +54,38 @@ followers_size (topic ∷ topics) =
 pub parts_size : (topics : List Topic) (parts : List History) → map (λ (h : History). h.followers) parts ≡ followers_of topics → length parts ≡ partitions_of topics
 parts_size topics parts e = sym (length-map parts (λ (h : History). h.followers)) ∙ ap length e ∙ followers_size topics
 
-either_sized : (b : Bool) (x y : Outcome) → IsSized x.entry → IsSized y.entry → IsSized (cond b x y).entry
-either_sized true x y a c = a
-either_sized false x y a c = c
+either_fair : (n : ℕ) (b : Bool) (x y : Outcome) → IsFairOutcome n x → IsFairOutcome n y → IsFairOutcome n (cond b x y)
+either_fair n true x y a c = a
+either_fair n false x y a c = c
 
-append_sized : (part count : ℕ) (batch : List ℕ) → ((base : ℕ) → length (stamped base batch) ≡ length batch) → (state : PartState) → IsSized (append_outcome part count batch state).entry
-append_sized part count batch sized state =
-    either_sized (nat_lt 67108864 ((gauges_of state).bytes + length batch)) (look (Refused (pos 6))) (record { result = Appended part state.log_end count; entry = Put count batch }) tt sized
+append_fair : (n part count : ℕ) (batch : List ℕ) → part < n → ((base : ℕ) → length (stamped base batch) ≡ length batch) → (state : PartState) → IsFairOutcome n (append_outcome part count batch state)
+append_fair n part count batch within sized state =
+    either_fair n (nat_lt 67108864 ((gauges_of state).bytes + length batch)) (look (Refused (pos 6))) (record { result = Appended part state.log_end count; entry = Put count batch }) (tt, tt) (sized, within)
 
 fair_refusal : (n : ℕ) (decision : Decision) (code : ℤ) → decision ≡ Refuse code → IsFair n decision
 fair_refusal n decision code e = subst (IsFair n) (sym e) tt
 
-range_sized : (part : ℕ) (offset : ℤ) (entry : Entry) → IsSized entry → (state : PartState) → IsSized (in_range_outcome part offset entry state).entry
-range_sized part (negsuc n) entry sized state = tt
-range_sized part (pos offset) entry sized state =
-    either_sized (nat_lt state.log_end offset) (look (Refused (pos 1))) (record { result = Seen part (start_of offset state); entry = entry }) tt sized
+range_fair : (n part : ℕ) (offset : ℤ) (entry : Entry) → part < n → IsSized entry → (state : PartState) → IsFairOutcome n (in_range_outcome part offset entry state)
+range_fair n part (negsuc m) entry within sized state = (tt, tt)
+range_fair n part (pos offset) entry within sized state =
+    either_fair n (nat_lt state.log_end offset) (look (Refused (pos 1))) (record { result = Seen part (start_of offset state); entry = entry }) (tt, tt) (sized, within)
 
-fetch_sized : (followers : ℕ) (replica : ℤ) (asked : FetchPart) (part : ℕ) (state : PartState) → IsSized (fetch_outcome followers replica asked part state).entry
-fetch_sized followers (negsuc n) asked part state = range_sized part asked.offset Looked tt state
-fetch_sized followers (pos replica) asked part state =
-    either_sized (nat_lt 0 replica && nat_le replica followers) (in_range_outcome part asked.offset (Followed (pos replica) (offset_of asked.offset)) state) (look (Refused (pos 9)))
-    (range_sized part asked.offset (Followed (pos replica) (offset_of asked.offset)) tt state) tt
+outcome_fair : (n followers : ℕ) (replica : ℤ) (asked : FetchPart) (part : ℕ) → part < n → (state : PartState) → IsFairOutcome n (fetch_outcome followers replica asked part state)
+outcome_fair n followers (negsuc m) asked part within state = range_fair n part asked.offset Looked within tt state
+outcome_fair n followers (pos replica) asked part within state =
+    either_fair n (nat_lt 0 replica && nat_le replica followers) (in_range_outcome part asked.offset (Followed (pos replica) (offset_of asked.offset)) state) (look (Refused (pos 9)))
+    (range_fair n part asked.offset (Followed (pos replica) (offset_of asked.offset)) within tt state) (tt, tt)
 
 pub fetch_fair : (config : Configuration) (replica : ℤ) (named : List ℕ × FetchPart) (o : Option ℕ) (n : ℕ) → ((part : ℕ) → o ≡ Some part → part < n) → IsFair n (fetch_decision config replica named o)
 fetch_fair config replica named None n within = tt
 fetch_fair config replica named (Some part) n within =
-    (within part refl, fetch_sized (slice_index (followers_of config.topics) part) replica named.1 part)
+    (within part refl, outcome_fair n (slice_index (followers_of config.topics) part) replica named.1 part (within part refl))
 
 batch_fair : (part n : ℕ) (bytes : List ℕ) (decision : Decision) → part < n → BatchDecides part bytes decision → IsFair n decision
 batch_fair part n bytes decision within d =
     elim d [
       | inl fault ↦ fair_refusal n decision (code_of fault.0) fault.2
-      | inr batch ↦ subst (IsFair n) (sym batch.2) (within, append_sized part (length batch.0) bytes (batch_sized bytes batch.0 batch.1))
+      | inr batch ↦ subst (IsFair n) (sym batch.2) (within, append_fair n part (length batch.0) bytes within (batch_sized bytes batch.0 batch.1))
     ]
 
 acks_fair : (b : Bool) (part n : ℕ) (bytes : List ℕ) (decision : Decision) → part < n → MatchBool b (BatchDecides part bytes decision) (decision ≡ Refuse (pos 21)) → IsFair n decision

@@ -1,19 +1,25 @@
 -- How histories grow, and what stays of their states.
-use Rattle.std.proofs.Common.{◌≡◌, ℕ, ◌+◌, ◌≤◌, List, [], ◌∷◌, ◌++◌, length, take, drop, refl, sym, ap, ◌∙◌, arith, append_assoc, append-nil, length-append, length-drop}
+use Rattle.std.proofs.Common.{◌≡◌, ℕ, ◌+◌, ◌≤◌, max, ℤ, pos, map, List, [], ◌∷◌, ◌++◌, length, take, drop, refl, sym, ap, ◌∙◌, arith, append_assoc, append-nil, length-append, length-drop}
 use Rattle.std.proofs.Math.Seq.{take-append_seam, drop-append_seam, take-length}
 use Rattle.std.proofs.lemmas.List.{take-append-le, drop-append-le}
 use Rattle.std.proofs.lemmas.List.Sums.{sum_by-cons, sum_by_push}
+use Rattle.std.proofs.lemmas.List.Elements.{filter_map-append}
 use Rattle.partlog.specs.declared.event.PartEvent.{PartEvent}
 use Rattle.partlog.specs.declared.event.PartEvent.TheVariants.{Append, Follow, Look}
 use Rattle.kbatch.specs.Stamp.{stamped}
-use Rattle.partlog.specs.Added.{added_bytes, bytes_of, log_end_of}
+use Rattle.std.specs.List.{fold, filter_map, range_with_len}
+use Rattle.partlog.specs.declared.clock_event.ClockEvent.{ClockEvent}
+use Rattle.partlog.specs.declared.clock_event.ClockEvent.TheVariants as clocks
+use Rattle.partlog.specs.Moment.{moment_of, tick_of}
+use Rattle.partlog.specs.Position.{offset_by, position_of, positions_of}
+use Rattle.partlog.specs.Added.{added_bytes, added_count, bytes_of, log_end_of}
 use Rattle.partlog.specs.Batches.{StoredBatch, batches_of, batches_after}
 use Rattle.partlog.specs.History.{History}
 use Rattle.partlog.specs.State.{state_of, state_before, state_at, front_of}
 use Rattle.partlog.proofs.Laws.{batches-append}
 use Rattle.kanswer.specs.Decisions.{Entry, Put, Followed, Looked}
 use Rattle.plain_broker.specs.Entering.{entered}
-pub use Rattle.plain_broker.specs.Steady.{Longer, IsWhole}
+pub use Rattle.plain_broker.specs.GoesOn.{Longer, IsWhole}
 
 pub longer_self : (h : History) → Longer h h
 longer_self h = record { followers = refl; more = []; bytes = []; events = sym (append-nil h.events); log = sym (append-nil h.log) }
@@ -121,3 +127,32 @@ put_batches h by seq count batch whole sized =
     batches-append [] h.events (e ∷ []) (h.log ++ new)
     ∙ ap (λ (bs : List StoredBatch). bs ++ record { base = base; count = count; bytes = take (length batch) (drop (bytes_of h.events) (h.log ++ new)) } ∷ []) (more_bytes [] h.events h.log new (omega (arith, whole)))
     ∙ ap (λ (bytes : List ℕ). batches_of h.events h.log ++ record { base = base; count = count; bytes = bytes } ∷ []) one
+
+-- ---- looks change no state
+
+looked_end : (es : List PartEvent) (by seq : ℕ) → log_end_of (es ++ Look by seq ∷ []) ≡ log_end_of es
+looked_end es by seq = let e : PartEvent = Look by seq in omega (arith, sum_by_push added_count es e)
+
+looked_position : (es : List PartEvent) (by seq : ℕ) (replica : ℤ) → position_of (es ++ Look by seq ∷ []) replica ≡ position_of es replica
+looked_position es by seq replica =
+    ap (fold max 0) (filter_map-append (offset_by replica) es (Look by seq ∷ []) ∙ append-nil (filter_map (offset_by replica) es))
+
+looked_positions : (es : List PartEvent) (by seq : ℕ) (replicas : List ℕ)
+    → map (λ replica. position_of (es ++ Look by seq ∷ []) (pos replica)) replicas ≡ map (λ replica. position_of es (pos replica)) replicas
+looked_positions es by seq [] = refl
+looked_positions es by seq (r ∷ replicas) =
+    ap (λ (n : ℕ). n ∷ map (λ replica. position_of (es ++ Look by seq ∷ []) (pos replica)) replicas) (looked_position es by seq (pos r))
+    ∙ ap (λ (ns : List ℕ). position_of es (pos r) ∷ ns) (looked_positions es by seq replicas)
+
+-- a look leaves the state as it was
+pub looked_state : (h : History) (by seq : ℕ) → state_of (entered h by seq Looked) ≡ state_of h
+looked_state h by seq =
+    let es = h.events ++ Look by seq ∷ [] in
+    let batches : batches_of es h.log ≡ batches_of h.events h.log = batches-append [] h.events (Look by seq ∷ []) h.log ∙ append-nil (batches_of h.events h.log) in
+    ap (λ (bs : List StoredBatch). record { batches = bs; log_end = log_end_of es; positions = positions_of h.followers es }) batches
+    ∙ ap (λ (n : ℕ). record { batches = batches_of h.events h.log; log_end = n; positions = positions_of h.followers es }) (looked_end h.events by seq)
+    ∙ ap (λ (ps : List ℕ). record { batches = batches_of h.events h.log; log_end = log_end_of h.events; positions = ps }) (looked_positions h.events by seq (range_with_len 1 h.followers))
+
+-- nor does the clock's moment change
+pub looked_moment : (clock : List ClockEvent) (by seq : ℕ) → moment_of (clock ++ clocks.Look by seq ∷ []) ≡ moment_of clock
+looked_moment clock by seq = ap (fold max 0) (filter_map-append tick_of clock (clocks.Look by seq ∷ []) ∙ append-nil (filter_map tick_of clock))

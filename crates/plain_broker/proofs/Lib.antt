@@ -6,14 +6,18 @@ mod Growth
 mod Entries
 -- numbers that count up, and how often a point stands among some
 mod Counting
--- the histories and calls of a broker in which nothing waits stay lawful as one call more is answered at once
-mod OneCallMore
--- the account of a broker in which nothing waits is lawful
-mod LawfulAtRest
 -- what is decided of a request asks only logs that are there, and puts batches whole
 mod Fair
--- what the board of the one-thread broker is to the lines that it was fed, where these declare topics
-mod FedLines
+-- histories that go on, and what holds in every account that goes on from them
+mod Going
+-- who left the entries, as one entry more comes
+mod Ledger
+-- a request is accepted, or completed by looks
+mod Accepting
+-- what holds of a call in every account that goes on
+mod Calls
+-- what holds of a board as one session changes
+mod Boards
 -- a play goes on line by line, and its lines keep the configuration
 mod LineByLine
 -- lines come to one play

@@ -12,7 +12,15 @@ pub mod Completing
 pub mod Acting
 -- what a trace comes to on one thread
 pub mod Play
--- what it keeps of the lines that it was given
+-- nothing that waits is answerable, and no session can act
+pub mod AtRest
+-- topics as they may be declared
+pub mod Declared
+-- histories that go on, and what holds in every account that goes on from them
+pub mod GoesOn
+-- who left the entries of the histories
+pub mod Kept
+-- what holds of a board between two steps
+pub mod Sound
+-- what a board is to the lines that it was fed
 pub mod Fed
--- its histories and calls, in which nothing waits
-pub mod Steady
