@@ -5,7 +5,7 @@ use Rattle.std.proofs.lemmas.Bool.Decides.{leb_tells}
 use Rattle.std.proofs.lemmas.List.{length-map, length-replicate}
 use Rattle.std.proofs.lemmas.List.Sums.{sum_by-cons}
 use Rattle.std.proofs.lemmas.Int.{ints}
-use Rattle.std.specs.Prelude.{nat_lt, nat_le, slice_get}
+use Rattle.std.specs.Prelude.{nat_lt, nat_le, slice_get, ◌≤ℤ◌}
 use lib.Signed.{le_z}
 use Rattle.partlog.specs.Added.{log_end_of}
 use Rattle.partlog.specs.Follower.{IsFollower}
@@ -23,9 +23,9 @@ use Rattle.plain_broker.specs.Board.{history_at, empty_history}
 use Rattle.plain_broker.specs.Entering.{entered, accept_all}
 use Rattle.broker.specs.Carried.{Came, IsCarried, IsEntered}
 
-pub not_negative : (z : ℤ) → le_z (pos 0) z ≡ true → (n : ℕ) × (z ≡ pos n)
-not_negative (pos n) e = (n, refl)
-not_negative (negsuc n) e = absurd cc
+pub not_below : (z : ℤ) → pos 0 ≤ℤ z → (n : ℕ) × (z ≡ pos n)
+not_below (pos n) h = (n, refl)
+not_below (negsuc n) h = absurd h.le
 
 pub negative : (z : ℤ) → le_z (pos 0) z ≡ false → (n : ℕ) × (z ≡ negsuc n)
 negative (pos n) e = absurd (grind (arith, ints))
@@ -86,11 +86,11 @@ follows_is r followers some few =
     ap (λ (x : Bool). x && nat_le r followers) a ∙ b
 
 follows_not : (r followers : ℕ) → (IsFollower (pos r) followers → ⊥) → follows r followers ≡ false
-follows_not r followers no =
+follows_not r followers never =
     elim (leb_tells r 0) [
       | inl none ↦ let a : nat_lt 0 r ≡ false = le-ltb 0 r (omega (arith, none.1)) in ap (λ (x : Bool). x && nat_le r followers) a
       | inr some ↦ elim (leb_tells r followers) [
-        | inl few ↦ absurd (no (omega (arith, some.1), few.1))
+        | inl few ↦ absurd (never (omega (arith, some.1), few.1))
         | inr many ↦
             let a : nat_lt 0 r ≡ true = lt-ltb 0 r (omega (arith, some.1)) in
             ap (λ (x : Bool). x && nat_le r followers) a ∙ many.0
@@ -98,9 +98,9 @@ follows_not r followers no =
     ]
 
 pub fetch_of_nobody : (followers part : ℕ) (replica : ℤ) (r : ℕ) (asked : FetchPart) (state : PartState) → replica ≡ pos r → (IsFollower replica followers → ⊥) → fetch_outcome followers replica asked part state ≡ look (Refused (pos 9))
-fetch_of_nobody followers part replica r asked state is no =
+fetch_of_nobody followers part replica r asked state is never =
     ap (λ (z : ℤ). fetch_outcome followers z asked part state) is
-    ∙ ap (λ (b : Bool). cond b (in_range_outcome part asked.offset (Followed (pos r) (offset_of asked.offset)) state) (look (Refused (pos 9)))) (follows_not r followers (λ f. no (by_sign f)))
+    ∙ ap (λ (b : Bool). cond b (in_range_outcome part asked.offset (Followed (pos r) (offset_of asked.offset)) state) (look (Refused (pos 9)))) (follows_not r followers (λ f. never (by_sign f)))
   where
     by_sign : IsFollower (pos r) followers → IsFollower replica followers
     by_sign f = subst (λ (z : ℤ). IsFollower z followers) (sym is) f
@@ -113,9 +113,9 @@ fetch_of_follower followers part replica r asked state is f =
     ∙ ap (λ (b : Bool). cond b (in_range_outcome part asked.offset (Followed (pos r) (offset_of asked.offset)) state) (look (Refused (pos 9)))) (follows_is r followers g.0 g.1)
 
 pub not_in_range : (part : ℕ) (offset : ℤ) (entry : Entry) (state : PartState) → (IsInRange offset state.log_end → ⊥) → in_range_outcome part offset entry state ≡ look (Refused (pos 1))
-not_in_range part offset entry state no =
+not_in_range part offset entry state never =
     out_of_range part offset entry state state.log_end refl (λ at is. elim (leb_tells at state.log_end) [
-      | inl le ↦ absurd (no (subst (λ (z : ℤ). IsInRange z state.log_end) (sym is) le.1))
+      | inl le ↦ absurd (never (subst (λ (z : ℤ). IsInRange z state.log_end) (sym is) le.1))
       | inr lt ↦ lt.1
     ])
 
@@ -164,7 +164,7 @@ entered_followers h by seq (Put count batch) = refl
 entered_followers h by seq (Followed replica offset) = refl
 entered_followers h by seq Looked = refl
 
-accepted_followers : (by seq : ℕ) (decisions : List Decision) (parts : List History) → map (λ (h : History). h.followers) (accept_all by seq decisions parts).1 ≡ map (λ (h : History). h.followers) parts
+pub accepted_followers : (by seq : ℕ) (decisions : List Decision) (parts : List History) → map (λ (h : History). h.followers) (accept_all by seq decisions parts).1 ≡ map (λ (h : History). h.followers) parts
 accepted_followers by seq [] parts = refl
 accepted_followers by seq (Refuse code ∷ decisions) parts = accepted_followers by seq decisions parts
 accepted_followers by seq (AskLog part outcome ∷ decisions) parts =

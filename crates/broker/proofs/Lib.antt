@@ -20,3 +20,27 @@ pub mod Openings
 pub mod Closings
 -- what is kept stands for a board, and goes on to
 pub mod Standing
+-- how what is kept turns, step by step
+pub mod Turning
+-- the requests that wait, by their sessions
+pub mod Waits
+-- what a request that waits needs of the logs
+pub mod Needs
+-- what a line brings, and a session that ends
+pub mod Bringing
+-- a request that was handled
+pub mod Taking
+-- a request that is completed
+pub mod Completes
+-- how much is left to do on a board
+pub mod LessWork
+-- what an accepted request gives
+pub mod Handles
+-- a session's calls
+pub mod Seats
+-- what is kept of the requests that wait, as the code shows it
+pub mod Dues
+-- what the code leaves of a request that is completed, and the broker before the first line
+pub mod Finishing
+-- a request that waits is answered
+pub mod Answering

@@ -1,5 +1,5 @@
 -- A request names a partition once, so that no log is asked twice.
-use Rattle.std.proofs.Common.{◌≡◌, ◌≢◌, ℕ, ◌+◌, ◌<◌, ◌≤◌, ℤ, pos, negsuc, Bool, true, false, cond, List, [], ◌∷◌, ◌++◌, length, get_or, map, Option, Some, None, unwrap_or, refl, sym, ap, subst, ◌∙◌, arith, inl, inr}
+use Rattle.std.proofs.Common.{◌≡◌, ◌≢◌, ℕ, suc, ◌+◌, ◌<◌, ◌≤◌, ℤ, pos, negsuc, Bool, true, false, cond, List, [], ◌∷◌, ◌++◌, length, get_or, map, Option, Some, None, unwrap_or, refl, sym, ap, subst, ◌∙◌, arith, inl, inr}
 use Rattle.std.proofs.lemmas.List.{map-append}
 use Rattle.std.proofs.lemmas.List.Sums.{sum_by-cons}
 use Rattle.std.specs.Prelude.{MatchOption, MatchBool, AllPairs, nat_lt}
@@ -160,12 +160,12 @@ module _ {P : Type 0} (index : P → ℤ) where
         ≡ map (λ (named : List ℕ × P). named_as named.0 (index named.1)) (flat_map (λ t. map (λ (part : P). (name t, part)) (parts t)) topics)
     all_names [] = refl
     all_names (t ∷ topics) =
-        let as : List ℕ × P → Named = λ named. named_as named.0 (index named.1) in
+        let named_by : List ℕ × P → Named = λ named. named_as named.0 (index named.1) in
         let here : List (List ℕ × P) = map (λ (part : P). (name t, part)) (parts t) in
         let later : List (List ℕ × P) = flat_map (λ u. map (λ (part : P). (name u, part)) (parts u)) topics in
         ap (λ (ns : List Named). ns ++ flat_map (λ u. map (λ (part : P). named_as (name u) (index part)) (parts u)) topics) (topic_names (name t) (parts t))
-        ∙ ap (λ (ns : List Named). map as here ++ ns) (all_names topics)
-        ∙ sym (map-append as here later)
+        ∙ ap (λ (ns : List Named). map named_by here ++ ns) (all_names topics)
+        ∙ sym (map-append named_by here later)
 
 pub asks_named : (config : Configuration) (ask : Ask) (decisions : List Decision) → Decides config ask decisions → AllZip (Asks config) (named_of ask) decisions
 asks_named config (Produce transactional acks timeout topics) decisions d =
@@ -186,16 +186,16 @@ Once (name ∷ names) = AllByRecursion (λ other. name ≢ other) names × Once 
 
 each_of : {X : Type 0} (P : X → Type 0) (xs : List X) → ((i : ℕ) (d : X) → i < length xs → P (get_or xs i d)) → AllByRecursion P xs
 each_of P [] all = tt
-each_of P (x ∷ xs) all = (all 0 x (omega arith), each_of P xs (λ i d lt. all (i + 1) d (omega arith)))
+each_of P (x ∷ xs) all = (all 0 x (omega arith), each_of P xs (λ i d lt. all (suc i) d (omega (arith, lt))))
 
 pairs_once : (names : List Named) → AllPairs (λ a b. a ≢ b) names → Once names
 pairs_once [] all = tt
 pairs_once (name ∷ names) all =
-    (each_of (λ other. name ≢ other) names (λ i d lt. all 0 (i + 1) d (omega arith) (omega arith)), pairs_once names (λ i j d lt within. all (i + 1) (j + 1) d (omega arith) (omega arith)))
+    (each_of (λ other. name ≢ other) names (λ i d lt. all 0 (suc i) d (omega arith) (omega (arith, lt))), pairs_once names (λ i j d lt within. all (suc i) (suc j) d (omega (arith, lt)) (omega (arith, within))))
 
 asks_other : (config : Configuration) (name other : Named) (part : ℕ) (decision : Decision) → part_of config name.topic name.index ≡ Some part → name ≢ other → Asks config other decision → AsksOther part decision
 asks_other config name other part (Refuse code) is differ asks = tt
-asks_other config name other part (AskLog q outcome) is differ asks same =
+asks_other config name other part (AskLog q outcome) is differ asks = λ same.
     let one = one_name 0 config.topics name.topic other.topic name.index other.index part is (asks ∙ ap Some same) in
     differ (ap (λ (t : List ℕ). named_as t name.index) one.0 ∙ ap (named_as other.topic) one.1)
 

@@ -245,7 +245,7 @@ bounded n (Seen part start) few is fits = omega (arith, is, few)
 
 all_bounded : (n : ℕ) (results : List Accepted) → n ≤ 64 → AllByRecursion (IsSound n) results → All IsCarriable results → AllByRecursion IsBounded results
 all_bounded n [] few is fits = tt
-all_bounded n (r ∷ results) few is fits = (bounded n r few is.0 (fits 0 r (omega arith)), all_bounded n results few is.1 (λ i d lt. fits (i + 1) d (omega (arith, lt))))
+all_bounded n (r ∷ results) few is fits = (bounded n r few is.0 (fits 0 r (omega arith)), all_bounded n results few is.1 (λ i d lt. fits (suc i) d (omega (arith, lt))))
 
 sound_log : (n : ℕ) (result : Accepted) → IsSound n result → HasLog n result
 sound_log n (Refused code) is = tt
@@ -260,9 +260,9 @@ all_logs n (r ∷ results) is = (sound_log n r is.0, all_logs n results is.1)
 names_count : {T P : Type 0} (name : T → List ℕ) (index : P → ℤ) (parts : T → List P) (topics : List T) → length (flat_map (λ t. map (λ (p : P). let n : Named = record { topic = name t; index = index p } in n) (parts t)) topics) ≡ sum_by (λ t. length (parts t)) topics
 names_count name index parts [] = refl
 names_count {P = P} name index parts (t ∷ topics) =
-    let as : P → Named = λ p. record { topic = name t; index = index p } in
+    let named_by : P → Named = λ p. record { topic = name t; index = index p } in
     let later : List Named = flat_map (λ t. map (λ (p : P). let n : Named = record { topic = name t; index = index p } in n) (parts t)) topics in
-    length-append (map as (parts t)) later ∙ omega (arith, length-map (parts t) as, names_count name index parts topics, sum_by-cons (λ t. length (parts t)) t topics)
+    length-append (map named_by (parts t)) later ∙ omega (arith, length-map (parts t) named_by, names_count name index parts topics, sum_by-cons (λ t. length (parts t)) t topics)
 
 named_length : (ask : Ask) → named_count ask ≡ length (named_of ask)
 named_length (Produce transactional acks timeout topics) = sym (names_count (λ (t : ProduceTopic). t.name) (λ (p : ProducePart). p.index) (λ (t : ProduceTopic). t.parts) topics)

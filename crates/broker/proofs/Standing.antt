@@ -127,3 +127,18 @@ are_reseated kept waiting session seat are there same =
     (are_moved kept waiting waiting kept.board.parts kept.board.clock session seat (parked_at kept session) are there refl
     (subst (λ (frame : List ℕ). MatchesWaiting (partitions_of kept.board.config.topics) frame (parked_at kept session) (waiting_in waiting session)) (sym same) (are.waits session))
     (λ s other. refl))
+
+-- the histories, one session's seat and what is kept of its request are written back
+pub all_written : (config : Configuration) (parts after : List History) (clock later : List ClockEvent) (desks lent : List Seat) (slots lent_slots : List (Option Parked)) (kept : Kept) (session : ℕ) (change : Seat → Seat) (shown desk : Seat) (slot : Option Parked)
+    → kept_as config parts clock desks slots ≡ kept → session < length kept.board.seats → length after ≡ length parts → lent ≡ desks → shown ≡ get_or lent session shown → desk ≡ change (get_or lent session shown) → lent_slots ≡ slots
+    → kept_as config (take (length parts) (after ++ drop (length after) parts)) later (take (length desks) (set lent session desk ++ drop (length (set lent session desk)) desks)) (take (length slots) (set lent_slots session slot ++ drop (length (set lent_slots session slot)) slots))
+    ≡ moved kept after later session (change (seat_at kept.board session)) slot
+all_written config parts after clock later desks lent slots lent_slots kept session change shown desk slot view there size value at takes slots_are =
+    let seat = seat_shown kept (kept_as config parts clock desks slots) lent session shown view value there at in
+    let took : desk ≡ change (seat_at kept.board session) = takes ∙ ap change (sym (seat ∙ at)) in
+    let d = one_written desks lent session desk value ∙ ap (set desks session) took in
+    let o = one_written slots lent_slots session slot slots_are in
+    ap (λ (ps : List History). kept_as config ps later (take (length desks) (set lent session desk ++ drop (length (set lent session desk)) desks)) (take (length slots) (set lent_slots session slot ++ drop (length (set lent_slots session slot)) slots))) (written parts after size)
+    ∙ ap (λ (ds : List Seat). kept_as config after later ds (take (length slots) (set lent_slots session slot ++ drop (length (set lent_slots session slot)) slots))) d
+    ∙ ap (kept_as config after later (set desks session (change (seat_at kept.board session)))) o
+    ∙ subst (λ (k : Kept). kept_as config after later (set desks session (change (seat_at k.board session))) (set slots session slot) ≡ moved k after later session (change (seat_at k.board session)) slot) view refl

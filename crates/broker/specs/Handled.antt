@@ -10,6 +10,7 @@ use Rattle.audit.specs.LawfulCall.{step_points}
 use Rattle.kwire.specs.declared.request.Request.{Request}
 use Rattle.kwire.specs.Configuration.{Configuration}
 use Rattle.kanswer.specs.Decisions.{Decision, Decides}
+use Rattle.kanswer.specs.Results.{AreResults}
 use Rattle.kanswer.specs.Waiting.{becomes_delayed, operation_of, results_of}
 use Rattle.plain_broker.specs.Entering.{Noted, accept_all, shown_of, steps_of}
 use Rattle.plain_broker.specs.Turns.{how_at_once, text_at_once}
@@ -26,7 +27,7 @@ pub record IsAnswered (config : Configuration) (by : ℕ) (request : Request) (n
   pub none : handled.parked ≡ None
   pub printed : more ≡ text ++ text_at_once config by request (shown_of noted)
 
--- it waits
+-- it waits, and this became of each partition that it names
 pub record IsParked (by seq : ℕ) (request : Request) (noted : List Noted) (clock later : List ClockEvent) (handled : Handled) (text more : List ℕ) : Type 0 where
   pub looked : later ≡ looked_by by seq clock
   pub points : handled.accept ≡ step_points (steps_of noted) ++ record { part = clock_part; place = length clock } ∷ []
@@ -36,6 +37,7 @@ pub record IsParked (by seq : ℕ) (request : Request) (noted : List Noted) (clo
     op = operation_of request.ask (results_of (shown_of noted)) (moment_of later);
   })
   pub printed : more ≡ text
+  pub listed : AreResults request.ask (results_of (shown_of noted))
 
 -- by the call of this number of a session
 pub record IsHandled (config : Configuration) (by seq : ℕ) (request : Request) (before after : List History) (clock later : List ClockEvent) (handled : Handled) (text more : List ℕ) : Type 0 where

@@ -7,12 +7,11 @@ use Rattle.kanswer.specs.Results.{AreResults}
 use Rattle.kanswer.specs.Waiting.{operation_of}
 use Rattle.kwire.specs.Configuration.{followers_of, partitions_of}
 use Rattle.kwire.specs.IsRequest.{IsRequest}
-use Rattle.kwire.specs.declared.config.Topic.{Topic}
-use Rattle.kwire.specs.declared.config.TheConstants.{MOST_NAME_BYTES, MOST_PARTITIONS, MOST_FOLLOWERS}
 use Rattle.audit.specs.declared.account.Call.{Call}
 use Rattle.trace_file.specs.declared.line.Line.{Line}
 use Rattle.trace_file.specs.declared.line.Line.TheVariants as lines
 use Rattle.plain_broker.specs.Board.{Board, Waiting, most_sessions, transcript_at}
+use Rattle.plain_broker.specs.Declared.{AreDeclared}
 use Rattle.plain_broker.specs.Turns.{Turned}
 use Rattle.broker.specs.Replying.{HasLog}
 use Rattle.broker.specs.declared.parked.Parked.{Parked}
@@ -25,14 +24,6 @@ pub record Kept : Type 0 where
 
 abbrev pub parked_at : Kept → ℕ → Option Parked
 parked_at kept session = unwrap_or (slice_get kept.parked session) None
-
--- topics as they may be declared
-abbrev pub IsDeclared : Topic → Type 0
-IsDeclared topic = (length topic.name ≤ MOST_NAME_BYTES) × (0 < topic.partitions) × (topic.followers ≤ MOST_FOLLOWERS)
-
-pub record AreDeclared (topics : List Topic) : Type 0 where
-  pub each : AllByRecursion IsDeclared topics
-  pub few : partitions_of topics ≤ MOST_PARTITIONS
 
 abbrev pub last_frame : List Call → List ℕ
 last_frame [] = []

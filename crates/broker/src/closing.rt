@@ -1,9 +1,8 @@
 //! What the one-thread broker did, as the account of a run.
 
-ghost use Rattle.std.specs.Prelude.{◌≡◌, ◌<◌, ◌≤◌, ◌^◌, List as Items, length, map, count_by, option_to_list, reverse, All, IfOk, OnOk};
+ghost use Rattle.std.specs.Prelude.{◌≡◌, ◌≤◌, List as Items, length, map, count_by, option_to_list, reverse, IfOk, OnOk};
 ghost use Rattle.std.specs.List.{flat_map};
 ghost use Rattle.audit.specs.IsLawful.{is_won_by};
-ghost use Rattle.partlog.specs.Added.{log_end_of};
 ghost use Rattle.plain_broker.specs.Board.{Waiting, account_of, most_sessions, part_account, passes_of, put_before};
 ghost use Rattle.audit.specs.Histories.{calls_in};
 
@@ -16,8 +15,7 @@ use std::alloc::Global;
 
 // A partition's log and history, handed over as they stand.
 fn part_account(part: PartLog) -> PartAccount
-    ensures account { result ≡ part_account part }
-    ensures few { log_end_of result.events < 2 ^ 64 }
+    ensures { result ≡ part_account part }
 {
     let followers = part.followers();
     let (log, events) = part.into_parts();
@@ -30,8 +28,7 @@ fn part_account(part: PartLog) -> PartAccount
 
 // The same of each partition, in order.
 fn part_accounts(alloc: Global, parts: List<PartLog>) -> Result<List<PartAccount>, NoMemory>
-    ensures accounts { IfOk result (λ accounts. accounts ≡ map part_account parts) }
-    ensures few { IfOk result (λ accounts. All (λ part. log_end_of part.events < 2 ^ 64) accounts) }
+    ensures { IfOk result (λ accounts. accounts ≡ map part_account parts) }
 {
     let mut accounts = List::new(alloc);
     for part in parts.into_vec() {
@@ -105,22 +102,23 @@ pub fn account(
     desks: List<Desk>,
 ) -> Result<Account, NoMemory>
     requires { length desks ≤ most_sessions }
-    ensures account { (waiting : Items Waiting) → IfOk result (λ account. account ≡ account_of (record {
+    ensures { (waiting : Items Waiting) → IfOk result (λ account. account ≡ account_of (record {
       config = config;
       parts = parts;
       clock = clock;
       seats = desks;
       waiting = waiting;
     })) }
-    ensures few { IfOk result (λ account. All (λ part. log_end_of part.events < 2 ^ 64) account.parts) }
 {
     let mut wins = List::new(alloc);
     wins.push(won(desks.as_slice()))?;
+    let accounts = part_accounts(alloc, parts)?;
+    let passes = passes_of(alloc, desks)?;
     Ok(Account {
         config,
-        parts: part_accounts(alloc, parts)?,
+        parts: accounts,
         clock: clock.into_events(),
-        passes: passes_of(alloc, desks)?,
+        passes,
         wins,
     })
 }

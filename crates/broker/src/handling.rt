@@ -14,7 +14,7 @@ ghost use Rattle.partlog.specs.Moment.{moment_of};
 ghost use Rattle.plain_broker.specs.Turns.{how_at_once, text_at_once};
 ghost use Rattle.broker.specs.Gathered.{numbers_in};
 ghost use Rattle.broker.specs.Handled.{IsHandled, looked_by};
-ghost use Rattle.broker.specs.Kept.{AreDeclared};
+ghost use Rattle.plain_broker.specs.Declared.{AreDeclared};
 ghost use Rattle.broker.specs.Replying.{HasLog, ShowsLogs};
 
 use crate::accept::{Asking, accept};

@@ -1,21 +1,20 @@
 //! The broker on one thread.
 
-ghost use Rattle.std.specs.Prelude.{◌≡◌, ◌≢◌, ◌<◌, ◌≤◌, ◌^◌, Some, None, length, ℕ, IfSome, IsNone, IsTrue, OnOk, IfOk};
-ghost use Rattle.std.specs.List.{All};
+ghost use Rattle.std.specs.Prelude.{◌≡◌, ◌≢◌, ◌<◌, ◌≤◌, ◌^◌, Some, None, length, ℕ, IfSome, IsTrue, OnOk, IfOk};
 ghost use Rattle.audit.specs.declared.account.SessionEnd.TheVariants.{Refused};
 ghost use Rattle.kwire.specs.declared.frame.WireFault.TheVariants.{NoMemory as OutOfMemory};
 ghost use Rattle.kwire.specs.declared.frame.Frame.TheVariants.{Whole};
 ghost use Rattle.kwire.specs.Frames.{next_frame_of};
 ghost use Rattle.kwire.specs.Spelling.{spelling};
 ghost use Rattle.kanswer.specs.Answer.{answer};
-ghost use Rattle.partlog.specs.Added.{log_end_of};
 ghost use Rattle.plain_broker.specs.Acting.{Acts, can_act, end_of_input, next_to_act};
 ghost use Rattle.plain_broker.specs.Board.{Board, Waiting, account_of, most_sessions, opening, seat_at};
 ghost use Rattle.plain_broker.specs.Completing.{answered_in, scanned, shown_now};
 ghost use Rattle.plain_broker.specs.Play.{PlaysLine, Rests, brought};
 ghost use Rattle.plain_broker.specs.Turns.{Turned, ended};
 ghost use Rattle.broker.specs.Desks.{front_body, next_of};
-ghost use Rattle.broker.specs.Kept.{AreDeclared, IsPlayable, StandsFor, Stands, TurnsBy, parked_at, waiting_in};
+ghost use Rattle.plain_broker.specs.Declared.{AreDeclared};
+ghost use Rattle.broker.specs.Kept.{IsPlayable, StandsFor, Stands, TurnsBy, parked_at, waiting_in};
 ghost use Rattle.broker.specs.Looks.{due_in, finished};
 
 use crate::accept::Asking;
@@ -185,7 +184,7 @@ impl Lone {
         requires there { session < most_sessions }
         requires stands { Stands self.now }
         ensures can { (board : Board) → StandsFor self.now board → result ≡ can_act board session }
-        ensures idle { IsTrue result → IsNone (parked_at self.now session) }
+        ensures idle { IsTrue result → parked_at self.now session ≡ None }
     {
         let at = session as usize;
         self.parked.as_slice()[at].is_none() && self.desks.as_slice()[at].has_work()
@@ -340,8 +339,7 @@ impl Lone {
     /// The account of what was done so far.
     pub fn close(self) -> Result<Account, NoMemory>
         requires { Stands self }
-        ensures account { IfOk result (λ account. (board : Board) → StandsFor self board → account ≡ account_of board) }
-        ensures few { IfOk result (λ account. All (λ part. log_end_of part.events < 2 ^ 64) account.parts) }
+        ensures { IfOk result (λ account. (board : Board) → StandsFor self board → account ≡ account_of board) }
     {
         account(self.alloc, self.config, self.parts, self.clock, self.desks)
     }

@@ -6,7 +6,7 @@ ghost use Rattle.kanswer.specs.Waiting.{Shown};
 ghost use Rattle.kanswer.specs.Answer.{answer};
 ghost use Rattle.kanswer.specs.LogReadings.{AreReadings, IsCarriable, HasCarriable, named_count, budget_of};
 ghost use Rattle.kwire.specs.IsRequest.{IsRequest};
-ghost use Rattle.broker.specs.Kept.{AreDeclared};
+ghost use Rattle.plain_broker.specs.Declared.{AreDeclared};
 ghost use Rattle.broker.specs.Gathered.{numbers_now, reading_now, left_now, readings_now, left_behind, bytes_read, most_left, shown_in_logs, numbers_in, part_numbers};
 ghost use Rattle.kwire.specs.Spelling.{spelling};
 ghost use Rattle.broker.specs.Replying.{HasLog, ShowsLogs};
