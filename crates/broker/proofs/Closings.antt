@@ -1,5 +1,5 @@
 -- The parts of an account, one after the other, and the whole.
-use Rattle.std.proofs.Common.{◌≡◌, ℕ, ◌+◌, Bool, cond, Option, Some, None, unwrap_or, List, [], ◌∷◌, ◌++◌, map, sum_by, refl, sym, ap, ◌∙◌, arith, append-nil}
+use Rattle.std.proofs.Common.{◌≡◌, ℕ, ◌+◌, Bool, cond, Option, Some, None, unwrap_or, List, [], ◌∷◌, ◌++◌, map, sum_by, refl, sym, ap, ◌∙◌, arith, append-nil, Result, Ok, Err, IfOk}
 use Rattle.std.proofs.lemmas.List.Sums.{sum_by-append, sum_by-cons}
 use Rattle.std.specs.Prelude.{count_by, option_to_list}
 use Rattle.std.specs.List.{flat_map}
@@ -71,3 +71,7 @@ account_made config parts seats waiting accounts clock events passes wins won co
     ∙ ap (λ (x : List ClockEvent). made_of config (map part_account parts) x passes wins) still
     ∙ ap (λ (x : List (List Transcript)). made_of config (map part_account parts) clock x wins) listed
     ∙ ap (made_of config (map part_account parts) clock (passes_of seats)) (one ∙ ap (λ (n : ℕ). n ∷ []) counted)
+
+pub if_ok_each : {T E W : Type 0} {P : W → T → Type 0} (r : Result T E) → ((w : W) → IfOk r (P w)) → IfOk r (λ x. (w : W) → P w x)
+if_ok_each (Ok x) f = f
+if_ok_each (Err e) f = tt

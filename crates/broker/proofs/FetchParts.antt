@@ -6,6 +6,7 @@ use Rattle.std.proofs.lemmas.List.{length-map, length-replicate}
 use Rattle.std.proofs.lemmas.List.Sums.{sum_by-cons}
 use Rattle.std.proofs.lemmas.Int.{ints}
 use Rattle.std.specs.Prelude.{nat_lt, nat_le, slice_get, ◌≤ℤ◌}
+use lib.Dec.{T}
 use lib.Signed.{le_z}
 use Rattle.partlog.specs.Added.{log_end_of}
 use Rattle.partlog.specs.Follower.{IsFollower}
@@ -26,6 +27,13 @@ use Rattle.broker.specs.Carried.{Came, IsCarried, IsEntered}
 pub not_below : (z : ℤ) → pos 0 ≤ℤ z → (n : ℕ) × (z ≡ pos n)
 not_below (pos n) h = (n, refl)
 not_below (negsuc n) h = absurd h.le
+
+pub above : (z : ℤ) → le_z (pos 0) z ≡ true → pos 0 ≤ℤ z
+above z e = record { le = told (le_z (pos 0) z) e }
+  where
+    told : (b : Bool) → b ≡ true → T b
+    told true e = tt
+    told false e = absurd cc
 
 pub negative : (z : ℤ) → le_z (pos 0) z ≡ false → (n : ℕ) × (z ≡ negsuc n)
 negative (pos n) e = absurd (grind (arith, ints))
@@ -75,6 +83,13 @@ follower_or_not (pos r) followers =
 pub range_or_not : (offset : ℤ) (end : ℕ) → IsInRange offset end ⊎ (IsInRange offset end → ⊥)
 range_or_not (negsuc n) end = inr (λ no. no)
 range_or_not (pos at) end = elim (leb_tells at end) [ inl le ↦ inl le.1 | inr lt ↦ inr (λ is. absurd (omega (arith, lt.1, is))) ]
+
+-- where it can't be otherwise
+pub follower_by : (replica : ℤ) (followers : ℕ) → ((IsFollower replica followers → ⊥) → ⊥) → IsFollower replica followers
+follower_by replica followers twice = elim (follower_or_not replica followers) [ inl is ↦ is | inr never ↦ absurd (twice never) ]
+
+pub range_by : (offset : ℤ) (end : ℕ) → ((IsInRange offset end → ⊥) → ⊥) → IsInRange offset end
+range_by offset end twice = elim (range_or_not offset end) [ inl is ↦ is | inr never ↦ absurd (twice never) ]
 
 abbrev follows : ℕ → ℕ → Bool
 follows r followers = nat_lt 0 r && nat_le r followers

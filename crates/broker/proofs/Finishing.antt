@@ -47,7 +47,10 @@ finish_is kept session seq how accepted listed parts lent after clock later none
 
 -- ---- before the first line
 
-none_at : (n s : ℕ) → unwrap_or (slice_get (replicate n None) s) None ≡ None
+abbrev nothing : Option Parked
+nothing = None
+
+none_at : (n s : ℕ) → unwrap_or (slice_get (replicate n nothing) s) nothing ≡ nothing
 none_at zero s = refl
 none_at (suc n) zero = refl
 none_at (suc n) (suc s) = none_at n s

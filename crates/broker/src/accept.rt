@@ -246,10 +246,10 @@ pub fn accept_fetch_part(
 ) -> Result<(), NoMemory>
     ensures { OnOk result (IsEntered who.by who.seq part (fetch_outcome log.old.followers replica asked.now part) log.old log.new came.old came.new) }
 {
-    if replica < 0 {
-        consume(log, who, part, asked, came)
-    } else {
+    if replica >= 0 {
         follow(log, who, replica, part, asked, came)
+    } else {
+        consume(log, who, part, asked, came)
     }
 }
 

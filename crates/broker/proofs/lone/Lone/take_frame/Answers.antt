@@ -1,4 +1,4 @@
-use Rattle.std.proofs.Common.{◌≡◌, ◌≢◌, ◌<◌, ◌≤◌, ℕ, List, [], length, sym, ap, subst, ◌∙◌, arith, refl}
+use Rattle.std.proofs.Common.{◌≡◌, ◌≢◌, ◌<◌, ◌≤◌, ℕ, List, [], get_or, length, sym, ap, subst, ◌∙◌, arith, refl}
 use Rattle.audit.specs.declared.account.SessionEnd.TheVariants.{CallsFull, Refused}
 use Rattle.audit.specs.declared.account.TheConstants.{MOST_CALLS}
 use Rattle.audit.specs.declared.account.Point.{Point}
@@ -79,7 +79,8 @@ note-requires-clause-room c =
     let seat = seat_shown kept _ c.as_slice.result.now s c.index-as_slice-session.result c.self.view_is c.as_slice.ensures sat c.index-as_slice-session.is in
     let counted : c.next_call-seq.result ≡ next_call kept.board s = c.next_call-seq.ensures.number s ∙ ap (next_of s) (sym seat) in
     let now = seat_shown kept _ c.as_mut_slice.result.now s c.index-as_mut_slice-session.result c.self.view_is c.as_mut_slice.ensures.value sat c.index-as_mut_slice-session.is in
-    let same : next_call kept.board s ≡ next_of s _ = ap (next_of s) (now ∙ c.index-as_mut_slice-session.is) in
+    let at : seat_at kept.board s ≡ get_or c.as_mut_slice.result.now s c.index-as_mut_slice-session.result = now ∙ c.index-as_mut_slice-session.is in
+    let same : next_call kept.board s ≡ next_of s (get_or c.as_mut_slice.result.now s c.index-as_mut_slice-session.result) = ap (next_of s) at in
     omega (arith, same, counted, c.next_call-seq.ensures.few, c.if-seq.false)
 
 pub returns : goal.returns
