@@ -1,5 +1,5 @@
 -- A request is accepted, or completed by looks: who left the entries, and what every account shows that goes on from there.
-use Rattle.std.proofs.Common.{◌≡◌, ◌≢◌, ℕ, ◌+◌, ◌≤◌, ◌<◌, Bool, false, cond, eqb, List, [], ◌∷◌, ◌++◌, length, map, set, Option, Some, None, unwrap_or, refl, sym, ap, subst, ◌∙◌, arith, inl, inr, append_assoc, append-nil}
+use Rattle.std.proofs.Common.{◌≡◌, ◌≢◌, ℕ, ◌≤◌, ◌<◌, Bool, false, cond, eqb, List, [], ◌∷◌, ◌++◌, length, map, set, Option, Some, None, unwrap_or, refl, sym, ap, subst, ◌∙◌, arith, inl, inr, append_assoc, append-nil}
 use Rattle.std.proofs.lemmas.Bool.{ne_eqb}
 use Rattle.std.proofs.lemmas.List.{length-map, length-set, map-append}
 use Rattle.std.specs.Prelude.{slice_get}
@@ -20,7 +20,7 @@ use Rattle.kanswer.specs.Decisions.{Decision, Refuse, AskLog, Looked, look}
 use Rattle.kanswer.specs.Waiting.{Shown}
 use Rattle.plain_broker.specs.Board.{history_at, empty_history}
 use Rattle.plain_broker.specs.Completing.{look_all, present}
-use Rattle.plain_broker.specs.Entering.{entered, accept_all, steps_of, shown_of}
+use Rattle.plain_broker.specs.Entering.{entered, accept_all, steps_of}
 use Rattle.plain_broker.specs.GoesOn.{the_owner, AllWhole, Follows}
 use Rattle.plain_broker.specs.Kept.{IsKept, owners_here, owners_at}
 use Rattle.plain_broker.specs.Sound.{AllBelow}
@@ -97,6 +97,21 @@ kept_accepted clock ledger by n before (AskLog part outcome ∷ decisions) parts
     let others = step_points (steps_of (accept_all by seq decisions parts1).0) in
     subst (λ (ps : List Point). IsKept (owners_at (accept_all by seq decisions parts1).1 clock) (put ledger by (before ++ ps ∷ []))) (append_assoc points (point ∷ []) others)
     (kept_accepted clock ledger by n before decisions parts1 (points ++ point ∷ []) (length-set parts part left ∙ size) few fair.1 one)
+
+-- the same where the call's number is told in another way
+pub kept_accepted_at : (clock : List ClockEvent) (ledger : ℕ → List (List Point)) (by seq n : ℕ) (before : List (List Point)) (decisions : List Decision) (parts : List History) (points : List Point)
+    → seq ≡ length before → length parts ≡ n → n ≤ 64 → AllByRecursion (IsFair n) decisions → IsKept (owners_at parts clock) (put ledger by (before ++ points ∷ []))
+    → IsKept (owners_at (accept_all by seq decisions parts).1 clock) (put ledger by (before ++ (points ++ step_points (steps_of (accept_all by seq decisions parts).0)) ∷ []))
+kept_accepted_at clock ledger by seq n before decisions parts points is size few fair kept =
+    subst (λ (k : ℕ). IsKept (owners_at (accept_all by k decisions parts).1 clock) (put ledger by (before ++ (points ++ step_points (steps_of (accept_all by k decisions parts).0)) ∷ []))) (sym is)
+    (kept_accepted clock ledger by n before decisions parts points size few fair kept)
+
+pub kept_look_at : (parts : List History) (clock : List ClockEvent) (ledger : ℕ → List (List Point)) (by seq : ℕ) (before : List (List Point)) (points : List Point)
+    → seq ≡ length before → IsKept (owners_at parts clock) (put ledger by (before ++ points ∷ []))
+    → IsKept (owners_at parts (clock ++ clocks.Look by seq ∷ [])) (put ledger by (before ++ (points ++ clock_point clock ∷ []) ∷ []))
+kept_look_at parts clock ledger by seq before points is kept =
+    subst (λ (k : ℕ). IsKept (owners_at parts (clock ++ clocks.Look by k ∷ [])) (put ledger by (before ++ (points ++ clock_point clock ∷ []) ∷ []))) (sym is)
+    (kept_look parts clock ledger by before points kept)
 
 -- ---- the partitions that are named in what came of it
 
@@ -222,8 +237,8 @@ module _ (account : Account) (by seq n : ℕ) (few : n ≤ 64) where
       let rest : shown_as_completed account steps (look_points by seq ps parts1) ≡ shown_in parts steps =
       on parts1 size1 whole1 all.1 follows ∙ shown_alike parts parts1 (λ q. one_look by seq p q parts within) steps in
       rw is (
-          ap (λ (s : PartState). record { result = step.result; state = s } ∷ shown_as_completed account steps (look_points by seq ps parts1)) at
-          ∙ ap (λ (ss : List Shown). record { result = step.result; state = state_of found } ∷ ss) rest
+      ap (λ (s : PartState). record { result = step.result; state = s } ∷ shown_as_completed account steps (look_points by seq ps parts1)) at
+      ∙ ap (λ (ss : List Shown). record { result = step.result; state = state_of found } ∷ ss) rest
       )
 
   by_part_in : (step : Step) (steps : List Step) (o : Option ℕ) (parts : List History) → part_in step.result ≡ o → ((later : List History) → Shows steps (operation_parts steps) later) → Shows (step ∷ steps) (cons_option o (operation_parts steps)) parts

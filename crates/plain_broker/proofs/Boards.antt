@@ -1,11 +1,11 @@
 -- What holds of a board stays as one session does something: its seat changes, and the histories go on.
-use Rattle.std.proofs.Common.{◌≡◌, ◌≢◌, ℕ, zero, suc, ◌+◌, ◌-◌, ◌≤◌, ◌<◌, ◌⊎◌, Bool, true, false, not, cond, eqb, List, [], ◌∷◌, ◌++◌, length, map, filter, set, Option, Some, None, unwrap_or, refl, sym, ap, subst, ◌∙◌, arith, inl, inr, eq-eqb, append-nil}
+use Rattle.std.proofs.Common.{◌≡◌, ◌≢◌, ℕ, zero, suc, ◌≤◌, ◌<◌, Bool, true, false, not, cond, eqb, List, [], ◌∷◌, ◌++◌, length, map, filter, set, Option, Some, None, unwrap_or, refl, sym, ap, subst, ◌∙◌, arith, inl, inr, eq-eqb}
 use Rattle.std.proofs.lemmas.Bool.{ne_eqb, eqb-true, cases_lt}
-use Rattle.std.proofs.lemmas.List.{length-map, length-set, map-append}
+use Rattle.std.proofs.lemmas.List.{length-set}
 use Rattle.std.proofs.lemmas.List.Folds.{find-append}
 use Rattle.std.proofs.lemmas.Option.{slice_get_past}
 use Rattle.std.specs.Prelude.{slice_get, ◌==◌, ◌||◌}
-use Rattle.std.specs.List.{AllByRecursion, find, list_any}
+use Rattle.std.specs.List.{find, list_any}
 use Rattle.std.specs.Option.{option_or}
 use Rattle.partlog.specs.declared.clock_event.ClockEvent.{ClockEvent}
 use Rattle.partlog.specs.History.{History}
@@ -16,11 +16,11 @@ use Rattle.audit.specs.declared.account.Transcript.{Transcript}
 use Rattle.audit.specs.Histories.{points_of}
 use Rattle.audit.proofs.Laws.{same_or_not, get_set_same, get_set_other, some_is}
 use Rattle.kwire.specs.Configuration.{Configuration}
-use Rattle.plain_broker.specs.Board.{Board, Seat, Waiting, empty_seat, new_transcript, seat_at, transcript_at}
+use Rattle.plain_broker.specs.Board.{Board, Seat, Waiting, empty_seat, new_transcript, transcript_at}
 use Rattle.plain_broker.specs.Completing.{finish_last}
 use Rattle.plain_broker.specs.GoesOn.{HaveGrown}
 use Rattle.plain_broker.specs.Kept.{IsKept, owners_at}
-use Rattle.plain_broker.proofs.Going.{carried_on, grown_self}
+use Rattle.plain_broker.proofs.Going.{carried_on}
 use Rattle.plain_broker.proofs.Calls.{IsDelayedAs}
 use Rattle.plain_broker.proofs.Counting.{below_more}
 use Rattle.plain_broker.proofs.Ledger.{put, put_same, put_other, kept_alike, all_on, push_get}
@@ -52,7 +52,7 @@ module _ (config : Configuration) (parts later : List History) (clock behind : L
     calls = stand.calls;
     done = all_done_on stand.front stand.done;
     waits = waiting_on w stand.call stand.waits;
-    session = stand.session;
+    own = stand.own;
     going = stand.going;
   }
 
@@ -120,19 +120,19 @@ module _ (board : Board) (later : List History) (behind : List ClockEvent) (s : 
 
 find_none : {X : Type 0} (p : X → Bool) (xs : List X) → list_any p xs ≡ false → find p xs ≡ None
 find_none {X = X} p [] none = refl
-find_none {X = X} p (x ∷ xs) none = by_test (p x) none
+find_none {X = X} p (x ∷ xs) none = by_test (p x) (find_none p xs) none
   where
-    by_test : (b : Bool) → (b || list_any p xs) ≡ false → cond b (Some x) (find p xs) ≡ None
-    by_test true e = absurd cc
-    by_test false e = find_none p xs e
+    by_test : (b : Bool) → (list_any p xs ≡ false → find p xs ≡ None) → (b || list_any p xs) ≡ false → cond b (Some x) (find p xs) ≡ None
+    by_test true on e = absurd cc
+    by_test false on e = on e
 
 pub find_is : {X : Type 0} (p : X → Bool) (xs : List X) (x : X) → find p xs ≡ Some x → p x ≡ true
 find_is p [] x e = absurd cc
-find_is p (y ∷ xs) x e = by_test (p y) refl e
+find_is p (y ∷ xs) x e = by_test (p y) refl (find_is p xs x) e
   where
-    by_test : (b : Bool) → p y ≡ b → cond b (Some y) (find p xs) ≡ Some x → p x ≡ true
-    by_test true is f = ap p (sym (some_is y x f)) ∙ is
-    by_test false is f = find_is p xs x f
+    by_test : (b : Bool) → p y ≡ b → (find p xs ≡ Some x → p x ≡ true) → cond b (Some y) (find p xs) ≡ Some x → p x ≡ true
+    by_test true is on f = ap p (sym (some_is y x f)) ∙ is
+    by_test false is on f = on f
 
 -- nothing waits of a session that can act
 pub none_waits : (waiting : List Waiting) (s : ℕ) → list_any (λ w. w.session == s) waiting ≡ false → waiting_of waiting s ≡ None
@@ -169,32 +169,36 @@ without waiting s = filter (λ other. not (other.session == s)) waiting
 
 pub waits_no_more : (waiting : List Waiting) (s : ℕ) → waiting_of (without waiting s) s ≡ None
 waits_no_more [] s = refl
-waits_no_more (w ∷ waiting) s = by_test (w.session == s) refl
+waits_no_more (w ∷ waiting) s = by_test (w.session == s) refl (waits_no_more waiting s)
   where
-    by_test : (b : Bool) → (w.session == s) ≡ b → waiting_of (cond (not b) (w ∷ without waiting s) (without waiting s)) s ≡ None
-    by_test true is = waits_no_more waiting s
-    by_test false is = ap (λ (b : Bool). cond b (Some w) (waiting_of (without waiting s) s)) is ∙ waits_no_more waiting s
+    by_test : (b : Bool) → (w.session == s) ≡ b → waiting_of (without waiting s) s ≡ None → waiting_of (cond (not b) (w ∷ without waiting s) (without waiting s)) s ≡ None
+    by_test true is rest = rest
+    by_test false is rest = ap (λ (b : Bool). cond b (Some w) (waiting_of (without waiting s) s)) is ∙ rest
 
 pub waits_still : (waiting : List Waiting) (s r : ℕ) → r ≢ s → waiting_of (without waiting s) r ≡ waiting_of waiting r
 waits_still [] s r other = refl
-waits_still (w ∷ waiting) s r other = by_test (w.session == s) refl
+waits_still (w ∷ waiting) s r other = by_test (w.session == s) refl (waits_still waiting s r other)
   where
-    by_test : (b : Bool) → (w.session == s) ≡ b → waiting_of (cond (not b) (w ∷ without waiting s) (without waiting s)) r ≡ waiting_of (w ∷ waiting) r
-    by_test true is =
+    by_test : (b : Bool) → (w.session == s) ≡ b → waiting_of (without waiting s) r ≡ waiting_of waiting r → waiting_of (cond (not b) (w ∷ without waiting s) (without waiting s)) r ≡ waiting_of (w ∷ waiting) r
+    by_test true is rest =
         let no : eqb w.session r ≡ false = ne_eqb w.session r (λ e. other (sym e ∙ eqb-true w.session s is)) in
-        waits_still waiting s r other ∙ sym (ap (λ (b : Bool). cond b (Some w) (waiting_of waiting r)) no)
-    by_test false is = ap (λ (o : Option Waiting). cond (w.session == r) (Some w) o) (waits_still waiting s r other)
+        rest ∙ sym (ap (λ (b : Bool). cond b (Some w) (waiting_of waiting r)) no)
+    by_test false is rest = ap (λ (o : Option Waiting). cond (w.session == r) (Some w) o) rest
 
 without_get : (waiting : List Waiting) (s i : ℕ) (x : Waiting) → slice_get (without waiting s) i ≡ Some x → (j : ℕ) × (slice_get waiting j ≡ Some x) × (x.session ≢ s)
 without_get [] s i x e = absurd cc
-without_get (w ∷ waiting) s i x e = by_test (w.session == s) refl i e
+without_get (w ∷ waiting) s i x e = by_test (w.session == s) refl (λ k. without_get waiting s k x) i e
   where
-    by_test : (b : Bool) → (w.session == s) ≡ b → (k : ℕ) → slice_get (cond (not b) (w ∷ without waiting s) (without waiting s)) k ≡ Some x → (j : ℕ) × (slice_get (w ∷ waiting) j ≡ Some x) × (x.session ≢ s)
-    by_test true is k f = let found = without_get waiting s k x f in (suc found.0, found.1, found.2)
-    by_test false is zero f = (zero, f, λ same.
-        let yes : (w.session == s) ≡ true = ap (λ (y : Waiting). y.session == s) (some_is w x f) ∙ eq-eqb x.session s same in
-        absurd (cc (yes, is)))
-    by_test false is (suc k) f = let found = without_get waiting s k x f in (suc found.0, found.1, found.2)
+    by_test : (b : Bool) → (w.session == s) ≡ b → ((k : ℕ) → slice_get (without waiting s) k ≡ Some x → (j : ℕ) × (slice_get waiting j ≡ Some x) × (x.session ≢ s)) → (k : ℕ) → slice_get (cond (not b) (w ∷ without waiting s) (without waiting s)) k ≡ Some x → (j : ℕ) × (slice_get (w ∷ waiting) j ≡ Some x) × (x.session ≢ s)
+    by_test true is on k f = let found = on k f in (suc found.0, found.1, found.2)
+    by_test false is on zero f = (
+      zero,
+      f,
+      λ same.
+          let yes : (w.session == s) ≡ true = ap (λ (y : Waiting). y.session == s) (some_is w x f) ∙ eq-eqb x.session s same in
+          absurd (cc (yes, is)),
+    )
+    by_test false is on (suc k) f = let found = on k f in (suc found.0, found.1, found.2)
 
 pub alone_still : (waiting : List Waiting) (s : ℕ) → WaitAlone waiting → WaitAlone (without waiting s)
 alone_still waiting s alone i x e =
@@ -208,12 +212,12 @@ finished finish how [] call = refl
 finished finish how (x ∷ []) call = refl
 finished finish how (x ∷ y ∷ front) call = ap (λ (cs : List Call). x ∷ cs) (finished finish how (y ∷ front) call)
 
-nothing_last : (front : List Call) (call : Call) → [] ≡ front ++ call ∷ [] → ⊥
+pub nothing_last : (front : List Call) (call : Call) → [] ≡ front ++ call ∷ [] → ⊥
 nothing_last [] call e = absurd cc
 nothing_last (x ∷ front) call e = absurd cc
 
 -- a session with a call is one of those that there may be
-pub seat_there : (board : Board) (s : ℕ) (front : List Call) (call : Call) → length board.seats ≡ 64 → (transcript_at board s).calls ≡ front ++ call ∷ [] → s < 64
+seat_there : (board : Board) (s : ℕ) (front : List Call) (call : Call) → length board.seats ≡ 64 → (transcript_at board s).calls ≡ front ++ call ∷ [] → s < 64
 seat_there board s front call count calls =
     elim (cases_lt s 64) [
       | inl lt ↦ lt
@@ -222,3 +226,11 @@ seat_there board s front call count calls =
           ap (λ (o : Option Seat). (unwrap_or (unwrap_or o empty_seat).transcript (new_transcript s)).calls) (slice_get_past board.seats s (omega (arith, past, count))) in
           absurd (nothing_last front call (sym none ∙ calls))
     ]
+
+-- a request that waits is the last call of its session
+pub waits_last : (board : Board) (s : ℕ) (w : Waiting) → IsSound board → waiting_of board.waiting s ≡ Some w → WaitsLast board.config board.parts board.clock s w (transcript_at board s)
+waits_last board s w h found = subst (λ (o : Option Waiting). Stand board.config board.parts board.clock s o (transcript_at board s)) found (h.sound.sessions s).stand
+
+-- which is one of those that there may be
+pub waits_there : (board : Board) (s : ℕ) (w : Waiting) → IsSound board → waiting_of board.waiting s ≡ Some w → s < 64
+waits_there board s w h found = let last = waits_last board s w h found in seat_there board s last.front last.call h.count last.calls

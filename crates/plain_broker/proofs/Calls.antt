@@ -1,5 +1,5 @@
 -- A call is accepted, waits and is completed: what holds of it in every account that goes on from there.
-use Rattle.std.proofs.Common.{◌≡◌, ℕ, ◌≤◌, Bool, true, false, cond, List, [], ◌∷◌, ◌++◌, length, map, refl, sym, ap, subst, ◌∙◌, arith, append-nil}
+use Rattle.std.proofs.Common.{◌≡◌, ℕ, ◌≤◌, Bool, true, false, cond, List, [], ◌∷◌, ◌++◌, length, refl, sym, ap, subst, ◌∙◌, append-nil}
 use Rattle.std.proofs.lemmas.Bool.{leb-true}
 use Rattle.std.specs.Prelude.{nat_le}
 use Rattle.std.specs.List.{AllByRecursion}
@@ -12,7 +12,7 @@ use Rattle.audit.specs.declared.account.Call.{Call}
 use Rattle.audit.specs.declared.account.CallHow.TheVariants.{Quiet, AtOnce, Satisfied, Expired, Parked}
 use Rattle.audit.specs.declared.account.Point.{Point}
 use Rattle.audit.specs.Histories.{moment_at}
-use Rattle.audit.specs.LawfulCall.{Step, IsAcceptance, LooksAtClock, Completes, is_delayed, operation_parts, step_points, operation_in, shown_as_completed}
+use Rattle.audit.specs.LawfulCall.{Step, IsAcceptance, LooksAtClock, Completes, is_delayed, operation_parts, step_points, shown_as_completed}
 use Rattle.kanswer.specs.Decisions.{Decision, Decides}
 use Rattle.kanswer.specs.Waiting.{Shown, becomes_delayed, is_quiet, operation_of, results_of, values_of}
 use Rattle.kwire.specs.Configuration.{Configuration}
@@ -22,25 +22,16 @@ use Rattle.opcond.specs.Operation.{Operation}
 use Rattle.opcond.specs.Tally.{IsSatisfied, IsOverdue, tally}
 use Rattle.plain_broker.specs.Board.{Waiting}
 use Rattle.plain_broker.specs.Entering.{Noted, accept_all, steps_of, shown_of}
-use Rattle.plain_broker.specs.GoesOn.{AllWhole, AllLonger, GoesOn, HaveGrown}
+use Rattle.plain_broker.specs.GoesOn.{AllWhole, AllLonger, GoesOn}
 use Rattle.plain_broker.specs.Turns.{how_at_once}
+use Rattle.plain_broker.proofs.Cases.{either_way}
 use Rattle.plain_broker.proofs.Growth.{looked_moment}
-use Rattle.plain_broker.proofs.Entries.{IsFair, ShowsAccepted, accepted_shows, accepted_left, accepted_size}
-use Rattle.plain_broker.proofs.Going.{left_longer, grown_parts, grown_clock, goes_back, clock_point, clock_looked, clock_moment}
+use Rattle.plain_broker.proofs.Entries.{IsFair, ShowsAccepted, accepted_shows, accepted_longer, accepted_size}
+use Rattle.plain_broker.proofs.Going.{grown_parts, grown_clock, goes_back, clock_point, clock_looked, clock_moment}
 use Rattle.plain_broker.proofs.Accepting.{accepted_within, look_decisions, look_points, looked, looks_fair, looks_look, looks_shown, shown_in}
 pub use Rattle.plain_broker.specs.Sound.{AllBelow, IsOver, IsDone, IsDelayedAs, IsWaiting, AreDone, WaitsLast}
 
 -- ---- accepted
-
--- the histories go on as a request is accepted
-pub accepted_longer : (by seq : ℕ) (decisions : List Decision) (parts : List History) → AllWhole parts → AllByRecursion (IsFair (length parts)) decisions → AllLonger parts (accept_all by seq decisions parts).1
-accepted_longer by seq decisions parts whole fair =
-    left_longer by seq (step_points (steps_of (accept_all by seq decisions parts).0)) parts (accept_all by seq decisions parts).1
-    (accepted_left by seq (length parts) decisions parts refl whole fair)
-
-either_over : (b : Bool) → IsOver (cond b Quiet AtOnce)
-either_over true = tt
-either_over false = tt
 
 completes : (account : Account) (request : Request) (steps : List Step) (b : Bool) → is_quiet request.ask ≡ b → is_delayed account request steps ≡ false
     → Completes account request steps [] [] (cond b Quiet AtOnce)
@@ -69,7 +60,7 @@ module _ (config : Configuration) (parts : List History) (clock : List ClockEven
   pub done_at_once : becomes_delayed request.ask (shown_of noted) ≡ false
       → IsDone config after clock (record { frame = body; accept = step_points (steps_of noted); finish = []; how = how_at_once request.ask })
   done_at_once at_once = record {
-    over = either_over (is_quiet request.ask);
+    over = either_way IsOver (is_quiet request.ask) Quiet AtOnce tt tt;
     whole = λ account on.
         let undelayed : is_delayed account request (steps_of noted) ≡ false = ap (becomes_delayed request.ask) (shows clock account on).shown ∙ at_once in
         record {
@@ -136,7 +127,7 @@ module _ (config : Configuration) (parts : List History) (clock : List ClockEven
   left = looked by seq (operation_parts w.steps) parts
 
   pub left_on : AllLonger parts left
-  left_on = accepted_longer by seq (look_decisions (operation_parts w.steps)) parts whole (looks_fair (length parts) (operation_parts w.steps) waits.within)
+  left_on = accepted_longer by seq (length parts) (look_decisions (operation_parts w.steps)) parts refl (looks_fair (length parts) (operation_parts w.steps) waits.within)
 
   pub done_satisfied : nat_le w.operation.least (tally w.operation.needs (values_of w.request.ask (shown_in parts w.steps))) ≡ true
       → IsDone config left clock (record call { finish = looks; how = Satisfied 0 })

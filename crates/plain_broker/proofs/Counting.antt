@@ -1,17 +1,14 @@
--- Numbers that count up, and how often a point stands among some.
-use Rattle.std.proofs.Common.{◌≡◌, ℕ, zero, suc, ◌+◌, ◌-◌, ◌≤◌, ◌<◌, Bool, true, false, ◌&&◌, cond, eqb, List, [], ◌∷◌, ◌++◌, length, get_or, map, filter, refl, sym, ap, ◌∙◌, arith, inl, inr, length-append, eq-eqb}
+-- Numbers that rise, and the places in one history.
+use Rattle.std.proofs.Common.{◌≡◌, ◌≢◌, ℕ, zero, suc, ◌+◌, ◌-◌, ◌≤◌, ◌<◌, true, false, eqb, List, [], ◌∷◌, ◌++◌, length, get_or, map, filter, refl, sym, ap, ◌∙◌, arith, inl, inr, length-append, eq-eqb}
 use Rattle.std.proofs.Math.ListN.{get_or-append}
 use Rattle.std.proofs.lemmas.List.{get_or-append-add, map-append}
 use Rattle.std.proofs.lemmas.List.Elements.{filter-append}
-use Rattle.std.proofs.lemmas.List.Sums.{sum_by-cons}
 use Rattle.std.proofs.lemmas.List.FromFn.{length-range_with_len, get_or-range_with_len}
 use Rattle.std.proofs.lemmas.Bool.{cases_order, ne_eqb}
-use Rattle.std.specs.Prelude.{count_by}
 use Rattle.std.specs.List.{range_with_len}
 use Rattle.std.specs.List.Sorted.{IsStrictlyIncreasing}
 use Rattle.audit.specs.declared.account.Point.{Point}
-use Rattle.audit.specs.IsLawful.{is_point, places_in}
-use Rattle.audit.proofs.Laws.{same_or_not}
+use Rattle.audit.specs.IsLawful.{places_in}
 pub use Rattle.plain_broker.specs.Sound.{AllBelow}
 
 pub below_more : (n m : ℕ) (xs : List ℕ) → n ≤ m → AllBelow n xs → AllBelow m xs
@@ -22,10 +19,6 @@ pub below_get : (n : ℕ) (xs : List ℕ) (k : ℕ) → AllBelow n xs → k < le
 below_get n [] k a lt = absurd (omega (arith, lt))
 below_get n (x ∷ xs) zero a lt = a.0
 below_get n (x ∷ xs) (suc k) a lt = below_get n xs k a.1 (omega (arith, lt))
-
-pub range_below : (a n m : ℕ) → a + n ≤ m → AllBelow m (range_with_len a n)
-range_below a zero m le = tt
-range_below a (suc n) m le = (omega (arith, le), range_below (a + 1) n m (omega (arith, le)))
 
 -- numbers that rise, and others that count up from above them all
 pub rises_on : (n m : ℕ) (xs : List ℕ) → IsStrictlyIncreasing xs → AllBelow n xs → IsStrictlyIncreasing (xs ++ range_with_len n m)
@@ -54,40 +47,13 @@ rises_on n m xs rises below k lt =
       ]
     ]
 
--- how often a number stands among numbers that count up
-count_none : (a n k : ℕ) → k < a → count_by (λ x. eqb x k) (range_with_len a n) ≡ 0
-count_none a zero k lt = refl
-count_none a (suc n) k lt =
-    let no : eqb a k ≡ false = ne_eqb a k (λ e. omega (arith, lt, e)) in
-    sum_by-cons (λ x. cond (eqb x k) 1 0) a (range_with_len (a + 1) n)
-    ∙ ap (λ (b : Bool). cond b 1 0 + count_by (λ x. eqb x k) (range_with_len (a + 1) n)) no ∙ omega (arith, count_none (a + 1) n k (omega (arith, lt)))
+pub places_here : (part place : ℕ) (points : List Point) → places_in part (record { part = part; place = place } ∷ points) ≡ place ∷ places_in part points
+places_here part place points =
+    let yes : eqb part part ≡ true = eq-eqb part part refl in rw yes refl
 
-pub count_one : (a n k : ℕ) → a ≤ k → k < a + n → count_by (λ x. eqb x k) (range_with_len a n) ≡ 1
-count_one a zero k le lt = absurd (omega (arith, le, lt))
-count_one a (suc n) k le lt =
-    let split : count_by (λ x. eqb x k) (range_with_len a (suc n)) ≡ cond (eqb a k) 1 0 + count_by (λ x. eqb x k) (range_with_len (a + 1) n) =
-    sum_by-cons (λ x. cond (eqb x k) 1 0) a (range_with_len (a + 1) n) in
-    elim (same_or_not a k) [
-      | inl same ↦
-          let yes : eqb a k ≡ true = eq-eqb a k same in
-          split ∙ ap (λ (b : Bool). cond b 1 0 + count_by (λ x. eqb x k) (range_with_len (a + 1) n)) yes ∙ omega (arith, count_none (a + 1) n k (omega (arith, same)))
-      | inr other ↦
-          let no : eqb a k ≡ false = ne_eqb a k other in
-          let above : a < k = elim (cases_order a k) as (λ _. a < k) [ inl e ↦ absurd (other e) | inr o ↦ elim o as (λ _. a < k) [ inl l ↦ l | inr l ↦ absurd (omega (arith, l, le)) ] ] in
-          split ∙ ap (λ (b : Bool). cond b 1 0 + count_by (λ x. eqb x k) (range_with_len (a + 1) n)) no ∙ omega (arith, count_one (a + 1) n k (omega (arith, above)) (omega (arith, lt)))
-    ]
-
--- a point stands among others as often as its place among the places there
-pub count_point : (p k : ℕ) (points : List Point) → count_by (is_point p k) points ≡ count_by (λ x. eqb x k) (places_in p points)
-count_point p k [] = refl
-count_point p k (point ∷ points) =
-    let rest = count_point p k points in
-    sum_by-cons (λ x. cond (is_point p k x) 1 0) point points ∙ by_test (eqb point.part p) rest
-  where
-    by_test : (b : Bool) → count_by (is_point p k) points ≡ count_by (λ x. eqb x k) (places_in p points)
-        → cond (b && eqb point.place k) 1 0 + count_by (is_point p k) points ≡ count_by (λ x. eqb x k) (map (λ q. q.place) (cond b (point ∷ filter (λ q. eqb q.part p) points) (filter (λ q. eqb q.part p) points)))
-    by_test true rest = ap (λ (n : ℕ). cond (eqb point.place k) 1 0 + n) rest ∙ sym (sum_by-cons (λ x. cond (eqb x k) 1 0) point.place (places_in p points))
-    by_test false rest = omega (arith, rest)
+pub places_other : (p part place : ℕ) (points : List Point) → p ≢ part → places_in p (record { part = part; place = place } ∷ points) ≡ places_in p points
+places_other p part place points ne =
+    let no : eqb part p ≡ false = ne_eqb part p (λ e. ne (sym e)) in rw no refl
 
 pub places_append : (p : ℕ) (xs ys : List Point) → places_in p (xs ++ ys) ≡ places_in p xs ++ places_in p ys
 places_append p xs ys =

@@ -1,9 +1,9 @@
 -- What accepting a request leaves in the histories: the entries, their owner and places, and the states at them.
-use Rattle.std.proofs.Common.{◌≡◌, ◌≢◌, ℕ, zero, suc, ◌≤◌, ◌<◌, true, false, eqb, List, [], ◌∷◌, ◌++◌, length, map, set, Option, Some, refl, sym, ap, subst, ◌∙◌, arith, inl, inr, append_assoc, append-nil, eq-eqb}
+use Rattle.std.proofs.Common.{◌≡◌, ℕ, zero, suc, ◌≤◌, ◌<◌, false, eqb, List, [], ◌∷◌, ◌++◌, length, map, set, Option, Some, refl, sym, ap, subst, ◌∙◌, arith, inl, inr, append_assoc}
 use Rattle.std.proofs.lemmas.Bool.{ne_eqb}
 use Rattle.std.proofs.lemmas.List.{length-set}
 use Rattle.std.specs.Prelude.{slice_get}
-use Rattle.std.specs.List.{AllByRecursion, AllZip, range_with_len}
+use Rattle.std.specs.List.{AllByRecursion, AllZip}
 use Rattle.partlog.specs.declared.event.PartEvent.{PartEvent}
 use Rattle.partlog.specs.History.{History}
 use Rattle.partlog.specs.State.{PartState, state_of}
@@ -13,27 +13,16 @@ use Rattle.audit.specs.declared.account.Point.{Point}
 use Rattle.audit.specs.Histories.{owner_of, owners_of, history_of, before_in, at_in, before_point, at_point, event_at, event_in, no_state}
 use Rattle.kanswer.specs.Decisions.{Entry, Put, Followed, Looked, Outcome, Decision, Refuse, AskLog}
 use Rattle.audit.specs.LawfulCall.{IsStep, IsEntry, step_points, shown_as_accepted}
-use Rattle.audit.specs.IsLawful.{places_in}
 use Rattle.plain_broker.specs.Board.{history_at, empty_history}
 use Rattle.plain_broker.specs.Entering.{Noted, entered, accept_all, steps_of, shown_of}
 use Rattle.kanswer.specs.Waiting.{Shown}
 use Rattle.kanswer.specs.declared.accepted.Accepted.{Accepted}
 use Rattle.kanswer.specs.declared.accepted.Accepted.TheVariants.{Refused, Appended, Seen}
 use Rattle.kbatch.specs.Stamp.{stamped}
-use Rattle.plain_broker.proofs.Growth.{Longer, IsWhole, IsSized, longer_on, entered_longer, entered_whole, entered_events, entered_followers, entered_length, event_of, before_kept, at_kept, put_batches}
+use Rattle.plain_broker.proofs.Growth.{Longer, IsWhole, IsSized, longer_on, entered_longer, entered_whole, entered_events, entered_followers, event_of, before_kept, at_kept, put_batches}
+use Rattle.plain_broker.proofs.Going.{AllLonger, all_longer_self, all_longer_on, set_longer}
 pub use Rattle.plain_broker.specs.GoesOn.{the_owner, AllWhole, Follows}
 use Rattle.audit.proofs.Laws.{same_or_not, get_set_same, get_set_other, get_there, get_seam, some_is}
-
--- The later history has entries of one call behind those of the earlier one, and these are their places.
-pub record Left (by seq : ℕ) (places : List ℕ) (h later : History) : Type 0 where
-  pub longer : Longer h later
-  pub whole : IsWhole later
-  pub owned : (k : ℕ) (e : PartEvent) → slice_get longer.more k ≡ Some e → owner_of e ≡ the_owner by seq
-  pub run : places ≡ range_with_len (length h.events) (length longer.more)
-
-abbrev pub AllLeft : ℕ → ℕ → List Point → List History → List History → Type 0
-AllLeft by seq points parts later =
-    (p : ℕ) (h : History) → slice_get parts p ≡ Some h → (l : History) × (slice_get later p ≡ Some l) × Left by seq (places_in p points) h l
 
 -- a result that names one of so many partitions, or none
 abbrev pub IsWithin : ℕ → Accepted → Type 0
@@ -65,67 +54,17 @@ set_whole parts part h whole within w p k e =
       | inr other ↦ whole p k (sym (get_set_other parts part p h other) ∙ e)
     ]
 
-pub places_here : (part place : ℕ) (points : List Point) → places_in part (record { part = part; place = place } ∷ points) ≡ place ∷ places_in part points
-places_here part place points =
-    let yes : eqb part part ≡ true = eq-eqb part part refl in rw yes refl
-
-pub places_other : (p part place : ℕ) (points : List Point) → p ≢ part → places_in p (record { part = part; place = place } ∷ points) ≡ places_in p points
-places_other p part place points ne =
-    let no : eqb part p ≡ false = ne_eqb part p (λ e. ne (sym e)) in rw no refl
-
--- one entry of a call, and then the others of it
-left_more : (by seq : ℕ) (entry : Entry) (places : List ℕ) (h l : History) → Left by seq places (entered h by seq entry) l → Left by seq (length h.events ∷ places) h l
-left_more by seq entry places h l left =
-    let first = entered_longer h by seq entry in
-    let event = event_of by seq entry in
-    record {
-      longer = record {
-        followers = left.longer.followers ∙ first.followers;
-        more = event ∷ left.longer.more;
-        bytes = first.bytes ++ left.longer.bytes;
-        events = left.longer.events ∙ ap (λ (es : List PartEvent). es ++ left.longer.more) (entered_events h by seq entry) ∙ append_assoc h.events (event ∷ []) left.longer.more;
-        log = left.longer.log ∙ ap (λ (bs : List ℕ). bs ++ left.longer.bytes) first.log ∙ append_assoc h.log first.bytes left.longer.bytes;
-      };
-      whole = left.whole;
-      owned = owned_more event left.longer.more (event_owner by seq entry) left.owned;
-      run = ap (λ (ps : List ℕ). length h.events ∷ ps) (left.run ∙ ap (λ (n : ℕ). range_with_len n (length left.longer.more)) (entered_length h by seq entry));
-    }
-  where
-    owned_more : (event : PartEvent) (more : List PartEvent) → owner_of event ≡ the_owner by seq → ((k : ℕ) (e : PartEvent) → slice_get more k ≡ Some e → owner_of e ≡ the_owner by seq)
-        → (k : ℕ) (e : PartEvent) → slice_get (event ∷ more) k ≡ Some e → owner_of e ≡ the_owner by seq
-    owned_more event more here rest zero e is = subst (λ (x : PartEvent). owner_of x ≡ the_owner by seq) (some_is event e is) here
-    owned_more event more here rest (suc k) e is = rest k e is
-
-pub accepted_left : (by seq n : ℕ) (decisions : List Decision) (parts : List History) → length parts ≡ n → AllWhole parts → AllByRecursion (IsFair n) decisions
-    → AllLeft by seq (step_points (steps_of (accept_all by seq decisions parts).0)) parts (accept_all by seq decisions parts).1
-accepted_left by seq n [] parts size whole fair p h e =
-    (h, e, record { longer = record { followers = refl; more = []; bytes = []; events = sym (append-nil h.events); log = sym (append-nil h.log) }; whole = whole p h e; owned = λ k x is. absurd cc; run = refl })
-accepted_left by seq n (Refuse code ∷ decisions) parts size whole fair p h e = accepted_left by seq n decisions parts size whole fair.1 p h e
-accepted_left by seq n (AskLog part outcome ∷ decisions) parts size whole fair p h e =
+-- the histories go on as what was decided is carried out
+pub accepted_longer : (by seq n : ℕ) (decisions : List Decision) (parts : List History) → length parts ≡ n → AllByRecursion (IsFair n) decisions → AllLonger parts (accept_all by seq decisions parts).1
+accepted_longer by seq n [] parts size fair = all_longer_self parts
+accepted_longer by seq n (Refuse code ∷ decisions) parts size fair = accepted_longer by seq n decisions parts size fair.1
+accepted_longer by seq n (AskLog part outcome ∷ decisions) parts size fair =
     let found = history_at parts part in
     let entry = (outcome (state_of found)).entry in
     let left = entered found by seq entry in
-    let within : part < length parts = omega (arith, size, fair.0.0) in
-    let there : slice_get parts part ≡ Some found = get_there parts part (empty_history 0) within in
-    let parts1 = set parts part left in
-    let whole1 : AllWhole parts1 = set_whole parts part left whole within (entered_whole found by seq entry (whole part found there) (fair.0.1 (state_of found)).0) in
-    let rest = accepted_left by seq n decisions parts1 (length-set parts part left ∙ size) whole1 fair.1 in
-    let points = step_points (steps_of (accept_all by seq decisions parts1).0) in
-    elim (same_or_not p part) [
-      | inl same ↦
-          let is : h ≡ found = some_is h found (sym e ∙ ap (slice_get parts) same ∙ there) in
-          let r = rest part left (get_set_same parts part left within) in
-          let ps : places_in p (record { part = part; place = length found.events } ∷ points) ≡ length found.events ∷ places_in part points =
-          ap (λ (i : ℕ). places_in i (record { part = part; place = length found.events } ∷ points)) same ∙ places_here part (length found.events) points in (
-            r.0,
-            ap (slice_get (accept_all by seq decisions parts1).1) same ∙ r.1,
-            subst (λ (k : History). Left by seq (places_in p (record { part = part; place = length found.events } ∷ points)) k r.0) (sym is)
-                (subst (λ (xs : List ℕ). Left by seq xs found r.0) (sym ps) (left_more by seq entry (places_in part points) found r.0 r.2)),
-          )
-      | inr other ↦
-          let r = rest p h (get_set_other parts part p left other ∙ e) in
-          (r.0, r.1, subst (λ (xs : List ℕ). Left by seq xs h r.0) (sym (places_other p part (length found.events) points other)) r.2)
-    ]
+    let there : slice_get parts part ≡ Some found = get_there parts part (empty_history 0) (omega (arith, size, fair.0.0)) in
+    all_longer_on parts (set parts part left) (accept_all by seq decisions (set parts part left)).1 (set_longer parts part found left there (entered_longer found by seq entry))
+    (accepted_longer by seq n decisions (set parts part left) (length-set parts part left ∙ size) fair.1)
 
 pub accepted_size : (by seq n : ℕ) (decisions : List Decision) (parts : List History) → length (accept_all by seq decisions parts).1 ≡ length parts
 accepted_size by seq n [] parts = refl
@@ -164,12 +103,6 @@ shows_entry by seq account part found entry pa whole sized there longer =
           rw (no, there) (slice_map pa.events n event here ∙ ap Some (event_owner by seq entry));
     }
 
--- what accepting leaves in an account that goes on from it
-pub record ShowsAccepted (by seq : ℕ) (account : Account) (decisions : List Decision) (noted : List Noted) : Type 0 where
-  pub steps : AllZip (IsStep account) decisions (steps_of noted)
-  pub shown : shown_as_accepted account (steps_of noted) ≡ shown_of noted
-  pub owned : AllByRecursion (λ point. slice_get (owners_of account point.part) point.place ≡ Some (the_owner by seq)) (step_points (steps_of noted))
-
 pub is_entry : (by seq : ℕ) (account : Account) (part : ℕ) (found : History) (entry : Entry) → IsWhole found → IsSized entry → ShowsEntry by seq account part found entry
     → IsEntry account (record { part = part; place = length found.events }) entry
 is_entry by seq account part found (Put count batch) whole sized s =
@@ -177,6 +110,37 @@ is_entry by seq account part found (Put count batch) whole sized s =
     ap (λ (state : PartState). state.batches) s.at ∙ put_batches found by seq count batch whole sized ∙ ap before (sym s.before)
 is_entry by seq account part found (Followed replica offset) whole sized s = (by, seq, s.event)
 is_entry by seq account part found Looked whole sized s = (by, seq, s.event)
+
+-- The log of one partition was asked, whatever others did: what an account shows of it.
+pub record ShowsStep (by seq : ℕ) (account : Account) (part : ℕ) (outcome : PartState → Outcome) (found : History) : Type 0 where
+  pub step : IsStep account (AskLog part outcome) (record { result = (outcome (state_of found)).result; point = Some (record { part = part; place = length found.events }) })
+  pub owned : slice_get (owners_of account part) (length found.events) ≡ Some (the_owner by seq)
+  pub shown : at_point account (record { part = part; place = length found.events }) ≡ state_of (entered found by seq (outcome (state_of found)).entry)
+
+-- every account shows it whose part of this number goes on from there
+pub part_shows : (by seq : ℕ) (account : Account) (part : ℕ) (outcome : PartState → Outcome) (found : History) (pa : PartAccount) → part < 64 → IsWhole found → IsSized (outcome (state_of found)).entry
+    → slice_get account.parts part ≡ Some pa → Longer (entered found by seq (outcome (state_of found)).entry) (history_of pa) → ShowsStep by seq account part outcome found
+part_shows by seq account part outcome found pa lt whole sized there longer =
+    let entry = (outcome (state_of found)).entry in
+    let s = shows_entry by seq account part found entry pa whole sized there longer in
+    let point : Point = record { part = part; place = length found.events } in
+    record {
+      step = record {
+        point = point;
+        left = refl;
+        there = refl;
+        result = ap (λ (state : PartState). (outcome state).result) (sym s.before);
+        entry = subst (λ (state : PartState). IsEntry account point (outcome state).entry) (sym s.before) (is_entry by seq account part found entry whole sized s);
+      };
+      owned = s.owner lt;
+      shown = s.at;
+    }
+
+-- what accepting leaves in an account that goes on from it
+pub record ShowsAccepted (by seq : ℕ) (account : Account) (decisions : List Decision) (noted : List Noted) : Type 0 where
+  pub steps : AllZip (IsStep account) decisions (steps_of noted)
+  pub shown : shown_as_accepted account (steps_of noted) ≡ shown_of noted
+  pub owned : AllByRecursion (λ point. slice_get (owners_of account point.part) point.place ≡ Some (the_owner by seq)) (step_points (steps_of noted))
 
 pub accepted_shows : (by seq n : ℕ) (decisions : List Decision) (parts : List History) (account : Account) → length parts ≡ n → n ≤ 64 → AllWhole parts → AllByRecursion (IsFair n) decisions
     → Follows account (accept_all by seq decisions parts).1 → ShowsAccepted by seq account decisions (accept_all by seq decisions parts).0
@@ -189,43 +153,21 @@ accepted_shows by seq n (AskLog part outcome ∷ decisions) parts account size f
     let came = outcome (state_of found) in
     let left = entered found by seq came.entry in
     let within : part < length parts = omega (arith, size, fair.0.0) in
-    let there : slice_get parts part ≡ Some found = get_there parts part (empty_history 0) within in
-    let found_whole : IsWhole found = whole part found there in
+    let found_whole : IsWhole found = whole part found (get_there parts part (empty_history 0) within) in
     let sized : IsSized came.entry = (fair.0.1 (state_of found)).0 in
     let parts1 = set parts part left in
     let size1 : length parts1 ≡ n = length-set parts part left ∙ size in
     let whole1 : AllWhole parts1 = set_whole parts part left whole within (entered_whole found by seq came.entry found_whole sized) in
     let rest = accepted_shows by seq n decisions parts1 account size1 few whole1 fair.1 follows in
-    let later = accepted_left by seq n decisions parts1 size1 whole1 fair.1 part left (get_set_same parts part left within) in
+    let later = accepted_longer by seq n decisions parts1 size1 fair.1 part left (get_set_same parts part left within) in
     let kept = follows part later.0 later.1 in
-    let s = shows_entry by seq account part found came.entry kept.0 found_whole sized kept.1 (longer_on left later.0 (history_of kept.0) later.2.longer kept.2) in
-    let point : Point = record { part = part; place = length found.events } in
+    let s = part_shows by seq account part outcome found kept.0 (omega (arith, size, few, fair.0.0)) found_whole sized kept.1 (longer_on left later.0 (history_of kept.0) later.2 kept.2) in
     record {
-      steps = (
-        record {
-          point = point;
-          left = refl;
-          there = refl;
-          result = ap (λ (state : PartState). (outcome state).result) (sym s.before);
-          entry = subst (λ (state : PartState). IsEntry account point (outcome state).entry) (sym s.before) (is_entry by seq account part found came.entry found_whole sized s);
-        },
-        rest.steps,
-      );
-      shown = ap (λ (state : PartState). record { result = came.result; state = state } ∷ shown_as_accepted account (steps_of (accept_all by seq decisions parts1).0)) s.at
+      steps = (s.step, rest.steps);
+      shown = ap (λ (state : PartState). record { result = came.result; state = state } ∷ shown_as_accepted account (steps_of (accept_all by seq decisions parts1).0)) s.shown
           ∙ ap (λ (ss : List Shown). record { result = came.result; state = state_of left } ∷ ss) rest.shown;
-      owned = (s.owner (omega (arith, size, few, fair.0.0)), rest.owned);
+      owned = (s.owned, rest.owned);
     }
-
--- no entry stands in a partition that there isn't
-pub accepted_nowhere : (by seq n : ℕ) (decisions : List Decision) (parts : List History) → AllByRecursion (IsFair n) decisions → (p : ℕ) → n ≤ p
-    → places_in p (step_points (steps_of (accept_all by seq decisions parts).0)) ≡ []
-accepted_nowhere by seq n [] parts fair p past = refl
-accepted_nowhere by seq n (Refuse code ∷ decisions) parts fair p past = accepted_nowhere by seq n decisions parts fair.1 p past
-accepted_nowhere by seq n (AskLog part outcome ∷ decisions) parts fair p past =
-    let found = history_at parts part in
-    let left = entered found by seq (outcome (state_of found)).entry in
-    places_other p part (length found.events) (step_points (steps_of (accept_all by seq decisions (set parts part left)).0)) (λ e. omega (arith, e, past, fair.0.0))
-    ∙ accepted_nowhere by seq n decisions (set parts part left) fair.1 p past
 
 pub set_same : {X Y : Type 0} (f : X → Y) (xs : List X) (i : ℕ) (x y : X) → slice_get xs i ≡ Some x → f y ≡ f x → map f (set xs i y) ≡ map f xs
 set_same {Y = Y} f [] i x y there same = refl

@@ -19,9 +19,10 @@ use Rattle.kwire.specs.declared.request.ProducePart.{ProducePart}
 use Rattle.kwire.specs.declared.request.FetchPart.{FetchPart}
 use Rattle.kanswer.specs.declared.accepted.Accepted.TheVariants.{Refused, Appended, Seen}
 use Rattle.kwire.specs.Configuration.{Configuration, partitions_of, followers_of, part_from, part_of}
-use Rattle.kanswer.specs.Decisions.{Entry, Put, Followed, Looked, Outcome, Decision, Refuse, Decides, ProduceDecides, BatchDecides, append_outcome, fetch_decision, fetch_outcome, in_range_outcome, offset_of, look, code_of, produce_parts, fetch_parts, is_acks}
+use Rattle.kanswer.specs.Decisions.{Entry, Put, Followed, Looked, Decision, Refuse, Decides, ProduceDecides, BatchDecides, append_outcome, fetch_decision, fetch_outcome, in_range_outcome, offset_of, look, code_of, produce_parts, fetch_parts, is_acks}
 use Rattle.kanswer.proofs.Laws.{batch_sized}
 use Rattle.audit.proofs.Laws.{some_is}
+use Rattle.plain_broker.proofs.Cases.{either_way}
 use Rattle.plain_broker.proofs.Growth.{IsSized}
 use Rattle.plain_broker.proofs.Entries.{IsFair, IsFairOutcome}
 
@@ -54,13 +55,9 @@ followers_size (topic ∷ topics) =
 pub parts_size : (topics : List Topic) (parts : List History) → map (λ (h : History). h.followers) parts ≡ followers_of topics → length parts ≡ partitions_of topics
 parts_size topics parts e = sym (length-map parts (λ (h : History). h.followers)) ∙ ap length e ∙ followers_size topics
 
-either_fair : (n : ℕ) (b : Bool) (x y : Outcome) → IsFairOutcome n x → IsFairOutcome n y → IsFairOutcome n (cond b x y)
-either_fair n true x y a c = a
-either_fair n false x y a c = c
-
 append_fair : (n part count : ℕ) (batch : List ℕ) → part < n → ((base : ℕ) → length (stamped base batch) ≡ length batch) → (state : PartState) → IsFairOutcome n (append_outcome part count batch state)
 append_fair n part count batch within sized state =
-    either_fair n (nat_lt 67108864 ((gauges_of state).bytes + length batch)) (look (Refused (pos 6))) (record { result = Appended part state.log_end count; entry = Put count batch }) (tt, tt) (sized, within)
+    either_way (IsFairOutcome n) (nat_lt 67108864 ((gauges_of state).bytes + length batch)) (look (Refused (pos 6))) (record { result = Appended part state.log_end count; entry = Put count batch }) (tt, tt) (sized, within)
 
 fair_refusal : (n : ℕ) (decision : Decision) (code : ℤ) → decision ≡ Refuse code → IsFair n decision
 fair_refusal n decision code e = subst (IsFair n) (sym e) tt
@@ -68,12 +65,12 @@ fair_refusal n decision code e = subst (IsFair n) (sym e) tt
 range_fair : (n part : ℕ) (offset : ℤ) (entry : Entry) → part < n → IsSized entry → (state : PartState) → IsFairOutcome n (in_range_outcome part offset entry state)
 range_fair n part (negsuc m) entry within sized state = (tt, tt)
 range_fair n part (pos offset) entry within sized state =
-    either_fair n (nat_lt state.log_end offset) (look (Refused (pos 1))) (record { result = Seen part (start_of offset state); entry = entry }) (tt, tt) (sized, within)
+    either_way (IsFairOutcome n) (nat_lt state.log_end offset) (look (Refused (pos 1))) (record { result = Seen part (start_of offset state); entry = entry }) (tt, tt) (sized, within)
 
 outcome_fair : (n followers : ℕ) (replica : ℤ) (asked : FetchPart) (part : ℕ) → part < n → (state : PartState) → IsFairOutcome n (fetch_outcome followers replica asked part state)
 outcome_fair n followers (negsuc m) asked part within state = range_fair n part asked.offset Looked within tt state
 outcome_fair n followers (pos replica) asked part within state =
-    either_fair n (nat_lt 0 replica && nat_le replica followers) (in_range_outcome part asked.offset (Followed (pos replica) (offset_of asked.offset)) state) (look (Refused (pos 9)))
+    either_way (IsFairOutcome n) (nat_lt 0 replica && nat_le replica followers) (in_range_outcome part asked.offset (Followed (pos replica) (offset_of asked.offset)) state) (look (Refused (pos 9)))
     (range_fair n part asked.offset (Followed (pos replica) (offset_of asked.offset)) within tt state) (tt, tt)
 
 pub fetch_fair : (config : Configuration) (replica : ℤ) (named : List ℕ × FetchPart) (o : Option ℕ) (n : ℕ) → ((part : ℕ) → o ≡ Some part → part < n) → IsFair n (fetch_decision config replica named o)

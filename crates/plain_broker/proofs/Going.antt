@@ -1,5 +1,5 @@
 -- Histories that go on, and what holds in every account that goes on from them.
-use Rattle.std.proofs.Common.{◌≡◌, ℕ, ◌+◌, List, [], ◌∷◌, ◌++◌, length, take, set, Option, Some, refl, sym, ap, subst, ◌∙◌, arith, inl, inr, append_assoc, append-nil, length-append}
+use Rattle.std.proofs.Common.{◌≡◌, ℕ, ◌+◌, List, [], ◌∷◌, ◌++◌, length, take, set, Some, refl, sym, ap, subst, ◌∙◌, inl, inr, append_assoc, append-nil, length-append}
 use Rattle.std.proofs.Math.Seq.{take-append_seam}
 use Rattle.std.proofs.lemmas.Option.{slice_get_within}
 use Rattle.std.specs.Prelude.{slice_get}
@@ -14,7 +14,6 @@ use Rattle.audit.specs.LawfulCall.{IsClockLook}
 use Rattle.audit.proofs.Laws.{same_or_not, get_set_same, get_set_other, get_seam, some_is}
 use Rattle.kwire.specs.Configuration.{Configuration}
 use Rattle.plain_broker.proofs.Growth.{longer_self, longer_on}
-use Rattle.plain_broker.proofs.Entries.{AllLeft}
 pub use Rattle.plain_broker.specs.GoesOn.{Longer, AllLonger, HaveGrown, GoesOn, Carried}
 
 -- ---- histories
@@ -38,19 +37,16 @@ set_longer parts p h later there longer q k e =
       | inr other ↦ (k, get_set_other parts p q later other ∙ e, longer_self k)
     ]
 
-pub left_longer : (by seq : ℕ) (points : List Point) (parts later : List History) → AllLeft by seq points parts later → AllLonger parts later
-left_longer by seq points parts later all p h e = let l = all p h e in (l.0, l.1, l.2.longer)
-
 -- ---- histories and the clock
 
 pub grown_self : (parts : List History) (clock : List ClockEvent) → HaveGrown parts clock parts clock
-grown_self parts clock = record { parts = all_longer_self parts; more = []; clock = sym (append-nil clock) }
+grown_self parts clock = record { each = all_longer_self parts; more = []; events = sym (append-nil clock) }
 
 pub grown_parts : (parts later : List History) (clock : List ClockEvent) → AllLonger parts later → HaveGrown parts clock later clock
-grown_parts parts later clock longer = record { parts = longer; more = []; clock = sym (append-nil clock) }
+grown_parts parts later clock longer = record { each = longer; more = []; events = sym (append-nil clock) }
 
 pub grown_clock : (parts later : List History) (clock : List ClockEvent) (event : ClockEvent) → AllLonger parts later → HaveGrown parts clock later (clock ++ event ∷ [])
-grown_clock parts later clock event longer = record { parts = longer; more = event ∷ []; clock = refl }
+grown_clock parts later clock event longer = record { each = longer; more = event ∷ []; events = refl }
 
 -- an account that goes on from later histories goes on from the earlier ones
 pub goes_back : (config : Configuration) (parts later : List History) (clock behind : List ClockEvent) (account : Account) → HaveGrown parts clock later behind
@@ -58,11 +54,11 @@ pub goes_back : (config : Configuration) (parts later : List History) (clock beh
 goes_back config parts later clock behind account grown on = record {
   same = on.same;
   follows = λ p h e.
-      let l = grown.parts p h e in
+      let l = grown.each p h e in
       let f = on.follows p l.0 l.1 in
       (f.0, f.1, longer_on h l.0 (history_of f.0) l.2 f.2);
   more = grown.more ++ on.more;
-  clock = on.clock ∙ ap (λ (events : List ClockEvent). events ++ on.more) grown.clock ∙ append_assoc clock grown.more on.more;
+  events = on.events ∙ ap (λ (events : List ClockEvent). events ++ on.more) grown.events ∙ append_assoc clock grown.more on.more;
 }
 
 -- so what was carried is carried on
@@ -80,7 +76,7 @@ pub clock_looked : (config : Configuration) (parts : List History) (clock : List
     → IsClockLook account (clock_point clock)
 clock_looked config parts clock by seq account on =
     let event : ClockEvent = clocks.Look by seq in
-    let is : account.clock ≡ clock ++ event ∷ on.more = on.clock ∙ append_assoc clock (event ∷ []) on.more in
+    let is : account.clock ≡ clock ++ event ∷ on.more = on.events ∙ append_assoc clock (event ∷ []) on.more in
     (refl, by, seq, ap (λ (events : List ClockEvent). slice_get events (length clock)) is ∙ get_seam clock on.more event)
 
 -- the moment there is that of the clock as it was left
@@ -89,5 +85,5 @@ pub clock_moment : (config : Configuration) (parts : List History) (clock : List
 clock_moment config parts clock event account on =
     let size : length clock + 1 ≡ length (clock ++ event ∷ []) = sym (length-append clock (event ∷ [])) in
     ap (λ (n : ℕ). moment_of (take n account.clock)) size
-    ∙ ap (λ (events : List ClockEvent). moment_of (take (length (clock ++ event ∷ [])) events)) on.clock
+    ∙ ap (λ (events : List ClockEvent). moment_of (take (length (clock ++ event ∷ [])) events)) on.events
     ∙ ap moment_of (take-append_seam (clock ++ event ∷ []) on.more)

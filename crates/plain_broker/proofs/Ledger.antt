@@ -5,15 +5,14 @@ use Rattle.std.proofs.lemmas.Grind.{flat_map-append}
 use Rattle.std.proofs.lemmas.List.Sums.{sum_by-cons, sum_by_push}
 use Rattle.std.proofs.lemmas.Option.{slice_get_within}
 use Rattle.std.specs.Prelude.{slice_get, count_by}
-use Rattle.std.specs.List.{AllByRecursion, flat_map, range_with_len}
+use Rattle.std.specs.List.{AllByRecursion, flat_map}
 use Rattle.std.specs.List.Sorted.{IsStrictlyIncreasing}
 use Rattle.audit.specs.declared.account.Point.{Point}
 use Rattle.audit.specs.Histories.{Owner}
 use Rattle.audit.specs.IsLawful.{places_in, is_point}
 use Rattle.audit.proofs.Laws.{same_or_not, get_seam, get_front, some_is, all_append}
 use Rattle.plain_broker.specs.GoesOn.{the_owner}
-use Rattle.plain_broker.proofs.Counting.{AllBelow, rises_on, places_append}
-use Rattle.plain_broker.proofs.Entries.{places_here, places_other}
+use Rattle.plain_broker.proofs.Counting.{AllBelow, rises_on, places_append, places_here, places_other}
 pub use Rattle.plain_broker.specs.Kept.{IsKept}
 
 -- ---- tables and lists
@@ -27,6 +26,10 @@ put_same {X = X} f i x j same = ap (λ (b : Bool). cond b x (f j)) (eq-eqb j i s
 
 pub put_other : {X : Type 0} (f : ℕ → X) (i : ℕ) (x : X) (j : ℕ) → j ≢ i → put f i x j ≡ f j
 put_other {X = X} f i x j other = ap (λ (b : Bool). cond b x (f j)) (ne_eqb j i other)
+
+-- what was there is given again
+pub put_again : {X : Type 0} (f : ℕ → X) (i : ℕ) (x : X) → x ≡ f i → (j : ℕ) → put f i x j ≡ f j
+put_again f i x is j = elim (same_or_not j i) [ inl same ↦ put_same f i x j same ∙ is ∙ sym (ap f same) | inr other ↦ put_other f i x j other ]
 
 -- an item of a list with one more behind
 pub push_get : {X : Type 0} (xs : List X) (x y : X) (k : ℕ) → slice_get (xs ++ x ∷ []) k ≡ Some y → (slice_get xs k ≡ Some y) ⊎ ((k ≡ length xs) × (y ≡ x))
@@ -71,8 +74,8 @@ none_behind owners by seq p k (point ∷ points) owned past =
     let within : point.place < length (owners point.part) = slice_get_within (owners point.part) point.place (the_owner by seq) owned.0 in
     let no : is_point p k point ≡ false =
     not_point p k point.part point.place (λ same at.
-        let size : length (owners point.part) ≡ length (owners p) = ap (λ (i : ℕ). length (owners i)) same in
-        omega (arith, within, size, past, at)) in
+    let size : length (owners point.part) ≡ length (owners p) = ap (λ (i : ℕ). length (owners i)) same in
+    omega (arith, within, size, past, at)) in
     sum_by-cons (λ x. cond (is_point p k x) 1 0) point points
     ∙ ap (λ (b : Bool). cond b 1 0 + count_by (is_point p k) points) no ∙ omega (arith, none_behind owners by seq p k points owned.1 past)
 
@@ -94,8 +97,8 @@ rows_below owners by from p (points ∷ rows) owned =
     subst (AllBelow (length (owners p))) (sym (places_append p points (all_rows rows)))
     (all_both (length (owners p)) (places_in p points) (places_in p (all_rows rows)) (row_below owners by (from + 0) p points (owned 0 points refl))
     (rows_below owners by (from + 1) p rows (λ seq more e.
-        let next : from + suc seq ≡ from + 1 + seq = omega arith in
-        subst (λ (n : ℕ). AllByRecursion (IsOwned owners by n) more) next (owned (suc seq) more e))))
+    let next : from + suc seq ≡ from + 1 + seq = omega arith in
+    subst (λ (n : ℕ). AllByRecursion (IsOwned owners by n) more) next (owned (suc seq) more e))))
 
 last_row : (before : List (List Point)) (points : List Point) → all_rows (before ++ points ∷ []) ≡ all_rows before ++ points
 last_row before points = flat_map-append (λ (ps : List Point). ps) before (points ∷ []) ∙ ap (λ (ps : List Point). all_rows before ++ ps) (append-nil points)
@@ -232,8 +235,8 @@ module _ (owners owners1 : ℕ → List (Option Owner)) (ledger : ℕ → List (
             let one : places_in q (point ∷ []) ≡ place ∷ [] = ap (λ (i : ℕ). places_in i (point ∷ [])) same ∙ places_here p place [] in
             let below : AllBelow (length (owners q)) (places_in q xs) =
             rows_below owners by 0 q (before ++ points ∷ []) (λ s ps e.
-                let zero_is : s ≡ 0 + s = omega arith in
-                subst (λ (n : ℕ). AllByRecursion (IsOwned owners by n) ps) zero_is (kept.points by s ps (to_rows by s ps refl e))) in
+            let zero_is : s ≡ 0 + s = omega arith in
+            subst (λ (n : ℕ). AllByRecursion (IsOwned owners by n) ps) zero_is (kept.points by s ps (to_rows by s ps refl e))) in
             let size : length (owners q) ≡ place = ap (λ (i : ℕ). length (owners i)) same ∙ sym here in
             subst IsStrictlyIncreasing (sym (split ∙ ap (λ (ys : List ℕ). places_in q xs ++ ys) one))
             (rises_on place 1 (places_in q xs) rises (subst (λ (n : ℕ). AllBelow n (places_in q xs)) size below))

@@ -1,5 +1,7 @@
 -- what the crates above may cite
 pub mod Laws
+-- what holds either way, and what the tests of a board tell
+mod Cases
 -- how histories grow, and what stays of their states
 mod Growth
 -- what accepting a request leaves in the histories
@@ -28,3 +30,21 @@ mod RequestBytes
 mod Work
 -- lines play to something
 mod PlaySome
+-- what holds of a board as a request comes, and as a session ends
+mod Acts
+-- what holds of a board as a waiting request is answered
+mod Answering
+-- the account of a sound board is lawful
+mod Lawful
+-- a play keeps its board sound
+mod Playing
+-- between two lines nothing that waits is answerable
+mod Resting
+-- what a board is to the lines that it was fed
+mod FedLines
+-- the account of a play of a trace is that of the run of its lines
+mod RunOfLines
+-- the worked requests have bodies
+mod WorkedBodies
+-- the worked trace
+mod WorkedPlays

@@ -1,5 +1,5 @@
 -- A play goes on line by line, and its lines keep the configuration.
-use Rattle.std.proofs.Common.{◌≡◌, ℕ, zero, suc, ◌+◌, ◌<◌, Bool, true, false, cond, List, [], ◌∷◌, ◌++◌, length, get_or, take, drop, Option, Some, None, MatchBool, refl, sym, ap, subst, ◌∙◌, inl, inr, append-nil, append_assoc}
+use Rattle.std.proofs.Common.{◌≡◌, ℕ, zero, suc, ◌+◌, ◌<◌, Bool, true, false, List, [], ◌∷◌, ◌++◌, length, get_or, take, drop, Option, Some, None, MatchBool, refl, sym, ap, subst, ◌∙◌, inl, inr, append-nil, append_assoc}
 use Rattle.std.proofs.lemmas.List.{take_more, drop_more}
 use Rattle.std.specs.Prelude.{nat_lt, ◌==◌}
 use Rattle.std.specs.List.{find, range_with_len}
@@ -21,6 +21,7 @@ use Rattle.kwire.specs.Frames.{next_frame_of}
 use Rattle.plain_broker.specs.Turns.{Turned, answered_at_once, left_waiting, handled}
 use Rattle.plain_broker.specs.Play.{brought, Rests, PlaysLine, Plays}
 use Rattle.audit.specs.declared.account.TheConstants.{MOST_CALLS}
+use Rattle.plain_broker.proofs.Cases.{either_way}
 
 -- one line more is played behind the others
 pub plays_on : (board : Board) (lines : List Line) (line : Line) (last here : Turned) → Plays board lines last → PlaysLine last.board line here
@@ -62,20 +63,12 @@ lines_more lines i line lt is = take_more lines i line lt ∙ ap (λ (l : Line).
 abbrev Keeps : Configuration → Turned → Type 0
 Keeps config turned = turned.board.config ≡ config
 
-either_keeps : (config : Configuration) (b : Bool) (x y : Board) → x.config ≡ config → y.config ≡ config → (cond b x y).config ≡ config
-either_keeps config true x y p q = p
-either_keeps config false x y p q = q
-
-either_turned : (config : Configuration) (b : Bool) (x y : Turned) → Keeps config x → Keeps config y → Keeps config (cond b x y)
-either_turned config true x y p q = p
-either_turned config false x y p q = q
-
 completed_keeps : (board : Board) (w : Waiting) → Keeps board.config (completed board w)
-completed_keeps board w = either_keeps board.config (is_satisfied_now board w) _ _ refl refl
+completed_keeps board w = either_way (λ (x : Board). x.config ≡ board.config) (is_satisfied_now board w) _ _ refl refl
 
 unless_keeps : (board : Board) (o : Option Waiting) → Keeps board.config (unless_none board o)
 unless_keeps board None = refl
-unless_keeps board (Some w) = either_turned board.config (is_answerable_now board w) (completed board w) (record { board = board; text = [] }) (completed_keeps board w) refl
+unless_keeps board (Some w) = either_way (Keeps board.config) (is_answerable_now board w) (completed board w) (record { board = board; text = [] }) (completed_keeps board w) refl
 
 scan_keeps : (sessions : List ℕ) (board : Board) → Keeps board.config (scan_sessions sessions board)
 scan_keeps [] board = refl
@@ -94,7 +87,7 @@ at_once_keeps board session body request came = refl
 handled_keeps : (board : Board) (session : ℕ) (body : List ℕ) (request : Request) (decisions : List Decision) → Keeps board.config (handled board session body request decisions)
 handled_keeps board session body request decisions =
     let came = accept_all session (next_call board session) decisions board.parts in
-    either_turned board.config (becomes_delayed request.ask (shown_of came.0)) (left_waiting board session body request came) (answered_at_once board session body request came)
+    either_way (Keeps board.config) (becomes_delayed request.ask (shown_of came.0)) (left_waiting board session body request came) (answered_at_once board session body request came)
     (waiting_keeps board session body request came) (at_once_keeps board session body request came)
 
 frame_keeps : (board : Board) (session : ℕ) (body : List ℕ) (turned : Turned) → HandlesFrame board session body turned → Keeps board.config turned
@@ -128,7 +121,7 @@ brought_keeps : (board : Board) (line : Line) → (brought board line).config �
 brought_keeps board (Topic name partitions followers) = refl
 brought_keeps board (Feed session bytes) = refl
 brought_keeps board (Shut session) = refl
-brought_keeps board (Clock t) = either_keeps board.config (nat_lt (moment_of board.clock) t) _ _ refl refl
+brought_keeps board (Clock t) = either_way (λ (x : Board). x.config ≡ board.config) (nat_lt (moment_of board.clock) t) _ _ refl refl
 brought_keeps board End = refl
 
 pub plays_keep : (board : Board) (lines : List Line) (turned : Turned) → Plays board lines turned → Keeps board.config turned

@@ -33,6 +33,7 @@ use Rattle.kwire.specs.Refusal.{IsRefused}
 use Rattle.trace_file.specs.Contents.{bytes_in, input_of}
 use Rattle.trace_file.specs.IsLine.{IsLine}
 use Rattle.trace_file.specs.Trace.{pieces_of, IsTrace}
+use Rattle.plain_broker.proofs.Cases.{either_way}
 use Rattle.plain_broker.proofs.RequestBytes.{HasBytes, CarriesBytes, request_bytes, none_are_bytes, front_bytes, back_bytes, both_bytes}
 use Rattle.kwire.proofs.Laws.{request_or_refusal}
 use Rattle.plain_broker.proofs.Work.{AreSeats, work_on, seats_set, inbox_bytes, opening_seats, scanned_as_much, acts_less, its_turn}
@@ -123,27 +124,19 @@ rests (suc least) board are le = rests_by board are (next_to_act (scanned board)
 
 -- ---- the lines
 
-either_bytes : (b : Bool) (inbox bytes : List ℕ) → IsBytes inbox → IsBytes bytes → IsBytes (cond b inbox (inbox ++ bytes))
-either_bytes true inbox bytes one two = one
-either_bytes false inbox bytes one two = both_bytes inbox bytes one two
-
-either_seats : (b : Bool) (x y : Board) → AreSeats x.seats → AreSeats y.seats → AreSeats (cond b x y).seats
-either_seats true x y p q = p
-either_seats false x y p q = q
-
 -- what the first line brings are bytes
-line_bytes : (line : Line) (lines : List Line) → ((session : ℕ) → IsBytes (input_of session (line ∷ lines))) → (s : ℕ) (bytes : List ℕ) → line ≡ Feed s bytes → IsBytes bytes
+pub line_bytes : (line : Line) (lines : List Line) → ((session : ℕ) → IsBytes (input_of session (line ∷ lines))) → (s : ℕ) (bytes : List ℕ) → line ≡ Feed s bytes → IsBytes bytes
 line_bytes line lines fits s bytes is =
     let here : IsBytes (input_of s (Feed s bytes ∷ lines)) = subst (λ (l : Line). IsBytes (input_of s (l ∷ lines))) is (fits s) in
     front_bytes bytes (input_of s lines) (rw (eq-eqb s) at here)
 
-brought_seats : (board : Board) (line : Line) → AreSeats board.seats → ((s : ℕ) (bytes : List ℕ) → line ≡ Feed s bytes → IsBytes bytes) → AreSeats (brought board line).seats
+pub brought_seats : (board : Board) (line : Line) → AreSeats board.seats → ((s : ℕ) (bytes : List ℕ) → line ≡ Feed s bytes → IsBytes bytes) → AreSeats (brought board line).seats
 brought_seats board (Topic name partitions followers) are fits = are
 brought_seats board (Feed session bytes) are fits =
     let inbox = (seat_at board session).inbox in
-    seats_set board.seats session _ are (either_bytes (is_there (transcript_at board session).end) inbox bytes (inbox_bytes board session are) (fits session bytes refl))
+    seats_set board.seats session _ are (either_way IsBytes (is_there (transcript_at board session).end) inbox (inbox ++ bytes) (inbox_bytes board session are) (both_bytes inbox bytes (inbox_bytes board session are) (fits session bytes refl)))
 brought_seats board (Shut session) are fits = seats_set board.seats session _ are (inbox_bytes board session are)
-brought_seats board (Clock t) are fits = either_seats (nat_lt (moment_of board.clock) t) _ board are are
+brought_seats board (Clock t) are fits = either_way (λ (x : Board). AreSeats x.seats) (nat_lt (moment_of board.clock) t) _ board are are
 brought_seats board End are fits = are
 
 plays : (board : Board) (lines : List Line) → AreSeats board.seats → ((session : ℕ) → IsBytes (input_of session lines)) → (turned : Turned) × Plays board lines turned

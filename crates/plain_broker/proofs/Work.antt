@@ -3,7 +3,7 @@
 use Rattle.std.proofs.Common.{◌≡◌, ℕ, zero, suc, ◌+◌, ◌<◌, ◌≤◌, Bool, true, false, cond, not, ◌&&◌, List, [], ◌∷◌, length, set, drop, replicate, Option, Some, None, unwrap_or, MatchBool, refl, sym, ap, subst, ◌∙◌, arith, inl, inr}
 use Rattle.std.proofs.lemmas.List.{length-set, length-drop, length-replicate}
 use Rattle.std.specs.Prelude.{slice_get, ◌==◌}
-use Rattle.std.specs.List.{AllByRecursion, find, range_with_len}
+use Rattle.std.specs.List.{AllByRecursion, find, list_any, range_with_len}
 use Rattle.kbytes.specs.Octets.{IsBytes}
 use Rattle.kbytes.proofs.Laws.{IsBytes-drop}
 use Rattle.partlog.specs.History.{History}
@@ -15,7 +15,7 @@ use Rattle.kwire.specs.declared.frame.Frame.TheVariants.{Whole, NotYet, TooLong}
 use Rattle.kwire.specs.declared.request.Request.{Request}
 use Rattle.plain_broker.specs.Entering.{Noted, accept_all, shown_of}
 use Rattle.kanswer.specs.Decisions.{Decision}
-use Rattle.plain_broker.specs.Acting.{has_ended, is_there, can_act, next_to_act, HandlesFrame, ActsOn, Acts}
+use Rattle.plain_broker.specs.Acting.{has_ended, is_there, can_act, next_to_act, shows_work, HandlesFrame, ActsOn, Acts}
 use Rattle.plain_broker.specs.Board.{Board, Seat, Waiting, empty_seat, new_transcript, seat_at, transcript_at, next_call}
 use Rattle.plain_broker.specs.Completing.{is_satisfied_now, is_answerable_now, completed, unless_none, answered_in, scan_sessions, scanned}
 use Rattle.kanswer.specs.Waiting.{becomes_delayed}
@@ -23,6 +23,7 @@ use Rattle.kwire.specs.Frames.{next_frame_of}
 use Rattle.plain_broker.specs.Turns.{Turned, seat_with, answered_at_once, left_waiting, handled, ended}
 use Rattle.kwire.proofs.Laws.{whole_parts}
 use Rattle.audit.proofs.Laws.{some_is}
+use Rattle.plain_broker.proofs.Cases.{either_way}
 use Rattle.plain_broker.proofs.RequestBytes.{none_are_bytes}
 use Rattle.audit.specs.declared.account.TheConstants.{MOST_CALLS}
 
@@ -111,21 +112,13 @@ calls_changed board later session calls is =
       work = ap work_on is ∙ same_work board.seats session (recalled board session calls) same;
     }
 
-either_board : (board : Board) (b : Bool) (x y : Board) → IsAsMuch board x → IsAsMuch board y → IsAsMuch board (cond b x y)
-either_board board true x y p q = p
-either_board board false x y p q = q
-
-either_turned : (board : Board) (b : Bool) (x y : Turned) → IsAsMuch board x.board → IsAsMuch board y.board → IsAsMuch board (cond b x y).board
-either_turned board true x y p q = p
-either_turned board false x y p q = q
-
 completed_as_much : (board : Board) (w : Waiting) → IsAsMuch board (completed board w).board
-completed_as_much board w = either_board board (is_satisfied_now board w) _ _ (calls_changed board _ w.session _ refl) (calls_changed board _ w.session _ refl)
+completed_as_much board w = either_way (IsAsMuch board) (is_satisfied_now board w) _ _ (calls_changed board _ w.session _ refl) (calls_changed board _ w.session _ refl)
 
 unless_as_much : (board : Board) (o : Option Waiting) → IsAsMuch board (unless_none board o).board
 unless_as_much board None = as_before board
 unless_as_much board (Some w) =
-    either_turned board (is_answerable_now board w) (completed board w) (record { board = board; text = [] }) (completed_as_much board w) (as_before board)
+    either_way (λ (x : Turned). IsAsMuch board x.board) (is_answerable_now board w) (completed board w) (record { board = board; text = [] }) (completed_as_much board w) (as_before board)
 
 scan_as_much : (sessions : List ℕ) (board : Board) → IsAsMuch board (scan_sessions sessions board).board
 scan_as_much [] board = as_before board
@@ -143,10 +136,12 @@ pub record IsLess (board later : Board) : Type 0 where
   pub seats : AreSeats later.seats
   pub work : work_on later.seats < work_on board.seats
 
--- a session that can act is one of the 64, and hasn't ended
+-- a session that can act is one of the 64, hasn't ended, no request of it waits, and it has something to do
 pub record IsOpen (board : Board) (session : ℕ) : Type 0 where
   pub there : session < 64
   pub goes_on : is_there (transcript_at board session).end ≡ false
+  pub no_wait : list_any (λ w. w.session == session) board.waiting ≡ false
+  pub shows : shows_work (seat_at board session).is_shut (next_frame_of (seat_at board session).inbox) ≡ true
 
 pub open_work : (board : Board) (session : ℕ) → IsOpen board session → work_of (seat_at board session) ≡ suc (length (seat_at board session).inbox)
 open_work board session h =
@@ -182,15 +177,11 @@ waiting_less : (board : Board) (session : ℕ) (body : List ℕ) (request : Requ
     → IsLess board (left_waiting board session body request came).board
 waiting_less board session body request came are h within = called_less board _ session body _ are h within refl
 
-either_less : (board : Board) (b : Bool) (x y : Turned) → IsLess board x.board → IsLess board y.board → IsLess board (cond b x y).board
-either_less board true x y p q = p
-either_less board false x y p q = q
-
 handled_less : (board : Board) (session : ℕ) (body : List ℕ) (request : Request) (decisions : List Decision) → AreSeats board.seats → IsOpen board session → 4 + length body ≤ length (seat_at board session).inbox
     → IsLess board (handled board session body request decisions).board
 handled_less board session body request decisions are h within =
     let came = accept_all session (next_call board session) decisions board.parts in
-    either_less board (becomes_delayed request.ask (shown_of came.0)) (left_waiting board session body request came) (answered_at_once board session body request came)
+    either_way (λ (x : Turned). IsLess board x.board) (becomes_delayed request.ask (shown_of came.0)) (left_waiting board session body request came) (answered_at_once board session body request came)
     (waiting_less board session body request came are h within) (at_once_less board session body request came are h within)
 
 frame_less : (board : Board) (session : ℕ) (body : List ℕ) (turned : Turned) → AreSeats board.seats → IsOpen board session → 4 + length body ≤ length (seat_at board session).inbox
@@ -230,11 +221,13 @@ found_in : (p : ℕ → Bool) (a n session : ℕ) → find p (range_with_len a n
 found_in p a zero session is = absurd cc
 found_in p a (suc n) session is = found_by p a n session (p a) refl (λ e. found_in p (a + 1) n session e) is
 
-open_from : (over idle : Bool) → (not over && idle) ≡ true → over ≡ false
-open_from true idle is = absurd cc
-open_from false idle is = refl
+open_from : (over waits shows : Bool) → (not over && (not waits && shows)) ≡ true → (over ≡ false) × (waits ≡ false) × (shows ≡ true)
+open_from true waits shows is = absurd cc
+open_from false true shows is = absurd cc
+open_from false false shows is = (refl, refl, is)
 
 pub its_turn : (board : Board) (session : ℕ) → next_to_act board ≡ Some session → IsOpen board session
 its_turn board session is =
     let found = found_in (can_act board) 0 64 session is in
-    record { there = omega (arith, found.1); goes_on = open_from (is_there (transcript_at board session).end) _ found.0 }
+    let open_ = open_from (is_there (transcript_at board session).end) (list_any (λ w. w.session == session) board.waiting) (shows_work (seat_at board session).is_shut (next_frame_of (seat_at board session).inbox)) found.0 in
+    record { there = omega (arith, found.1); goes_on = open_.0; no_wait = open_.1; shows = open_.2 }

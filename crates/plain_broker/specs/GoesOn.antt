@@ -37,16 +37,16 @@ abbrev pub AllLonger : List History → List History → Type 0
 AllLonger parts later = (p : ℕ) (h : History) → slice_get parts p ≡ Some h → (l : History) × (slice_get later p ≡ Some l) × Longer h l
 
 pub record HaveGrown (parts : List History) (clock : List ClockEvent) (later : List History) (behind : List ClockEvent) : Type 0 where
-  pub parts : AllLonger parts later
+  pub each : AllLonger parts later
   pub more : List ClockEvent
-  pub clock : behind ≡ clock ++ more
+  pub events : behind ≡ clock ++ more
 
 -- an account of this configuration whose histories go on from these
 pub record GoesOn (config : Configuration) (parts : List History) (clock : List ClockEvent) (account : Account) : Type 0 where
   pub same : account.config ≡ config
   pub follows : Follows account parts
   pub more : List ClockEvent
-  pub clock : account.clock ≡ clock ++ more
+  pub events : account.clock ≡ clock ++ more
 
 -- what holds in every account that goes on from here
 abbrev pub Carried : Configuration → List History → List ClockEvent → (Account → Type 0) → Type 0

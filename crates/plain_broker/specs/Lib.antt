@@ -16,11 +16,15 @@ pub mod Play
 pub mod AtRest
 -- topics as they may be declared
 pub mod Declared
+-- small boards, written out
+pub mod Worked
+-- a whole trace, written out
+pub mod WorkedPlay
+-- ==== the words of lemmas that the crates above may cite
+
 -- histories that go on, and what holds in every account that goes on from them
 pub mod GoesOn
 -- who left the entries of the histories
 pub mod Kept
 -- what holds of a board between two steps
 pub mod Sound
--- what a board is to the lines that it was fed
-pub mod Fed

@@ -1,5 +1,5 @@
 -- What holds of a board between two steps: every call is whole or waits, in every account that goes on from the histories.
-use Rattle.std.specs.Prelude.{ℕ, ◌≡◌, ◌<◌, ◌≤◌, Bool, true, List, [], ◌∷◌, ◌++◌, length, map, ◌==◌, Option, Some, None, slice_get}
+use Rattle.std.specs.Prelude.{ℕ, ◌≡◌, ◌<◌, ◌≤◌, true, List, [], ◌∷◌, ◌++◌, length, map, ◌==◌, Option, Some, None, slice_get}
 use Rattle.std.specs.List.{AllByRecursion, find}
 use Rattle.std.specs.List.Sorted.{IsStrictlyIncreasing}
 use Rattle.partlog.specs.declared.clock_event.ClockEvent.{ClockEvent}
@@ -61,7 +61,7 @@ pub record WaitsLast (config : Configuration) (parts : List History) (clock : Li
   pub calls : transcript.calls ≡ front ++ call ∷ []
   pub done : AreDone config parts clock front
   pub waits : IsWaiting config parts clock w call
-  pub session : w.session ≡ session
+  pub own : w.session ≡ session
   pub going : transcript.end ≡ None
 
 -- the calls of a session, of which this request waits or none

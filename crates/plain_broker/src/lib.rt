@@ -7,4 +7,6 @@
 
 mod promises;
 
-pub use promises::{lines_play, play_is_lawful, play_is_run, play_rests};
+pub use promises::{
+    lines_play, play_is_lawful, play_is_run, play_rests, worked_play, worked_scans,
+};

@@ -1,6 +1,6 @@
 //! Laws of the play. They do nothing.
 
-ghost use Rattle.std.specs.Prelude.{◌≡◌, [], ℕ, List};
+ghost use Rattle.std.specs.Prelude.{◌≡◌, ◌∷◌, [], ℕ, List};
 ghost use Rattle.kbytes.specs.Octets.{IsBytes};
 ghost use Rattle.audit.specs.declared.account.Account.{Account};
 ghost use Rattle.audit.specs.IsLawful.{IsLawful};
@@ -9,10 +9,17 @@ ghost use Rattle.trace_file.specs.declared.line.Line.{Line};
 ghost use Rattle.trace_file.specs.Trace.{IsTrace};
 ghost use Rattle.kwire.specs.Configuration.{Configuration};
 ghost use Rattle.plain_broker.specs.AtRest.{IsAtRest};
-ghost use Rattle.plain_broker.specs.Board.{opening};
+ghost use Rattle.plain_broker.specs.Board.{opening, transcript_at};
+ghost use Rattle.plain_broker.specs.Completing.{scanned};
 ghost use Rattle.plain_broker.specs.Declared.{AreDeclared};
 ghost use Rattle.plain_broker.specs.Play.{IsPlay, Plays};
 ghost use Rattle.plain_broker.specs.Turns.{Turned};
+ghost use Rattle.plain_broker.specs.Worked.{board_with, fetched_behind, fetched_it, produced};
+ghost use Rattle.partlog.specs.declared.clock_event.ClockEvent.TheVariants.{Tick};
+ghost use Rattle.audit.specs.declared.account.CallHow.TheVariants.{Expired, Satisfied};
+ghost use Rattle.audit.specs.Histories.{calls_of, clock_part};
+ghost use Rattle.audit.specs.Worked.{at, followed};
+ghost use Rattle.plain_broker.specs.WorkedPlay.{body_of, polled, produce, worked_lines};
 ghost use Rattle.trace_file.specs.Contents.{configuration_of, input_of};
 
 /// Law: with any configuration, lines play to one account and one text. What the lines bring need only be bytes: they may be
@@ -43,4 +50,28 @@ pub fn play_is_run()
 pub fn play_rests()
     ensures { (config : Configuration) (lines : List Line) (last : Turned) → AreDeclared config.topics
         → Plays (opening config) lines last → IsAtRest last.board }
+{}
+
+/// Law: worked scans of a produce that waits for its follower. It waits on until the follower fetched behind its record, or its
+/// deadline has come; where both hold it is satisfied. It is answered once, with a look at the clock first where it expired.
+pub fn worked_scans()
+    ensures waits { (all batch : List ℕ) → (scanned (board_with all batch fetched_it [])).board ≡ board_with all batch fetched_it [] }
+    ensures early { (all batch : List ℕ) → (scanned (board_with all batch [] (Tick 99 ∷ []))).board ≡ board_with all batch [] (Tick 99 ∷ []) }
+    ensures satisfied { (all batch : List ℕ) → (transcript_at (scanned (board_with all batch fetched_behind [])).board 0).calls
+        ≡ produced all (at 0 2 ∷ []) (Satisfied 0) ∷ [] }
+    ensures expired { (all batch : List ℕ) → (transcript_at (scanned (board_with all batch [] (Tick 100 ∷ []))).board 0).calls
+        ≡ produced all (at clock_part 2 ∷ at 0 1 ∷ []) (Expired 0) ∷ [] }
+    ensures both { (all batch : List ℕ) → (transcript_at (scanned (board_with all batch fetched_behind (Tick 100 ∷ []))).board 0).calls
+        ≡ produced all (at 0 2 ∷ []) (Satisfied 0) ∷ [] }
+    ensures once { (all batch : List ℕ) → (scanned (board_with all batch fetched_behind [])).board.waiting ≡ [] }
+{}
+
+/// Law: a worked trace. A produce for all replicas waits, and is satisfied as its follower fetches behind its record; a
+/// consumer's fetch waits until its deadline, and expires; the account is lawful.
+pub fn worked_play()
+    ensures satisfied { (account : Account) (text : List ℕ) → IsPlay followed worked_lines account text
+        → calls_of account 0 ≡ produced (body_of produce) (at 0 2 ∷ []) (Satisfied 0) ∷ [] }
+    ensures expired { (account : Account) (text : List ℕ) → IsPlay followed worked_lines account text
+        → calls_of account 2 ≡ polled ∷ [] }
+    ensures lawful { (account : Account) (text : List ℕ) → IsPlay followed worked_lines account text → IsLawful account }
 {}
