@@ -2,6 +2,7 @@
 
 -- a history that goes on: its batches, and the bytes that they have
 pub use Rattle.partlog.proofs.Appending.{batches-append, bytes_in-batches}
+pub use Rattle.partlog.proofs.Below.{batches-take}
 -- bounds
 pub use Rattle.partlog.proofs.Bounds.{log_end-le-bytes, sum_by-filter-le, high_more}
 -- what a state's batches show of the state

@@ -20,6 +20,10 @@ pub mod Whole
 pub mod Earlier
 -- what a search among the starts of batches finds
 pub mod Halving
+-- how far the replicas have fetched as one fetches more
+pub mod Following
+-- the clock's moment as its history goes on
+pub mod Timing
 -- what is kept of a log as it grows
 pub mod Tracking
 -- no number falls as a history grows

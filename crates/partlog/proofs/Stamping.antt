@@ -4,7 +4,7 @@ use Rattle.std.proofs.Math.Seq.{take-append_seam, drop-append_seam, take-length}
 use Rattle.std.proofs.lemmas.List.Sums.{sum_by_push}
 use Rattle.std.proofs.lemmas.List.Elements.{All-push}
 use Rattle.partlog.specs.declared.event.PartEvent.{PartEvent}
-use Rattle.partlog.specs.declared.event.PartEvent.TheVariants.{Append, Look}
+use Rattle.partlog.specs.declared.event.PartEvent.TheVariants.{Append}
 use Rattle.partlog.specs.Added.{added_bytes, bytes_of}
 use Rattle.partlog.specs.Kept.{IsDense, IsKept}
 
@@ -33,12 +33,12 @@ kept-push log w events by seq count len kept some dense size room =
       dense = All-push IsDense events e kept.dense (some, dense);
     }
 
--- a look adds nothing
-pub kept-look : (log : List ℕ) (events : List PartEvent) (by seq : ℕ) → IsKept log events → IsKept log (events ++ Look by seq ∷ [])
-kept-look log events by seq kept = record {
-  whole = sum_by_push added_bytes events (Look by seq) ∙ omega (arith, kept.whole);
+-- an entry that adds nothing
+pub kept-none : (log : List ℕ) (events : List PartEvent) (e : PartEvent) → added_bytes e ≡ 0 → IsDense e → IsKept log events → IsKept log (events ++ e ∷ [])
+kept-none log events e nothing dense kept = record {
+  whole = sum_by_push added_bytes events e ∙ omega (arith, nothing, kept.whole);
   bounded = kept.bounded;
-  dense = All-push IsDense events (Look by seq) kept.dense tt;
+  dense = All-push IsDense events e kept.dense dense;
 }
 
 -- the part that is lent for it is what was put there

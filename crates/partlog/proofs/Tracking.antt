@@ -1,5 +1,5 @@
 -- What is kept of a log beside its bytes and its history, as these grow.
-use Rattle.std.proofs.Common.{◌≡◌, ℕ, pos, ◌+◌, ◌≤◌, ◌<◌, List, [], ◌∷◌, ◌++◌, length, take, drop, min, max, map, fold, arith, sym, ap, subst, ◌∙◌, refl, append-nil}
+use Rattle.std.proofs.Common.{◌≡◌, ℕ, pos, ◌+◌, ◌≤◌, ◌<◌, List, [], ◌∷◌, ◌++◌, length, take, drop, min, max, map, fold, get_or, set, arith, sym, ap, subst, ◌∙◌, refl, append-nil}
 use Rattle.std.specs.List.{filter_map, range_with_len}
 use Rattle.std.proofs.Math.Seq.{take-append_seam, drop-append_seam, take-length}
 use Rattle.std.proofs.lemmas.List.Elements.{filter_map-append}
@@ -18,8 +18,9 @@ use Rattle.partlog.specs.Starts.{AreStarts, starts_from, records_in}
 use Rattle.partlog.specs.Tracked.{IsTracked}
 use Rattle.partlog.proofs.Appending.{batches-append}
 use Rattle.partlog.proofs.Below.{batches-take}
+use Rattle.partlog.proofs.Following.{positions-raised}
 use Rattle.partlog.proofs.Gathered.{IsScanned, numbers_are}
-use Rattle.partlog.proofs.Stamping.{kept-push, kept-look}
+use Rattle.partlog.proofs.Stamping.{kept-push, kept-none}
 use Rattle.partlog.proofs.Whole.{kept-full, kept-rising, kept-bytes}
 
 -- the batches of the entries have the records that these added
@@ -93,27 +94,56 @@ module _ (log : List ℕ) (followers : ℕ) (events : List PartEvent) (starts : 
         bytes = ap (λ (n : Numbers). n.bytes) tracked.numbers ∙ kept-bytes log events tracked.kept;
       }
 
+  -- an entry that adds nothing
+  module _ (e : PartEvent) (none : batches_after events (e ∷ []) (drop (bytes_of events) log) ≡ []) (no_records : added_count e ≡ 0) where
+    same-batches : batches_of (events ++ e ∷ []) log ≡ batches_of events log
+    same-batches = batches-append [] events (e ∷ []) log ∙ ap (λ bs. batches_of events log ++ bs) none ∙ append-nil (batches_of events log)
+
+    same-end : log_end_of (events ++ e ∷ []) ≡ log_end_of events
+    same-end = sum_by_push added_count events e ∙ omega (arith, no_records)
+
   -- a look
   module _ (by seq : ℕ) where
-    looked-batches : batches_of (events ++ Look by seq ∷ []) log ≡ batches_of events log
-    looked-batches = batches-append [] events (Look by seq ∷ []) log ∙ append-nil (batches_of events log)
-
     looked-positions : positions_of followers (events ++ Look by seq ∷ []) ≡ positions_of followers events
     looked-positions = unmoved followers events (Look by seq) (λ replica. refl)
-
-    looked-end : log_end_of (events ++ Look by seq ∷ []) ≡ log_end_of events
-    looked-end = sum_by_push added_count events (Look by seq) ∙ omega arith
 
     pub tracked-look : IsTracked log followers (events ++ Look by seq ∷ []) starts positions numbers
     tracked-look =
         let Is : List StoredBatch → ℕ → List ℕ → Type 0 = λ bs end ps. numbers ≡ numbers_of (record { batches = bs; log_end = end; positions = ps }) in
         record {
-          kept = kept-look log events by seq tracked.kept;
-          starts = tracked.starts ∙ ap (starts_from 0) (sym looked-batches);
+          kept = kept-none log events (Look by seq) refl tt tracked.kept;
+          starts = tracked.starts ∙ ap (starts_from 0) (sym (same-batches (Look by seq) refl refl));
           positions = tracked.positions ∙ sym looked-positions;
-          numbers = subst (λ bs. Is bs (log_end_of (events ++ Look by seq ∷ [])) (positions_of followers (events ++ Look by seq ∷ []))) (sym looked-batches)
-              (subst (λ end. Is (batches_of events log) end (positions_of followers (events ++ Look by seq ∷ []))) (sym looked-end)
+          numbers = subst (λ bs. Is bs (log_end_of (events ++ Look by seq ∷ [])) (positions_of followers (events ++ Look by seq ∷ []))) (sym (same-batches (Look by seq) refl refl))
+              (subst (λ end. Is (batches_of events log) end (positions_of followers (events ++ Look by seq ∷ []))) (sym (same-end (Look by seq) refl refl))
               (subst (λ ps. Is (batches_of events log) (log_end_of events) ps) (sym looked-positions) tracked.numbers));
+        }
+
+  -- a follower's fetch
+  module _ (by seq at offset : ℕ) (there : at < followers) (ps : List ℕ) (raised : ps ≡ set positions at (max (get_or positions at 0) offset)) where
+    abbrev fetch : PartEvent
+    fetch = Follow by seq (pos (at + 1)) offset
+
+    pub followed-positions : ps ≡ positions_of followers (events ++ fetch ∷ [])
+    followed-positions =
+        raised ∙ ap (λ (was : List ℕ). set was at (max (get_or was at 0) offset)) tracked.positions ∙ sym (positions-raised followers events by seq at offset there)
+
+    pub tracked-follow : (n : Numbers) → n.end ≡ numbers.end → n.high ≡ fold min numbers.end ps → n.visible ≡ bytes_in (batches_below n.high (batches_of events log)) → n.bytes ≡ numbers.bytes → IsTracked log followers (events ++ fetch ∷ []) starts ps n
+    tracked-follow n end high visible bytes =
+        let was = tracked-scanned in
+        let kept : IsKept log (events ++ fetch ∷ []) = kept-none log events fetch refl tt tracked.kept in
+        let same = same-batches fetch refl refl in
+        let seen : IsScanned log followers (events ++ fetch ∷ []) n = record {
+          end = end ∙ was.end ∙ sym (same-end fetch refl refl);
+          high = high ∙ ap (λ e. fold min e ps) (sym end) ∙ ap (fold min n.end) followed-positions;
+          visible = visible ∙ ap (λ bs. bytes_in (batches_below n.high bs)) (sym same);
+          bytes = bytes ∙ was.bytes;
+        } in
+        record {
+          kept = kept;
+          starts = tracked.starts ∙ ap (starts_from 0) (sym same);
+          positions = followed-positions;
+          numbers = numbers_are log followers (events ++ fetch ∷ []) n kept seen;
         }
 
   -- a batch that was stamped

@@ -4,6 +4,6 @@ use Rattle.partlog.specs.declared.clock_event.ClockEvent.{ClockEvent}
 use Rattle.partlog.specs.declared.clock_event.TheConstants.{MOST_MOMENT}
 use Rattle.partlog.specs.Moment.{moment_of}
 
-pub record IsTimed (events : List ClockEvent) (moment : ℕ) : Type 0 where
-  pub moment : moment ≡ moment_of events
+pub record IsTimed (events : List ClockEvent) (now : ℕ) : Type 0 where
+  pub moment : now ≡ moment_of events
   pub bounded : moment_of events ≤ MOST_MOMENT

@@ -125,6 +125,85 @@ fn a_full_log_takes_nothing_more(rt: HostRuntime) -> Result<(), Fail> {
     Ok(())
 }
 
+// Three batches of one record each, and two followers, of which the slower one decides what is shown.
+#[test]
+fn the_slowest_follower_decides(rt: HostRuntime) -> Result<(), Fail> {
+    let alloc = rt.alloc();
+    let mut part = PartLog::new(alloc, 2)?;
+    let batch = batch_of(alloc, &ONE_RECORD)?;
+    for _ in 0..3 {
+        part.append(WHO, &batch)?;
+    }
+    for (replica, offset, place, high, visible) in [
+        (2, 3, 3, 0, 0),
+        (1, 1, 4, 1, 69),
+        (1, 0, 5, 1, 69),
+    ] {
+        assert_eq!(rt; part.follow(WHO, replica, offset), Ok(place));
+        let numbers = part.numbers();
+        assert_eq!(rt; (numbers.high, numbers.visible), (high, visible));
+    }
+    for replica in [-1, 0, 3, 5] {
+        assert_eq!(rt; part.follow(WHO, replica, 1), Err(FollowFault::NoReplica));
+    }
+    for offset in [-1, 4] {
+        assert_eq!(rt;
+            part.follow(WHO, 1, offset),
+            Err(FollowFault::OutOfRange { log_end: 3 })
+        );
+    }
+    assert_eq!(rt; part.events().len(), 6);
+    Ok(())
+}
+
+// A follower that has two of three records has no batch whole.
+#[test]
+fn a_batch_is_shown_whole(rt: HostRuntime) -> Result<(), Fail> {
+    let alloc = rt.alloc();
+    let mut part = PartLog::new(alloc, 1)?;
+    part.append(WHO, &batch_of(alloc, &THREE_RECORDS)?)?;
+    part.follow(WHO, 1, 2)?;
+    let numbers = Numbers {
+        end: 3,
+        high: 2,
+        visible: 0,
+        bytes: 85,
+    };
+    assert_eq!(rt; part.numbers(), numbers);
+    let entry = PartEvent::Follow {
+        by: 3,
+        seq: 7,
+        replica: 1,
+        offset: 2,
+    };
+    assert_eq!(rt; part.events().get(1), Some(&entry));
+    Ok(())
+}
+
+#[test]
+fn the_clock_only_rises(rt: HostRuntime) -> Result<(), Fail> {
+    let mut clock = ClockLog::new(rt.alloc());
+    for (t, rose, now) in [
+        (0, false, 0),
+        (5, true, 5),
+        (5, false, 5),
+        (4, false, 5),
+        (MOST_MOMENT, true, MOST_MOMENT),
+    ] {
+        assert_eq!(rt; clock.tick(t), Ok(rose));
+        assert_eq!(rt; clock.now(), now);
+    }
+    assert_eq!(rt; clock.look(WHO), Ok(2));
+    let events = [
+        ClockEvent::Tick { t: 5 },
+        ClockEvent::Tick { t: MOST_MOMENT },
+        ClockEvent::Look { by: 3, seq: 7 },
+    ];
+    assert_eq!(rt; clock.events(), events.as_slice());
+    assert_eq!(rt; clock.into_events().as_slice(), events.as_slice());
+    Ok(())
+}
+
 // Batches of 69, 85 and 69 bytes, with one, three and one records.
 fn three_batches(alloc: Global) -> Result<PartLog, Fail> {
     let mut part = PartLog::new(alloc, 0)?;
