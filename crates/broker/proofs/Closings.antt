@@ -72,6 +72,6 @@ account_made config parts seats waiting accounts clock events passes wins won co
     ∙ ap (λ (x : List (List Transcript)). made_of config (map part_account parts) clock x wins) listed
     ∙ ap (made_of config (map part_account parts) clock (passes_of seats)) (one ∙ ap (λ (n : ℕ). n ∷ []) counted)
 
-pub if_ok_each : {T E W : Type 0} {P : W → T → Type 0} (r : Result T E) → ((w : W) → IfOk r (P w)) → IfOk r (λ x. (w : W) → P w x)
-if_ok_each (Ok x) f = f
-if_ok_each (Err e) f = tt
+pub if_ok_each : {T E W : Type 0} (P : W → T → Type 0) (r : Result T E) → ((w : W) → IfOk r (P w)) → IfOk r (λ x. (w : W) → P w x)
+if_ok_each P (Ok x) f = f
+if_ok_each P (Err e) f = tt

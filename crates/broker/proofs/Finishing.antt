@@ -47,7 +47,7 @@ finish_is kept session seq how accepted listed parts lent after clock later none
 
 -- ---- before the first line
 
-abbrev nothing : Option Parked
+abbrev pub nothing : Option Parked
 nothing = None
 
 none_at : (n s : ℕ) → unwrap_or (slice_get (replicate n nothing) s) nothing ≡ nothing
@@ -60,19 +60,19 @@ first_followers [] = refl
 first_followers (f ∷ followers) = ap (λ (ns : List ℕ). f ∷ ns) (first_followers followers)
 
 abbrev first_kept : Configuration → Kept
-first_kept config = kept_as config (map empty_history (followers_of config.topics)) [] (replicate 64 empty_seat) (replicate 64 None)
+first_kept config = kept_as config (map empty_history (followers_of config.topics)) [] (replicate 64 empty_seat) (replicate 64 nothing)
 
 first_stands : (config : Configuration) → AreDeclared config.topics → StandsFor (first_kept config) (opening config)
 first_stands config declared = stands_of (first_kept config) [] (record {
   waits = λ s. subst (λ (o : Option Parked). MatchesWaiting (partitions_of config.topics) (last_frame (transcript_at (first_kept config).board s).calls) o None) (sym (none_at 64 s)) tt;
   seats = length-replicate 64 empty_seat;
-  parked = length-replicate 64 None;
+  parked = length-replicate 64 nothing;
   followers = first_followers (followers_of config.topics);
   declared = declared;
 })
 
 pub opening_stands : (config : Configuration) (parts : List History) (clock : List ClockEvent) (seats : List Seat) (parked : List (Option Parked)) → AreDeclared config.topics → parts ≡ map empty_history (followers_of config.topics) → clock ≡ []
-    → seats ≡ replicate 64 empty_seat → parked ≡ replicate 64 None → StandsFor (kept_as config parts clock seats parked) (opening config)
+    → seats ≡ replicate 64 empty_seat → parked ≡ replicate 64 nothing → StandsFor (kept_as config parts clock seats parked) (opening config)
 opening_stands config parts clock seats parked declared is_parts is_clock is_seats is_parked =
     subst (λ (k : Kept). StandsFor k (opening config)) (sym (
       ap (λ (ps : List History). kept_as config ps clock seats parked) is_parts
