@@ -1,12 +1,9 @@
--- The reply to a request that needn't wait comes from what became of its partitions and the logs of those that are seen.
-use Rattle.std.proofs.Common.{◌≡◌, ℕ, zero, suc, ◌+◌, ℤ, pos, negsuc, Bool, true, false, cond, List, [], ◌∷◌, length, take, drop, refl, sym, ap, ◌∙◌}
-use Rattle.std.proofs.lemmas.Bool.{le-leb}
-use Rattle.std.specs.Prelude.{nat_le}
-use Rattle.std.specs.Ordering.{int_eq}
+-- The reply to a request comes from what became of its partitions and their logs.
+use Rattle.std.proofs.Common.{◌≡◌, ℕ, zero, suc, ℤ, List, [], ◌∷◌, length, take, drop, refl, sym, ap, ◌∙◌}
 use Rattle.std.specs.List.{AllByRecursion}
 use Rattle.partlog.specs.History.{History}
 use Rattle.partlog.specs.Batches.{StoredBatch}
-use Rattle.partlog.specs.State.{PartState, high_of}
+use Rattle.partlog.specs.State.{PartState}
 use Rattle.kwire.specs.Configuration.{Configuration}
 use Rattle.kwire.specs.declared.request.Request.{Request}
 use Rattle.kwire.specs.declared.request.Ask.{Ask}
@@ -26,9 +23,9 @@ use Rattle.kanswer.specs.declared.accepted.Accepted.{Accepted}
 use Rattle.kanswer.specs.declared.accepted.Accepted.TheVariants.{Refused, Appended, Seen}
 use Rattle.kanswer.specs.declared.accepted.Budget.{Budget}
 use Rattle.kanswer.specs.Waiting.{Shown, results_of}
-use Rattle.kanswer.specs.Answer.{produced_code, produced_as, produced_parts, produced_topics, read_of, batches_as, budget_after, fetched_as, fetched_parts, budget_behind, fetched_topics, first_budget, told_to, answer}
+use Rattle.kanswer.specs.Answer.{produced_as, produced_parts, produced_topics, read_of, batches_as, budget_after, fetched_as, fetched_parts, budget_behind, fetched_topics, first_budget, told_to, answer}
 use Rattle.broker.specs.Gathered.{state_now, shown_in_logs}
-use Rattle.broker.specs.Replying.{HasAll, ShowsLog, ShowsLogs}
+use Rattle.broker.specs.Replying.{ShowsLog, ShowsLogs}
 
 abbrev shown_as : Accepted → PartState → Shown
 shown_as result state = record { result = result; state = state }
@@ -62,20 +59,10 @@ module _ (parts : List History) where
 
   -- ---- a produce
 
-  had : (acks : ℤ) (offset : ℕ) (state : PartState) → HasAll offset state → produced_code acks offset state ≡ pos 0
-  had acks offset state has =
-      let there : nat_le offset (high_of state) ≡ true = le-leb offset (high_of state) has.1 in
-      ap (λ (b : Bool). cond (int_eq acks (negsuc 0)) (cond b (pos 0) (pos 7)) (pos 0)) there ∙ either_way (int_eq acks (negsuc 0))
-    where
-      either_way : (b : Bool) → cond b (pos 0) (pos 0) ≡ pos 0
-      either_way true = refl
-      either_way false = refl
-
   produced_alike : (acks index : ℤ) (result : Accepted) (state : PartState) → ShowsLog parts (record { result = result; state = state }) → produced_as acks index result state ≡ produced_as acks index result (state_now parts result)
   produced_alike acks index (Refused code) state h = refl
   produced_alike acks index (Appended part base count) state h =
-      ap (λ (z : ℤ). let told : ProducedPart = record { index = index; code = z; base = pos base } in told)
-      (had acks (base + count) state h.0 ∙ sym (had acks (base + count) (state_now parts (Appended part base count)) h.1))
+      ap (λ (x : PartState). produced_as acks index (Appended part base count) x) h
   produced_alike acks index (Seen part start) state h = refl
 
   produced_parts_alike : (acks : ℤ) (asked : List ProducePart) (shown : List Shown) → Shows shown → produced_parts acks asked shown ≡ produced_parts acks asked (renewed shown)
@@ -142,7 +129,7 @@ told_alike config parts (Fetch replica max_wait min_bytes max_bytes isolation to
 told_alike config parts (Metadata topics) shown h = refl
 told_alike config parts (Versions version) shown h = refl
 
-pub same_answer : (config : Configuration) (parts : List History) (request : Request) (accepted : List Accepted) (shown : List Shown) → ShowsLogs parts request.ask accepted shown → answer config request shown ≡ answer config request (shown_in_logs parts accepted)
+pub same_answer : (config : Configuration) (parts : List History) (request : Request) (accepted : List Accepted) (shown : List Shown) → ShowsLogs parts accepted shown → answer config request shown ≡ answer config request (shown_in_logs parts accepted)
 same_answer config parts request accepted shown h =
     ap (λ (t : Told). let reply : Reply = record { correlation = request.correlation; told = t } in reply) (told_alike config parts request.ask shown h.states)
     ∙ ap (λ (rs : List Accepted). answer config request (shown_in_logs parts rs)) h.results

@@ -32,6 +32,10 @@ pub on_ok : {T E : Type 0} {P Q : Type 0} (r : Result T E) → OnOk r P → (P �
 on_ok (Ok x) p f = f p
 on_ok (Err e) p f = tt
 
+pub on_ok_both : {T E : Type 0} {P Q R : Type 0} (r : Result T E) → OnOk r P → OnOk r Q → (P → Q → R) → OnOk r R
+on_ok_both (Ok x) p q f = f p q
+on_ok_both (Err e) p q f = tt
+
 -- a partition that is refused before its log is asked
 pub refusal_carried : (by seq : ℕ) (code : _) (parts : List History) (came later : Came) → later ≡ record { accepted = came.accepted ++ Refused code ∷ []; points = came.points }
     → IsCarried by seq (Refuse code ∷ []) parts parts came later

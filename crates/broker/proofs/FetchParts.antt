@@ -1,86 +1,192 @@
--- What becomes of a partition of a fetch, where no topic has followers.
-use Rattle.std.proofs.Common.{◌≡◌, ℕ, zero, suc, ◌<◌, ◌≤◌, ℤ, pos, negsuc, Bool, true, false, cond, ltb, ◌&&◌, List, [], ◌∷◌, ◌++◌, get_or, refl, sym, ap, ◌∙◌, arith, inl, inr}
-use Rattle.std.proofs.lemmas.Bool.{lt-ltb, le-ltb}
-use Rattle.std.proofs.lemmas.Int.{ints}
+-- What becomes of a partition of a fetch, and that no partition's followers change.
+use Rattle.std.proofs.Common.{◌≡◌, ◌⊎◌, ℕ, zero, suc, ◌<◌, ◌≤◌, ℤ, pos, negsuc, Bool, true, false, cond, ltb, ◌&&◌, List, [], ◌∷◌, ◌++◌, length, get_or, map, set, replicate, Option, Some, None, unwrap_or, refl, sym, ap, subst, ◌∙◌, arith, inl, inr, length-append}
+use Rattle.std.proofs.lemmas.Bool.{lt-ltb, le-ltb, le-leb, lt-leb}
 use Rattle.std.proofs.lemmas.Bool.Decides.{leb_tells}
-use Rattle.std.specs.Prelude.{replicate, nat_lt, nat_le}
-use Rattle.std.specs.List.{AllByRecursion}
+use Rattle.std.proofs.lemmas.List.{length-map, length-replicate}
+use Rattle.std.proofs.lemmas.List.Sums.{sum_by-cons}
+use Rattle.std.proofs.lemmas.Int.{ints}
+use Rattle.std.specs.Prelude.{nat_lt, nat_le, slice_get, ◌≤ℤ◌}
+use lib.Dec.{T}
 use lib.Signed.{le_z}
-use Rattle.partlog.specs.State.{PartState}
+use Rattle.partlog.specs.Added.{log_end_of}
+use Rattle.partlog.specs.Follower.{IsFollower}
+use Rattle.partlog.specs.Followed.{followed}
+use Rattle.partlog.specs.History.{History}
+use Rattle.partlog.specs.InRange.{IsInRange}
+use Rattle.partlog.specs.State.{PartState, state_of}
 use Rattle.partlog.specs.Start.{start_of}
 use Rattle.kwire.specs.declared.config.Topic.{Topic}
 use Rattle.kwire.specs.declared.request.FetchPart.{FetchPart}
+use Rattle.kwire.specs.Configuration.{followers_of, partitions_of}
 use Rattle.kanswer.specs.declared.accepted.Accepted.TheVariants.{Refused, Seen}
-use Rattle.kwire.specs.Configuration.{followers_of}
-use Rattle.kanswer.specs.Decisions.{Looked, Followed, look, offset_of, fetch_outcome, in_range_outcome}
-use Rattle.broker.specs.Carried.{HasNoFollowers}
+use Rattle.kanswer.specs.Decisions.{Entry, Put, Looked, Followed, Outcome, Decision, Refuse, AskLog, look, offset_of, fetch_outcome, in_range_outcome}
+use Rattle.plain_broker.specs.Board.{history_at, empty_history}
+use Rattle.plain_broker.specs.Entering.{entered, accept_all}
+use Rattle.broker.specs.Carried.{Came, IsCarried, IsEntered}
 
-pub not_negative : (z : ℤ) → le_z (pos 0) z ≡ true → (n : ℕ) × (z ≡ pos n)
-not_negative (pos n) e = (n, refl)
-not_negative (negsuc n) e = absurd cc
+pub not_below : (z : ℤ) → pos 0 ≤ℤ z → (n : ℕ) × (z ≡ pos n)
+not_below (pos n) h = (n, refl)
+not_below (negsuc n) h = absurd h.le
+
+pub above : (z : ℤ) → le_z (pos 0) z ≡ true → pos 0 ≤ℤ z
+above z e = record { le = told (le_z (pos 0) z) e }
+  where
+    told : (b : Bool) → b ≡ true → T b
+    told true e = tt
+    told false e = absurd cc
 
 pub negative : (z : ℤ) → le_z (pos 0) z ≡ false → (n : ℕ) × (z ≡ negsuc n)
 negative (pos n) e = absurd (grind (arith, ints))
 negative (negsuc n) e = (n, refl)
 
-all_zero : (n : ℕ) (rest : List ℕ) (f : ℕ) → f ≡ 0 → AllByRecursion (λ x. x ≡ 0) rest → AllByRecursion (λ x. x ≡ 0) (replicate n f ++ rest)
-all_zero zero rest f e all = all
-all_zero (suc n) rest f e all = (e, all_zero n rest f e all)
+-- the same outcome
+pub entered_alike : (by seq part : ℕ) (outcome other : PartState → Outcome) (h after : History) (came later : Came) → outcome (state_of h) ≡ other (state_of h)
+    → IsEntered by seq part outcome h after came later → IsEntered by seq part other h after came later
+entered_alike by seq part outcome other h after came later same e = record {
+  history = e.history ∙ ap (λ (o : Outcome). entered h by seq o.entry) same;
+  accepted = e.accepted ∙ ap (λ (o : Outcome). came.accepted ++ o.result ∷ []) same;
+  points = e.points;
+}
 
-pub none_follow : (topics : List Topic) → HasNoFollowers topics → AllByRecursion (λ x. x ≡ 0) (followers_of topics)
-none_follow [] none = tt
-none_follow (topic ∷ topics) none = all_zero topic.partitions (followers_of topics) topic.followers none.0 (none_follow topics none.1)
+pub consumes : (followers part : ℕ) (replica : ℤ) (n : ℕ) (asked : FetchPart) (state : PartState) → replica ≡ negsuc n → in_range_outcome part asked.offset Looked state ≡ fetch_outcome followers replica asked part state
+consumes followers part replica n asked state is = sym (ap (λ (r : ℤ). fetch_outcome followers r asked part state) is)
 
-zero_at : (xs : List ℕ) (i : ℕ) → AllByRecursion (λ x. x ≡ 0) xs → get_or xs i 0 ≡ 0
-zero_at [] i all = refl
-zero_at (x ∷ xs) zero all = all.0
-zero_at (x ∷ xs) (suc i) all = zero_at xs i all.1
+-- ---- an offset, which is out of range or not
 
-no_follower : (r : ℕ) → (nat_lt 0 r && nat_le r 0) ≡ false
-no_follower r = elim (leb_tells r 0) [
-  | inl le ↦ let none : ltb 0 r ≡ false = le-ltb 0 r (omega (arith, le.1)) in ap (λ (b : Bool). b && nat_le r 0) none
-  | inr lt ↦ ap (λ (b : Bool). nat_lt 0 r && b) lt.0 ∙ and_false (nat_lt 0 r)
-]
+pub out_of_range : (part : ℕ) (offset : ℤ) (entry : Entry) (state : PartState) (end : ℕ) → end ≡ state.log_end → ((at : ℕ) → offset ≡ pos at → end < at) → in_range_outcome part offset entry state ≡ look (Refused (pos 1))
+out_of_range part (negsuc n) entry state end ends outside = refl
+out_of_range part (pos at) entry state end ends outside =
+    let yes : ltb state.log_end at ≡ true = lt-ltb state.log_end at (omega (arith, ends, outside at refl)) in
+    ap (λ (b : Bool). cond b (look (Refused (pos 1))) (record { result = Seen part (start_of at state); entry = entry })) yes
+
+pub in_range : (part : ℕ) (offset : ℤ) (entry : Entry) (state : PartState) (end at start : ℕ) → end ≡ state.log_end → offset ≡ pos at → at ≤ end → start ≡ start_of at state
+    → in_range_outcome part offset entry state ≡ record { result = Seen part start; entry = entry }
+in_range part offset entry state end at start ends is le starts =
+    let no : ltb state.log_end at ≡ false = le-ltb state.log_end at (omega (arith, ends, le)) in
+    ap (λ (z : ℤ). in_range_outcome part z entry state) is
+    ∙ ap (λ (b : Bool). cond b (look (Refused (pos 1))) (record { result = Seen part (start_of at state); entry = entry })) no
+    ∙ ap (λ (s : ℕ). let o : Outcome = record { result = Seen part s; entry = entry } in o) (sym starts)
+
+-- ---- a replica, which is a follower or not
+
+pub follower_or_not : (replica : ℤ) (followers : ℕ) → IsFollower replica followers ⊎ (IsFollower replica followers → ⊥)
+follower_or_not (negsuc n) followers = inr (λ no. no)
+follower_or_not (pos r) followers =
+    elim (leb_tells r 0) [
+      | inl none ↦ inr (λ is. absurd (omega (arith, none.1, is.0)))
+      | inr some ↦ elim (leb_tells r followers) [
+        | inl few ↦ inl (omega (arith, some.1), few.1)
+        | inr many ↦ inr (λ is. absurd (omega (arith, many.1, is.1)))
+      ]
+    ]
+
+pub range_or_not : (offset : ℤ) (end : ℕ) → IsInRange offset end ⊎ (IsInRange offset end → ⊥)
+range_or_not (negsuc n) end = inr (λ no. no)
+range_or_not (pos at) end = elim (leb_tells at end) [ inl le ↦ inl le.1 | inr lt ↦ inr (λ is. absurd (omega (arith, lt.1, is))) ]
+
+-- where it can't be otherwise
+pub follower_by : (replica : ℤ) (followers : ℕ) → ((IsFollower replica followers → ⊥) → ⊥) → IsFollower replica followers
+follower_by replica followers twice = elim (follower_or_not replica followers) [ inl is ↦ is | inr never ↦ absurd (twice never) ]
+
+pub range_by : (offset : ℤ) (end : ℕ) → ((IsInRange offset end → ⊥) → ⊥) → IsInRange offset end
+range_by offset end twice = elim (range_or_not offset end) [ inl is ↦ is | inr never ↦ absurd (twice never) ]
+
+abbrev follows : ℕ → ℕ → Bool
+follows r followers = nat_lt 0 r && nat_le r followers
+
+follows_is : (r followers : ℕ) → 0 < r → r ≤ followers → follows r followers ≡ true
+follows_is r followers some few =
+    let a : nat_lt 0 r ≡ true = lt-ltb 0 r some in
+    let b : nat_le r followers ≡ true = le-leb r followers few in
+    ap (λ (x : Bool). x && nat_le r followers) a ∙ b
+
+follows_not : (r followers : ℕ) → (IsFollower (pos r) followers → ⊥) → follows r followers ≡ false
+follows_not r followers never =
+    elim (leb_tells r 0) [
+      | inl none ↦ let a : nat_lt 0 r ≡ false = le-ltb 0 r (omega (arith, none.1)) in ap (λ (x : Bool). x && nat_le r followers) a
+      | inr some ↦ elim (leb_tells r followers) [
+        | inl few ↦ absurd (never (omega (arith, some.1), few.1))
+        | inr many ↦
+            let a : nat_lt 0 r ≡ true = lt-ltb 0 r (omega (arith, some.1)) in
+            ap (λ (x : Bool). x && nat_le r followers) a ∙ many.0
+      ]
+    ]
+
+pub fetch_of_nobody : (followers part : ℕ) (replica : ℤ) (r : ℕ) (asked : FetchPart) (state : PartState) → replica ≡ pos r → (IsFollower replica followers → ⊥) → fetch_outcome followers replica asked part state ≡ look (Refused (pos 9))
+fetch_of_nobody followers part replica r asked state is never =
+    ap (λ (z : ℤ). fetch_outcome followers z asked part state) is
+    ∙ ap (λ (b : Bool). cond b (in_range_outcome part asked.offset (Followed (pos r) (offset_of asked.offset)) state) (look (Refused (pos 9)))) (follows_not r followers (λ f. never (by_sign f)))
   where
-    and_false : (b : Bool) → (b && false) ≡ false
-    and_false true = refl
-    and_false false = refl
+    by_sign : IsFollower (pos r) followers → IsFollower replica followers
+    by_sign f = subst (λ (z : ℤ). IsFollower z followers) (sym is) f
 
--- a replica where nobody follows
-pub fetch_of_nobody : (part : ℕ) (replica : ℤ) (n : ℕ) (asked : FetchPart) (state : PartState) → replica ≡ pos n → fetch_outcome 0 replica asked part state ≡ look (Refused (pos 9))
-fetch_of_nobody part replica n asked state is =
-    ap (λ (r : ℤ). fetch_outcome 0 r asked part state) is
-    ∙ ap (λ (b : Bool). cond b (in_range_outcome part asked.offset (Followed (pos n) (offset_of asked.offset)) state) (look (Refused (pos 9)))) (no_follower n)
+pub fetch_of_follower : (followers part : ℕ) (replica : ℤ) (r : ℕ) (asked : FetchPart) (state : PartState) → replica ≡ pos r → IsFollower replica followers
+    → fetch_outcome followers replica asked part state ≡ in_range_outcome part asked.offset (Followed (pos r) (offset_of asked.offset)) state
+fetch_of_follower followers part replica r asked state is f =
+    let g : IsFollower (pos r) followers = subst (λ (z : ℤ). IsFollower z followers) is f in
+    ap (λ (z : ℤ). fetch_outcome followers z asked part state) is
+    ∙ ap (λ (b : Bool). cond b (in_range_outcome part asked.offset (Followed (pos r) (offset_of asked.offset)) state) (look (Refused (pos 9)))) (follows_is r followers g.0 g.1)
 
--- no topic has followers
-pub no_followers_at : (topics : List Topic) (part : ℕ) → HasNoFollowers topics → get_or (followers_of topics) part 0 ≡ 0
-no_followers_at topics part none = zero_at (followers_of topics) part (none_follow topics none)
+pub not_in_range : (part : ℕ) (offset : ℤ) (entry : Entry) (state : PartState) → (IsInRange offset state.log_end → ⊥) → in_range_outcome part offset entry state ≡ look (Refused (pos 1))
+not_in_range part offset entry state never =
+    out_of_range part offset entry state state.log_end refl (λ at is. elim (leb_tells at state.log_end) [
+      | inl le ↦ absurd (never (subst (λ (z : ℤ). IsInRange z state.log_end) (sym is) le.1))
+      | inr lt ↦ lt.1
+    ])
 
-pub fetch_of_no_follower : (topics : List Topic) (part : ℕ) (replica : ℤ) (n : ℕ) (asked : FetchPart) (state : PartState) → HasNoFollowers topics → replica ≡ pos n
-    → fetch_outcome (get_or (followers_of topics) part 0) replica asked part state ≡ look (Refused (pos 9))
-fetch_of_no_follower topics part replica n asked state none is =
-    ap (λ (f : ℕ). fetch_outcome f replica asked part state) (no_followers_at topics part none) ∙ fetch_of_nobody part replica n asked state is
+-- a follower's fetch was entered
+pub followed_entered : (by seq part : ℕ) (replica : ℤ) (r : ℕ) (asked : FetchPart) (h after : History) (at start place : ℕ) (came later : Came) → replica ≡ pos r → IsFollower replica h.followers → asked.offset ≡ pos at
+    → IsInRange asked.offset (log_end_of h.events) → start ≡ start_of at (state_of h) → place ≡ length h.events → after ≡ followed h by seq replica at
+    → later ≡ record { accepted = came.accepted ++ Seen part start ∷ []; points = came.points ++ record { part = part; place = place } ∷ [] }
+    → IsEntered by seq part (fetch_outcome h.followers replica asked part) h after came later
+followed_entered by seq part replica r asked h after at start place came later is f off range starts placed follows e =
+    let le : at ≤ log_end_of h.events = subst (λ (z : ℤ). IsInRange z (log_end_of h.events)) off range in
+    let entry : Followed (pos r) (offset_of asked.offset) ≡ Followed replica at = ap (λ (z : ℤ). Followed (pos r) (offset_of z)) off ∙ ap (λ (z : ℤ). Followed z at) (sym is) in
+    let outcome : fetch_outcome h.followers replica asked part (state_of h) ≡ record { result = Seen part start; entry = Followed replica at } =
+    fetch_of_follower h.followers part replica r asked (state_of h) is f
+    ∙ in_range part asked.offset (Followed (pos r) (offset_of asked.offset)) (state_of h) (log_end_of h.events) at start refl off le starts
+    ∙ ap (λ (x : Entry). let o : Outcome = record { result = Seen part start; entry = x } in o) entry in
+    record {
+      history = follows ∙ sym (ap (λ (o : Outcome). entered h by seq o.entry) outcome);
+      accepted = ap (λ (k : Came). k.accepted) e ∙ sym (ap (λ (o : Outcome). came.accepted ++ o.result ∷ []) outcome);
+      points = ap (λ (k : Came). k.points) e ∙ ap (λ (n : ℕ). came.points ++ record { part = part; place = n } ∷ []) placed;
+    }
 
--- a consumer, whose offset is out of range or not
-pub fetch_out_of_range : (followers part : ℕ) (replica : ℤ) (n : ℕ) (asked : FetchPart) (state : PartState) (end : ℕ) → replica ≡ negsuc n → end ≡ state.log_end
-    → ((offset : ℕ) → asked.offset ≡ pos offset → end < offset) → fetch_outcome followers replica asked part state ≡ look (Refused (pos 1))
-fetch_out_of_range followers part replica n asked state end is ends outside =
-    ap (λ (r : ℤ). fetch_outcome followers r asked part state) is ∙ by_offset asked.offset refl
-  where
-    past : (o : ℕ) → end ≡ state.log_end → end < o → in_range_outcome part (pos o) Looked state ≡ look (Refused (pos 1))
-    past o ends lt =
-        let yes : ltb state.log_end o ≡ true = lt-ltb state.log_end o (omega (arith, ends, lt)) in
-        ap (λ (b : Bool). cond b (look (Refused (pos 1))) (record { result = Seen part (start_of o state); entry = Looked })) yes
+-- ---- followers
 
-    by_offset : (z : ℤ) → asked.offset ≡ z → in_range_outcome part z Looked state ≡ look (Refused (pos 1))
-    by_offset (negsuc k) e = refl
-    by_offset (pos o) e = past o ends (outside o e)
+pub followers_at : (parts : List History) (part : ℕ) (h : History) → part < length parts → get_or (map (λ (x : History). x.followers) parts) part 0 ≡ (get_or parts part h).followers
+followers_at [] part h lt = absurd (omega (arith, lt))
+followers_at (p ∷ parts) zero h lt = refl
+followers_at (p ∷ parts) (suc part) h lt = followers_at parts part h (omega (arith, lt))
 
-pub fetch_in_range : (followers part : ℕ) (replica : ℤ) (n : ℕ) (asked : FetchPart) (state : PartState) (end offset start : ℕ) → replica ≡ negsuc n → end ≡ state.log_end
-    → asked.offset ≡ pos offset → offset ≤ end → start ≡ start_of offset state → fetch_outcome followers replica asked part state ≡ look (Seen part start)
-fetch_in_range followers part replica n asked state end offset start is ends at le starts =
-    let no : ltb state.log_end offset ≡ false = le-ltb state.log_end offset (omega (arith, ends, le)) in
-    ap (λ (r : ℤ). fetch_outcome followers r asked part state) is
-    ∙ ap (λ (z : ℤ). in_range_outcome part z Looked state) at
-    ∙ ap (λ (b : Bool). cond b (look (Refused (pos 1))) (record { result = Seen part (start_of offset state); entry = Looked })) no
-    ∙ ap (λ (s : ℕ). look (Seen part s)) (sym starts)
+pub followers_size : (topics : List Topic) → length (followers_of topics) ≡ partitions_of topics
+followers_size [] = refl
+followers_size (topic ∷ topics) =
+    length-append (replicate topic.partitions topic.followers) (followers_of topics)
+    ∙ omega (arith, length-replicate topic.partitions topic.followers, followers_size topics, sum_by-cons (λ (t : Topic). t.partitions) topic topics)
+
+-- a history for each partition
+pub parts_size : (topics : List Topic) (parts : List History) → map (λ (h : History). h.followers) parts ≡ followers_of topics → length parts ≡ partitions_of topics
+parts_size topics parts e = sym (length-map parts (λ (h : History). h.followers)) ∙ ap length e ∙ followers_size topics
+
+pub set_followers : (parts : List History) (part : ℕ) (left : History) → left.followers ≡ (history_at parts part).followers → map (λ (h : History). h.followers) (set parts part left) ≡ map (λ (h : History). h.followers) parts
+set_followers [] part left e = refl
+set_followers (p ∷ parts) zero left e = ap (λ (n : ℕ). n ∷ map (λ (h : History). h.followers) parts) e
+set_followers (p ∷ parts) (suc part) left e = ap (λ (ns : List ℕ). p.followers ∷ ns) (set_followers parts part left e)
+
+pub entered_followers : (h : History) (by seq : ℕ) (entry : Entry) → (entered h by seq entry).followers ≡ h.followers
+entered_followers h by seq (Put count batch) = refl
+entered_followers h by seq (Followed replica offset) = refl
+entered_followers h by seq Looked = refl
+
+pub accepted_followers : (by seq : ℕ) (decisions : List Decision) (parts : List History) → map (λ (h : History). h.followers) (accept_all by seq decisions parts).1 ≡ map (λ (h : History). h.followers) parts
+accepted_followers by seq [] parts = refl
+accepted_followers by seq (Refuse code ∷ decisions) parts = accepted_followers by seq decisions parts
+accepted_followers by seq (AskLog part outcome ∷ decisions) parts =
+    let found = history_at parts part in
+    let entry = (outcome (state_of found)).entry in
+    accepted_followers by seq decisions (set parts part (entered found by seq entry)) ∙ set_followers parts part (entered found by seq entry) (entered_followers found by seq entry)
+
+pub carried_followers : (by seq : ℕ) (decisions : List Decision) (before after : List History) (came later : Came) → IsCarried by seq decisions before after came later
+    → map (λ (h : History). h.followers) after ≡ map (λ (h : History). h.followers) before
+carried_followers by seq decisions before after came later c = ap (map (λ (h : History). h.followers)) c.histories ∙ accepted_followers by seq decisions before

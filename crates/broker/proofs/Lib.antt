@@ -1,32 +1,46 @@
--- what the crates above may cite
-pub mod Laws
 -- decisions that are carried out one after the other
 pub mod DecisionSteps
 -- what is decided of the partitions of a produce or a fetch, one after the other
 pub mod ProduceParts
--- what becomes of a partition of a fetch, where no topic has followers
+-- what becomes of a partition of a fetch
 pub mod FetchParts
--- what the reply to a request that needn't wait is computed from
-pub mod ShownLogs
--- whether the frames of a stream hold a fetch that may have to wait, frame by frame
-pub mod WaitingFetch
+-- a request asks no log twice
+pub mod NamedOnce
+-- what became of the partitions of a request stands for logs that are there
+pub mod ResultsStand
 -- what is read of the logs for a reply, and how many bytes of records that are
 pub mod ReadForReply
--- the reply to a request that needn't wait comes from what became of its partitions and the logs of those that are seen
+-- the reply to a request comes from what became of its partitions and their logs
 pub mod Alike
--- what became of the partitions of a request stands for logs that are there, and for offsets that they have
-pub mod ResultsStand
--- a request that needn't wait, and what its reply needs
-pub mod AnsweredAtOnce
 -- the reply to a request that was read has a frame
 pub mod Spellable
 -- logs without entries, one after the other
 pub mod Openings
 -- the parts of an account, one after the other, and the whole
 pub mod Closings
--- how a broker amid a trace serves one session
-pub mod Serving
--- what a call and a line leave of a broker, from the parts that they changed
-pub mod Calling
--- the broker before the first line of a trace of the form that is built
-pub mod FirstBoard
+-- what is kept stands for a board, and goes on to
+pub mod Standing
+-- how what is kept turns, step by step
+pub mod Turning
+-- the requests that wait, by their sessions
+pub mod Waits
+-- what a request that waits needs of the logs
+pub mod Needs
+-- what a line brings, and a session that ends
+pub mod Bringing
+-- a request that was handled
+pub mod Taking
+-- a request that is completed
+pub mod Completes
+-- how much is left to do on a board
+pub mod LessWork
+-- what an accepted request gives
+pub mod Handles
+-- a session's calls
+pub mod Seats
+-- what is kept of the requests that wait, as the code shows it
+pub mod Dues
+-- what the code leaves of a request that is completed, and the broker before the first line
+pub mod Finishing
+-- a request that waits is answered
+pub mod Answering

@@ -15,7 +15,7 @@ use Rattle.kwire.specs.Configuration.{Configuration, part_of}
 use Rattle.kanswer.specs.Decisions.{Decision, Refuse, BatchDecides, ProduceDecides, is_acks, produce_parts, fetch_parts, fetch_decision}
 use Rattle.broker.specs.Carried.{IsCarried, OnTerms, HasProduced, fetch_decisions}
 use Rattle.broker.proofs.DecisionSteps.{carried_on, carried_none, all_zip_append}
-use Rattle.plain_broker.proofs.Entries.{accepted_size}
+use Rattle.broker.proofs.ResultsStand.{accepted_size}
 
 pub produce_with_id : (config : Configuration) (acks : ℤ) (named : List ℕ × ProducePart) (id : Option (List ℕ)) → is_some id ≡ true → ProduceDecides config id acks named (Refuse (pos 42))
 produce_with_id config acks named None e = absurd cc
@@ -101,4 +101,4 @@ fetched_on config replica by seq ts us vs p0 p1 p2 c0 c1 c2 same a b =
 
 -- no history comes or goes
 pub carried_size : (by seq : ℕ) (decisions : List Decision) (before after : List History) (came later : Came) → IsCarried by seq decisions before after came later → length after ≡ length before
-carried_size by seq decisions before after came later c = ap length c.histories ∙ accepted_size by seq (length before) decisions before
+carried_size by seq decisions before after came later c = ap length c.histories ∙ accepted_size by seq decisions before

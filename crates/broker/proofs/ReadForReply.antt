@@ -45,19 +45,19 @@ if_ok_then (Err e) p f = tt
 seen_at : (parts : List History) (part : ℕ) (h : History) → part < length parts → h ≡ get_or parts part h → history_at parts part ≡ h
 seen_at parts part h lt is = ap (λ (o : Option History). unwrap_or o (empty_history 0)) (slice_get-get_or parts part h lt) ∙ sym is
 
-pub seen_left : (parts : List History) (r replica : ℤ) (asked : FetchPart) (became : Accepted) (part start : ℕ) (h : History) (b new : Budget) → r ≡ replica → became ≡ Seen part start → HasLog parts became → h ≡ get_or parts part h
+pub seen_left : (parts : List History) (r replica : ℤ) (asked : FetchPart) (became : Accepted) (part start : ℕ) (h : History) (b new : Budget) → r ≡ replica → became ≡ Seen part start → HasLog (length parts) became → h ≡ get_or parts part h
     → new ≡ budget_after (read_of r asked start (state_of h) b) b → new ≡ left_now parts replica asked became b
 seen_left parts r replica asked became part start h b new who is has at e =
-    let lt : part < length parts = subst (HasLog parts) is has in
+    let lt : part < length parts = subst (HasLog (length parts)) is has in
     e
     ∙ ap (λ (z : ℤ). budget_after (read_of z asked start (state_of h) b) b) who
     ∙ ap (λ (x : History). budget_after (read_of replica asked start (state_of x) b) b) (sym (seen_at parts part h lt at))
     ∙ ap (λ (a : Accepted). left_now parts replica asked a b) (sym is)
 
-pub seen_read : (parts : List History) (r replica : ℤ) (asked : FetchPart) (became : Accepted) (part start : ℕ) (h : History) (b : Budget) (reading : Reading) → r ≡ replica → became ≡ Seen part start → HasLog parts became → h ≡ get_or parts part h
+pub seen_read : (parts : List History) (r replica : ℤ) (asked : FetchPart) (became : Accepted) (part start : ℕ) (h : History) (b : Budget) (reading : Reading) → r ≡ replica → became ≡ Seen part start → HasLog (length parts) became → h ≡ get_or parts part h
     → reading.numbers ≡ numbers_of (state_of h) → reading.records ≡ joined (read_of r asked start (state_of h) b) → reading ≡ reading_now parts replica asked became b
 seen_read parts r replica asked became part start h b reading who is has at numbers records =
-    let lt : part < length parts = subst (HasLog parts) is has in
+    let lt : part < length parts = subst (HasLog (length parts)) is has in
     let read = λ (n : Numbers) (bytes : List ℕ). let one : Reading = record { numbers = n; records = bytes } in one in
     ap (λ (n : Numbers). read n reading.records) numbers
     ∙ ap (read (numbers_of (state_of h))) (records ∙ ap (λ (z : ℤ). joined (read_of z asked start (state_of h) b)) who)

@@ -1,10 +1,10 @@
--- What became of the partitions of a request stands for logs that are there, and for offsets that they have.
-use Rattle.std.proofs.Common.{◌≡◌, ◌≢◌, ℕ, suc, ◌+◌, ◌≤◌, ◌<◌, ℤ, pos, negsuc, Bool, true, false, cond, List, [], ◌∷◌, length, get_or, map, set, Option, Some, None, unwrap_or, refl, sym, ap, subst, ◌∙◌, arith, inl, inr, length-append}
+-- What became of the partitions of a request stands for logs that are there, each its own, and for offsets that they have.
+use Rattle.std.proofs.Common.{◌≡◌, ◌≢◌, ℕ, zero, suc, ◌+◌, ◌≤◌, ◌<◌, ℤ, pos, negsuc, Bool, true, false, cond, List, [], ◌∷◌, length, get_or, map, set, Option, Some, None, unwrap_or, All, AllPairs, refl, sym, ap, subst, ◌∙◌, arith, inl, inr, length-append}
 use Rattle.std.proofs.lemmas.List.{length-map, length-set}
-use Rattle.std.proofs.lemmas.List.Sums.{sum_by_push, sum_by-cons}
+use Rattle.std.proofs.lemmas.List.Kept.{AllPairs-cons}
+use Rattle.std.proofs.lemmas.List.Sums.{sum_by-cons}
 use Rattle.std.specs.Prelude.{MatchOption, MatchBool, nat_lt, nat_le, ◌&&◌, sum_by}
-use Rattle.std.specs.List.{AllByRecursion, AllZip, flat_map}
-use Rattle.partlog.specs.Added.{added_count, log_end_of}
+use Rattle.std.specs.List.{AllByRecursion, AllZip, cons_option, flat_map}
 use Rattle.partlog.specs.History.{History}
 use Rattle.partlog.specs.State.{PartState, state_of}
 use Rattle.partlog.specs.Gauges.{gauges_of}
@@ -14,92 +14,141 @@ use Rattle.kanswer.specs.declared.accepted.Accepted.TheVariants.{Refused, Append
 use Rattle.kwire.specs.declared.request.Ask.{Ask}
 use Rattle.kwire.specs.declared.request.Ask.TheVariants.{Produce, Fetch, Metadata, Versions}
 use Rattle.kwire.specs.declared.request.FetchPart.{FetchPart}
+use Rattle.kwire.specs.declared.request.FetchTopic.{FetchTopic}
 use Rattle.kwire.specs.declared.request.ProducePart.{ProducePart}
-use Rattle.kwire.specs.Configuration.{Configuration, followers_of, part_of}
-use Rattle.kanswer.specs.Decisions.{Entry, Put, Looked, Followed, Outcome, Decision, Refuse, AskLog, Decides, BatchDecides, ProduceDecides, fetch_decision, fetch_outcome, in_range_outcome, offset_of, look, is_acks, produce_parts, fetch_parts}
-use Rattle.plain_broker.specs.Entering.{entered, accept_all, shown_of}
-use Rattle.kanswer.specs.LogReadings.{named_count}
-use Rattle.plain_broker.specs.Board.{history_at, empty_history}
+use Rattle.kwire.specs.declared.request.ProduceTopic.{ProduceTopic}
+use Rattle.kwire.specs.declared.request.Request.{Request}
+use Rattle.kwire.specs.Configuration.{Configuration, followers_of, part_of, partitions_of}
+use Rattle.kwire.specs.IsRequest.{IsRequest, Named, named_of}
+use Rattle.kwire.proofs.Laws.{spelled_partitions}
+use Rattle.kanswer.specs.Decisions.{Entry, Put, Looked, Followed, Outcome, Decision, Refuse, AskLog, Decides, BatchDecides, ProduceDecides, fetch_decision, fetch_outcome, in_range_outcome, offset_of, look, append_outcome, is_acks, produce_parts, fetch_parts}
+use Rattle.kanswer.specs.LogReadings.{IsCarriable, named_count}
+use Rattle.kanswer.specs.Results.{AreResults, IsBounded, part_asked, parts_asked}
 use Rattle.kanswer.specs.Waiting.{results_of}
-use Rattle.broker.specs.Replying.{HasLog}
-use Rattle.plain_broker.proofs.Entries.{IsFair}
-use Rattle.plain_broker.proofs.Growth.{entered_events, event_of}
-use Rattle.audit.proofs.Laws.{same_or_not, get_set_same, get_set_other}
+use Rattle.plain_broker.specs.Board.{history_at, empty_history}
+use Rattle.plain_broker.specs.Entering.{entered, accept_all, shown_of}
+use Rattle.broker.specs.Replying.{HasLog, ShowsLog, ShowsLogs}
+use Rattle.broker.proofs.NamedOnce.{AskOnce, AsksOther, AsksWithin, decided_within, request_asks_once}
+use Rattle.audit.proofs.Laws.{get_set_same, get_set_other}
 
 -- the outcome speaks of its own partition, and of an append at the log end
 abbrev pub IsHonestAs : ℕ → PartState → Accepted → Entry → Type 0
 IsHonestAs part state (Refused code) entry = Unit {0}
-IsHonestAs part state (Appended q base count) entry = (q ≡ part) × (base ≡ state.log_end) × (0 < count) × ((batch : List ℕ) × (entry ≡ Put count batch))
+IsHonestAs part state (Appended q base count) entry = (q ≡ part) × (base ≡ state.log_end) × (0 < count)
 IsHonestAs part state (Seen q start) entry = q ≡ part
 
 abbrev pub IsHonest : Decision → Type 0
 IsHonest (Refuse code) = Unit {0}
 IsHonest (AskLog part outcome) = (state : PartState) → IsHonestAs part state (outcome state).result (outcome state).entry
 
-pub history_there : (parts : List History) (part p : ℕ) (h : History) → part < length parts → (P : ℕ → Type 0)
-    → (p ≡ part → P (log_end_of h.events)) → (p ≢ part → P (log_end_of (history_at parts p).events)) → P (log_end_of (history_at (set parts part h) p).events)
-history_there parts part p h lt P same other =
-    elim (same_or_not p part) [
-      | inl e ↦
-          let here : history_at (set parts part h) p ≡ h = ap (λ (i : ℕ). history_at (set parts part h) i) e ∙ ap (λ (o : Option History). unwrap_or o (empty_history 0)) (get_set_same parts part h lt) in
-          subst (λ (x : History). P (log_end_of x.events)) (sym here) (same e)
-      | inr ne ↦ subst (λ (o : Option History). P (log_end_of (unwrap_or o (empty_history 0)).events)) (sym (get_set_other parts part p h ne)) (other ne)
-    ]
+-- a result's partition is one of so many, and what was appended has records
+abbrev pub IsSound : ℕ → Accepted → Type 0
+IsSound n (Refused code) = Unit {0}
+IsSound n (Appended part base count) = (part < n) × (0 < count)
+IsSound n (Seen part start) = part < n
 
-pub entered_end : (h : History) (by seq : ℕ) (entry : Entry) → log_end_of (entered h by seq entry).events ≡ log_end_of h.events + added_count (event_of by seq entry)
-entered_end h by seq entry = ap log_end_of (entered_events h by seq entry) ∙ sum_by_push added_count h.events (event_of by seq entry)
+sound : (part n : ℕ) (state : PartState) (result : Accepted) (entry : Entry) → part < n → IsHonestAs part state result entry → IsSound n result
+sound part n state (Refused code) entry lt honest = tt
+sound part n state (Appended q base count) entry lt honest = (omega (arith, honest.0, lt), honest.2)
+sound part n state (Seen q start) entry lt honest = omega (arith, honest, lt)
 
--- no log end falls
-pub ends_grow : (by seq n : ℕ) (decisions : List Decision) (parts : List History) → length parts ≡ n → AllByRecursion (IsFair n) decisions → (p : ℕ)
-    → log_end_of (history_at parts p).events ≤ log_end_of (history_at (accept_all by seq decisions parts).1 p).events
-ends_grow by seq n [] parts size fair p = omega arith
-ends_grow by seq n (Refuse code ∷ decisions) parts size fair p = ends_grow by seq n decisions parts size fair.1 p
-ends_grow by seq n (AskLog part outcome ∷ decisions) parts size fair p =
+pub all_sound : (by seq n : ℕ) (decisions : List Decision) (parts : List History) → AllByRecursion (AsksWithin n) decisions → AllByRecursion IsHonest decisions
+    → AllByRecursion (IsSound n) (results_of (shown_of (accept_all by seq decisions parts).0))
+all_sound by seq n [] parts within honest = tt
+all_sound by seq n (Refuse code ∷ decisions) parts within honest = (tt, all_sound by seq n decisions parts within.1 honest.1)
+all_sound by seq n (AskLog part outcome ∷ decisions) parts within honest =
     let found = history_at parts part in
-    let entry = (outcome (state_of found)).entry in
-    let left = entered found by seq entry in
-    let rest = ends_grow by seq n decisions (set parts part left) (length-set parts part left ∙ size) fair.1 p in
-    let here : log_end_of (history_at parts p).events ≤ log_end_of (history_at (set parts part left) p).events =
-    history_there parts part p left (omega (arith, size, fair.0.0)) (λ k. log_end_of (history_at parts p).events ≤ k)
-    (λ e. let same : log_end_of (history_at parts p).events ≡ log_end_of found.events = ap (λ (i : ℕ). log_end_of (history_at parts i).events) e in omega (arith, same, entered_end found by seq entry)) (λ ne. omega arith) in
-    omega (arith, rest, here)
+    let came = outcome (state_of found) in (
+      sound part n (state_of found) came.result came.entry within.0 (honest.0 (state_of found)),
+      all_sound by seq n decisions (set parts part (entered found by seq came.entry)) within.1 honest.1,
+    )
 
--- a result's partition is there, and what it appended is below its log end
-abbrev pub IsServable : List History → Accepted → Type 0
-IsServable parts (Refused code) = Unit {0}
-IsServable parts (Appended q base count) = (q < length parts) × (base + count ≤ log_end_of (history_at parts q).events)
-IsServable parts (Seen q start) = q < length parts
+-- ---- each is shown as its log is afterwards
 
-served : (parts : List History) (part n : ℕ) (state : PartState) (result : Accepted) (entry : Entry) → part < length parts → IsHonestAs part state result entry
-    → ((count : ℕ) (batch : List ℕ) → entry ≡ Put count batch → state.log_end + count ≤ log_end_of (history_at parts part).events) → IsServable parts result
-served parts part n state (Refused code) entry lt honest end = tt
-served parts part n state (Appended q base count) entry lt honest end =
-    let same : log_end_of (history_at parts q).events ≡ log_end_of (history_at parts part).events = ap (λ (i : ℕ). log_end_of (history_at parts i).events) honest.0 in
-    (omega (arith, honest.0, lt), omega (arith, same, honest.1, end count honest.3.0 honest.3.1))
-served parts part n state (Seen q start) entry lt honest end = omega (arith, honest, lt)
+pub accepted_size : (by seq : ℕ) (decisions : List Decision) (parts : List History) → length (accept_all by seq decisions parts).1 ≡ length parts
+accepted_size by seq [] parts = refl
+accepted_size by seq (Refuse code ∷ decisions) parts = accepted_size by seq decisions parts
+accepted_size by seq (AskLog part outcome ∷ decisions) parts =
+    let left = entered (history_at parts part) by seq (outcome (state_of (history_at parts part))).entry in
+    accepted_size by seq decisions (set parts part left) ∙ length-set parts part left
 
-pub all_servable : (by seq n : ℕ) (decisions : List Decision) (parts : List History) → length parts ≡ n → AllByRecursion (IsFair n) decisions → AllByRecursion IsHonest decisions
-    → (last : ℕ) → length (accept_all by seq decisions parts).1 ≡ last → last ≡ n
-    → AllByRecursion (IsServable (accept_all by seq decisions parts).1) (results_of (shown_of (accept_all by seq decisions parts).0))
-all_servable by seq n [] parts size fair honest last is same = tt
-all_servable by seq n (Refuse code ∷ decisions) parts size fair honest last is same = (tt, all_servable by seq n decisions parts size fair.1 honest.1 last is same)
-all_servable by seq n (AskLog part outcome ∷ decisions) parts size fair honest last is same =
+untouched : (by seq part : ℕ) (decisions : List Decision) (parts : List History) → AllByRecursion (AsksOther part) decisions
+    → history_at (accept_all by seq decisions parts).1 part ≡ history_at parts part
+untouched by seq part [] parts others = refl
+untouched by seq part (Refuse code ∷ decisions) parts others = untouched by seq part decisions parts others.1
+untouched by seq part (AskLog other outcome ∷ decisions) parts others =
+    let left = entered (history_at parts other) by seq (outcome (state_of (history_at parts other))).entry in
+    untouched by seq part decisions (set parts other left) others.1
+    ∙ ap (λ (o : Option History). unwrap_or o (empty_history 0)) (get_set_other parts other part left (λ e. others.0 (sym e)))
+
+shows_own : (parts : List History) (part : ℕ) (found : PartState) (left : History) (result : Accepted) (entry : Entry) → IsHonestAs part found result entry → history_at parts part ≡ left
+    → ShowsLog parts (record { result = result; state = state_of left })
+shows_own parts part found left (Refused code) entry honest is = tt
+shows_own parts part found left (Appended q base count) entry honest is = ap state_of (sym is) ∙ ap (λ (p : ℕ). state_of (history_at parts p)) (sym honest.0)
+shows_own parts part found left (Seen q start) entry honest is = ap state_of (sym is) ∙ ap (λ (p : ℕ). state_of (history_at parts p)) (sym honest)
+
+pub all_shown : (by seq n : ℕ) (decisions : List Decision) (parts : List History) → length parts ≡ n → AllByRecursion (AsksWithin n) decisions → AllByRecursion IsHonest decisions → AskOnce decisions
+    → AllByRecursion (ShowsLog (accept_all by seq decisions parts).1) (shown_of (accept_all by seq decisions parts).0)
+all_shown by seq n [] parts size within honest once = tt
+all_shown by seq n (Refuse code ∷ decisions) parts size within honest once = (tt, all_shown by seq n decisions parts size within.1 honest.1 once)
+all_shown by seq n (AskLog part outcome ∷ decisions) parts size within honest once =
     let found = history_at parts part in
     let came = outcome (state_of found) in
     let left = entered found by seq came.entry in
-    let later = accept_all by seq decisions (set parts part left) in
-    let size1 : length (set parts part left) ≡ n = length-set parts part left ∙ size in
-    let within : part < length parts = omega (arith, size, fair.0.0) in
-    let grown = ends_grow by seq n decisions (set parts part left) size1 fair.1 part in
-    let stands : log_end_of left.events ≤ log_end_of (history_at (set parts part left) part).events =
-    history_there parts part part left within (λ k. log_end_of left.events ≤ k) (λ e. omega arith) (λ ne. absurd (ne refl)) in (
-      served later.1 part n (state_of found) came.result came.entry (omega (arith, fair.0.0, is, same)) (honest.0 (state_of found))
-          (λ count batch e.
-          let end : log_end_of left.events ≡ log_end_of found.events + added_count (event_of by seq came.entry) = entered_end found by seq came.entry in
-          let adds : added_count (event_of by seq came.entry) ≡ count = ap (λ (x : Entry). added_count (event_of by seq x)) e in
-          omega (arith, end, adds, stands, grown)),
-      all_servable by seq n decisions (set parts part left) size1 fair.1 honest.1 last is same,
+    let next = set parts part left in
+    let here : history_at next part ≡ left = ap (λ (o : Option History). unwrap_or o (empty_history 0)) (get_set_same parts part left (omega (arith, size, within.0))) in (
+      shows_own (accept_all by seq decisions next).1 part (state_of found) left came.result came.entry (honest.0 (state_of found)) (untouched by seq part decisions next once.0 ∙ here),
+      all_shown by seq n decisions next (length-set parts part left ∙ size) within.1 honest.1 once.1,
     )
+
+-- ---- the partitions whose logs were asked
+
+abbrev Differs : ℕ → ℕ → Type 0
+Differs part other = part ≢ other
+
+result_other : (part q : ℕ) (state : PartState) (result : Accepted) (entry : Entry) (rest : List ℕ) → IsHonestAs q state result entry → q ≢ part → AllByRecursion (Differs part) rest
+    → AllByRecursion (Differs part) (cons_option (part_asked result) rest)
+result_other part q state (Refused code) entry rest honest differ all = all
+result_other part q state (Appended p base count) entry rest honest differ all = (λ e. differ (sym honest.0 ∙ sym e), all)
+result_other part q state (Seen p start) entry rest honest differ all = (λ e. differ (sym honest ∙ sym e), all)
+
+others_asked : (by seq part : ℕ) (decisions : List Decision) (parts : List History) → AllByRecursion (AsksOther part) decisions → AllByRecursion IsHonest decisions
+    → AllByRecursion (Differs part) (parts_asked (results_of (shown_of (accept_all by seq decisions parts).0)))
+others_asked by seq part [] parts others honest = tt
+others_asked by seq part (Refuse code ∷ decisions) parts others honest = others_asked by seq part decisions parts others.1 honest.1
+others_asked by seq part (AskLog other outcome ∷ decisions) parts others honest =
+    let found = history_at parts other in
+    let came = outcome (state_of found) in
+    let next = set parts other (entered found by seq came.entry) in
+    result_other part other (state_of found) came.result came.entry (parts_asked (results_of (shown_of (accept_all by seq decisions next).0)))
+    (honest.0 (state_of found)) others.0 (others_asked by seq part decisions next others.1 honest.1)
+
+all_at : {X : Type 0} (P : X → Type 0) (xs : List X) → AllByRecursion P xs → All P xs
+all_at P [] all i d lt = absurd (omega (arith, lt))
+all_at P (x ∷ xs) all zero d lt = all.0
+all_at P (x ∷ xs) all (suc i) d lt = all_at P xs all.1 i d (omega (arith, lt))
+
+one_more_part : (part q : ℕ) (state : PartState) (result : Accepted) (entry : Entry) (rest : List ℕ) → IsHonestAs q state result entry → q ≡ part → AllByRecursion (Differs part) rest → AllPairs (λ a b. a ≢ b) rest
+    → AllPairs (λ a b. a ≢ b) (cons_option (part_asked result) rest)
+one_more_part part q state (Refused code) entry rest honest is all pairs = pairs
+one_more_part part q state (Appended p base count) entry rest honest is all pairs =
+    AllPairs-cons (λ a b. a ≢ b) p rest (all_at (λ b. p ≢ b) rest (subst (λ (x : ℕ). AllByRecursion (Differs x) rest) (sym (honest.0 ∙ is)) all)) pairs
+one_more_part part q state (Seen p start) entry rest honest is all pairs =
+    AllPairs-cons (λ a b. a ≢ b) p rest (all_at (λ b. p ≢ b) rest (subst (λ (x : ℕ). AllByRecursion (Differs x) rest) (sym (honest ∙ is)) all)) pairs
+
+none_paired : AllPairs (λ (a b : ℕ). a ≢ b) []
+none_paired i j d lt within = absurd (omega (arith, within))
+
+asked_once : (by seq : ℕ) (decisions : List Decision) (parts : List History) → AskOnce decisions → AllByRecursion IsHonest decisions
+    → AllPairs (λ a b. a ≢ b) (parts_asked (results_of (shown_of (accept_all by seq decisions parts).0)))
+asked_once by seq [] parts once honest = none_paired
+asked_once by seq (Refuse code ∷ decisions) parts once honest = asked_once by seq decisions parts once honest.1
+asked_once by seq (AskLog part outcome ∷ decisions) parts once honest =
+    let found = history_at parts part in
+    let came = outcome (state_of found) in
+    let next = set parts part (entered found by seq came.entry) in
+    one_more_part part part (state_of found) came.result came.entry (parts_asked (results_of (shown_of (accept_all by seq decisions next).0)))
+    (honest.0 (state_of found)) refl (others_asked by seq part decisions next once.0 honest.1) (asked_once by seq decisions next once.1 honest.1)
 
 -- ---- what is decided of a request is honest
 
@@ -111,7 +160,7 @@ batch_honest : (part : ℕ) (bytes : List ℕ) (decision : Decision) → BatchDe
 batch_honest part bytes decision d =
     elim d [
       | inl fault ↦ subst IsHonest (sym fault.2) tt
-      | inr batch ↦ subst IsHonest (sym batch.2) (λ state. either_honest part state (nat_lt 67108864 ((gauges_of state).bytes + length bytes)) (look (Refused (pos 6))) (record { result = Appended part state.log_end (length batch.0); entry = Put (length batch.0) bytes }) tt (refl, refl, omega (arith, batch.1.some_record), (bytes, refl)))
+      | inr batch ↦ subst IsHonest (sym batch.2) (λ state. either_honest part state (nat_lt 67108864 ((gauges_of state).bytes + length bytes)) (look (Refused (pos 6))) (record { result = Appended part state.log_end (length batch.0); entry = Put (length batch.0) bytes }) tt (refl, refl, omega (arith, batch.1.some_record)))
     ]
 
 acks_honest : (b : Bool) (part : ℕ) (bytes : List ℕ) (decision : Decision) → MatchBool b (BatchDecides part bytes decision) (decision ≡ Refuse (pos 21)) → IsHonest decision
@@ -187,9 +236,71 @@ results_count by seq (Refuse code ∷ decisions) parts = ap suc (results_count b
 results_count by seq (AskLog part outcome ∷ decisions) parts =
     ap suc (results_count by seq decisions (set parts part (entered (history_at parts part) by seq (outcome (state_of (history_at parts part))).entry)))
 
--- ---- what a reply needs of them
+-- ---- what is asked of them
 
-pub servable_log : (parts : List History) (result : Accepted) → IsServable parts result → HasLog parts result
-servable_log parts (Refused code) s = tt
-servable_log parts (Appended q base count) s = s.0
-servable_log parts (Seen q start) s = s
+bounded : (n : ℕ) (result : Accepted) → n ≤ 64 → IsSound n result → IsCarriable result → IsBounded result
+bounded n (Refused code) few is fits = tt
+bounded n (Appended part base count) few is fits = (omega (arith, is.0, few), is.1, fits)
+bounded n (Seen part start) few is fits = omega (arith, is, few)
+
+all_bounded : (n : ℕ) (results : List Accepted) → n ≤ 64 → AllByRecursion (IsSound n) results → All IsCarriable results → AllByRecursion IsBounded results
+all_bounded n [] few is fits = tt
+all_bounded n (r ∷ results) few is fits = (bounded n r few is.0 (fits 0 r (omega arith)), all_bounded n results few is.1 (λ i d lt. fits (suc i) d (omega (arith, lt))))
+
+sound_log : (n : ℕ) (result : Accepted) → IsSound n result → HasLog n result
+sound_log n (Refused code) is = tt
+sound_log n (Appended part base count) is = is.0
+sound_log n (Seen part start) is = is
+
+all_logs : (n : ℕ) (results : List Accepted) → AllByRecursion (IsSound n) results → AllByRecursion (HasLog n) results
+all_logs n [] is = tt
+all_logs n (r ∷ results) is = (sound_log n r is.0, all_logs n results is.1)
+
+-- as many partitions are named as there are names
+names_count : {T P : Type 0} (name : T → List ℕ) (index : P → ℤ) (parts : T → List P) (topics : List T) → length (flat_map (λ t. map (λ (p : P). let n : Named = record { topic = name t; index = index p } in n) (parts t)) topics) ≡ sum_by (λ t. length (parts t)) topics
+names_count name index parts [] = refl
+names_count {P = P} name index parts (t ∷ topics) =
+    let named_by : P → Named = λ p. record { topic = name t; index = index p } in
+    let later : List Named = flat_map (λ t. map (λ (p : P). let n : Named = record { topic = name t; index = index p } in n) (parts t)) topics in
+    length-append (map named_by (parts t)) later ∙ omega (arith, length-map (parts t) named_by, names_count name index parts topics, sum_by-cons (λ t. length (parts t)) t topics)
+
+named_length : (ask : Ask) → named_count ask ≡ length (named_of ask)
+named_length (Produce transactional acks timeout topics) = sym (names_count (λ (t : ProduceTopic). t.name) (λ (p : ProducePart). p.index) (λ (t : ProduceTopic). t.parts) topics)
+named_length (Fetch replica max_wait min_bytes max_bytes isolation topics) = sym (names_count (λ (t : FetchTopic). t.name) (λ (p : FetchPart). p.index) (λ (t : FetchTopic). t.parts) topics)
+named_length (Metadata topics) = refl
+named_length (Versions version) = refl
+
+few_named : (request : Request) (body : List ℕ) → IsRequest body request → named_count request.ask ≤ 64
+few_named request body asked =
+    elim asked [
+      | inl whole ↦ omega (arith, named_length request.ask, spelled_partitions body request whole.whole)
+      | inr other ↦ omega (arith, ap named_count other.asked)
+    ]
+
+-- What became of the partitions of a request, as it was accepted by the call of this number of a session.
+module _ (config : Configuration) (request : Request) (body : List ℕ) (by seq : ℕ) (decisions : List Decision) (parts : List History) (asked : IsRequest body request) (decided : Decides config request.ask decisions) (size : length parts ≡ partitions_of config.topics) where
+  abbrev results : List Accepted
+  results = results_of (shown_of (accept_all by seq decisions parts).0)
+
+  all_are_sound : AllByRecursion (IsSound (partitions_of config.topics)) results
+  all_are_sound = all_sound by seq (partitions_of config.topics) decisions parts (decided_within config request.ask decisions decided) (decides_honest config request.ask decisions decided)
+
+  pub results_logs : AllByRecursion (HasLog (partitions_of config.topics)) results
+  results_logs = all_logs (partitions_of config.topics) results all_are_sound
+
+  pub are_results : partitions_of config.topics ≤ 64 → All IsCarriable results → AreResults request.ask results
+  are_results few fits = record {
+    few = few_named request body asked;
+    each = results_count by seq decisions parts ∙ decided_count config request.ask decisions decided;
+    bounded = all_at IsBounded results (all_bounded (partitions_of config.topics) results few all_are_sound fits);
+    once = asked_once by seq decisions parts (request_asks_once config request body decisions asked decided) (decides_honest config request.ask decisions decided);
+  }
+
+  pub shows_logs : ShowsLogs (accept_all by seq decisions parts).1 results (shown_of (accept_all by seq decisions parts).0)
+  shows_logs = record {
+    results = refl;
+    states = all_shown by seq (partitions_of config.topics) decisions parts size (decided_within config request.ask decisions decided) (decides_honest config request.ask decisions decided) (request_asks_once config request body decisions asked decided);
+  }
+
+  pub as_many : length (accept_all by seq decisions parts).1 ≡ partitions_of config.topics
+  as_many = accepted_size by seq decisions parts ∙ size

@@ -8,7 +8,7 @@ use Rattle.std.specs.Cmp.Lexicographic.{pointwise}
 use Rattle.std.specs.List.{find}
 use Rattle.kbytes.specs.Field.{Field, String}
 use Rattle.kwire.specs.declared.config.Topic.{Topic}
-use Rattle.broker.specs.Carried.{IsDeclared, AreDeclared}
+use Rattle.plain_broker.specs.Declared.{AreDeclared, IsDeclared}
 use Rattle.audit.proofs.Laws.{some_is}
 use Rattle.kbytes.specs.FitsField.{FitsField}
 use Rattle.kwire.specs.declared.request.Ask.{Ask}

@@ -1,16 +1,14 @@
 -- Decisions were carried out: the histories are those that accepting leaves, and its results and points stand after those
 -- that came before.
-use Rattle.std.specs.Prelude.{◌≡◌, ◌<◌, ◌≤◌, ℕ, ℤ, List, [], ◌∷◌, ◌++◌, length, map, Option, is_some}
-use Rattle.std.specs.List.{AllByRecursion, AllZip}
+use Rattle.std.specs.Prelude.{◌≡◌, ℕ, ℤ, List, [], ◌∷◌, ◌++◌, length, map, Option, is_some}
+use Rattle.std.specs.List.{AllZip}
 use Rattle.partlog.specs.History.{History}
 use Rattle.audit.specs.declared.account.Point.{Point}
 use Rattle.kanswer.specs.declared.accepted.Accepted.{Accepted}
 use Rattle.broker.specs.declared.accept.Terms.{Terms}
-use Rattle.kwire.specs.declared.config.Topic.{Topic}
 use Rattle.kwire.specs.declared.request.ProduceTopic.{ProduceTopic}
 use Rattle.kwire.specs.declared.request.FetchTopic.{FetchTopic}
-use Rattle.kwire.specs.declared.config.TheConstants.{MOST_NAME_BYTES, MOST_PARTITIONS, MOST_FOLLOWERS}
-use Rattle.kwire.specs.Configuration.{Configuration, partitions_of, part_of}
+use Rattle.kwire.specs.Configuration.{Configuration, part_of}
 use Rattle.kanswer.specs.declared.accepted.Accepted.TheVariants.{Refused}
 use Rattle.partlog.specs.State.{PartState as State, state_of}
 use Rattle.kanswer.specs.Decisions.{Outcome, Decision, Refuse, AskLog, ProduceDecides, produce_parts, fetch_parts, fetch_decision}
@@ -39,18 +37,6 @@ pub record IsCarried (by seq : ℕ) (decisions : List Decision) (before after : 
   pub histories : after ≡ (accept_all by seq decisions before).1
   pub accepted : later.accepted ≡ came.accepted ++ results_of (shown_of (accept_all by seq decisions before).0)
   pub points : later.points ≡ came.points ++ step_points (steps_of (accept_all by seq decisions before).0)
-
--- topics as they may be declared
-abbrev pub IsDeclared : Topic → Type 0
-IsDeclared topic = (length topic.name ≤ MOST_NAME_BYTES) × (0 < topic.partitions) × (topic.followers ≤ MOST_FOLLOWERS)
-
-pub record AreDeclared (topics : List Topic) : Type 0 where
-  pub each : AllByRecursion IsDeclared topics
-  pub few : partitions_of topics ≤ MOST_PARTITIONS
-
--- no topic has followers
-abbrev pub HasNoFollowers : List Topic → Type 0
-HasNoFollowers topics = AllByRecursion (λ topic. topic.followers ≡ 0) topics
 
 -- for each transactional id that a produce on these terms may have
 abbrev pub OnTerms : Terms → (Option (List ℕ) → Type 0) → Type 0

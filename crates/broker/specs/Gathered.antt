@@ -4,6 +4,7 @@ use Rattle.std.specs.Prelude.{ℕ, ◌+◌, ℤ, List, [], ◌∷◌, length, su
 use Rattle.partlog.specs.History.{History}
 use Rattle.partlog.specs.State.{PartState as State, state_of}
 use Rattle.partlog.specs.Gauges.{numbers_of}
+use Rattle.partlog.specs.declared.numbers.Numbers.{Numbers}
 use Rattle.partlog.specs.Taken.{joined}
 use Rattle.kwire.specs.declared.request.FetchPart.{FetchPart}
 use Rattle.kanswer.specs.declared.accepted.Accepted.{Accepted}
@@ -24,6 +25,15 @@ state_now parts (Seen part start) = state_of (history_at parts part)
 
 abbrev pub shown_in_logs : List History → List Accepted → List Shown
 shown_in_logs parts accepted = map (λ became. record { result = became; state = state_now parts became }) accepted
+
+abbrev pub part_numbers : List History → Accepted → Numbers
+part_numbers parts (Refused code) = nothing_read.numbers
+part_numbers parts (Appended part base count) = numbers_of (state_of (history_at parts part))
+part_numbers parts (Seen part start) = numbers_of (state_of (history_at parts part))
+
+-- the numbers of each partition's log
+abbrev pub numbers_in : List History → List Accepted → List Numbers
+numbers_in parts accepted = map (part_numbers parts) accepted
 
 -- for a produce
 abbrev pub numbers_now : List History → Accepted → Reading

@@ -1,11 +1,12 @@
 //! Accepting a request: each partition that it names is decided in order, and where its log is asked it gets an entry.
 
-ghost use Rattle.std.specs.Prelude.{◌≡◌, ◌<◌, ◌∷◌, [], ◌++◌, List as Items, length, OnOk, IfSome, IfNone, unwrap_or, ℕ, pos, ◌≤◌};
+ghost use Rattle.std.specs.Prelude.{◌≡◌, ◌<◌, ◌∷◌, [], ◌++◌, List as Items, length, map, OnOk, IfSome, IfNone, unwrap_or, ℕ, pos, ◌≤◌, ◌≤ℤ◌};
+ghost use Rattle.partlog.specs.Start.{start_of};
 ghost use Rattle.partlog.specs.State.{PartState, state_of};
 ghost use Rattle.kbatch.specs.Kept.{count_of};
-ghost use Rattle.kwire.specs.Configuration.{partitions_of, part_of};
-ghost use Rattle.kanswer.specs.Decisions.{Decision, Outcome, look, append_outcome, BatchDecides, ProduceDecides, fetch_outcome, fetch_decision, is_acks, Decides};
-ghost use Rattle.broker.specs.Carried.{IsEntered, IsSettled, IsCarried, HasNoFollowers, OnTerms, HasProduced, fetch_decisions};
+ghost use Rattle.kwire.specs.Configuration.{followers_of, partitions_of, part_of};
+ghost use Rattle.kanswer.specs.Decisions.{Decision, Outcome, look, append_outcome, BatchDecides, ProduceDecides, fetch_outcome, fetch_decision, in_range_outcome, Looked, is_acks, Decides};
+ghost use Rattle.broker.specs.Carried.{IsEntered, IsSettled, IsCarried, OnTerms, HasProduced, fetch_decisions};
 ghost use Rattle.kanswer.specs.LogReadings.{IsCarriable};
 
 use crate::came::Came;
@@ -15,7 +16,7 @@ use kbytes::NoMemory;
 use kwire::{
     AskView, Config, FetchPart, FetchTopicView, ProducePartView, ProduceTopicView, RequestView,
 };
-use partlog::{LogFault, PartLog, Who};
+use partlog::{FollowFault, LogFault, PartLog, Who};
 
 // The log is looked at, and this became of the partition.
 fn look_at(
@@ -58,8 +59,9 @@ fn put(
     }
 }
 
-// The bytes are put at the end of the log, where they are a batch.
-fn put_bytes(
+/// Accepts what a produce puts into one partition, over its log alone: the bytes go to the end of the log, where they are a
+/// batch and there is room. After want of memory the log may have its entry.
+pub fn accept_produce_part(
     log: &mut PartLog,
     who: Who,
     part: u32,
@@ -77,7 +79,7 @@ fn put_bytes(
     }
 }
 
-/// Which call asks, and with what topics.
+/// Which call asks, and of what topics.
 #[derive(Clone, Copy, Debug)]
 pub struct Asking<'a> {
     pub config: &'a Config,
@@ -109,8 +111,8 @@ impl Terms {
     }
 }
 
-// One partition of a produce.
-fn accept_produce_part(
+// Decides one partition of a produce, and asks its log where nothing refuses it before.
+fn produce_one(
     call: &Asking<'_>,
     parts: &mut [PartLog],
     terms: Terms,
@@ -132,11 +134,11 @@ fn accept_produce_part(
         return came.note(Accepted::Refused { code: 21 });
     }
     let log = &mut parts[number as usize];
-    put_bytes(log, call.who, number, records_of(part), came)
+    accept_produce_part(log, call.who, number, records_of(part), came)
 }
 
 // One topic of a produce.
-fn accept_produce_topic(
+fn produce_topic(
     call: &Asking<'_>,
     parts: &mut [PartLog],
     terms: Terms,
@@ -148,14 +150,14 @@ fn accept_produce_topic(
     ensures carried { OnOk result (HasProduced call.now.config.now terms call.now.who.by call.now.who.seq (topic.now ∷ []) parts.old parts.new came.old came.new) }
 {
     for part in topic.parts.as_slice() {
-        accept_produce_part(call, parts, terms, topic.name, part, came)?;
+        produce_one(call, parts, terms, topic.name, part, came)?;
     }
     Ok(())
 }
 
 // Carries out a produce: each named partition in the order of the request. After want of memory those before one may have
 // their entries.
-fn accept_produce(
+fn produce(
     call: &Asking<'_>,
     parts: &mut [PartLog],
     terms: Terms,
@@ -166,7 +168,7 @@ fn accept_produce(
     ensures { OnOk result (HasProduced call.now.config.now terms call.now.who.by call.now.who.seq topics.now parts.old parts.new came.old came.new) }
 {
     for topic in topics {
-        accept_produce_topic(call, parts, terms, topic, came)?;
+        produce_topic(call, parts, terms, topic, came)?;
     }
     Ok(())
 }
@@ -183,20 +185,16 @@ fn offset_within(asked: &FetchPart, end: u64) -> Option<u64>
     if offset > end { None } else { Some(offset) }
 }
 
-// What a fetch asks of one partition, whose topic has no followers.
-fn fetch_from(
+// A consumer's fetch looks at the log.
+fn consume(
     log: &mut PartLog,
     who: Who,
-    replica: i32,
     part: u32,
     asked: &FetchPart,
     came: &mut Came,
 ) -> Result<(), NoMemory>
-    ensures { OnOk result (IsEntered who.by who.seq part (fetch_outcome 0 replica asked.now part) log.old log.new came.old came.new) }
+    ensures { OnOk result (IsEntered who.by who.seq part (in_range_outcome part asked.now.offset Looked) log.old log.new came.old came.new) }
 {
-    if replica >= 0 {
-        return look_at(log, who, part, Accepted::Refused { code: 9 }, came);
-    }
     let Some(offset) = offset_within(asked, log.numbers().end) else {
         return look_at(log, who, part, Accepted::Refused { code: 1 }, came);
     };
@@ -204,8 +202,59 @@ fn fetch_from(
     look_at(log, who, part, Accepted::Seen { part, start }, came)
 }
 
-// One partition of a fetch, where no topic has followers.
-fn accept_fetch_part(
+// Where reading from an offset begins; 0 below 0.
+fn start_at(log: &PartLog, offset: i64) -> u64
+    ensures { (at : ℕ) → offset ≡ pos at → result ≡ start_of at (state_of log.now) }
+{
+    if offset < 0 {
+        return 0;
+    }
+    log.locate(offset as u64)
+}
+
+// A replica's fetch is entered where it is a follower's and in range.
+fn follow(
+    log: &mut PartLog,
+    who: Who,
+    replica: i32,
+    part: u32,
+    asked: &FetchPart,
+    came: &mut Came,
+) -> Result<(), NoMemory>
+    requires { pos 0 ≤ℤ replica }
+    ensures { OnOk result (IsEntered who.by who.seq part (fetch_outcome log.old.followers replica asked.now part) log.old log.new came.old came.new) }
+{
+    let start = start_at(log, asked.offset);
+    match log.follow(who, replica, asked.offset) {
+        Ok(place) => came.note_at(Accepted::Seen { part, start }, part, place),
+        Err(FollowFault::NoReplica) => look_at(log, who, part, Accepted::Refused { code: 9 }, came),
+        Err(FollowFault::OutOfRange { .. }) => {
+            look_at(log, who, part, Accepted::Refused { code: 1 }, came)
+        }
+        Err(FollowFault::NoMemory) => Err(NoMemory),
+    }
+}
+
+/// Accepts what a fetch asks of one partition, over its log alone. After want of memory the log may have its entry.
+pub fn accept_fetch_part(
+    log: &mut PartLog,
+    who: Who,
+    replica: i32,
+    part: u32,
+    asked: &FetchPart,
+    came: &mut Came,
+) -> Result<(), NoMemory>
+    ensures { OnOk result (IsEntered who.by who.seq part (fetch_outcome log.old.followers replica asked.now part) log.old log.new came.old came.new) }
+{
+    if replica >= 0 {
+        follow(log, who, replica, part, asked, came)
+    } else {
+        consume(log, who, part, asked, came)
+    }
+}
+
+// Decides one partition of a fetch, and asks its log where there is one.
+fn fetch_one(
     call: &Asking<'_>,
     parts: &mut [PartLog],
     replica: i32,
@@ -213,8 +262,7 @@ fn accept_fetch_part(
     asked: &FetchPart,
     came: &mut Came,
 ) -> Result<(), NoMemory>
-    requires size { length parts.old ≡ partitions_of call.now.config.now.topics }
-    requires alone { HasNoFollowers call.now.config.now.topics }
+    requires { map (λ h. h.followers) parts.old ≡ followers_of call.now.config.now.topics }
     ensures { OnOk result (IsCarried call.now.who.by call.now.who.seq
         (fetch_decision call.now.config.now replica (topic.now, asked.now) (part_of call.now.config.now topic.now asked.now.index) ∷ [])
         parts.old parts.new came.old came.new) }
@@ -223,57 +271,54 @@ fn accept_fetch_part(
         return came.note(Accepted::Refused { code: 3 });
     };
     let log = &mut parts[part as usize];
-    fetch_from(log, call.who, replica, part, asked, came)
+    accept_fetch_part(log, call.who, replica, part, asked, came)
 }
 
 // One topic of a fetch.
-fn accept_fetch_topic(
+fn fetch_topic(
     call: &Asking<'_>,
     parts: &mut [PartLog],
     replica: i32,
     topic: &FetchTopicView<'_>,
     came: &mut Came,
 ) -> Result<(), NoMemory>
-    requires size { length parts.old ≡ partitions_of call.now.config.now.topics }
-    requires alone { HasNoFollowers call.now.config.now.topics }
-    ensures size { OnOk result (length parts.new ≡ length parts.old) }
+    requires { map (λ h. h.followers) parts.old ≡ followers_of call.now.config.now.topics }
+    ensures followers { OnOk result (map (λ h. h.followers) parts.new ≡ followers_of call.now.config.now.topics) }
     ensures carried { OnOk result (IsCarried call.now.who.by call.now.who.seq (fetch_decisions call.now.config.now replica (topic.now ∷ [])) parts.old parts.new came.old came.new) }
 {
     for part in topic.parts.as_slice() {
-        accept_fetch_part(call, parts, replica, topic.name, part, came)?;
+        fetch_one(call, parts, replica, topic.name, part, came)?;
     }
     Ok(())
 }
 
-// Carries out a fetch, where no topic has followers: each named partition in the order of the request. After want of memory
-// those before one may have their entries.
-fn accept_fetch(
+// Carries out a fetch: each named partition in the order of the request. After want of memory those before one may have their
+// entries.
+fn fetch(
     call: &Asking<'_>,
     parts: &mut [PartLog],
     replica: i32,
     topics: &[FetchTopicView<'_>],
     came: &mut Came,
 ) -> Result<(), NoMemory>
-    requires size { length parts.old ≡ partitions_of call.now.config.now.topics }
-    requires alone { HasNoFollowers call.now.config.now.topics }
+    requires { map (λ h. h.followers) parts.old ≡ followers_of call.now.config.now.topics }
     ensures { OnOk result (IsCarried call.now.who.by call.now.who.seq (fetch_decisions call.now.config.now replica topics.now) parts.old parts.new came.old came.new) }
 {
     for topic in topics {
-        accept_fetch_topic(call, parts, replica, topic, came)?;
+        fetch_topic(call, parts, replica, topic, came)?;
     }
     Ok(())
 }
 
-/// Carries out a request, where no topic has followers. After want of memory some of the named
-/// partitions may have their entries, and the logs may only be dropped.
+/// Carries out a request. After want of memory some of the named partitions may have their entries, and the logs may only be
+/// dropped.
 pub fn accept(
     call: &Asking<'_>,
     parts: &mut [PartLog],
     request: &RequestView<'_>,
     came: &mut Came,
 ) -> Result<(), NoMemory>
-    requires size { length parts.old ≡ partitions_of call.now.config.now.topics }
-    requires alone { HasNoFollowers call.now.config.now.topics }
+    requires { map (λ h. h.followers) parts.old ≡ followers_of call.now.config.now.topics }
     ensures { OnOk result ((decisions : Items Decision) × Decides call.now.config.now request.now.ask decisions
         × IsCarried call.now.who.by call.now.who.seq decisions parts.old parts.new came.old came.new) }
 {
@@ -288,13 +333,13 @@ pub fn accept(
                 is_transactional: transactional.is_some(),
                 acks: *acks,
             };
-            accept_produce(call, parts, terms, topics.as_slice(), came)
+            produce(call, parts, terms, topics.as_slice(), came)
         }
         AskView::Fetch {
             replica,
             topics,
             ..
-        } => accept_fetch(call, parts, *replica, topics.as_slice(), came),
+        } => fetch(call, parts, *replica, topics.as_slice(), came),
         AskView::Metadata { .. } | AskView::Versions { .. } => Ok(()),
     }
 }

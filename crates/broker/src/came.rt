@@ -76,4 +76,12 @@ impl Came {
     {
         self.points
     }
+
+    /// The results, and the points.
+    pub fn into_parts(self) -> (List<Accepted>, List<Point>)
+        ensures results { result.0 ≡ self.accepted }
+        ensures points { result.1 ≡ self.points }
+    {
+        (self.accepted, self.points)
+    }
 }

@@ -1,23 +1,21 @@
 //! What the one-thread broker did, as the account of a run.
 
-ghost use Rattle.std.specs.Prelude.{◌≡◌, ◌<◌, ◌^◌, [], ◌∷◌, map, option_to_list, reverse, All, IfOk, OnOk};
-ghost use Rattle.std.specs.List.{flat_map, AllByRecursion};
-ghost use Rattle.partlog.specs.Added.{log_end_of};
-ghost use Rattle.plain_broker.specs.Board.{account_of, part_account, passes_of, put_before};
-ghost use Rattle.plain_broker.specs.Fed.{IsCallAtOnce};
+ghost use Rattle.std.specs.Prelude.{◌≡◌, ◌≤◌, List as Items, length, map, count_by, option_to_list, reverse, IfOk, OnOk};
+ghost use Rattle.std.specs.List.{flat_map};
+ghost use Rattle.audit.specs.IsLawful.{is_won_by};
+ghost use Rattle.plain_broker.specs.Board.{Waiting, account_of, most_sessions, part_account, passes_of, put_before};
 ghost use Rattle.audit.specs.Histories.{calls_in};
 
 use crate::desk::Desk;
 use audit::{Account, PartAccount, Transcript};
 use kbytes::{List, NoMemory};
 use kwire::Config;
-use partlog::PartLog;
+use partlog::{ClockLog, PartLog};
 use std::alloc::Global;
 
 // A partition's log and history, handed over as they stand.
 fn part_account(part: PartLog) -> PartAccount
-    ensures account { result ≡ part_account part }
-    ensures few { log_end_of result.events < 2 ^ 64 }
+    ensures { result ≡ part_account part }
 {
     let followers = part.followers();
     let (log, events) = part.into_parts();
@@ -30,8 +28,7 @@ fn part_account(part: PartLog) -> PartAccount
 
 // The same of each partition, in order.
 fn part_accounts(alloc: Global, parts: List<PartLog>) -> Result<List<PartAccount>, NoMemory>
-    ensures accounts { IfOk result (λ accounts. accounts ≡ map part_account parts) }
-    ensures few { IfOk result (λ accounts. All (λ part. log_end_of part.events < 2 ^ 64) accounts) }
+    ensures { IfOk result (λ accounts. accounts ≡ map part_account parts) }
 {
     let mut accounts = List::new(alloc);
     for part in parts.into_vec() {
@@ -84,32 +81,43 @@ fn passes_of(alloc: Global, mut desks: List<Desk>) -> Result<List<List<Transcrip
     reversed(alloc, passes)
 }
 
-/// The account of a run in which no time passed and no request waited: the histories of the partitions, what each session
-/// did, and that the one winner completed nothing.
+// How many calls of these sessions the one winner completed.
+fn won(desks: &[Desk]) -> u64
+    requires { length desks.now ≤ most_sessions }
+    ensures { result ≡ count_by (is_won_by 0) (flat_map calls_in (passes_of desks.now)) }
+{
+    let mut count = 0;
+    for desk in desks {
+        count += desk.completed();
+    }
+    count
+}
+
+/// The account of a run: the histories, what each session did, and how many calls the one winner completed.
 pub fn account(
     alloc: Global,
     config: Config,
     parts: List<PartLog>,
+    clock: ClockLog,
     desks: List<Desk>,
 ) -> Result<Account, NoMemory>
-    requires { AllByRecursion IsCallAtOnce (flat_map calls_in (passes_of desks)) }
-    ensures account { IfOk result (λ account. account ≡ account_of (record {
+    requires { length desks ≤ most_sessions }
+    ensures { (waiting : Items Waiting) → IfOk result (λ account. account ≡ account_of (record {
       config = config;
       parts = parts;
-      clock = [];
+      clock = clock;
       seats = desks;
-      waiting = [];
+      waiting = waiting;
     })) }
-    ensures few { IfOk result (λ account. All (λ part. log_end_of part.events < 2 ^ 64) account.parts) }
 {
+    let mut wins = List::new(alloc);
+    wins.push(won(desks.as_slice()))?;
     let accounts = part_accounts(alloc, parts)?;
     let passes = passes_of(alloc, desks)?;
-    let mut wins = List::new(alloc);
-    wins.push(0)?;
     Ok(Account {
         config,
         parts: accounts,
-        clock: List::new(alloc),
+        clock: clock.into_events(),
         passes,
         wins,
     })

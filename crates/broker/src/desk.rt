@@ -1,11 +1,16 @@
 //! A session of the one-thread broker.
 
-ghost use Rattle.std.specs.Prelude.{◌≡◌, ◌≤◌, ◌∷◌, [], ◌++◌, ◌-◌, length, drop, take, true, Some, None, unwrap_or, if◌then◌else◌, IfOk, OnOk};
+ghost use Rattle.std.specs.Prelude.{◌≡◌, ℕ, ◌<◌, ◌≤◌, ◌∷◌, [], ◌++◌, length, drop, true, Some, None, if◌then◌else◌, count_by, IfOk, OnOk};
+ghost use Rattle.audit.specs.IsLawful.{is_won_by};
+ghost use Rattle.audit.specs.declared.account.TheConstants.{MOST_CALLS};
+ghost use Rattle.plain_broker.specs.Acting.{has_ended, has_work};
 ghost use Rattle.plain_broker.specs.Board.{empty_seat, new_transcript};
-ghost use Rattle.broker.specs.Ready.{has_ended, has_work};
+ghost use Rattle.plain_broker.specs.Completing.{finish_last};
+ghost use Rattle.broker.specs.Desks.{front_body, next_of, transcript_of};
+ghost use Rattle.broker.specs.Kept.{last_frame};
 ghost use Rattle.kwire.specs.Frames.{next_frame_of};
 
-use audit::{Call, SessionEnd, Transcript};
+use audit::{Call, CallHow, Point, SessionEnd, Transcript};
 use kbytes::{Bytes, List, NoMemory, copied};
 use kwire::{Frame, Inbox, next_frame};
 use std::alloc::Global;
@@ -22,10 +27,52 @@ pub struct Desk {
 
 impl Model for Desk {
     ghost use Rattle.plain_broker.specs.Board.{Seat};
+    ghost use Rattle.broker.specs.Desks.{IsNumbered};
 
     ghost Value = { Seat };
 
     ghost view = { λ d. record { inbox = d.inbox; is_shut = d.is_shut; transcript = d.transcript } };
+
+    ghost invariant = { λ d. IsNumbered d.transcript };
+}
+
+// The last of these calls came to its end so.
+fn finish_call(calls: &mut List<Call>, finish: List<Point>, how: CallHow) -> Result<(), NoMemory>
+    ensures calls { OnOk result (calls.new ≡ finish_last finish how calls.old) }
+    ensures count { length calls.new ≤ length calls.old }
+{
+    let Some(call) = calls.pop() else {
+        return Ok(());
+    };
+    calls.push(Call {
+        frame: call.frame,
+        accept: call.accept,
+        finish,
+        how,
+    })
+}
+
+// The one winner completed it.
+fn is_won(call: &Call) -> bool
+    ensures { result ≡ is_won_by 0 call.now }
+{
+    matches!(
+        call.how,
+        CallHow::Satisfied { by: 0 } | CallHow::Expired { by: 0 } | CallHow::Cut { won: Some(0) }
+    )
+}
+
+// How many of these calls the one winner completed.
+fn won(calls: &[Call]) -> u64
+    ensures { result ≡ count_by (is_won_by 0) calls.now }
+{
+    let mut count = 0;
+    for call in calls {
+        if is_won(call) {
+            count += 1;
+        }
+    }
+    count
 }
 
 impl Desk {
@@ -46,7 +93,7 @@ impl Desk {
         ensures { self.new ≡ record {
           inbox = self.old.inbox;
           is_shut = self.old.is_shut;
-          transcript = Some (unwrap_or self.old.transcript (new_transcript session));
+          transcript = Some (transcript_of session self.old);
         } }
     {
         if self.transcript.is_none() {
@@ -74,7 +121,7 @@ impl Desk {
         ensures { OnOk result (self.new ≡ record {
           inbox = if has_ended self.old.transcript then self.old.inbox else self.old.inbox ++ bytes.now;
           is_shut = self.old.is_shut;
-          transcript = Some (unwrap_or self.old.transcript (new_transcript session));
+          transcript = Some (transcript_of session self.old);
         }) }
     {
         self.open(session);
@@ -89,7 +136,7 @@ impl Desk {
         ensures { self.new ≡ record {
           inbox = self.old.inbox;
           is_shut = true;
-          transcript = Some (unwrap_or self.old.transcript (new_transcript session));
+          transcript = Some (transcript_of session self.old);
         } }
     {
         self.open(session);
@@ -128,14 +175,15 @@ impl Desk {
     pub fn body(&self, alloc: Global, end: usize) -> Result<Bytes, NoMemory>
         requires least { 4 ≤ end }
         requires within { end ≤ length self.now.inbox }
-        ensures { IfOk result (λ body. body ≡ take (end - 4) (drop 4 self.now.inbox)) }
+        ensures { IfOk result (λ body. body ≡ front_body self.now end) }
     {
         copied(alloc, &self.inbox.bytes()[4..end])
     }
 
-    /// The number of calls so far.
-    pub fn calls(&self) -> usize
-        ensures { result ≡ length (unwrap_or self.now.transcript (new_transcript 0)).calls }
+    /// The number of its next call.
+    pub fn next_call(&self) -> usize
+        ensures number { (session : ℕ) → result ≡ next_of session self.now }
+        ensures few { result ≤ MOST_CALLS }
     {
         match &self.transcript {
             None => 0,
@@ -143,16 +191,15 @@ impl Desk {
         }
     }
 
-    /// The frame at the front was handled as this call of the session, which was named. After want of memory the frame is
-    /// gone and the call isn't there, so that the session may only be dropped.
+    /// The frame at the front was handled as this call of the session, which was named and has room for a call. After want of
+    /// memory the frame is gone and the call isn't there, so that the session may only be dropped.
     pub fn note(&mut self, session: u32, end: usize, call: Call) -> Result<(), NoMemory>
-        requires { end ≤ length self.old.inbox }
+        requires within { end ≤ length self.old.inbox }
+        requires room { next_of session self.old < MOST_CALLS }
         ensures { OnOk result (self.new ≡ record {
           inbox = drop end self.old.inbox;
           is_shut = self.old.is_shut;
-          transcript = Some (record (unwrap_or self.old.transcript (new_transcript session)) {
-            calls = (unwrap_or self.old.transcript (new_transcript session)).calls ++ call ∷ [];
-          });
+          transcript = Some (record (transcript_of session self.old) { calls = (transcript_of session self.old).calls ++ call ∷ [] });
         }) }
     {
         self.inbox.drop_front(end);
@@ -163,12 +210,59 @@ impl Desk {
         Ok(())
     }
 
+    /// The body of its last call's frame; nothing where there is no call.
+    pub fn last_frame(&self) -> &[u8]
+        ensures { (session : ℕ) → result.now ≡ last_frame (transcript_of session self.now).calls }
+    {
+        let Some(transcript) = &self.transcript else {
+            return &[];
+        };
+        match transcript.calls.as_slice().last() {
+            None => &[],
+            Some(call) => call.frame.as_slice(),
+        }
+    }
+
+    /// The last call of the session, which was named, came to its end so. After want of memory the call is gone, so that the
+    /// session may only be dropped.
+    pub fn finish(
+        &mut self,
+        session: u32,
+        finish: List<Point>,
+        how: CallHow,
+    ) -> Result<(), NoMemory>
+        ensures { OnOk result (self.new ≡ record {
+          inbox = self.old.inbox;
+          is_shut = self.old.is_shut;
+          transcript = Some (record (transcript_of session self.old) {
+            calls = finish_last finish how (transcript_of session self.old).calls;
+          });
+        }) }
+    {
+        self.open(session);
+        if let Some(transcript) = &mut self.transcript {
+            finish_call(&mut transcript.calls, finish, how)?;
+        }
+        Ok(())
+    }
+
+    /// How many of its calls were completed after they had waited.
+    pub fn completed(&self) -> u64
+        ensures count { (session : ℕ) → result ≡ count_by (is_won_by 0) (transcript_of session self.now).calls }
+        ensures few { result ≤ MOST_CALLS }
+    {
+        match &self.transcript {
+            None => 0,
+            Some(transcript) => won(transcript.calls.as_slice()),
+        }
+    }
+
     /// The session, which was named, ends so. What it received beyond that stays where it is.
     pub fn end(&mut self, session: u32, end: SessionEnd)
         ensures { self.new ≡ record {
           inbox = self.old.inbox;
           is_shut = self.old.is_shut;
-          transcript = Some (record (unwrap_or self.old.transcript (new_transcript session)) { end = Some end });
+          transcript = Some (record (transcript_of session self.old) { end = Some end });
         } }
     {
         self.open(session);

@@ -1,67 +1,65 @@
 //! The broker on one thread.
 
-ghost use Rattle.std.specs.Prelude.{◌≡◌, ◌≢◌, ◌<◌, ◌≤◌, ◌^◌, ◌∷◌, [], ◌++◌, ℕ, List as Items, length, OnOk, IfOk};
-ghost use Rattle.std.specs.List.{All};
+ghost use Rattle.std.specs.Prelude.{◌≡◌, ◌≢◌, ◌<◌, ◌≤◌, ◌^◌, Some, None, length, ℕ, IfSome, IsTrue, OnOk, IfOk};
 ghost use Rattle.audit.specs.declared.account.SessionEnd.TheVariants.{Refused};
 ghost use Rattle.kwire.specs.declared.frame.WireFault.TheVariants.{NoMemory as OutOfMemory};
-ghost use Rattle.partlog.specs.Added.{log_end_of};
-ghost use Rattle.trace_file.specs.declared.line.Line.{Line as TheLine};
 ghost use Rattle.kwire.specs.declared.frame.Frame.TheVariants.{Whole};
 ghost use Rattle.kwire.specs.Frames.{next_frame_of};
-ghost use Rattle.kwire.specs.Views.{ask_of};
-ghost use Rattle.trace_file.specs.declared.line.TheConstants.{MOST_TRACE_BYTES};
-ghost use Rattle.plain_broker.specs.Acting.{HandlesFrame, Acts, end_of_input};
-ghost use Rattle.plain_broker.specs.Board.{opening, account_of, seat_at};
-ghost use Rattle.plain_broker.specs.Fed.{IsFedBy};
-ghost use Rattle.plain_broker.specs.Turns.{how_at_once, ended};
-ghost use Rattle.plain_broker.specs.Play.{Rests, PlaysLine};
-ghost use Rattle.broker.specs.Ready.{IsReady, front_body};
-ghost use Rattle.broker.specs.UnderWay.{IsUnderWay, IsServing};
+ghost use Rattle.kwire.specs.Spelling.{spelling};
+ghost use Rattle.kanswer.specs.Answer.{answer};
+ghost use Rattle.plain_broker.specs.Acting.{Acts, can_act, end_of_input, next_to_act};
+ghost use Rattle.plain_broker.specs.Board.{Board, Waiting, account_of, most_sessions, opening, seat_at};
+ghost use Rattle.plain_broker.specs.Completing.{answered_in, scanned, shown_now};
+ghost use Rattle.plain_broker.specs.Play.{PlaysLine, Rests, brought};
+ghost use Rattle.plain_broker.specs.Turns.{Turned, ended};
+ghost use Rattle.broker.specs.Desks.{front_body, next_of};
+ghost use Rattle.plain_broker.specs.Declared.{AreDeclared};
+ghost use Rattle.broker.specs.Kept.{IsPlayable, StandsFor, Stands, TurnsBy, parked_at, waiting_in};
+ghost use Rattle.broker.specs.Looks.{due_in, finished};
 
-use crate::answering::{answer_at_once, is_quiet};
+use crate::accept::Asking;
 use crate::closing::account;
+use crate::completing::{is_reached, look_at_clock, look_at_parts};
 use crate::desk::Desk;
-use crate::opening::{open_desks, open_parts};
-use audit::{Account, Call, CallHow, SessionEnd, put_end_line};
+use crate::handling::handle;
+use crate::opening::{open_desks, open_parked, open_parts};
+use crate::parked::Parked;
+use crate::reply::reply_frame;
+use audit::{Account, Call, CallHow, MOST_CALLS, SessionEnd, put_end_line};
 use kbytes::{Bytes, List, NoMemory};
-use kwire::{AskView, Config, Frame, WireFault, view_request};
-use partlog::{PartLog, Who};
+use kwire::{Config, Frame, WireFault, view_request};
+use opcond::is_overdue;
+use partlog::{ClockLog, PartLog, Who};
 use std::alloc::Global;
 use std::marker::Model;
-use trace_file::Line;
+use trace_file::{Line, MOST_SESSIONS, put_reply_line};
 
-/// The one-thread broker, as far as it is built: no topic has followers, no request waits, and no time passes.
+/// The one-thread broker. A contract sees what it keeps, which stands for a board of the definition.
 #[derive(Debug, Drop)]
 pub struct Lone {
     alloc: Global,
     config: Config,
     parts: List<PartLog>,
+    clock: ClockLog,
     desks: List<Desk>,
+    parked: List<Option<Parked>>,
 }
 
 impl Model for Lone {
     ghost use Rattle.std.specs.Prelude.{[]};
-    ghost use Rattle.plain_broker.specs.Board.{Board};
+    ghost use Rattle.broker.specs.Kept.{Kept};
 
-    ghost Value = { Board };
+    ghost Value = { Kept };
 
-    ghost view = { λ l. record { config = l.config; parts = l.parts; clock = []; seats = l.desks; waiting = [] } };
+    ghost view = { λ l. record {
+      board = record { config = l.config; parts = l.parts; clock = l.clock; seats = l.desks; waiting = [] };
+      parked = l.parked;
+    } };
 }
 
-// How a call comes to its end that needn't wait.
-fn how_at_once(ask: &AskView<'_>) -> CallHow
-    ensures { result ≡ how_at_once (ask_of ask.now) }
-{
-    if is_quiet(ask) {
-        CallHow::Quiet
-    } else {
-        CallHow::AtOnce
-    }
-}
-
-// How a session ends whose input ended with so many bytes of a frame.
+// How a session ends whose input ended with so many bytes of a frame, which isn't there whole.
 fn end_of_input(got: usize) -> SessionEnd
-    requires { got ≤ MOST_TRACE_BYTES }
+    requires { got < 2 ^ 32 }
     ensures { result ≡ end_of_input got }
 {
     if got == 0 {
@@ -72,18 +70,139 @@ fn end_of_input(got: usize) -> SessionEnd
 }
 
 impl Lone {
-    /// A broker with these topics, before the first line.
+    /// A broker with these topics, which are such as may be declared, before the first line.
     pub fn make(alloc: Global, config: Config) -> Result<Lone, NoMemory>
-        ensures { IfOk result (λ lone. lone ≡ opening config) }
+        requires { AreDeclared config.topics }
+        ensures { IfOk result (λ lone. StandsFor lone (opening config)) }
     {
         let parts = open_parts(alloc, &config)?;
         let desks = open_desks(alloc)?;
+        let parked = open_parked(alloc)?;
         Ok(Lone {
             alloc,
             config,
             parts,
+            clock: ClockLog::new(alloc),
             desks,
+            parked,
         })
+    }
+
+    // How the request of a session is completed now, where one waits and is answerable.
+    fn due(&self, session: u32) -> Option<CallHow>
+        requires there { session < most_sessions }
+        requires stands { Stands self.now }
+        ensures { (board : Board) → StandsFor self.now board → result ≡ due_in board (waiting_in board.waiting session) }
+    {
+        let Some(parked) = &self.parked.as_slice()[session as usize] else {
+            return None;
+        };
+        if is_reached(&parked.op, self.parts.as_slice()) {
+            Some(CallHow::Satisfied { by: 0 })
+        } else if is_overdue(&parked.op, self.clock.now()) {
+            Some(CallHow::Expired { by: 0 })
+        } else {
+            None
+        }
+    }
+
+    // The reply to the request of a session that waits, from the logs as they are.
+    fn reply(&self, session: u32) -> Result<Bytes, NoMemory>
+        requires there { session < most_sessions }
+        requires stands { Stands self.now }
+        ensures { IfOk result (λ frame. (board : Board) (w : Waiting) → StandsFor self.now board → waiting_in board.waiting session ≡ Some w
+            → frame ≡ spelling (answer board.config w.request (shown_now board w.steps))) }
+    {
+        let Some(parked) = &self.parked.as_slice()[session as usize] else {
+            return Ok(Bytes::new(self.alloc));
+        };
+        let frame = self.desks.as_slice()[session as usize].last_frame();
+        let Ok(request) = view_request(self.alloc, frame) else {
+            return Err(NoMemory);
+        };
+        let accepted = parked.accepted.as_slice();
+        reply_frame(
+            self.alloc,
+            &self.config,
+            self.parts.as_slice(),
+            &request,
+            accepted,
+        )
+    }
+
+    // Leaves the looks of the request of a session that waits and is completed so, and notes how its call came to its end.
+    fn finish(&mut self, session: u32, how: CallHow) -> Result<(), NoMemory>
+        requires there { session < most_sessions }
+        requires stands { Stands self.old }
+        ensures { OnOk result ((board : Board) (w : Waiting) → StandsFor self.old board → waiting_in board.waiting session ≡ Some w
+            → StandsFor self.new (finished board w how)) }
+    {
+        let Some(parked) = &self.parked.as_slice()[session as usize] else {
+            return Ok(());
+        };
+        let desk = &self.desks.as_slice()[session as usize];
+        let who = Who {
+            by: session,
+            seq: desk.next_call().saturating_sub(1) as u32,
+        };
+        let mut finish = List::new(self.alloc);
+        look_at_clock(who, &how, &mut self.clock, &mut finish)?;
+        let parts = self.parts.as_mut_slice();
+        look_at_parts(who, parked.accepted.as_slice(), parts, &mut finish)?;
+        self.desks.as_mut_slice()[session as usize].finish(session, finish, how)?;
+        self.parked.as_mut_slice()[session as usize] = None;
+        Ok(())
+    }
+
+    // Answers the request of a session, where one waits and is answerable.
+    fn answer(&mut self, session: u32, out: &mut Bytes) -> Result<(), NoMemory>
+        requires there { session < most_sessions }
+        requires stands { Stands self.old }
+        ensures { OnOk result (TurnsBy (λ board turned. turned ≡ answered_in board session) self.old self.new out.old out.new) }
+    {
+        let Some(how) = self.due(session) else {
+            return Ok(());
+        };
+        let reply = self.reply(session)?;
+        put_reply_line(out, session, reply.as_slice())?;
+        self.finish(session, how)
+    }
+
+    // Answers every request that waits and is answerable, in the order of the sessions.
+    fn scan(&mut self, out: &mut Bytes) -> Result<(), NoMemory>
+        requires { Stands self.old }
+        ensures { OnOk result (TurnsBy (λ board turned. turned ≡ scanned board) self.old self.new out.old out.new) }
+    {
+        for session in 0..MOST_SESSIONS {
+            self.answer(session, out)?;
+        }
+        Ok(())
+    }
+
+    // A session can act.
+    fn can_act(&self, session: u32) -> bool
+        requires there { session < most_sessions }
+        requires stands { Stands self.now }
+        ensures can { (board : Board) → StandsFor self.now board → result ≡ can_act board session }
+        ensures idle { IsTrue result → parked_at self.now session ≡ None }
+    {
+        let at = session as usize;
+        self.parked.as_slice()[at].is_none() && self.desks.as_slice()[at].has_work()
+    }
+
+    // The least session that can act.
+    fn next_to_act(&self) -> Option<u32>
+        requires { Stands self.now }
+        ensures next { (board : Board) → StandsFor self.now board → result ≡ next_to_act board }
+        ensures idle { IfSome result (λ session. parked_at self.now session ≡ None) }
+        ensures there { IfSome result (λ session. session < most_sessions) }
+    {
+        for session in 0..MOST_SESSIONS {
+            if self.can_act(session) {
+                return Some(session);
+            }
+        }
+        None
     }
 
     // The session ends so, which is told.
@@ -93,9 +212,8 @@ impl Lone {
         end: SessionEnd,
         out: &mut Bytes,
     ) -> Result<(), NoMemory>
-        requires { session < length self.old.seats }
-        ensures board { self.new ≡ (ended self.old session end).board }
-        ensures told { OnOk result (out.new ≡ out.old ++ (ended self.old session end).text) }
+        requires { session < length self.old.board.seats }
+        ensures { OnOk result (TurnsBy (λ board turned. turned ≡ ended board session end) self.old self.new out.old out.new) }
     {
         self.desks.as_mut_slice()[session as usize].end(session, end);
         put_end_line(out, session, &end)
@@ -103,9 +221,9 @@ impl Lone {
 
     // The frame at the front is refused, which ends the session; it isn't where memory was wanting.
     fn refuse(&mut self, session: u32, why: WireFault, out: &mut Bytes) -> Result<(), NoMemory>
-        requires { session < length self.old.seats }
-        ensures { OnOk result ((why ≢ OutOfMemory) × (self.new ≡ (ended self.old session (Refused why)).board)
-            × (out.new ≡ out.old ++ (ended self.old session (Refused why)).text)) }
+        requires { session < length self.old.board.seats }
+        ensures why { OnOk result (why ≢ OutOfMemory) }
+        ensures ended { OnOk result (TurnsBy (λ board turned. turned ≡ ended board session (Refused why)) self.old self.new out.old out.new) }
     {
         match why {
             WireFault::NoMemory => Err(NoMemory),
@@ -115,40 +233,50 @@ impl Lone {
 
     // Handles the frame at the front of a session's bytes, which ends before the place `end`.
     fn take_frame(&mut self, session: u32, end: usize, out: &mut Bytes) -> Result<(), NoMemory>
-        requires ready { IsReady session self.old }
-        requires whole { next_frame_of (seat_at self.old session).inbox ≡ Whole end }
-        ensures { OnOk result ((text : Items ℕ) × HandlesFrame self.old session (front_body self.old session end) (record { board = self.new; text = text })
-            × (out.new ≡ out.old ++ text)) }
+        requires there { session < most_sessions }
+        requires idle { parked_at self.old session ≡ None }
+        requires stands { Stands self.old }
+        requires whole { next_frame_of (seat_at self.old.board session).inbox ≡ Whole end }
+        ensures { OnOk result (TurnsBy (λ board. Acts board session) self.old self.new out.old out.new) }
     {
         let desk = &self.desks.as_slice()[session as usize];
+        let seq = desk.next_call();
+        if seq == MOST_CALLS as usize {
+            return self.end_session(session, SessionEnd::CallsFull, out);
+        }
         let body = desk.body(self.alloc, end)?;
         let who = Who {
             by: session,
-            seq: desk.calls() as u32,
+            seq: seq as u32,
         };
         let request = match view_request(self.alloc, body.as_slice()) {
             Ok(request) => request,
             Err(why) => return self.refuse(session, why, out),
         };
+        let call = Asking {
+            config: &self.config,
+            who,
+        };
         let parts = self.parts.as_mut_slice();
-        let accept = answer_at_once(self.alloc, &self.config, parts, who, &request, out)?;
-        let how = how_at_once(&request.ask);
+        let handled = handle(self.alloc, &call, parts, &mut self.clock, &request, out)?;
         drop(request);
         let call = Call {
             frame: body,
-            accept,
+            accept: handled.accept,
             finish: List::new(self.alloc),
-            how,
+            how: handled.how,
         };
         self.desks.as_mut_slice()[session as usize].note(session, end, call)?;
+        self.parked.as_mut_slice()[session as usize] = handled.parked;
         Ok(())
     }
 
     // A session acts once: it handles the frame at the front, or ends.
     fn act(&mut self, session: u32, out: &mut Bytes) -> Result<(), NoMemory>
-        requires { IsReady session self.old }
-        ensures { OnOk result ((text : Items ℕ) × Acts self.old session (record { board = self.new; text = text })
-            × (out.new ≡ out.old ++ text)) }
+        requires there { session < most_sessions }
+        requires idle { parked_at self.old session ≡ None }
+        requires stands { Stands self.old }
+        ensures { OnOk result (TurnsBy (λ board. Acts board session) self.old self.new out.old out.new) }
     {
         let desk = &self.desks.as_slice()[session as usize];
         match desk.front() {
@@ -163,47 +291,56 @@ impl Lone {
         }
     }
 
-    // Lets a session act until it has nothing left to do.
-    fn serve(&mut self, session: u32, out: &mut Bytes) -> Result<(), NoMemory>
-        requires { (fed : Items TheLine) × (later : Items TheLine) × IsServing fed later session self.old }
-        ensures rests { OnOk result ((acts : ℕ) × (text : Items ℕ) × Rests acts self.old (record { board = self.new; text = text })
-            × (out.new ≡ out.old ++ text)) }
-        ensures goes_on { OnOk result ((fed : Items TheLine) (later : Items TheLine) → IsServing fed later session self.old
-            → IsUnderWay fed later self.new) }
+    // Answers what is answerable and lets sessions act, until neither has anything left to do.
+    fn settle(&mut self, out: &mut Bytes) -> Result<(), NoMemory>
+        requires { Stands self.old }
+        ensures { OnOk result (TurnsBy (λ board turned. (acts : ℕ) × Rests acts board turned) self.old self.new out.old out.new) }
     {
-        while self.desks.as_slice()[session as usize].has_work() {
+        loop {
+            self.scan(out)?;
+            let Some(session) = self.next_to_act() else {
+                return Ok(());
+            };
             self.act(session, out)?;
         }
-        Ok(())
     }
 
-    /// Takes one line of the trace, and puts what it prints at the end of `out`. After an `Err` it may only be dropped.
-    pub fn event(&mut self, line: &Line, out: &mut Bytes) -> Result<(), NoMemory>
-        requires { (fed : Items TheLine) × (later : Items TheLine) × IsUnderWay fed (line.now ∷ later) self.old }
-        ensures played { OnOk result ((text : Items ℕ) × PlaysLine self.old line.now (record { board = self.new; text = text })
-            × (out.new ≡ out.old ++ text)) }
-        ensures goes_on { OnOk result ((fed : Items TheLine) (later : Items TheLine) → IsUnderWay fed (line.now ∷ later) self.old
-            → IsUnderWay (fed ++ line.now ∷ []) later self.new) }
+    // Takes in what a line brings.
+    fn bring(&mut self, line: &Line) -> Result<(), NoMemory>
+        requires playable { IsPlayable line.now }
+        requires stands { Stands self.old }
+        ensures { OnOk result ((board : Board) → StandsFor self.old board → StandsFor self.new (brought board line.now)) }
     {
         match line {
             Line::Feed { session, bytes } => {
                 self.desks.as_mut_slice()[*session as usize].feed(*session, bytes.as_slice())?;
-                self.serve(*session, out)
             }
             Line::Shut { session } => {
                 self.desks.as_mut_slice()[*session as usize].shut(*session);
-                self.serve(*session, out)
             }
-            Line::Topic { .. } | Line::Clock { .. } | Line::End => Ok(()),
+            Line::Clock { t } => {
+                self.clock.tick(*t)?;
+            }
+            Line::Topic { .. } | Line::End => {}
         }
+        Ok(())
     }
 
-    /// The account of what was done, once all lines were taken.
-    pub fn close(self) -> Result<Account, NoMemory>
-        requires { (fed : Items TheLine) × IsFedBy fed self }
-        ensures account { IfOk result (λ account. account ≡ account_of self) }
-        ensures few { IfOk result (λ account. All (λ part. log_end_of part.events < 2 ^ 64) account.parts) }
+    /// Takes one line of a trace, and puts what it prints at the end of `out`. After an `Err` it may only be dropped.
+    pub fn event(&mut self, line: &Line, out: &mut Bytes) -> Result<(), NoMemory>
+        requires playable { IsPlayable line.now }
+        requires stands { Stands self.old }
+        ensures { OnOk result (TurnsBy (λ board. PlaysLine board line.now) self.old self.new out.old out.new) }
     {
-        account(self.alloc, self.config, self.parts, self.desks)
+        self.bring(line)?;
+        self.settle(out)
+    }
+
+    /// The account of what was done so far.
+    pub fn close(self) -> Result<Account, NoMemory>
+        requires { Stands self }
+        ensures { IfOk result (λ account. (board : Board) → StandsFor self board → account ≡ account_of board) }
+    {
+        account(self.alloc, self.config, self.parts, self.clock, self.desks)
     }
 }

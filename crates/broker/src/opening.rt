@@ -1,10 +1,11 @@
 //! What the one-thread broker keeps before the first line.
 
-ghost use Rattle.std.specs.Prelude.{◌≡◌, ◌++◌, map, replicate, IfOk, OnOk};
+ghost use Rattle.std.specs.Prelude.{◌≡◌, ◌++◌, None, map, replicate, IfOk, OnOk};
 ghost use Rattle.plain_broker.specs.Board.{empty_history, empty_seat, most_sessions};
 ghost use Rattle.kwire.specs.Configuration.{followers_of};
 
 use crate::desk::Desk;
+use crate::parked::Parked;
 use kbytes::{List, NoMemory};
 use kwire::Config;
 use partlog::PartLog;
@@ -49,4 +50,16 @@ pub fn open_desks(alloc: Global) -> Result<List<Desk>, NoMemory>
         desks.push(Desk::new(alloc))?;
     }
     Ok(desks)
+}
+
+/// Nothing waits in any session.
+#[tactic(auto, using(std::proofs::lemmas::List::replicate_more))]
+pub fn open_parked(alloc: Global) -> Result<List<Option<Parked>>, NoMemory>
+    ensures { IfOk result (λ parked. parked ≡ replicate most_sessions None) }
+{
+    let mut parked = List::new(alloc);
+    for _number in 0..MOST_SESSIONS {
+        parked.push(None)?;
+    }
+    Ok(parked)
 }

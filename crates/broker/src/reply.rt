@@ -1,4 +1,4 @@
-//! The reply to a request that was accepted and needn't wait.
+//! The reply to a request that was accepted, and the numbers of the partitions that it names.
 
 ghost use Rattle.std.specs.Prelude.{ℕ, ◌≡◌, ◌≤◌, ◌+◌, ◌++◌, ◌∷◌, [], length, All, List as Items, IfOk, OnOk, sum_by, map};
 ghost use Rattle.std.specs.List.{AllByRecursion, flat_map};
@@ -6,15 +6,15 @@ ghost use Rattle.kanswer.specs.Waiting.{Shown};
 ghost use Rattle.kanswer.specs.Answer.{answer};
 ghost use Rattle.kanswer.specs.LogReadings.{AreReadings, IsCarriable, HasCarriable, named_count, budget_of};
 ghost use Rattle.kwire.specs.IsRequest.{IsRequest};
-ghost use Rattle.broker.specs.Carried.{AreDeclared};
-ghost use Rattle.broker.specs.Gathered.{numbers_now, reading_now, left_now, readings_now, left_behind, bytes_read, most_left, shown_in_logs};
+ghost use Rattle.plain_broker.specs.Declared.{AreDeclared};
+ghost use Rattle.broker.specs.Gathered.{numbers_now, reading_now, left_now, readings_now, left_behind, bytes_read, most_left, shown_in_logs, numbers_in, part_numbers};
 ghost use Rattle.kwire.specs.Spelling.{spelling};
 ghost use Rattle.broker.specs.Replying.{HasLog, ShowsLogs};
 
 use kanswer::{Accepted, Budget, Reading, answer, read_asked, read_nothing, read_numbers};
 use kbytes::{Bytes, List, NoMemory};
 use kwire::{AskView, Config, FetchPart, FetchTopicView, RequestView, reply_bytes};
-use partlog::PartLog;
+use partlog::{Numbers, PartLog};
 use std::alloc::Global;
 
 // What is read of a partition as its log is.
@@ -26,7 +26,7 @@ fn read_one(
     became: &Accepted,
     budget: &mut Budget,
 ) -> Result<Reading, NoMemory>
-    requires { HasLog parts.now became.now }
+    requires { HasLog (length parts.now) became.now }
     ensures read { IfOk result (λ reading. reading ≡ reading_now parts.now replica asked.now became.now budget.old) }
     ensures left { OnOk result (budget.new ≡ left_now parts.now replica asked.now became.now budget.old) }
     ensures offset { IfOk result HasCarriable }
@@ -52,7 +52,7 @@ fn read_topic(
     readings: &mut List<Reading>,
 ) -> Result<(), NoMemory>
     requires size { length accepted.now ≡ length asked.now }
-    requires logs { AllByRecursion (HasLog parts.now) accepted.now }
+    requires logs { AllByRecursion (HasLog (length parts.now)) accepted.now }
     ensures read { OnOk result (readings.new ≡ readings.old ++ readings_now parts.now replica asked.now accepted.now budget.old) }
     ensures left { OnOk result (budget.new ≡ left_behind parts.now replica asked.now accepted.now budget.old) }
     ensures offsets { OnOk result (All HasCarriable readings.old → All HasCarriable readings.new) }
@@ -74,7 +74,7 @@ fn read_fetch(
     budget: Budget,
 ) -> Result<List<Reading>, NoMemory>
     requires size { length accepted.now ≡ sum_by (λ topic. length topic.parts) topics.now }
-    requires logs { AllByRecursion (HasLog parts.now) accepted.now }
+    requires logs { AllByRecursion (HasLog (length parts.now)) accepted.now }
     ensures read { IfOk result (λ readings. readings ≡ readings_now parts.now replica (flat_map (λ topic. topic.parts) topics.now) accepted.now budget) }
     ensures offsets { IfOk result (All HasCarriable) }
     ensures room { IfOk result (λ readings. bytes_read readings ≤ most_left budget) }
@@ -101,7 +101,7 @@ fn read_fetch(
 
 // Of an appended partition the numbers of its log are read.
 fn read_numbers_of(alloc: Global, parts: &[PartLog], became: &Accepted) -> Reading
-    requires { HasLog parts.now became.now }
+    requires { HasLog (length parts.now) became.now }
     ensures read { result ≡ numbers_now parts.now became.now }
     ensures offset { HasCarriable result }
 {
@@ -117,7 +117,7 @@ fn read_all_numbers(
     parts: &[PartLog],
     accepted: &[Accepted],
 ) -> Result<List<Reading>, NoMemory>
-    requires { AllByRecursion (HasLog parts.now) accepted.now }
+    requires { AllByRecursion (HasLog (length parts.now)) accepted.now }
     ensures read { IfOk result (λ readings. readings ≡ map (numbers_now parts.now) accepted.now) }
     ensures offsets { IfOk result (All HasCarriable) }
 {
@@ -136,7 +136,7 @@ fn gather(
     accepted: &[Accepted],
 ) -> Result<List<Reading>, NoMemory>
     requires size { length accepted.now ≡ named_count request.now.ask }
-    requires logs { AllByRecursion (HasLog parts.now) accepted.now }
+    requires logs { AllByRecursion (HasLog (length parts.now)) accepted.now }
     ensures read { IfOk result (λ readings. AreReadings request.now.ask accepted.now readings (shown_in_logs parts.now accepted.now)) }
     ensures size { IfOk result (λ readings. length readings ≡ length accepted.now) }
     ensures offsets { IfOk result (All HasCarriable) }
@@ -165,14 +165,50 @@ pub fn reply_frame(
     accepted: &[Accepted],
 ) -> Result<Bytes, NoMemory>
     requires size { length accepted.now ≡ named_count request.now.ask }
-    requires logs { AllByRecursion (HasLog parts.now) accepted.now }
+    requires logs { AllByRecursion (HasLog (length parts.now)) accepted.now }
     requires offsets { All IsCarriable accepted.now }
     requires asked { (body : Items ℕ) × IsRequest body request.now }
     requires declared { AreDeclared config.now.topics }
-    ensures { IfOk result (λ frame. (shown : Items Shown) → ShowsLogs parts.now request.now.ask accepted.now shown
+    ensures { IfOk result (λ frame. (shown : Items Shown) → ShowsLogs parts.now accepted.now shown
         → frame ≡ spelling (answer config.now request.now shown)) }
 {
     let readings = gather(alloc, parts, request, accepted)?;
     let reply = answer(alloc, config, request, accepted, readings.as_slice())?;
     reply_bytes(alloc, &reply)
+}
+
+const NO_NUMBERS: Numbers = Numbers {
+    end: 0,
+    high: 0,
+    visible: 0,
+    bytes: 0,
+};
+
+// The numbers of a partition's log as it is, where its log was asked.
+fn part_numbers(parts: &[PartLog], became: &Accepted) -> Numbers
+    requires { HasLog (length parts.now) became.now }
+    ensures { result ≡ part_numbers parts.now became.now }
+{
+    match *became {
+        Accepted::Refused { .. } => NO_NUMBERS,
+        Accepted::Appended { part, .. } | Accepted::Seen { part, .. } => {
+            parts[part as usize].numbers()
+        }
+    }
+}
+
+/// The numbers of each named partition's log as it is.
+pub fn numbers_of(
+    alloc: Global,
+    parts: &[PartLog],
+    accepted: &[Accepted],
+) -> Result<List<Numbers>, NoMemory>
+    requires { AllByRecursion (HasLog (length parts.now)) accepted.now }
+    ensures { IfOk result (λ numbers. numbers ≡ numbers_in parts.now accepted.now) }
+{
+    let mut numbers = List::new(alloc);
+    for became in accepted {
+        numbers.push(part_numbers(parts, became))?;
+    }
+    Ok(numbers)
 }

@@ -13,6 +13,7 @@ use Rattle.kwire.specs.declared.request.ProduceTopic.{ProduceTopic}
 use Rattle.kanswer.specs.Decisions.{Decision, Decides, ProduceDecides, produce_parts}
 use Rattle.broker.specs.Carried.{fetch_decisions}
 use Rattle.broker.proofs.DecisionSteps.{on_ok}
+use Rattle.broker.proofs.FetchParts.{parts_size}
 use Rattle.broker.proofs.accept.accept.Goals as goal
 
 pub returns-in-Produce : goal.returns-in-Produce
@@ -23,7 +24,7 @@ returns-in-Produce c =
     let id = option_copied transactional in
     let ask : c.args.request.now.ask ≡ Produce id c.in-Produce.acks c.in-Produce.timeout c.in-Produce.topics = sym (ap (λ (r : Request). r.ask) c.request.view_is) ∙ ap ask_of c.in-Produce.is in
     let some : is_some id ≡ is_some transactional = elim transactional as (λ o. is_some (option_copied o) ≡ is_some o) [ None ↦ refl | Some x ↦ refl ] in
-    on_ok c.accept_produce.result c.accept_produce.ensures (λ p. (
+    on_ok c.produce.result c.produce.ensures (λ p. (
       p.decisions,
       subst (λ (a : Ask). Decides config a p.decisions) (sym ask)
           (subst (λ (z : ℤ). AllZip (ProduceDecides config id z) (produce_parts c.in-Produce.topics) p.decisions) (to_z-of_z w16 c.in-Produce.acks fits)
@@ -39,4 +40,7 @@ returns-in-Fetch c =
     let ds : List Decision = fetch_decisions config (to_z w32 (of_z w32 c.in-Fetch.replica)) c.as_slice-in-Fetch.result.now in
     let same : ds ≡ fetch_decisions config c.in-Fetch.replica c.in-Fetch.topics =
     ap (λ (r : ℤ). fetch_decisions config r c.as_slice-in-Fetch.result.now) (to_z-of_z w32 c.in-Fetch.replica fits) ∙ ap (fetch_decisions config c.in-Fetch.replica) c.as_slice-in-Fetch.ensures in
-    on_ok c.accept_fetch.result c.accept_fetch.ensures (λ k. (ds, subst (λ (a : Ask). Decides config a ds) (sym ask) same, k))
+    on_ok c.fetch.result c.fetch.ensures (λ k. (ds, subst (λ (a : Ask). Decides config a ds) (sym ask) same, k))
+
+pub produce-requires : goal.produce-requires
+produce-requires c = parts_size c.args.call.now.config.now.topics c.args.parts.now c.requires

@@ -1,36 +1,26 @@
-use Rattle.std.proofs.Common.{◌≡◌, ◌<◌, ℕ, ℤ, [], ◌∷◌, length, get_or, set, Option, Some, None, refl, sym, ap, subst, ◌∙◌, arith, pos, rules}
+use Rattle.std.proofs.Common.{◌≡◌, ℤ, pos, sym, ap, subst, ◌∙◌}
 use Rattle.std.proofs.lemmas.Int.{to_z-of_z}
 use Rattle.std.specs.Int.{w32}
-use mir.Val.{SFits}
-use Rattle.kwire.specs.Configuration.{followers_of, part_of}
-use Rattle.kanswer.specs.Decisions.{fetch_outcome, fetch_decision}
-use Rattle.broker.specs.Carried.{IsEntered, IsCarried}
-use Rattle.broker.proofs.DecisionSteps.{on_ok, same_item, refusal_carried, entered_carried}
-use Rattle.broker.proofs.FetchParts.{no_followers_at}
+use lib.Signed.{le_z}
+use Rattle.partlog.specs.State.{state_of}
+use Rattle.kanswer.specs.Decisions.{Looked, fetch_outcome, in_range_outcome}
+use Rattle.broker.specs.Carried.{IsEntered}
+use Rattle.broker.proofs.DecisionSteps.{on_ok}
+use Rattle.broker.proofs.FetchParts.{above, consumes, entered_alike, negative}
 use Rattle.broker.proofs.accept.accept_fetch_part.Goals as goal
 
-pub returns-in_default : goal.returns-in_default
-returns-in_default c =
-    let call = c.args.call.now in
-    let asked = c.args.asked.now in
-    let fits : SFits w32 asked.index = search rules in
-    let none : part_of call.config.now c.args.topic.now asked.index ≡ None = ap (part_of call.config.now c.args.topic.now) (sym (to_z-of_z w32 asked.index fits)) ∙ sym c.in_default.ensures.number in
-    let D : Option ℕ → Type 0 = λ o. IsCarried call.who.by call.who.seq (fetch_decision call.config.now c.args.replica (c.args.topic.now, asked) o ∷ []) c.args.parts.now c.args.parts.now c.args.came.now c.note.new.self in
-    on_ok c.note.result c.note.ensures (λ k. subst D (sym none) (refusal_carried call.who.by call.who.seq (pos 3) c.args.parts.now c.args.came.now c.note.new.self k))
+pub follow-requires : goal.follow-requires
+follow-requires c = above _ c.if-replica-ge0.true
 
-pub returns : goal.returns
-returns c =
-    let call = c.args.call.now in
-    let config = call.config.now in
-    let asked = c.args.asked.now in
-    let part = c.in-Some.part in
-    let replica = c.args.replica in
-    let fits : SFits w32 asked.index = search rules in
-    let there : part_of config c.args.topic.now asked.index ≡ Some part = ap (part_of config c.args.topic.now) (sym (to_z-of_z w32 asked.index fits)) ∙ sym c.in-Some.ensures.number in
-    let within : part < length c.args.parts.now = omega (arith, c.in-Some.ensures.within, c.requires.size) in
-    let h = get_or c.args.parts.now part c.index-parts-part.result in
-    let Enters : ℕ → ℤ → Type 0 = λ followers r. IsEntered call.who.by call.who.seq part (fetch_outcome followers r asked part) h c.fetch_from.new.log c.args.came.now c.fetch_from.new.came in
-    let D : Option ℕ → Type 0 = λ o. IsCarried call.who.by call.who.seq (fetch_decision config replica (c.args.topic.now, asked) o ∷ []) c.args.parts.now (set c.args.parts.now part c.fetch_from.new.log) c.args.came.now c.fetch_from.new.came in
-    on_ok c.fetch_from.result c.fetch_from.ensures (λ e. subst D (sym there)
-    (entered_carried call.who.by call.who.seq part c.args.parts.now (set c.args.parts.now part c.fetch_from.new.log) h c.fetch_from.new.log (fetch_outcome (get_or (followers_of config.topics) part 0) replica asked part) c.args.came.now c.fetch_from.new.came within (same_item c.args.parts.now part c.index-parts-part.result h within)
-    (subst (λ (f : ℕ). Enters f replica) (sym (no_followers_at config.topics part c.requires.alone)) (subst (Enters 0) (to_z-of_z w32 replica c.ranges.replica) e)) refl))
+pub returns-then-replica-ge0 : goal.returns-then-replica-ge0
+returns-then-replica-ge0 c =
+    on_ok c.follow.result c.follow.ensures (λ e.
+    subst (λ (z : ℤ). IsEntered c.args.who.by c.args.who.seq c.args.part (fetch_outcome c.args.log.now.followers z c.args.asked.now c.args.part) c.args.log.now c.follow.new.log c.args.came.now c.follow.new.came)
+    (to_z-of_z w32 c.args.replica c.ranges.replica) e)
+
+pub returns-else-replica-ge0 : goal.returns-else-replica-ge0
+returns-else-replica-ge0 c =
+    let n = negative c.args.replica (ap (le_z (pos 0)) (sym (to_z-of_z w32 c.args.replica c.ranges.replica)) ∙ c.if-replica-ge0.false) in
+    on_ok c.consume.result c.consume.ensures (λ e.
+    entered_alike c.args.who.by c.args.who.seq c.args.part (in_range_outcome c.args.part c.args.asked.now.offset Looked) (fetch_outcome c.args.log.now.followers c.args.replica c.args.asked.now c.args.part) c.args.log.now c.consume.new.log c.args.came.now c.consume.new.came
+    (consumes c.args.log.now.followers c.args.part c.args.replica n.0 c.args.asked.now (state_of c.args.log.now) n.1) e)

@@ -1,7 +1,15 @@
-use Rattle.broker.proofs.Calling.{end_made}
+use Rattle.std.proofs.Common.{◌≡◌, sym, subst}
+use Rattle.plain_broker.specs.Turns.{ended}
+use Rattle.broker.specs.Kept.{Kept, TurnsBy}
+use Rattle.broker.proofs.Bringing.{ended_seat, ended_turns}
+use Rattle.broker.proofs.DecisionSteps.{on_ok}
+use Rattle.broker.proofs.Standing.{desk_changed}
 use Rattle.broker.proofs.lone.Lone.end_session.Goals as goal
 
-pub returns-clause-board : goal.returns-clause-board
-returns-clause-board c =
-    end_made c.self.inside.config c.self.inside.parts c.self.inside.desks c.as_mut_slice.result.now c.args.self.now c.args.session c.args.end c.index-as_mut_slice-session.result c.end.new.self
-    c.self.view_is c.requires c.as_mut_slice.ensures.value c.index-as_mut_slice-session.is c.end.ensures
+pub returns : goal.returns
+returns c =
+    let i = c.self.inside in
+    on_ok c.put_end_line.result c.put_end_line.ensures (λ told.
+    subst (λ (k : Kept). TurnsBy (λ board t. t ≡ ended board c.args.session c.args.end) c.args.self.now k c.args.out.now c.put_end_line.new.out)
+    (sym (desk_changed i.config i.parts i.clock i.desks c.as_mut_slice.result.now i.parked c.args.self.now c.args.session (ended_seat c.args.session c.args.end) c.index-as_mut_slice-session.result c.end.new.self c.self.view_is c.requires c.as_mut_slice.ensures.value c.index-as_mut_slice-session.is c.end.ensures))
+    (ended_turns c.args.self.now c.args.session c.args.end c.args.out.now c.put_end_line.new.out c.requires told))

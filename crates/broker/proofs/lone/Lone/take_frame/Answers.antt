@@ -1,62 +1,110 @@
-use Rattle.std.proofs.Common.{◌≡◌, ℕ, ◌-◌, ◌++◌, List, length, take, drop, set, sym, ap, subst, ◌∙◌, arith}
-use Rattle.partlog.specs.History.{History}
-use Rattle.broker.specs.AtOnce.{IsAnsweredAtOnce}
-use Rattle.plain_broker.specs.Board.{Seat, seat_at}
-use Rattle.kwire.specs.declared.request.Request.{Request}
-use Rattle.plain_broker.specs.Turns.{how_at_once}
+use Rattle.std.proofs.Common.{◌≡◌, ◌≢◌, ◌<◌, ◌≤◌, ℕ, List, [], get_or, length, sym, ap, subst, ◌∙◌, arith, refl}
+use Rattle.audit.specs.declared.account.SessionEnd.TheVariants.{CallsFull, Refused}
+use Rattle.audit.specs.declared.account.TheConstants.{MOST_CALLS}
+use Rattle.audit.specs.declared.account.Point.{Point}
 use Rattle.kwire.specs.IsRequest.{IsRequest}
-use Rattle.broker.specs.Ready.{front_body}
-use Rattle.broker.proofs.Calling.{parts_written, desk_written, seat_shown, board_of, call_of, noted, counted_at, call_made, handles, refused}
-use Rattle.broker.proofs.DecisionSteps.{on_ok}
 use Rattle.kwire.specs.Refusal.{IsRefused}
 use Rattle.kwire.proofs.Laws.{whole_within}
+use Rattle.partlog.specs.History.{History}
+use Rattle.partlog.specs.declared.clock_event.ClockEvent.{ClockEvent}
+use Rattle.kwire.specs.Configuration.{Configuration}
+use Rattle.plain_broker.specs.Acting.{Acts}
+use Rattle.plain_broker.specs.Board.{Board, Seat, next_call, seat_at}
+use Rattle.broker.specs.Desks.{front_body, next_of}
+use Rattle.broker.specs.Handled.{IsHandled}
+use Rattle.broker.specs.Kept.{Kept, TurnsBy}
+use Rattle.broker.proofs.DecisionSteps.{on_ok, on_ok_both}
+use Rattle.broker.proofs.Standing.{all_written, moved, seat_shown}
+use Rattle.broker.proofs.Taking.{call_of, ends_acting, full_acts, handled_turns, noted, refused_acts}
 use Rattle.broker.proofs.lone.Lone.take_frame.Goals as goal
 
-pub note-requires : goal.note-requires
-note-requires c =
-    let seat = seat_shown c.args.self.now _ c.as_mut_slice.result.now c.args.session c.index-as_mut_slice-session.result c.self.view_is c.as_mut_slice.ensures.value c.requires.ready.there c.index-as_mut_slice-session.is in
-    omega (arith, whole_within (seat_at c.args.self.now c.args.session).inbox c.args.end c.requires.whole, ap (λ (s : Seat). length s.inbox) seat, ap (λ (s : Seat). length s.inbox) c.index-as_mut_slice-session.is)
+pub returns-then-seq : goal.returns-then-seq
+returns-then-seq c =
+    let kept = c.args.self.now in
+    let s = c.args.session in
+    let end = c.args.end in
+    let there : s < length kept.parked = omega (arith, c.requires.there, c.requires.stands.1.kept_of.parked) in
+    let sat : s < length kept.board.seats = omega (arith, c.requires.there, c.requires.stands.1.kept_of.seats) in
+    let seat = seat_shown kept _ c.as_slice.result.now s c.index-as_slice-session.result c.self.view_is c.as_slice.ensures sat c.index-as_slice-session.is in
+    let counted : c.next_call-seq.result ≡ next_call kept.board s = c.next_call-seq.ensures.number s ∙ ap (next_of s) (sym seat) in
+    on_ok c.end_session.result c.end_session.ensures (λ turns.
+    ends_acting kept c.end_session.new.self s CallsFull c.args.out.now c.end_session.new.out (λ waiting are. full_acts kept waiting s end c.requires.whole (sym counted ∙ c.if-seq.true)) turns)
 
-pub answer_at_once-requires-clause-never : goal.answer_at_once-requires-clause-never
-answer_at_once-requires-clause-never c waits =
-    let board = c.args.self.now in
-    let session = c.args.session in
-    let first = seat_shown board _ c.as_slice.result.now session c.index-as_slice-session.result c.self.view_is c.as_slice.ensures c.requires.ready.there c.index-as_slice-session.is in
-    let frame : c.as_slice-2.result.now ≡ front_body board session c.args.end = c.as_slice-2.ensures ∙ c.in_ok-body.ensures ∙ ap (λ (s : Seat). take (c.args.end - 4) (drop 4 s.inbox)) (sym first) in
-    c.requires.ready.never c.args.end c.in-Ok.request c.requires.whole (subst (λ (x : List ℕ). IsRequest x c.in-Ok.request) frame c.in-Ok.ensures.request) waits
+pub body-requires-clause-within : goal.body-requires-clause-within
+body-requires-clause-within c =
+    let kept = c.args.self.now in
+    let s = c.args.session in
+    let end = c.args.end in
+    let there : s < length kept.parked = omega (arith, c.requires.there, c.requires.stands.1.kept_of.parked) in
+    let sat : s < length kept.board.seats = omega (arith, c.requires.there, c.requires.stands.1.kept_of.seats) in
+    let seat = seat_shown kept _ c.as_slice.result.now s c.index-as_slice-session.result c.self.view_is c.as_slice.ensures sat c.index-as_slice-session.is in
+    let counted : c.next_call-seq.result ≡ next_call kept.board s = c.next_call-seq.ensures.number s ∙ ap (next_of s) (sym seat) in
+    omega (arith, whole_within (seat_at kept.board s).inbox end c.requires.whole, ap (λ (x : Seat). length x.inbox) seat)
 
 pub returns-in-Err : goal.returns-in-Err
 returns-in-Err c =
-    let board = c.args.self.now in
-    let session = c.args.session in
-    let body = front_body board session c.args.end in
+    let kept = c.args.self.now in
+    let s = c.args.session in
+    let end = c.args.end in
+    let there : s < length kept.parked = omega (arith, c.requires.there, c.requires.stands.1.kept_of.parked) in
+    let sat : s < length kept.board.seats = omega (arith, c.requires.there, c.requires.stands.1.kept_of.seats) in
+    let seat = seat_shown kept _ c.as_slice.result.now s c.index-as_slice-session.result c.self.view_is c.as_slice.ensures sat c.index-as_slice-session.is in
+    let counted : c.next_call-seq.result ≡ next_call kept.board s = c.next_call-seq.ensures.number s ∙ ap (next_of s) (sym seat) in
     let why = c.in-Err.why in
-    let first = seat_shown board _ c.as_slice.result.now session c.index-as_slice-session.result c.self.view_is c.as_slice.ensures c.requires.ready.there c.index-as_slice-session.is in
-    let frame : c.as_slice-2.result.now ≡ body = c.as_slice-2.ensures ∙ c.in_ok-body.ensures ∙ ap (λ (s : Seat). take (c.args.end - 4) (drop 4 s.inbox)) (sym first) in
-    on_ok c.refuse.result c.refuse.ensures (λ r.
-    refused board session body why c.refuse.new.self c.args.out.now c.refuse.new.out
-    (subst (λ (x : List ℕ). IsRefused x why) frame (c.in-Err.ensures.refused r.0)) r.1 r.2)
+    let room : next_call kept.board s ≢ MOST_CALLS = λ e. c.if-seq.false (counted ∙ e) in
+    let frame : c.as_slice-2.result.now ≡ front_body (seat_at kept.board s) end = c.as_slice-2.ensures ∙ c.in_ok-body.ensures ∙ ap (λ (x : Seat). front_body x end) (sym seat) in
+    on_ok_both c.refuse.result c.refuse.ensures.why c.refuse.ensures.ended (λ memory turns.
+    ends_acting kept c.refuse.new.self s (Refused why) c.args.out.now c.refuse.new.out
+    (λ waiting are. refused_acts kept waiting s end why c.requires.whole room (subst (λ (x : List ℕ). IsRefused x why) frame (c.in-Err.ensures.refused memory))) turns)
+
+pub note-requires-clause-within : goal.note-requires-clause-within
+note-requires-clause-within c =
+    let kept = c.args.self.now in
+    let s = c.args.session in
+    let end = c.args.end in
+    let there : s < length kept.parked = omega (arith, c.requires.there, c.requires.stands.1.kept_of.parked) in
+    let sat : s < length kept.board.seats = omega (arith, c.requires.there, c.requires.stands.1.kept_of.seats) in
+    let seat = seat_shown kept _ c.as_slice.result.now s c.index-as_slice-session.result c.self.view_is c.as_slice.ensures sat c.index-as_slice-session.is in
+    let counted : c.next_call-seq.result ≡ next_call kept.board s = c.next_call-seq.ensures.number s ∙ ap (next_of s) (sym seat) in
+    let now = seat_shown kept _ c.as_mut_slice.result.now s c.index-as_mut_slice-session.result c.self.view_is c.as_mut_slice.ensures.value sat c.index-as_mut_slice-session.is in
+    omega (arith, whole_within (seat_at kept.board s).inbox end c.requires.whole, ap (λ (x : Seat). length x.inbox) (now ∙ c.index-as_mut_slice-session.is))
+
+pub note-requires-clause-room : goal.note-requires-clause-room
+note-requires-clause-room c =
+    let kept = c.args.self.now in
+    let s = c.args.session in
+    let end = c.args.end in
+    let there : s < length kept.parked = omega (arith, c.requires.there, c.requires.stands.1.kept_of.parked) in
+    let sat : s < length kept.board.seats = omega (arith, c.requires.there, c.requires.stands.1.kept_of.seats) in
+    let seat = seat_shown kept _ c.as_slice.result.now s c.index-as_slice-session.result c.self.view_is c.as_slice.ensures sat c.index-as_slice-session.is in
+    let counted : c.next_call-seq.result ≡ next_call kept.board s = c.next_call-seq.ensures.number s ∙ ap (next_of s) (sym seat) in
+    let now = seat_shown kept _ c.as_mut_slice.result.now s c.index-as_mut_slice-session.result c.self.view_is c.as_mut_slice.ensures.value sat c.index-as_mut_slice-session.is in
+    let at : seat_at kept.board s ≡ get_or c.as_mut_slice.result.now s c.index-as_mut_slice-session.result = now ∙ c.index-as_mut_slice-session.is in
+    let same : next_call kept.board s ≡ next_of s (get_or c.as_mut_slice.result.now s c.index-as_mut_slice-session.result) = ap (next_of s) at in
+    omega (arith, same, counted, c.next_call-seq.ensures.few, c.if-seq.false)
 
 pub returns : goal.returns
 returns c =
-    let view = c.self.view_is in
-    let config = c.self.inside.config in
-    let session = c.args.session in
-    let board = c.args.self.now in
-    let there = c.requires.ready.there in
-    let first = seat_shown board _ c.as_slice.result.now session c.index-as_slice-session.result view c.as_slice.ensures there c.index-as_slice-session.is in
-    let seat = seat_shown board _ c.as_mut_slice.result.now session c.index-as_mut_slice-session.result view c.as_mut_slice.ensures.value there c.index-as_mut_slice-session.is in
-    let parts : length c.answer_at_once.new.parts ≡ length c.self.inside.parts = c.answer_at_once.auto.parts ∙ ap length c.as_mut_slice-parts.ensures.value in
-    let frame : c.in_ok-body.body ≡ front_body board session c.args.end = c.in_ok-body.ensures ∙ ap (λ (s : Seat). take (c.args.end - 4) (drop 4 s.inbox)) (sym first) in
+    let kept = c.args.self.now in
+    let s = c.args.session in
+    let end = c.args.end in
+    let there : s < length kept.parked = omega (arith, c.requires.there, c.requires.stands.1.kept_of.parked) in
+    let sat : s < length kept.board.seats = omega (arith, c.requires.there, c.requires.stands.1.kept_of.seats) in
+    let seat = seat_shown kept _ c.as_slice.result.now s c.index-as_slice-session.result c.self.view_is c.as_slice.ensures sat c.index-as_slice-session.is in
+    let counted : c.next_call-seq.result ≡ next_call kept.board s = c.next_call-seq.ensures.number s ∙ ap (next_of s) (sym seat) in
+    let i = c.self.inside in
+    let body = front_body (seat_at kept.board s) end in
+    let done = c.in_ok-handled.handled in
     let request = c.in-Ok.request in
-    let call = call_of c.in_ok-body.body c.in_ok-accept.accept c.new.result c.how_at_once-how.result in
-    let desk : c.note.new.self ≡ noted session c.args.end (seat_at board session) call = c.in_ok-note.ensures ∙ ap (λ (s : Seat). noted session c.args.end s call) (sym (seat ∙ c.index-as_mut_slice-session.is)) in
-    let answered = subst (λ (ps : List History). IsAnsweredAtOnce config session c.calls.result request ps c.answer_at_once.new.parts c.in_ok-accept.accept c.args.out.now c.answer_at_once.new.out) c.as_mut_slice-parts.ensures.value c.in_ok-accept.ensures in
-    let noted_seats : List Seat = set c.as_mut_slice.result.now session c.note.new.self in
-    let seats : List Seat = take (length c.self.inside.desks) (noted_seats ++ drop (length noted_seats) c.self.inside.desks) in
-    handles board session (front_body board session c.args.end) _ c.args.out.now c.answer_at_once.new.out
-    (call_made config c.self.inside.parts c.answer_at_once.new.parts c.self.inside.desks board _ session c.args.end c.calls.result request c.in_ok-body.body c.in_ok-accept.accept c.new.result c.how_at_once-how.result
-    c.args.out.now c.answer_at_once.new.out view c.requires.ready c.requires.whole (counted_at board session c.calls.result c.index-as_slice-session.result first c.calls.ensures) frame
-    (subst (λ (x : List ℕ). IsRequest x request) c.as_slice-2.ensures c.in-Ok.ensures.request) answered c.new.ensures (c.how_at_once-how.ensures ∙ ap (λ (r : Request). how_at_once r.ask) c.request.view_is)
-    (ap (λ (ps : List History). board_of config ps seats) (parts_written c.self.inside.parts c.answer_at_once.new.parts parts)
-    ∙ ap (λ (ss : List Seat). board_of config c.answer_at_once.new.parts ss) (desk_written c.self.inside.desks c.as_mut_slice.result.now session c.note.new.self c.as_mut_slice.ensures.value ∙ ap (set c.self.inside.desks session) desk)))
+    let frame : c.in_ok-body.body ≡ body = c.in_ok-body.ensures ∙ ap (λ (x : Seat). front_body x end) (sym seat) in
+    let asked : IsRequest body request = subst (λ (x : List ℕ). IsRequest x request) (c.as_slice-2.ensures ∙ frame) c.in-Ok.ensures.request in
+    let size : length c.handle.new.parts ≡ length i.parts = c.handle.auto.parts ∙ ap length c.as_mut_slice-parts.ensures.value in
+    let made = all_written i.config i.parts c.handle.new.parts i.clock c.handle.new.clock i.desks c.as_mut_slice.result.now i.parked c.as_mut_slice-2.result.now kept s (noted s end (call_of c.in_ok-body.body done.accept c.new.result done.how)) c.index-as_mut_slice-session.result c.note.new.self done.parked
+    c.self.view_is sat size c.as_mut_slice.ensures.value c.index-as_mut_slice-session.is c.in_ok-note.ensures c.as_mut_slice-2.ensures.value in
+    let K : List ℕ → List Point → Kept = λ b none. moved kept c.handle.new.parts c.handle.new.clock s (noted s end (call_of b done.accept none done.how) (seat_at kept.board s)) done.parked in
+    let same = made ∙ ap (λ (b : List ℕ). K b c.new.result) frame ∙ ap (K body) c.new.ensures in
+    let h0 = subst (λ (ps : List History). IsHandled i.config s c.next_call-seq.result request ps c.handle.new.parts i.clock c.handle.new.clock done c.args.out.now c.handle.new.out) c.as_mut_slice-parts.ensures.value c.in_ok-handled.ensures in
+    let h : IsHandled kept.board.config s c.next_call-seq.result request kept.board.parts c.handle.new.parts kept.board.clock c.handle.new.clock done c.args.out.now c.handle.new.out =
+    subst (λ (k : Kept). IsHandled k.board.config s c.next_call-seq.result request k.board.parts c.handle.new.parts k.board.clock c.handle.new.clock done c.args.out.now c.handle.new.out) c.self.view_is h0 in
+    subst (λ (k : Kept). TurnsBy (λ board. Acts board s) kept k c.args.out.now c.handle.new.out) (sym same)
+    (handled_turns kept s end c.next_call-seq.result request c.handle.new.parts c.handle.new.clock done c.args.out.now c.handle.new.out c.requires.there c.requires.idle c.requires.whole counted c.if-seq.false asked h)
