@@ -2,3 +2,5 @@
 pub mod Writes
 -- what a replay comes to, from what was read and what was played
 pub mod Replays
+-- the account of a run may be printed
+pub mod Printing

@@ -1,5 +1,5 @@
 -- What a replay comes to, from what was read and what was played.
-use Rattle.std.proofs.Common.{◌≡◌, ◌≤◌, ◌+◌, ℕ, false, eqb, List, [], ◌∷◌, ◌++◌, length, take, Option, Some, None, IfSome, inl, inr, refl, sym, ap, subst, ◌∙◌, arith, append-nil, length-append}
+use Rattle.std.proofs.Common.{◌≡◌, ◌≤◌, ◌<◌, ◌+◌, ℕ, zero, suc, false, eqb, List, [], ◌∷◌, ◌++◌, length, take, drop, get_or, Option, Some, None, IfSome, IsSome, inl, inr, refl, sym, ap, subst, ◌∙◌, arith, append-nil, length-append}
 use Rattle.std.proofs.lemmas.List.{take_all, take-append-le}
 use Rattle.std.specs.Io.KnownBytes.{Consumes, IsAtEnd}
 use Rattle.std.specs.List.{count_by, AllByRecursion, AllZip}
@@ -9,9 +9,11 @@ use Rattle.plain_broker.specs.Board.{Board, opening, account_of}
 use Rattle.kwire.specs.Configuration.{Configuration}
 use Rattle.plain_broker.specs.Turns.{Turned}
 use Rattle.kafka_room.specs.LinesFront.{IsLinesFront}
-use Rattle.plain_broker.specs.Play.{Plays}
+use Rattle.plain_broker.specs.Play.{Plays, IsPlay}
+use Rattle.audit.specs.Printable.{IsPrintable}
+use Rattle.kafka_room.proofs.Printing.{printable}
 use Rattle.audit.specs.Printed.{summary_of}
-use Rattle.kafka_room.specs.Replay.{IsReplayOf, IsReplay, IsReplayFront, IsFirstBadOf}
+use Rattle.kafka_room.specs.Replay.{IsReplayOf, IsReplay, IsReplayFront, IsFirstBadOf, HasTrace}
 use Rattle.trace_file.specs.Contents.{configuration_of}
 use Rattle.kafka_room.specs.Streams.{IsInput}
 use Rattle.trace_file.specs.IsLine.{IsLine}
@@ -25,6 +27,7 @@ use Rattle.trace_file.specs.declared.line.LineFault.{LineFault}
 use Rattle.trace_file.specs.declared.line.TraceFault.{TraceFault}
 use Rattle.trace_file.specs.declared.line.TraceFault.TheVariants.{Bad, NoMemory}
 use Rattle.trace_file.specs.FirstBad.{IsFirstBad, TellsFirstBad}
+use Rattle.trace_file.proofs.Laws.{trace_has_none}
 use Rattle.kafka_room.specs.Codes.{bad_line_of, stop_of}
 
 -- ---- what was read
@@ -110,6 +113,26 @@ replayed text lines account printed trace played =
       only = λ other more p. play_is_one config lines other account more printed p played;
     }
 
+-- the topics of a trace
+pub declared_topics : (text : List ℕ) (lines : List Line) (config : Configuration) → IsTrace text lines → config ≡ configuration_of REPLAY_PORT lines → AreDeclared config.topics
+declared_topics text lines config trace is = subst (λ (c : Configuration). AreDeclared c.topics) (sym is) (trace_declared text lines REPLAY_PORT trace)
+
+-- the lines were played from the opening board of their configuration
+pub played_from : (lines : List Line) (config : Configuration) (last : Turned) → config ≡ configuration_of REPLAY_PORT lines → Plays (opening config) lines last
+    → Plays (opening (configuration_of REPLAY_PORT lines)) lines last
+played_from lines config last is played = subst (λ (c : Configuration). Plays (opening c) lines last) is played
+
+-- the account at their end is that of their play, with this text
+pub play_of : (lines : List Line) (last : Turned) (account : Account) → Plays (opening (configuration_of REPLAY_PORT lines)) lines last → account ≡ account_of last.board
+    → IsPlay (configuration_of REPLAY_PORT lines) lines account (last.text ++ summary_of account)
+play_of lines last account played is = record { last = last; played = played; accounted = is; printed = refl }
+
+-- and it may be printed
+pub printable_play : (text : List ℕ) (lines : List Line) (account : Account) (printed : List ℕ) → IsTrace text lines → IsPlay (configuration_of REPLAY_PORT lines) lines account printed → IsPrintable account
+printable_play text lines account printed trace played =
+    let came = replayed text lines account printed trace played in
+    printable lines REPLAY_PORT account came.lawful came.run
+
 -- all that the lines up to here print stands written
 pub front_of_lines : (start : Board) (lines done more : List Line) (last : Turned) → lines ≡ done ++ more → Plays start done last → IsLinesFront start lines last.text
 front_of_lines start lines done more last parts played = record { done = done; more = more; parts = parts; last = last; played = played; count = length last.text; front = sym (take_all (length last.text) last.text (omega arith)) }
@@ -147,4 +170,4 @@ front_of_source left text written told f =
 pub has_no_bad_line : (left : Option (List ℕ)) (line : Option LineFault) → HasTrace left → IsSome line → IfSome line (IsFirstBadOf left) → ⊥
 has_no_bad_line None line has some bad = has
 has_no_bad_line (Some text) None has some bad = absurd some
-has_no_bad_line (Some text) (Some fault) has some bad = trace_or_bad text has.0 fault has.1 bad
+has_no_bad_line (Some text) (Some fault) has some bad = trace_has_none text false has.0 fault (record { trace = has.1; declares = λ yes. absurd cc }) bad

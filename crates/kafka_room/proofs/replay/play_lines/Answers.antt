@@ -10,8 +10,13 @@ use Rattle.kafka_room.proofs.Replays.{playable_at, front_of_lines, front_within}
 use Rattle.kafka_room.proofs.Writes.{front_behind}
 use Rattle.kafka_room.proofs.replay.play_lines.Goals as goal
 
-pub event-requires : goal.event-requires
-event-requires g c = playable_at c.args.lines.now c.loop-line.line-index c.line-item.result c.requires c.loop-line-test.true c.line-item.is
+pub event-requires-playable : goal.event-requires-playable
+event-requires-playable g c = playable_at c.args.lines.now c.loop-line.line-index c.line-item.result c.requires.playable c.loop-line-test.true c.line-item.is
+
+pub event-requires-stands : goal.event-requires-stands
+event-requires-stands g c =
+    let h = c.loop-line.invariant.played c.requires.stands.0 c.requires.stands.1 in
+    (h.0.board, h.2)
 
 pub returns-in_err-event-clause-front : goal.returns-in_err-event-clause-front
 returns-in_err-event-clause-front g c =
