@@ -8,3 +8,5 @@ pub use Rattle.kanswer.proofs.Stamped.{batch_sized}
 pub use Rattle.kanswer.proofs.AnswersAgree.{produced_is, fetched_is}
 -- the values of an operation's gauges are those of its partitions' states, in the order of its needs
 pub use Rattle.kanswer.proofs.Values.{values_by_part}
+-- a batch is put only where there is room for it, and has fewer records than bytes
+pub use Rattle.kanswer.proofs.Room.{HasRoom, PutsWithRoom, decided_with_room}

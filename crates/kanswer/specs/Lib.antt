@@ -22,3 +22,5 @@ pub mod ToldParts
 pub mod Reached
 -- a request that waits unless the states just seen satisfy it
 pub mod MayWait
+-- a partition that was appended to
+pub mod Appends

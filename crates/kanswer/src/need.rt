@@ -1,5 +1,5 @@
 //! What a request needs of the partitions that it names, and how far that is reached.
-ghost use Rattle.std.specs.Prelude.{◌≡◌, ◌<◌, Some, length, slice_get};
+ghost use Rattle.std.specs.Prelude.{◌≡◌, ◌<◌, ◌^◌, Some, IfSome, length, slice_get};
 ghost use Rattle.kwire.specs.Views.{ask_of};
 ghost use Rattle.opcond.specs.Tally.{counted};
 ghost use Rattle.partlog.specs.Gauges.{numbers_of};
@@ -37,7 +37,8 @@ fn counted(need: &Need, value: u64) -> u64
 // A produce needs that the followers have the batch.
 fn produce_need(became: &Accepted) -> Option<Need>
     requires { IsBounded became.now }
-    ensures { result ≡ produce_need became.now }
+    ensures need { result ≡ produce_need became.now }
+    ensures limit { IfSome result (λ need. need.cap < 2 ^ 31) }
 {
     match *became {
         Accepted::Appended { part, base, count } => Some(Need {
@@ -52,7 +53,8 @@ fn produce_need(became: &Accepted) -> Option<Need>
 // A consumer needs visible bytes, a follower bytes.
 fn fetch_need(replica: i32, asked: &FetchPart, became: &Accepted) -> Option<Need>
     requires { IsBounded became.now }
-    ensures { result ≡ fetch_need replica (asked.now, became.now) }
+    ensures need { result ≡ fetch_need replica (asked.now, became.now) }
+    ensures limit { IfSome result (λ need. need.cap < 2 ^ 31) }
 {
     match *became {
         Accepted::Seen { part, start } => Some(Need {
@@ -68,7 +70,8 @@ fn fetch_need(replica: i32, asked: &FetchPart, became: &Accepted) -> Option<Need
 pub(crate) fn need_at(ask: &AskView<'_>, accepted: &[Accepted], at: usize) -> Option<Need>
     requires results { AreResults (ask_of ask.now) accepted.now }
     requires within { at < length accepted.now }
-    ensures { slice_get (needs_by_part (ask_of ask.now) accepted.now) at ≡ Some result }
+    ensures need { slice_get (needs_by_part (ask_of ask.now) accepted.now) at ≡ Some result }
+    ensures limit { IfSome result (λ need. need.cap < 2 ^ 31) }
 {
     match ask {
         AskView::Produce { .. } => produce_need(&accepted[at]),
@@ -86,7 +89,9 @@ pub(crate) fn need_at(ask: &AskView<'_>, accepted: &[Accepted], at: usize) -> Op
 
 /// How much of a need is reached by the numbers of its partition.
 pub(crate) fn reached_at(need: Option<Need>, numbers: &Numbers) -> u64
-    ensures { result ≡ reached_at need numbers.now }
+    requires { IfSome need (λ n. n.cap < 2 ^ 31) }
+    ensures reached { result ≡ reached_at need numbers.now }
+    ensures limit { result < 2 ^ 31 }
 {
     match need {
         Some(need) => counted(&need, value_of_gauge(need.gauge, numbers)),

@@ -1,13 +1,14 @@
 //! Whether a request waits, and the operation that it becomes.
-ghost use Rattle.std.specs.Prelude.{◌≡◌, ◌<◌, ◌≤◌, ◌^◌, List as Items, length, map, IfOk};
-ghost use Rattle.std.specs.List.{filter_map};
+ghost use Rattle.std.specs.Prelude.{◌≡◌, ◌<◌, ◌≤◌, ◌^◌, List as Items, count_by, length, IfOk};
+ghost use Rattle.std.specs.List.{list_any};
 ghost use Rattle.kwire.specs.Views.{ask_of};
 ghost use Rattle.partlog.specs.declared.clock_event.TheConstants.{MOST_MOMENT};
+ghost use Rattle.kanswer.specs.Appends.{is_appended};
 ghost use Rattle.kanswer.specs.MayWait.{may_wait};
 ghost use Rattle.kanswer.specs.Numbered.{AreNumbers};
 ghost use Rattle.kanswer.specs.Reached.{reached_by};
 ghost use Rattle.kanswer.specs.Results.{AreResults};
-ghost use Rattle.kanswer.specs.Waiting.{Shown, all_seen, becomes_delayed, least_of, needs_by_part, needs_of, operation_of, produce_need, results_of, wait_of};
+ghost use Rattle.kanswer.specs.Waiting.{Shown, all_seen, becomes_delayed, is_refused, least_of, needs_by_part, needs_of, operation_of, results_of, wait_of};
 
 use crate::accepted::{Accepted, reply_limit};
 use crate::need::{need_at, reached_at};
@@ -17,24 +18,45 @@ use opcond::Op;
 use partlog::Numbers;
 use std::alloc::Global;
 
+fn is_appended(became: &Accepted) -> bool
+    ensures { result ≡ is_appended became.now }
+{
+    match became {
+        Accepted::Appended { .. } => true,
+        Accepted::Refused { .. } | Accepted::Seen { .. } => false,
+    }
+}
+
 // How many partitions were appended to.
-fn appended_count(accepted: &[Accepted]) -> u64
-    ensures { result ≡ length (filter_map (λ need. need) (map produce_need accepted.now)) }
+fn appended_count(accepted: &[Accepted]) -> usize
+    ensures { result ≡ count_by is_appended accepted.now }
 {
     accepted
         .iter()
-        .filter(|became| matches!(became, Accepted::Appended { .. }))
-        .count() as u64
+        .filter(|became| is_appended(*became))
+        .count()
+}
+
+fn is_refused(became: &Accepted) -> bool
+    ensures { result ≡ is_refused became.now }
+{
+    match became {
+        Accepted::Refused { .. } => true,
+        Accepted::Appended { .. } | Accepted::Seen { .. } => false,
+    }
+}
+
+fn any_refused(accepted: &[Accepted]) -> bool
+    ensures { result ≡ list_any is_refused accepted.now }
+{
+    accepted.iter().any(|became| is_refused(became))
 }
 
 // Some partition is named, and none was refused.
 fn all_seen(accepted: &[Accepted]) -> bool
     ensures { result ≡ all_seen accepted.now }
 {
-    !accepted.is_empty()
-        && !accepted
-            .iter()
-            .any(|became| matches!(became, Accepted::Refused { .. }))
+    !accepted.is_empty() && !any_refused(accepted)
 }
 
 // The request would wait if its tally weren't reached.
@@ -55,7 +77,7 @@ fn least_of(ask: &AskView<'_>, accepted: &[Accepted]) -> u64
     ensures limit { result < 2 ^ 31 }
 {
     match ask {
-        AskView::Produce { .. } => appended_count(accepted),
+        AskView::Produce { .. } => appended_count(accepted) as u64,
         AskView::Fetch {
             min_bytes,
             max_bytes,
