@@ -1,8 +1,8 @@
 -- No log of a lawful account has more than a log may have: each append was a lawful call's, which found room for its batch,
 -- and a batch has fewer records than bytes.
-use Rattle.std.proofs.Common.{◌≡◌, ◌≢◌, ℕ, zero, suc, ◌+◌, ◌^◌, ◌<◌, ◌≤◌, ◌==◌, ◌&&◌, Bool, true, false, cond, eqb, List, [], ◌∷◌, ◌++◌, length, map, take, drop, get_or, filter, count_by, sum_by, Option, Some, None, All, ◌⊎◌, inl, inr, refl, sym, ap, subst, ◌∙◌, arith, append-nil, length-append, replicate, option_map}
+use Rattle.std.proofs.Common.{◌≡◌, ◌≢◌, ℕ, zero, suc, ◌+◌, ◌^◌, ◌<◌, ◌≤◌, ◌&&◌, Bool, true, false, cond, eqb, List, [], ◌∷◌, ◌++◌, length, map, take, drop, get_or, count_by, sum_by, Option, Some, None, All, ◌⊎◌, inl, inr, refl, sym, ap, subst, ◌∙◌, arith, append-nil, length-append, replicate, option_map}
 use Rattle.std.specs.Prelude.{slice_get}
-use Rattle.std.specs.List.{AllByRecursion, AllZip, cons_option, filter_map}
+use Rattle.std.specs.List.{AllByRecursion, AllZip, cons_option}
 use Rattle.std.proofs.lemmas.Bool.{eqb-true}
 use Rattle.std.proofs.lemmas.List.{length-map, length-replicate}
 use Rattle.std.proofs.lemmas.List.Sums.{sum_by_push, sum_by-cons}
@@ -14,19 +14,19 @@ use Rattle.partlog.specs.declared.event.PartEvent.TheVariants.{Append, Follow, L
 use Rattle.partlog.specs.Added.{added_bytes, added_count, bytes_of, log_end_of}
 use Rattle.partlog.specs.Batches.{StoredBatch, batches_after, batches_of}
 use Rattle.partlog.specs.Gauges.{bytes_in}
-use Rattle.partlog.specs.State.{PartState, state_at, state_before}
+use Rattle.partlog.specs.State.{PartState, state_before}
 use Rattle.kwire.specs.Configuration.{followers_of, partitions_of}
 use Rattle.kwire.specs.declared.config.Topic.{Topic}
 use Rattle.partlog.proofs.Laws.{batches-append, batches-take}
-use Rattle.kanswer.specs.Decisions.{Entry, Put, Followed, Looked, Outcome, Decision, Refuse, AskLog}
+use Rattle.kanswer.specs.Decisions.{Entry, Put, Followed, Looked, Decision, Refuse, AskLog}
 use Rattle.kanswer.proofs.Laws.{HasRoom, PutsWithRoom, decided_with_room}
 use Rattle.audit.specs.declared.account.Account.{Account}
 use Rattle.audit.specs.declared.account.Call.{Call}
 use Rattle.audit.specs.declared.account.PartAccount.{PartAccount}
 use Rattle.audit.specs.declared.account.Point.{Point}
-use Rattle.audit.specs.Histories.{clock_owner_of, at_in, at_point, before_in, before_point, call_of, event_at, event_in, history_of, owner_of, owners_in, owners_of, points_of}
+use Rattle.audit.specs.Histories.{clock_owner_of, at_in, at_point, before_in, before_point, event_at, event_in, history_of, owner_of, owners_in, owners_of, points_of}
 use Rattle.audit.specs.IsLawful.{IsLawful, is_point}
-use Rattle.audit.specs.LawfulCall.{AsksLog, IsClockLook, IsEntry, IsLawfulCall, IsLook, IsStep, LooksAtClock, Step, step_points}
+use Rattle.audit.specs.LawfulCall.{IsClockLook, IsEntry, IsLawfulCall, IsLook, IsStep, LooksAtClock, Step, step_points}
 use Rattle.audit.proofs.Places.{all_append, some_is}
 use Rattle.audit.proofs.Prints.{looks_stand}
 

@@ -1,6 +1,6 @@
 -- An account that may be printed: a lawful one, in which no session was refused for want of memory, which isn't a fault of
 -- its request, and no two sessions have one number.
-use Rattle.std.specs.Prelude.{◌≡◌, ◌≢◌, AllPairs, Some}
+use Rattle.std.specs.Prelude.{◌≢◌, AllPairs, Some}
 use Rattle.std.specs.List.{AllByRecursion}
 use Rattle.kwire.specs.declared.frame.WireFault.TheVariants as refusals
 use Rattle.audit.specs.declared.account.Account.{Account}
