@@ -22,3 +22,5 @@ pub mod WorkedRequests
 pub mod WorkedRuns
 -- what holds of a call that went well
 pub mod Ends
+-- the logs of a lawful account are bounded
+pub mod Bounded

@@ -12,5 +12,7 @@ pub mod Fits
 pub mod RunOf
 -- what is printed of an account
 pub mod Printed
+-- an account that may be printed
+pub mod Printable
 -- small accounts, written out
 pub mod Worked

@@ -15,7 +15,7 @@ pub use account::{
 };
 pub use ending::put_end_line;
 pub use promises::{
-    looks_stand, one_print, one_reply, worked_account, worked_calls, worked_prints, worked_replies,
-    worked_requests, worked_run,
+    lawful_logs_are_bounded, looks_stand, one_print, one_reply, worked_account, worked_calls,
+    worked_prints, worked_replies, worked_requests, worked_run,
 };
-pub use summary::put_summary;
+pub use summary::print_replay;

@@ -1,10 +1,14 @@
 //! Laws of accounts. They do nothing.
-ghost use Rattle.std.specs.Prelude.{◌≡◌, ◌≢◌, ◌<◌, ◌^◌, ◌⊎◌, ◌∷◌, [], codes, length, map, negsuc, pos, true, List, None, Some, ℕ};
+ghost use Rattle.std.specs.Prelude.{◌≡◌, ◌≢◌, ◌<◌, ◌≤◌, ◌^◌, ◌⊎◌, ◌∷◌, [], codes, length, map, negsuc, pos, true, All, List, None, Some, ℕ};
 ghost use Rattle.std.specs.List.{AllByRecursion};
 ghost use Rattle.kbytes.specs.Field.{fields};
 ghost use Rattle.kbatch.specs.Batch.{IsBatch};
 ghost use Rattle.kbatch.specs.declared.record.Record.{Record};
 ghost use Rattle.audit.specs.Fits.{HasReplies, IsReplyOf, is_answered, sent};
+ghost use Rattle.kwire.specs.Configuration.{partitions_of};
+ghost use Rattle.kwire.specs.declared.config.TheConstants.{MOST_PARTITIONS};
+ghost use Rattle.partlog.specs.Added.{log_end_of};
+ghost use Rattle.partlog.specs.declared.part_log.TheConstants.{MOST_LOG_BYTES};
 ghost use Rattle.kwire.specs.Frames.{AreFramesOf, framed, IsFrameBody};
 ghost use Rattle.audit.specs.LawfulCall.{IsClockLook, IsLawfulCall, IsLook};
 ghost use Rattle.audit.specs.IsLawful.{IsLawful};
@@ -37,6 +41,13 @@ pub fn one_print()
         → HasReplies account calls others → sent replies ≡ sent others }
     ensures frames { (replies : List Reply) (bodies : List (List ℕ)) → map spelling replies ≡ map framed bodies
         → AllByRecursion IsFrameBody bodies → AreFramesOf (sent replies) bodies [] }
+{}
+
+/// Law: no log of a lawful account has more records than a log may have bytes. Each append is a lawful call's, which found
+/// room for its batch, and a batch has fewer records than bytes.
+pub fn lawful_logs_are_bounded()
+    ensures { (account : TheAccount) → IsLawful account → partitions_of account.config.topics ≤ MOST_PARTITIONS
+        → All (λ part. log_end_of part.events ≤ MOST_LOG_BYTES) account.parts }
 {}
 
 /// Law: a lawful call names no last entry that nobody left: each is a look at its partition or at the clock.

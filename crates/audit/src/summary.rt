@@ -4,6 +4,7 @@ ghost use Rattle.std.specs.Prelude.{◌≡◌, ◌<◌, ◌^◌, ◌∷◌, ◌+
 ghost use Rattle.std.specs.Fmt.{decimal};
 ghost use Rattle.std.specs.List.{All, flat_map};
 ghost use Rattle.partlog.specs.Added.{log_end_of};
+ghost use Rattle.audit.specs.Printable.{IsPrintable};
 ghost use Rattle.audit.specs.Printed.{part_line, session_line, summary_of, numbered};
 
 use crate::account::{Account, PartAccount, Transcript};
@@ -11,6 +12,7 @@ use crate::numbers::{high_watermark, log_end};
 use crate::tally::{batch_count, parked_count, reply_count};
 use itoa::Buffer;
 use kbytes::{Bytes, List, NoMemory};
+use kwire::MOST_PARTITIONS;
 use std::alloc::Global;
 
 /// Puts a word and a number at the end. After want of memory a part of them may stand there.
@@ -83,11 +85,13 @@ fn put_passes(out: &mut Bytes, passes: &[List<Transcript>]) -> Result<(), NoMemo
 
 /// Puts what is printed behind the `end` of a trace at the end of the bytes: each partition, each session, and `done`. After
 /// want of memory the bytes are as before.
-pub fn put_summary(alloc: Global, account: &Account, out: &mut Bytes) -> Result<(), NoMemory>
-    requires { All (λ part. log_end_of part.events < 2 ^ 64) account.now.parts }
+pub fn print_replay(alloc: Global, account: &Account, out: &mut Bytes) -> Result<(), NoMemory>
+    requires { IsPrintable account.now }
     ensures ok { OnOk result (out.new ≡ out.old ++ summary_of account.now) }
     ensures err { OnErr result (out.new ≡ out.old) }
 {
+    // so few partitions that none has the clock's number
+    prove!(account.config.parts() <= MOST_PARTITIONS);
     let mut text = Bytes::new(alloc);
     put_parts(&mut text, account.parts.as_slice())?;
     put_passes(&mut text, account.passes.as_slice())?;
