@@ -1,7 +1,6 @@
-//! One partition that is read, replies, and requests that wait.
+//! One partition that is read, replies, and a request that waits.
 ghost use Rattle.std.specs.Prelude.{◌≡◌, length, IfOk};
 ghost use Rattle.kanswer.specs.LogReadings.{named_count};
-ghost use Rattle.kanswer.specs.Results.{IsBounded};
 
 use super::{Accepted, Budget, answer, needs_op, op_of, read_nothing, read_part};
 use kbatch::read_batch;
@@ -10,8 +9,7 @@ use kwire::{
     AskView, Config, FetchPart, FetchTopicView, ProducePartView, ProduceTopicView, RequestView,
     Told,
 };
-use opcond::Need;
-use partlog::{Numbers, PartLog, Who};
+use partlog::{PartLog, Who};
 use std::alloc::Global;
 use std::test::*;
 
@@ -111,8 +109,8 @@ fn below_the_high_watermark(rt: HostRuntime) -> Result<(), Fail> {
     Ok(())
 }
 
-// One partition of the topic `t`.
-fn one_produce<'a>(alloc: Global, acks: i16, timeout: i32) -> Result<RequestView<'a>, NoMemory>
+// One partition of the topic `t`, with acks -1.
+fn one_produce<'a>(alloc: Global) -> Result<RequestView<'a>, NoMemory>
     ensures { IfOk result (λ request. named_count request.ask ≡ 1) }
 {
     let mut parts = List::new(alloc);
@@ -127,8 +125,8 @@ fn one_produce<'a>(alloc: Global, acks: i16, timeout: i32) -> Result<RequestView
         client: None,
         ask: AskView::Produce {
             transactional: None,
-            acks,
-            timeout,
+            acks: -1,
+            timeout: 1000,
             topics,
         },
     })
@@ -139,7 +137,7 @@ fn one_produce<'a>(alloc: Global, acks: i16, timeout: i32) -> Result<RequestView
 fn the_numbers_of_a_produce(rt: HostRuntime) -> Result<(), Fail> {
     let alloc = rt.alloc();
     let log = two_batches(alloc, 0)?;
-    let request = one_produce(alloc, -1, 0)?;
+    let request = one_produce(alloc)?;
     let mut budget = Budget::of(&request);
     let reading = read_part(alloc, &request, 0, 0, &log, &mut budget)?;
     assert_eq!(rt; (reading.numbers.end, reading.records.len()), (2, 0));
@@ -150,7 +148,7 @@ fn the_numbers_of_a_produce(rt: HostRuntime) -> Result<(), Fail> {
 #[test]
 fn a_produce_that_expired(rt: HostRuntime) -> Result<(), Fail> {
     let alloc = rt.alloc();
-    let request = one_produce(alloc, -1, 0)?;
+    let request = one_produce(alloc)?;
     let became = Accepted::Appended {
         part: 0,
         base: 5,
@@ -167,6 +165,28 @@ fn a_produce_that_expired(rt: HostRuntime) -> Result<(), Fail> {
     let topic = topics.get(0).ok_or("a topic")?;
     let part = topic.parts.get(0).ok_or("a partition")?;
     assert_eq!(rt; (part.index, part.code, part.base), (4, 7, 5));
+    Ok(())
+}
+
+// Two records at the offset 5 of partition 4, which the followers don't have yet, at the moment 500.
+#[test]
+fn a_produce_that_waits(rt: HostRuntime) -> Result<(), Fail> {
+    let alloc = rt.alloc();
+    let request = one_produce(alloc)?;
+    let became = Accepted::Appended {
+        part: 4,
+        base: 5,
+        count: 2,
+    };
+    let numbers = read_nothing(alloc).numbers;
+    assert!(rt; needs_op(&request, &[became], &[numbers]));
+    let op = op_of(alloc, &request, &[became], 500)?;
+    let need = op.needs().first().ok_or("a need")?;
+    assert_eq!(rt; need.gauge, 12);
+    assert_eq!(rt; need.start, 6);
+    assert_eq!(rt; need.cap, 1);
+    assert_eq!(rt; op.min(), 1);
+    assert_eq!(rt; op.deadline(), 1500);
     Ok(())
 }
 
@@ -225,139 +245,5 @@ fn versions_in_any_version(rt: HostRuntime) -> Result<(), Fail> {
         };
         assert_eq!(rt; (reply.correlation, code), (8, want));
     }
-    Ok(())
-}
-
-// The moment at which requests are accepted.
-const NOW: u64 = 500;
-
-// What a request for one partition waits for, where it waits: its need, the least tally and the deadline.
-fn waits_for(
-    alloc: Global,
-    request: &RequestView<'_>,
-    became: Accepted,
-    numbers: Numbers,
-) -> Result<Option<(Need, u64, u64)>, Fail>
-    requires one { named_count request.now.ask ≡ 1 }
-    requires bounded { IsBounded became }
-{
-    if !needs_op(request, &[became], &[numbers]) {
-        return Ok(None);
-    }
-    let op = op_of(alloc, request, &[became], NOW)?;
-    let need = op.needs().first().ok_or("a need")?;
-    Ok(Some((*need, op.min(), op.deadline())))
-}
-
-// Two records at the offset 5 of partition 4, by the acks, the timeout and the high watermark.
-#[test]
-fn a_produce_waits_for_its_followers(rt: HostRuntime) -> Result<(), Fail> {
-    let alloc = rt.alloc();
-    let became = Accepted::Appended {
-        part: 4,
-        base: 5,
-        count: 2,
-    };
-    let need = Need {
-        gauge: 12,
-        start: 6,
-        cap: 1,
-    };
-    for (acks, timeout, high, want) in [
-        (-1, 1000, 6, Some((need, 1, 1500))),
-        (-1, 1000, 7, None),
-        (-1, 0, 0, Some((need, 1, 500))),
-        (-1, -5, 0, Some((need, 1, 500))),
-        (1, 1000, 0, None),
-        (0, 1000, 0, None),
-    ] {
-        let request = one_produce(alloc, acks, timeout)?;
-        let numbers = Numbers {
-            end: 7,
-            high,
-            visible: 0,
-            bytes: 200,
-        };
-        let got = waits_for(alloc, &request, became, numbers)?;
-        assert_eq!(rt; got, want);
-    }
-    Ok(())
-}
-
-// A fetch of at most 100 bytes of one partition, by the replica, the longest wait, and the least and most bytes.
-fn waiting_fetch<'a>(
-    alloc: Global,
-    replica: i32,
-    max_wait: i32,
-    min_bytes: i32,
-    max_bytes: i32,
-) -> Result<RequestView<'a>, NoMemory>
-    ensures { IfOk result (λ request. named_count request.ask ≡ 1) }
-{
-    let mut topics = List::new(alloc);
-    topics.push(one_fetch(alloc, b"t", 100)?)?;
-    Ok(RequestView {
-        correlation: 5,
-        client: None,
-        ask: AskView::Fetch {
-            replica,
-            max_wait,
-            min_bytes,
-            max_bytes,
-            isolation: 0,
-            topics,
-        },
-    })
-}
-
-// Partition 2 is read from the place 69 on. Each row has the replica, the longest wait, the least and most bytes, the visible
-// and the end bytes, and then whether the fetch waits, and with which gauge and for how much.
-const FETCHES: [(i32, i32, i32, i32, u64, u64, Option<(u32, u64)>); 9] = [
-    (-1, 300, 1, 1000, 69, 138, Some((7, 1))),
-    (-1, 300, 1, 1000, 70, 138, None),
-    (1, 300, 1, 1000, 0, 69, Some((8, 1))),
-    (1, 300, 1, 1000, 0, 70, None),
-    (-1, 0, 1, 1000, 69, 69, None),
-    (-1, 300, 0, 1000, 69, 69, None),
-    (-1, 300, 1, 0, 69, 69, None),
-    (-1, 300, 200, 90, 158, 158, Some((7, 90))),
-    (-1, 300, 200, 90, 159, 159, None),
-];
-
-#[test]
-fn a_fetch_waits_for_bytes(rt: HostRuntime) -> Result<(), Fail> {
-    let alloc = rt.alloc();
-    let became = Accepted::Seen { part: 2, start: 69 };
-    for (replica, max_wait, min_bytes, max_bytes, visible, bytes, want) in FETCHES {
-        let request = waiting_fetch(alloc, replica, max_wait, min_bytes, max_bytes)?;
-        let numbers = Numbers {
-            end: 9,
-            high: 9,
-            visible,
-            bytes,
-        };
-        let got = waits_for(alloc, &request, became, numbers)?;
-        let want = want.map(|(gauge, least)| {
-            let need = Need {
-                gauge,
-                start: 69,
-                cap: 100,
-            };
-            (need, least, 800)
-        });
-        assert_eq!(rt; got, want);
-    }
-    Ok(())
-}
-
-// A partition without its log is answered at once.
-#[test]
-fn a_refused_fetch_waits_for_nothing(rt: HostRuntime) -> Result<(), Fail> {
-    let alloc = rt.alloc();
-    let request = waiting_fetch(alloc, -1, 300, 1, 1000)?;
-    let numbers = read_nothing(alloc).numbers;
-    let became = Accepted::Refused { code: 3 };
-    let got = waits_for(alloc, &request, became, numbers)?;
-    assert_eq!(rt; got, None);
     Ok(())
 }

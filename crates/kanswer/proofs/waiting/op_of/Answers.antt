@@ -44,16 +44,18 @@ loop-at-preserved c =
     elim c.match-need_at.branch [
       | in-Some+in_ok-add w ↦
           let need = w.in-Some.need in
-          let is : c.match-need_at.op ≡ record { needs = was.needs ++ need ∷ []; least = was.least; deadline = was.deadline } = w.op-is ∙ w.in_ok-add.ensures.ok in
-          (ap (λ (o : Operation). o.needs ++ rest) is ∙ append_assoc was.needs (need ∷ []) rest
-          ∙ ap (λ (l : List Need). was.needs ++ l) (sym (present_on needs c.loop-at.at (Some need) w.in-Some.ensures.need)) ∙ c.loop-at.invariant.0,
-          ap (λ (o : Operation). o.least) is ∙ c.loop-at.invariant.1,
-          ap (λ (o : Operation). o.deadline) is ∙ c.loop-at.invariant.2)
-      | in_default w ↦
-          (ap (λ (o : Operation). o.needs ++ rest) w.op-is
-          ∙ ap (λ (l : List Need). was.needs ++ l) (sym (present_on needs c.loop-at.at None w.in_default.ensures.need)) ∙ c.loop-at.invariant.0,
-          ap (λ (o : Operation). o.least) w.op-is ∙ c.loop-at.invariant.1,
-          ap (λ (o : Operation). o.deadline) w.op-is ∙ c.loop-at.invariant.2)
+          let is : c.match-need_at.op ≡ record { needs = was.needs ++ need ∷ []; least = was.least; deadline = was.deadline } = w.op-is ∙ w.in_ok-add.ensures.ok in (
+            ap (λ (o : Operation). o.needs ++ rest) is ∙ append_assoc was.needs (need ∷ []) rest
+                ∙ ap (λ (l : List Need). was.needs ++ l) (sym (present_on needs c.loop-at.at (Some need) w.in-Some.ensures.need)) ∙ c.loop-at.invariant.0,
+            ap (λ (o : Operation). o.least) is ∙ c.loop-at.invariant.1,
+            ap (λ (o : Operation). o.deadline) is ∙ c.loop-at.invariant.2,
+          )
+      | in_default w ↦ (
+        ap (λ (o : Operation). o.needs ++ rest) w.op-is
+            ∙ ap (λ (l : List Need). was.needs ++ l) (sym (present_on needs c.loop-at.at None w.in_default.ensures.need)) ∙ c.loop-at.invariant.0,
+        ap (λ (o : Operation). o.least) w.op-is ∙ c.loop-at.invariant.1,
+        ap (λ (o : Operation). o.deadline) w.op-is ∙ c.loop-at.invariant.2,
+      )
     ]
 
 pub returns : goal.returns
