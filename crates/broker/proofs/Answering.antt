@@ -24,6 +24,9 @@ answers kept after session how reply shown text more due replied same put finish
     let d = something_due board session how (sym (due board stands)) in
     let w = d.waiting in
     let line : List ℕ → List ℕ = λ frame. line_of (codes "reply" ∷ decimal session ∷ encode_lower frame ∷ []) in
-    let told : line shown ≡ reply_line session (answer board.config w.request (shown_now board w.steps)) = ap line (same ∙ replied board w stands d.found) in
-    (answered_in board session, refl, subst (λ (t : Turned). StandsFor after t.board) (sym d.answered) (finishes board w stands d.found),
-    put ∙ ap (λ (xs : List ℕ). text ++ xs) (told ∙ sym (ap (λ (t : Turned). t.text) d.answered)))
+    let told : line shown ≡ reply_line session (answer board.config w.request (shown_now board w.steps)) = ap line (same ∙ replied board w stands d.found) in (
+      answered_in board session,
+      refl,
+      subst (λ (t : Turned). StandsFor after t.board) (sym d.answered) (finishes board w stands d.found),
+      put ∙ ap (λ (xs : List ℕ). text ++ xs) (told ∙ sym (ap (λ (t : Turned). t.text) d.answered)),
+    )

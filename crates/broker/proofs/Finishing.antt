@@ -75,8 +75,8 @@ pub opening_stands : (config : Configuration) (parts : List History) (clock : Li
     → seats ≡ replicate 64 empty_seat → parked ≡ replicate 64 nothing → StandsFor (kept_as config parts clock seats parked) (opening config)
 opening_stands config parts clock seats parked declared is_parts is_clock is_seats is_parked =
     subst (λ (k : Kept). StandsFor k (opening config)) (sym (
-      ap (λ (ps : List History). kept_as config ps clock seats parked) is_parts
-      ∙ ap (λ (cs : List ClockEvent). kept_as config (map empty_history (followers_of config.topics)) cs seats parked) is_clock
-      ∙ ap (λ (ss : List Seat). kept_as config (map empty_history (followers_of config.topics)) [] ss parked) is_seats
-      ∙ ap (kept_as config (map empty_history (followers_of config.topics)) [] (replicate 64 empty_seat)) is_parked
+    ap (λ (ps : List History). kept_as config ps clock seats parked) is_parts
+    ∙ ap (λ (cs : List ClockEvent). kept_as config (map empty_history (followers_of config.topics)) cs seats parked) is_clock
+    ∙ ap (λ (ss : List Seat). kept_as config (map empty_history (followers_of config.topics)) [] ss parked) is_seats
+    ∙ ap (kept_as config (map empty_history (followers_of config.topics)) [] (replicate 64 empty_seat)) is_parked
     )) (first_stands config declared)

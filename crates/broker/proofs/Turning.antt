@@ -186,9 +186,12 @@ takes_turn a b c session t u v scan turn act board stands =
     let q = act p.0.board p.2 in
     let same : p.0 ≡ scanned board = p.1 in
     let whose : next_to_act (scanned board).board ≡ Some session = subst (λ (x : Turned). next_to_act x.board ≡ Some session) same (turn p.0.board p.2) in
-    let acts : Acts (scanned board).board session q.0 = subst (λ (x : Turned). Acts x.board session q.0) same q.1 in
-    (turned q.0.board (p.0.text ++ q.0.text), (session, q.0, whose, acts, ap (λ (x : Turned). turned q.0.board (x.text ++ q.0.text)) same), q.2,
-    q.3 ∙ ap (λ (s : List ℕ). s ++ q.0.text) p.3 ∙ append_assoc t p.0.text q.0.text)
+    let acts : Acts (scanned board).board session q.0 = subst (λ (x : Turned). Acts x.board session q.0) same q.1 in (
+      turned q.0.board (p.0.text ++ q.0.text),
+      (session, q.0, whose, acts, ap (λ (x : Turned). turned q.0.board (x.text ++ q.0.text)) same),
+      q.2,
+      q.3 ∙ ap (λ (s : List ℕ). s ++ q.0.text) p.3 ∙ append_assoc t p.0.text q.0.text,
+    )
 
 pub last_turn : (a b : Kept) (t u : List ℕ) → TurnsBy (λ board x. x ≡ scanned board) a b t u → ((board : Board) → StandsFor b board → next_to_act board ≡ None) → TurnsBy IsLast a b t u
 last_turn a b t u scan nobody board stands = let p = scan board stands in (p.0, (p.1, nobody p.0.board p.2), p.2, p.3)

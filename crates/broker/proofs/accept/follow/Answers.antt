@@ -25,9 +25,9 @@ returns-in-Ok c =
     let wide = to_z-of_z w64 asked.offset fits in
     let n = not_below replica c.requires in
     let follows : IsFollower replica log.followers = follower_by replica log.followers (λ never.
-        let e = c.in-Ok.ensures.no_replica.1 (subst (λ (z : ℤ). IsFollower z log.followers → ⊥) (sym same) never) in absurd cc) in
+    let e = c.in-Ok.ensures.no_replica.1 (subst (λ (z : ℤ). IsFollower z log.followers → ⊥) (sym same) never) in absurd cc) in
     let range : IsInRange asked.offset (log_end_of log.events) = range_by asked.offset (log_end_of log.events) (λ never.
-        let e = (c.in-Ok.ensures.out_of_range (log_end_of log.events)).1 (subst (λ (z : ℤ). IsFollower z log.followers) (sym same) follows, subst (λ (z : ℤ). IsInRange z (log_end_of log.events) → ⊥) (sym wide) never, refl) in absurd cc) in
+    let e = (c.in-Ok.ensures.out_of_range (log_end_of log.events)).1 (subst (λ (z : ℤ). IsFollower z log.followers) (sym same) follows, subst (λ (z : ℤ). IsInRange z (log_end_of log.events) → ⊥) (sym wide) never, refl) in absurd cc) in
     let f = c.in-Ok.ensures.followed in
     on_ok c.note_at.result c.note_at.ensures (λ e.
     followed_entered c.args.who.by c.args.who.seq c.args.part replica n.0 asked log c.follow.new.self f.0 c.start_at-start.result c.in-Ok.place c.args.came.now c.note_at.new.self n.1 follows (sym wide ∙ f.1) range
