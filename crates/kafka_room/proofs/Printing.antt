@@ -3,6 +3,7 @@ use Rattle.std.proofs.Common.{◌≡◌, ◌≢◌, ℕ, zero, suc, ◌+◌, ◌
 use Rattle.std.specs.Prelude.{All, AllPairs, slice_get}
 use Rattle.std.specs.List.{AllByRecursion, flat_map}
 use Rattle.std.proofs.lemmas.List.Kept.{AllPairs-cons}
+use Rattle.kbytes.specs.Field.{fields}
 use Rattle.audit.specs.declared.account.Account.{Account}
 use Rattle.audit.specs.declared.account.SessionEnd.{SessionEnd}
 use Rattle.audit.specs.declared.account.SessionEnd.TheVariants.{Refused}
@@ -16,7 +17,7 @@ use Rattle.kwire.specs.declared.frame.WireFault.TheVariants.{NoMemory}
 use Rattle.kwire.specs.Layouts.{Layout, End, ◌⨾◌, Many, IsFaultAt}
 use Rattle.kwire.specs.Refusal.{IsRefused, NoHead, NoApi, NoVersion, NoField, MoreBytes, NamedTwice}
 use Rattle.trace_file.specs.declared.line.Line.{Line}
-use Rattle.trace_file.specs.Contents.{is_named, sessions_of}
+use Rattle.trace_file.specs.Contents.{is_named, is_shut}
 use Rattle.audit.proofs.Laws.{some_is}
 
 -- ---- no fault of a request is want of memory
@@ -29,11 +30,11 @@ no_fault (Many kind things each next) named at bytes (inr many) = let e = many.t
 
 refused_for : (body : List ℕ) (why : WireFault) → IsRefused body why → why ≡ NoMemory → ⊥
 refused_for body why (NoHead first) e =
-    no_fault first.left first.named _ first.rest (subst (λ (w : WireFault). IsFaultAt first.left first.named _ first.rest w) e first.fault)
+    no_fault first.left first.named (length (fields first.front)) first.rest (subst (λ (w : WireFault). IsFaultAt first.left first.named (length (fields first.front)) first.rest w) e first.fault)
 refused_for body why (NoApi head none) e = absurd cc
 refused_for body why (NoVersion head api key version other) e = absurd cc
 refused_for body why (NoField api head first) e =
-    no_fault first.left first.named _ first.rest (subst (λ (w : WireFault). IsFaultAt first.left first.named _ first.rest w) e first.fault)
+    no_fault first.left first.named (length (fields first.front)) first.rest (subst (λ (w : WireFault). IsFaultAt first.left first.named (length (fields first.front)) first.rest w) e first.fault)
 refused_for body why (MoreBytes api head fs of rest some parts) e = absurd cc
 refused_for body why (NamedTwice request spelled mention repeat) e = absurd cc
 
@@ -55,10 +56,10 @@ HoldsOne n passes i = (slice_get passes i ≡ Some []) ⊎ ((t : Transcript) × 
 numbered : (n : ℕ) (passes : List (List Transcript)) → ((i : ℕ) → i < length passes → HoldsOne n passes i) → AreNumbered n passes
 numbered n [] each = tt
 numbered n (pass ∷ passes) each =
-    let later : AreNumbered (n + 1) passes = numbered (n + 1) passes (λ i lt. shifted i (each (i + 1) (omega (arith, lt)))) in
+    let later : AreNumbered (n + 1) passes = numbered (n + 1) passes (λ i lt. shifted i (each (suc i) (omega (arith, lt)))) in
     by_pass pass (each 0 (omega arith)) later
   where
-    shifted : (i : ℕ) → HoldsOne n (pass ∷ passes) (i + 1) → HoldsOne (n + 1) passes i
+    shifted : (i : ℕ) → HoldsOne n (pass ∷ passes) (suc i) → HoldsOne (n + 1) passes i
     shifted i (inl none) = inl none
     shifted i (inr one) = inr (one.0, one.1, omega (arith, one.2), one.3)
     by_pass : (first : List Transcript) → HoldsOne n (first ∷ passes) 0 → AreNumbered (n + 1) passes → AreNumbered n (first ∷ passes)
@@ -88,7 +89,7 @@ by_place P (x ∷ xs) all zero d lt = all.0
 by_place P (x ∷ xs) all (suc k) d lt = by_place P xs all.1 k d (omega (arith, lt))
 
 once : (n : ℕ) (passes : List (List Transcript)) → AreNumbered n passes → AllPairs (λ a b. a.number ≢ b.number) (flat_map (λ ts. ts) passes)
-once n [] are i j d before within = absurd (omega (arith, within))
+once n [] are = λ i j d before within. absurd (omega (arith, within))
 once n ([] ∷ passes) are = once (n + 1) passes are
 once n ((t ∷ []) ∷ passes) are =
     let rest = flat_map (λ (ts : List Transcript). ts) passes in
@@ -100,12 +101,12 @@ once n ((t ∷ u ∷ ts) ∷ passes) are = absurd are
 
 session_told : (lines : List Line) (account : Account) (session : ℕ) (of : IsSessionOf lines account session) → IsTold of.transcript
 session_told lines account session of e =
-    let refused = subst (λ (end : Option SessionEnd). EndFits of.fits.rest _ of.transcript end) e of.fits.end in
+    let refused = subst (λ (end : Option SessionEnd). EndFits of.fits.rest (is_shut session lines) of.transcript end) e of.fits.end in
     refused_for refused.0 NoMemory refused.4 refl
 
 holds : (lines : List Line) (account : Account) (session : ℕ) (b : Bool) → MatchBool b (IsSessionOf lines account session) (slice_get account.passes session ≡ Some [])
     → HoldsOne 0 account.passes session
-holds lines account session true of = inr (of.transcript, of.alone, of.number, session_told lines account session of)
+holds lines account session true of = inr (of.transcript, of.alone, omega (arith, of.number), session_told lines account session of)
 holds lines account session false none = inl none
 
 -- the account of a run is such as may be printed

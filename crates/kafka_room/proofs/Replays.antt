@@ -1,5 +1,5 @@
 -- What a replay comes to, from what was read and what was played.
-use Rattle.std.proofs.Common.{◌≡◌, ◌≤◌, ◌<◌, ◌+◌, ℕ, zero, suc, false, eqb, List, [], ◌∷◌, ◌++◌, length, take, drop, get_or, Option, Some, None, IfSome, IsSome, inl, inr, refl, sym, ap, subst, ◌∙◌, arith, append-nil, length-append}
+use Rattle.std.proofs.Common.{◌≡◌, ◌≤◌, ◌<◌, ◌+◌, ◌⊎◌, ℕ, zero, suc, false, eqb, List, [], ◌∷◌, ◌++◌, length, take, drop, get_or, Option, Some, None, IfSome, IsSome, inl, inr, refl, sym, ap, subst, ◌∙◌, arith, append-nil, length-append}
 use Rattle.std.proofs.lemmas.List.{take_all, take-append-le}
 use Rattle.std.specs.Io.KnownBytes.{Consumes, IsAtEnd}
 use Rattle.std.specs.List.{count_by, AllByRecursion, AllZip}
@@ -28,7 +28,9 @@ use Rattle.trace_file.specs.declared.line.TraceFault.{TraceFault}
 use Rattle.trace_file.specs.declared.line.TraceFault.TheVariants.{Bad, NoMemory}
 use Rattle.trace_file.specs.FirstBad.{IsFirstBad, TellsFirstBad}
 use Rattle.trace_file.proofs.Laws.{trace_has_none}
-use Rattle.kafka_room.specs.Codes.{bad_line_of, stop_of}
+use Rattle.kafka_room.specs.declared.exit.Stop.{Stop}
+use Rattle.kafka_room.specs.declared.exit.Stop.TheVariants.{Usage, BadLine, ReadFault, WriteFault, NoMemory as OutOfMemory}
+use Rattle.kafka_room.specs.Codes.{bad_line_of, exit_code_of, stop_of}
 
 -- ---- what was read
 
@@ -169,5 +171,14 @@ front_of_source left text written told f =
 -- what has a trace has no bad line
 pub has_no_bad_line : (left : Option (List ℕ)) (line : Option LineFault) → HasTrace left → IsSome line → IfSome line (IsFirstBadOf left) → ⊥
 has_no_bad_line None line has some bad = has
-has_no_bad_line (Some text) None has some bad = absurd some
+has_no_bad_line (Some text) None has some bad = absurd cc
 has_no_bad_line (Some text) (Some fault) has some bad = trace_has_none text false has.0 fault (record { trace = has.1; declares = λ yes. absurd cc }) bad
+
+-- what stops the replay of a trace, where no count rose, is want of memory
+pub stopped_by : {R W : Type 0} (left : Option (List ℕ)) (stop : Stop) → (stop ≡ Usage → ⊥) → (stop ≡ ReadFault → R) → (stop ≡ WriteFault → W) → IfSome (bad_line_of stop) (IsFirstBadOf left)
+    → HasTrace left → (R → ⊥) → (W → ⊥) → (exit_code_of stop ≡ 0) ⊎ (exit_code_of stop ≡ 6)
+stopped_by left Usage words read write bad has quiet still = absurd (words refl)
+stopped_by left (BadLine fault) words read write bad has quiet still = absurd (has_no_bad_line left (Some fault) has refl bad)
+stopped_by left ReadFault words read write bad has quiet still = absurd (quiet (read refl))
+stopped_by left WriteFault words read write bad has quiet still = absurd (still (write refl))
+stopped_by left OutOfMemory words read write bad has quiet still = inr refl

@@ -15,11 +15,11 @@ use Rattle.trace_file.specs.declared.line.TheConstants.{REPLAY_PORT}
 pub make-requires : goal.make-requires
 make-requires g c = declared_topics c.requires.0 c.args.lines.now c.in_ok-config.config c.requires.1 c.in_ok-config.ensures
 
-pub play_lines-requires-playable : goal.play_lines-requires-playable
-play_lines-requires-playable g c = trace_playable c.requires.0 c.args.lines.now c.requires.1
+pub play_lines-requires-clause-playable : goal.play_lines-requires-clause-playable
+play_lines-requires-clause-playable g c = trace_playable c.requires.0 c.args.lines.now c.requires.1
 
-pub play_lines-requires-stands : goal.play_lines-requires-stands
-play_lines-requires-stands g c = (opening c.in_ok-config.config, c.in_ok-lone.ensures)
+pub play_lines-requires-clause-stands : goal.play_lines-requires-clause-stands
+play_lines-requires-clause-stands g c = (opening c.in_ok-config.config, c.in_ok-lone.ensures)
 
 pub close-requires : goal.close-requires
 close-requires g c =

@@ -1,5 +1,6 @@
 use Rattle.std.proofs.Common.{◌≡◌, ◌+◌, ℕ, List, [], ◌∷◌, ◌++◌, length, take, drop, take-append-drop, refl, sym, ap, subst, ◌∙◌, arith}
 use Rattle.std.proofs.KnownBytes.{Appends-nil, Appends-trans}
+use Rattle.std.proofs.lemmas.List.{take_all}
 use Rattle.std.proofs.lemmas.Result.{err_from_is_err_and}
 use Rattle.std.specs.Io.KnownBytes.{Appends}
 use Rattle.trace_file.specs.declared.line.Line.{Line}
@@ -10,11 +11,11 @@ use Rattle.kafka_room.proofs.Replays.{playable_at, front_of_lines, front_within}
 use Rattle.kafka_room.proofs.Writes.{front_behind}
 use Rattle.kafka_room.proofs.replay.play_lines.Goals as goal
 
-pub event-requires-playable : goal.event-requires-playable
-event-requires-playable g c = playable_at c.args.lines.now c.loop-line.line-index c.line-item.result c.requires.playable c.loop-line-test.true c.line-item.is
+pub event-requires-clause-playable : goal.event-requires-clause-playable
+event-requires-clause-playable g c = playable_at c.args.lines.now c.loop-line.line-index c.line-item.result c.requires.playable c.loop-line-test.true c.line-item.is
 
-pub event-requires-stands : goal.event-requires-stands
-event-requires-stands g c =
+pub event-requires-clause-stands : goal.event-requires-clause-stands
+event-requires-clause-stands g c =
     let h = c.loop-line.invariant.played c.requires.stands.0 c.requires.stands.1 in
     (h.0.board, h.2)
 
@@ -53,8 +54,8 @@ returns-in_err-write_all-clause-front g c =
           front_behind before between after h.0.text here.0.text front.0 h.3 written,
         ))
 
-pub loop-line-initial : goal.loop-line-initial
-loop-line-initial g c = record {
+pub loop-line-init : goal.loop-line-init
+loop-line-init g c = record {
   played = λ start stands. (record { board = start; text = [] }, refl, stands, Appends-nil (g.K.Sink.written c.args.sink.now));
   later = omega arith;
 }
@@ -80,3 +81,10 @@ loop-line-preserved g c =
           );
       later = omega (arith, inv.later, c.in_ok-write_all.ensures.later);
     }
+
+pub returns-clause-played : goal.returns-clause-played
+returns-clause-played g c = λ start stands.
+    let lines = c.args.lines.now in
+    let h = c.loop-line.invariant.played start stands in
+    let all : take c.loop-line.line-index lines ≡ lines = take_all c.loop-line.line-index lines (omega (arith, c.loop-line-test.false)) in
+    (h.0, subst (λ (ls : List Line). Plays start ls h.0) all h.1, h.2, h.3)
