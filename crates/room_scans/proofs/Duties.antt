@@ -1,8 +1,8 @@
 -- The duties of a scan, one after another.
-use Rattle.std.proofs.Common.{⊎_elim, inl, inr, ◌≡◌, ◌≢◌, ◌∙◌, ◌↔◌, ℕ, zero, suc, ◌+◌, ◌*◌, ◌/◌, ◌<◌, ◌≤◌, List, Bool, true, false, Option, Some, None, All, Contains, cond, get_or, length, ap, refl, subst, sym, arith}
-use Rattle.std.specs.Prelude.{max, not, ◌||◌, ◌&&◌, ◌==◌, nat_le, nat_lt}
+use Rattle.std.proofs.Common.{⊎_elim, ◌≡◌, ◌≢◌, ◌∙◌, ℕ, zero, suc, ◌+◌, ◌/◌, ◌<◌, ◌≤◌, List, Option, Some, None, Contains, cond, get_or, ap, refl, subst, sym, arith}
+use Rattle.std.specs.Prelude.{max, not, ◌||◌, ◌&&◌, nat_le, nat_lt}
 use Rattle.std.specs.List.{slice_get}
-use Rattle.std.proofs.lemmas.Bool.{cases_eq, cases_lt, ne_eqb}
+use Rattle.std.proofs.lemmas.Bool.{cases_eq, ne_eqb}
 use Rattle.std.proofs.lemmas.List.Elements.{All-contains}
 use Rattle.std.proofs.lemmas.Option.{get_or_from_slice_get, slice_get-get_or, slice_get_within}
 use Rattle.room_core.specs.declared.parts.Duty.{Duty}
@@ -19,7 +19,6 @@ use Rattle.room_table.specs.Seats.{ScanView, scanner_now}
 use Rattle.watch_lists.specs.declared.watch.Watch.{Watch}
 use Rattle.watch_lists.specs.Row.{IsRow}
 use Rattle.watch_lists.specs.Watches.{IsListed, Watches, row_of}
-use Rattle.room_scans.specs.Desks.{ShardView}
 use Rattle.room_scans.specs.Going.{GoesOn}
 use Rattle.room_scans.specs.Scanned.{HasScanned, scan_begun}
 use Rattle.room_scans.specs.ShardKeeps.{AreEntries, gauge_of_key}

@@ -1,11 +1,11 @@
 -- An inspector that leaves or wins: what the code kept says what the scanner knows.
-use Rattle.std.proofs.Common.{⊎_elim, inl, inr, ◌≡◌, ◌≢◌, ◌∙◌, ◌↔◌, ℕ, ◌+◌, ◌*◌, ◌-◌, ◌<◌, ◌≤◌, List, Bool, true, false, Option, Some, None, cond, length, set, ap, refl, subst, sym, arith}
-use Rattle.std.specs.Prelude.{IsTrue, nat_le, slice_index}
+use Rattle.std.proofs.Common.{◌≡◌, ◌≢◌, ◌∙◌, ℕ, ◌-◌, ◌<◌, List, Bool, true, false, Some, set, ap, subst, sym}
+use Rattle.std.specs.Prelude.{nat_le, slice_index}
 use Rattle.room_core.specs.declared.event.How.TheVariants.{Expired, Satisfied}
 use Rattle.room_core.specs.declared.shape.Shape.{Shape}
-use Rattle.room_core.specs.Checks.{AreRead, IsAllLearned, IsOnCheck, ScannerMayWin, scanner_answers, scanner_leaves}
-use Rattle.room_core.specs.Description.{gauge_of, needs_of, tally_below}
-use Rattle.room_core.specs.Gauges.{IsGauge, IsPass, IsScanner, clock_of}
+use Rattle.room_core.specs.Checks.{AreRead, IsOnCheck, ScannerMayWin, scanner_answers, scanner_leaves}
+use Rattle.room_core.specs.Description.{needs_of, tally_below}
+use Rattle.room_core.specs.Gauges.{IsPass, IsScanner, clock_of}
 use Rattle.room_core.specs.Meetings.{words_of}
 use Rattle.room_core.specs.Numbers.{clock_scanner}
 use Rattle.room_core.specs.Put.{put}
@@ -13,7 +13,7 @@ use Rattle.room_table.specs.declared.part.ScannerStep.{ScannerStep}
 use Rattle.room_table.specs.Seats.{ScanView, scanner_did, scanner_now}
 use Rattle.room_scans.specs.Checked.{HasLetGo, HasLooked}
 use Rattle.room_scans.specs.Inspected.{IsInspector}
-use Rattle.room_scans.proofs.Leaving.{gauges_there, lets_go, may_expire, may_satisfy, overdue_is, satisfied_is, takes_looked, word_is}
+use Rattle.room_scans.proofs.Leaving.{lets_go, may_expire, may_satisfy, overdue_is, satisfied_is, takes_looked}
 
 module _ (shape : Shape) (number : ℕ) (words values : List ℕ) (wins : ℕ) (now new : ScanView) (i : IsInspector shape number words values wins now) (pass : ℕ) where
   is_scanner : IsScanner now.table.shape now.scanner

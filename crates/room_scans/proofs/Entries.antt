@@ -1,21 +1,20 @@
 -- A shard beside its scanner's listing, after a step.
-use Rattle.std.proofs.Common.{⊎_elim, inl, inr, ◌⊎◌, ◌≡◌, ◌≢◌, ◌∙◌, ◌↔◌, ℕ, ◌+◌, ◌*◌, ◌<◌, ◌≤◌, Bool, true, false, Option, Some, None, cond, ap, refl, subst, sym, arith}
-use Rattle.std.specs.Prelude.{◌==◌, ◌/◌, ◌%◌, ◌-◌, if◌then◌else◌}
-use Rattle.std.proofs.lemmas.Bool.{cases_eq, eqb-true, eq-eqb, ne_eqb, false≢true}
+use Rattle.std.proofs.Common.{⊎_elim, inl, inr, ◌⊎◌, ◌≡◌, ◌≢◌, ◌∙◌, ◌↔◌, ℕ, Bool, true, false, Option, Some, None, ap, refl, subst, sym, arith}
+use Rattle.std.specs.Prelude.{◌==◌, if◌then◌else◌}
+use Rattle.std.proofs.lemmas.Bool.{cases_eq, eqb-true, eq-eqb, false≢true}
 use Rattle.room_core.specs.declared.parts.Entry.{Entry}
 use Rattle.room_core.specs.declared.parts.Session.{Session}
 use Rattle.room_core.specs.declared.shape.Shape.{Shape}
 use Rattle.room_core.specs.Checks.{other_entry}
-use Rattle.room_core.specs.Gauges.{IsGaugeOf, IsShape, clock_of, scanner_of}
+use Rattle.room_core.specs.Gauges.{IsGaugeOf}
 use Rattle.room_core.specs.Meetings.{is_live, live_entry, scanner_meets}
-use Rattle.room_core.specs.Numbers.{clock_scanner}
 use Rattle.room_core.specs.Put.{put}
 use Rattle.room_core.specs.Sound.{IsEntry}
 use Rattle.room_core.specs.State.{Scanner}
 use Rattle.room_core.proofs.Laws.{put_else, put_here}
 use Rattle.room_scans.specs.Checked.{without_entry}
 use Rattle.room_scans.specs.ShardKeeps.{AreEntries, gauge_of_key}
-use Rattle.room_scans.proofs.Tables.{at_put, some_same}
+use Rattle.room_scans.proofs.Tables.{at_put}
 
 two : (b : Bool) → (b ≡ true) ⊎ (b ≡ false)
 two true = inl refl

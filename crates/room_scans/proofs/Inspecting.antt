@@ -1,5 +1,5 @@
 -- An inspector after a step of its scanner.
-use Rattle.std.proofs.Common.{⊎_elim, ◌≡◌, ◌∙◌, ℕ, ◌<◌, List, [], ◌∷◌, ◌++◌, Bool, true, false, Option, Some, None, arith, cond, length, length-set, set, ap, refl, subst, sym}
+use Rattle.std.proofs.Common.{◌≡◌, ◌∙◌, ℕ, ◌<◌, List, [], ◌∷◌, ◌++◌, Bool, true, false, Option, Some, None, arith, length, length-set, set, ap, refl, subst, sym}
 use Rattle.std.specs.Prelude.{IsTrue, ◌↔◌, ◌+◌, if◌then◌else◌, is_some}
 use Rattle.std.proofs.lemmas.Bool.{false≢true}
 use Rattle.std.proofs.lemmas.List.{length_push}
@@ -8,12 +8,11 @@ use Rattle.room_core.specs.declared.parts.Meeting.{Meeting}
 use Rattle.room_core.specs.declared.parts.Prize.{Prize}
 use Rattle.room_core.specs.declared.parts.Session.{Session}
 use Rattle.room_core.specs.declared.shape.Shape.{Shape}
-use Rattle.room_core.specs.Checks.{scanner_answers, scanner_leaves, scanner_lets_go, scanner_takes, with_prize, scanner_reads}
+use Rattle.room_core.specs.Checks.{scanner_answers, scanner_lets_go, scanner_takes, with_prize, scanner_reads}
 use Rattle.room_core.specs.Gauges.{IsShape, IsScanner}
 use Rattle.room_core.specs.Meetings.{IsMet, generation_met, is_live, words_of}
 use Rattle.room_core.specs.Numbers.{description_words}
 use Rattle.room_core.specs.Put.{put}
-use Rattle.room_core.specs.Readings.{unread}
 use Rattle.room_core.specs.State.{Scanner}
 use Rattle.room_table.specs.declared.part.ScannerStep.{ScannerStep}
 use Rattle.room_table.specs.Parts.{scanner_of}

@@ -1,7 +1,5 @@
 -- What the crates above may cite.
 use Rattle.std.proofs.Common.{◌≡◌, ℕ, zero, suc, List, [], ◌∷◌, ap}
-use Rattle.atomic_table.specs.Seated.{TableId}
-use Rattle.room_core.specs.declared.shape.Shape.{Shape}
 use Rattle.room_table.specs.Seats.{TableView}
 use Rattle.room_scans.specs.Desks.{desk_name}
 

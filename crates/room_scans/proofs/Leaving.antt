@@ -1,10 +1,10 @@
 -- A check that is left, or that found the operation answerable.
-use Rattle.std.proofs.Common.{⊎_elim, ◌≡◌, ◌≢◌, ◌∙◌, ℕ, ◌+◌, ◌*◌, ◌-◌, ◌<◌, ◌≤◌, List, Bool, true, false, Option, Some, None, cond, get_or, set, length, leb, ap, refl, subst, sym, arith}
-use Rattle.std.specs.Prelude.{IsSome, IsTrue, nat_le, slice_index, ◌==◌}
+use Rattle.std.proofs.Common.{⊎_elim, ◌≡◌, ◌≢◌, ◌∙◌, ℕ, ◌+◌, ◌*◌, ◌<◌, List, Bool, true, false, Option, Some, cond, set, length, ap, refl, subst, sym, arith}
+use Rattle.std.specs.Prelude.{IsSome, nat_le, slice_index}
 use Rattle.std.proofs.lemmas.Bool.{leb-true, ne_eqb}
 use Rattle.room_core.specs.declared.event.How.TheVariants.{Expired, Satisfied}
 use Rattle.room_core.specs.declared.shape.Shape.{Shape}
-use Rattle.room_core.specs.Checks.{AreRead, IsAllLearned, IsOnCheck, IsRead, ScannerMayLeave, ScannerMayWin, scanner_answers, scanner_leaves, scanner_lets_go, scanner_takes}
+use Rattle.room_core.specs.Checks.{AreRead, IsAllLearned, IsOnCheck, ScannerMayWin, scanner_answers, scanner_leaves, scanner_lets_go, scanner_takes}
 use Rattle.room_core.specs.Description.{gauge_of, needs_of, tally, tally_below}
 use Rattle.room_core.specs.Gauges.{IsPass, IsScanner, clock_of}
 use Rattle.room_core.specs.Meetings.{words_of}

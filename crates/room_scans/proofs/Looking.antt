@@ -1,11 +1,11 @@
 -- A scanner that learns words and reads values.
-use Rattle.std.proofs.Common.{⊎_elim, inl, inr, ◌≡◌, ◌≢◌, ◌∙◌, ℕ, ◌+◌, ◌*◌, ◌<◌, ◌≤◌, Option, Some, None, ap, refl, subst, sym, arith}
-use Rattle.std.specs.Prelude.{IsSome, slice_index}
+use Rattle.std.proofs.Common.{⊎_elim, inl, inr, ◌≡◌, ◌∙◌, ℕ, ◌+◌, ◌*◌, ◌<◌, ◌≤◌, Option, Some, ap, refl, subst, sym, arith}
+use Rattle.std.specs.Prelude.{IsSome}
 use Rattle.std.proofs.lemmas.Bool.{cases_lt}
 use Rattle.room_core.specs.declared.parts.Duty.{Duty}
 use Rattle.room_core.specs.declared.parts.Meeting.{Meeting}
 use Rattle.room_core.specs.Checks.{IsAllLearned, IsDuty, IsOnCheck, IsRead, scanner_reads}
-use Rattle.room_core.specs.Description.{gauge_of, needs_of}
+use Rattle.room_core.specs.Description.{needs_of}
 use Rattle.room_core.specs.Meetings.{IsMet, generation_met, scanner_learns, words_of}
 use Rattle.room_core.specs.Put.{put}
 use Rattle.room_core.specs.Readings.{read_only}

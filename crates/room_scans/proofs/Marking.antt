@@ -1,14 +1,12 @@
 -- An operation that is listed under a need's gauge.
-use Rattle.std.proofs.Common.{⊎_elim, inl, inr, ◌≡◌, ◌≢◌, ◌∙◌, ◌↔◌, ℕ, ◌+◌, ◌*◌, ◌-◌, ◌<◌, ◌≤◌, List, Bool, true, false, Option, Some, None, cond, length, length-set, set, ap, refl, subst, sym, arith}
-use Rattle.std.specs.Prelude.{IsSome, slice_index, ◌==◌}
+use Rattle.std.proofs.Common.{⊎_elim, inl, ◌≡◌, ◌≢◌, ◌∙◌, ◌↔◌, ℕ, ◌+◌, ◌*◌, ◌<◌, ◌≤◌, List, Option, Some, cond, length, length-set, set, ap, subst, sym, arith}
+use Rattle.std.specs.Prelude.{slice_index}
 use Rattle.std.proofs.lemmas.Bool.{cases_eq, ne_eqb}
 use Rattle.std.proofs.lemmas.List.{get_or-set_other, get_or-set_same}
-use Rattle.room_core.specs.declared.parts.Entry.{Entry}
 use Rattle.room_core.specs.declared.shape.Shape.{Shape}
 use Rattle.room_core.specs.Description.{gauge_of, marked_gauge, needs_of}
 use Rattle.room_core.specs.Gauges.{IsGaugeOf, IsPass, IsScanner, clock_of}
 use Rattle.room_core.specs.Meetings.{IsMet, MayMark, entry_for, generation_met, scanner_learns, scanner_marks, words_of}
-use Rattle.room_core.specs.Numbers.{clock_mark}
 use Rattle.room_core.specs.Put.{put}
 use Rattle.room_core.specs.Readings.{read_only}
 use Rattle.room_core.specs.State.{Scanner}

@@ -1,7 +1,6 @@
 -- A shard's listing after a step.
-use Rattle.std.proofs.Common.{⊎_elim, inl, inr, ◌≡◌, ◌≢◌, ◌∙◌, ◌↔◌, ℕ, ◌+◌, ◌*◌, ◌/◌, ◌<◌, ◌≤◌, List, [], ◌∷◌, Bool, true, false, Option, Some, None, Contains, cond, get_or, set, length, length-set, ap, refl, subst, sym, arith}
+use Rattle.std.proofs.Common.{⊎_elim, ◌≡◌, ◌≢◌, ◌∙◌, ◌↔◌, ℕ, ◌<◌, ◌≤◌, List, [], true, get_or, set, length, length-set, ap, refl, subst, sym, arith}
 use Rattle.std.specs.Prelude.{slice_index}
-use Rattle.std.specs.List.{slice_get}
 use Rattle.std.proofs.lemmas.Bool.{cases_eq, cases_lt}
 use Rattle.std.proofs.lemmas.List.{get_or-set_other, get_or_past}
 use Rattle.room_core.specs.declared.parts.Session.{Session}
@@ -9,8 +8,7 @@ use Rattle.room_core.specs.Meetings.{is_live}
 use Rattle.room_table.specs.declared.part.ScannerStep.{ScannerStep}
 use Rattle.room_core.specs.Gauges.{IsShape}
 use Rattle.room_table.specs.Seats.{ScanView, TableView, scanner_did, scanner_now}
-use Rattle.watch_lists.specs.declared.watch.Watch.{Watch}
-use Rattle.watch_lists.specs.Watches.{IsListed, Watches, keys_of, row_of}
+use Rattle.watch_lists.specs.Watches.{IsListed, Watches, keys_of}
 use Rattle.room_scans.specs.Checked.{without_entry}
 use Rattle.room_scans.specs.Desks.{ShardView}
 use Rattle.room_scans.specs.Going.{GoesOn}

@@ -1,21 +1,20 @@
 -- A watcher that is checked.
-use Rattle.std.proofs.Common.{⊎_elim, ◌≡◌, ◌≢◌, ◌∙◌, ℕ, ◌≤◌, Bool, true, false, Option, Some, None, cond, ap, refl, subst, sym}
+use Rattle.std.proofs.Common.{◌≡◌, ◌≢◌, ◌∙◌, ℕ, ◌≤◌, Bool, true, false, Option, Some, None, cond, ap, refl, subst, sym}
 use Rattle.room_core.specs.declared.parts.Duty.{Duty}
 use Rattle.room_core.specs.declared.parts.Meeting.{Meeting}
 use Rattle.room_core.specs.declared.parts.Session.{Session}
-use Rattle.room_core.specs.Checks.{IsDuty, gauge_of_duty}
+use Rattle.room_core.specs.Checks.{IsDuty}
 use Rattle.room_core.specs.Meetings.{IsMet, generation_met, is_live, live_duty, met}
 use Rattle.room_core.specs.Put.{put}
-use Rattle.room_core.specs.State.{Scanner}
-use Rattle.room_core.proofs.Laws.{open_is_live, put_else, put_here}
+use Rattle.room_core.proofs.Laws.{put_else, put_here}
 use Rattle.room_table.specs.declared.part.ScannerStep.{ScannerStep}
 use Rattle.room_table.specs.Seats.{ScanView, scanner_did, scanner_now}
 use Rattle.watch_lists.specs.Watches.{Watches}
-use Rattle.room_scans.specs.Checked.{HasLetGo, HasLooked, HasTried}
+use Rattle.room_scans.specs.Checked.{HasLooked}
 use Rattle.room_scans.specs.Desks.{ShardView}
 use Rattle.room_scans.specs.Going.{GoesOn}
 use Rattle.room_scans.specs.Listing.{open_at}
-use Rattle.room_scans.specs.Shelf.{IsAtCheck, IsFreed, KeepsLower, WasChecked, open_generation}
+use Rattle.room_scans.specs.Shelf.{IsAtCheck, KeepsLower, WasChecked, open_generation}
 use Rattle.room_scans.proofs.Goes.{goes_by, goes_far, stays}
 use Rattle.room_scans.proofs.Rows.{lower_far, lower_same}
 use Rattle.room_scans.proofs.Sessions.{is_live_at, is_open_at, not_live}

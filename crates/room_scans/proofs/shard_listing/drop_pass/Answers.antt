@@ -1,6 +1,6 @@
-use Rattle.std.proofs.Common.{⊎_elim, ◌≡◌, ◌≢◌, ◌∙◌, ◌↔◌, ℕ, ◌<◌, ◌≤◌, ap, arith, length, length-set, refl, sym}
+use Rattle.std.proofs.Common.{⊎_elim, ◌∙◌, ◌<◌, ◌≤◌, ap, arith, length-set, refl}
 use Rattle.std.proofs.lemmas.Bool.{cases_lt}
-use Rattle.watch_lists.specs.Watches.{IsListed, Watches, keys_of}
+use Rattle.watch_lists.specs.Watches.{Watches, keys_of}
 use Rattle.room_scans.proofs.Rows.{lower_dropped, lower_far, lower_same}
 use Rattle.room_scans.proofs.Shelves.{listed_within}
 use Rattle.room_scans.proofs.shard_listing.drop_pass.Goals as goal

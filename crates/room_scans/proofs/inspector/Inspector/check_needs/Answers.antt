@@ -1,4 +1,4 @@
-use Rattle.std.proofs.Common.{◌≡◌, ◌∙◌, ℕ, Option, rules, subst, sym}
+use Rattle.std.proofs.Common.{ℕ, Option, rules, subst, sym}
 use Rattle.room_core.specs.Checks.{AreRead}
 use Rattle.room_core.specs.Readings.{read_only}
 use Rattle.room_table.specs.Seats.{scanner_now}

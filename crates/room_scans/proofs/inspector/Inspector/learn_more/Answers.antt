@@ -1,6 +1,4 @@
-use Rattle.std.proofs.Common.{◌≡◌, ◌∙◌, ap, arith, refl, subst, sym}
-use Rattle.room_core.specs.declared.parts.Meeting.{Meeting}
-use Rattle.room_core.specs.declared.shape.Shape.{Shape}
+use Rattle.std.proofs.Common.{◌∙◌, ap, arith, refl, subst, sym}
 use Rattle.room_core.specs.Gauges.{IsPass}
 use Rattle.room_core.specs.Meetings.{IsMet}
 use Rattle.room_table.specs.declared.part.ScannerStep.{ScannerStep}

@@ -1,4 +1,3 @@
-use Rattle.room_scans.proofs.Inspecting.{met}
 use Rattle.room_scans.proofs.Sessions.{session_small}
 use Rattle.room_scans.proofs.inspector.Inspector.meet.Goals as goal
 

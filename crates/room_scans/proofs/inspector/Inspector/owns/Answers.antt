@@ -1,7 +1,6 @@
-use Rattle.std.proofs.Common.{◌≡◌, ◌≢◌, ◌∙◌, ◌%◌, ◌-◌, ◌<◌, ap, arith, eqb-true, subst, sym}
+use Rattle.std.proofs.Common.{◌≡◌, ◌∙◌, ◌%◌, ◌-◌, ◌<◌, ap, arith, eqb-true, sym}
 use Rattle.std.proofs.lemmas.Bool.{eq-eqb}
 use Rattle.room_core.specs.declared.shape.Shape.{Shape}
-use Rattle.room_core.specs.Gauges.{IsGaugeOf, clock_of}
 use Rattle.room_table.specs.Seats.{ScanView}
 use Rattle.room_scans.proofs.Gauges.{gauge_owned, owner_is}
 use Rattle.room_scans.proofs.inspector.Inspector.owns.Goals as goal

@@ -1,4 +1,4 @@
-use Rattle.std.proofs.Common.{⊎_elim, ◌≡◌, ◌∙◌, ℕ, ◌<◌, ◌≤◌, ap, arith, refl, rules, subst, sym}
+use Rattle.std.proofs.Common.{⊎_elim, ◌≡◌, ◌∙◌, ◌<◌, ◌≤◌, arith, rules, subst, sym}
 use Rattle.std.proofs.lemmas.Bool.{cases_lt}
 use Rattle.room_core.specs.Checks.{IsRead}
 use Rattle.room_core.specs.Description.{gauge_of, needs_of}

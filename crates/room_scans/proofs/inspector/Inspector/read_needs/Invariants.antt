@@ -1,4 +1,4 @@
-use Rattle.std.proofs.Common.{◌≡◌, ℕ, ◌<◌, ◌≤◌}
+use Rattle.std.proofs.Common.{ℕ, ◌<◌}
 use Rattle.room_core.specs.Checks.{IsRead}
 use Rattle.room_core.specs.Description.{gauge_of}
 use Rattle.room_core.specs.Gauges.{IsGauge}

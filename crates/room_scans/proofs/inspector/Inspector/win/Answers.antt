@@ -1,4 +1,4 @@
-use Rattle.std.proofs.Common.{◌≡◌, ◌∙◌, ap, subst, sym}
+use Rattle.std.proofs.Common.{◌∙◌, ap}
 use Rattle.room_core.specs.Packing.{unpacked}
 use Rattle.room_table.specs.declared.part.ScannerStep.{ScannerStep}
 use Rattle.room_table.specs.Seats.{ScanView, scanner_did}

@@ -1,4 +1,4 @@
-use Rattle.std.proofs.Common.{◌≡◌, ◌∙◌, ◌+◌, ◌-◌, ◌/◌, ◌<◌, ◌≤◌, ap, arith, subst, sym}
+use Rattle.std.proofs.Common.{◌≡◌, ◌∙◌, ◌+◌, ◌-◌, ◌/◌, ◌≤◌, ap, arith, subst, sym}
 use Rattle.room_core.specs.Gauges.{IsGaugeOf}
 use Rattle.room_table.specs.Seats.{ScanView, TableView, scanner_now}
 use Rattle.room_scans.specs.Desks.{ShardView}

@@ -1,4 +1,4 @@
-use Rattle.std.proofs.Common.{◌≡◌, ◌∙◌, ◌/◌, ◌<◌, ap, arith, length-set, subst, sym}
+use Rattle.std.proofs.Common.{◌∙◌, ◌<◌, ap, arith, length-set, subst, sym}
 use Rattle.room_core.specs.Checks.{gauge_of_duty}
 use Rattle.room_core.specs.Gauges.{IsGaugeOf}
 use Rattle.room_core.specs.Meetings.{generation_met}

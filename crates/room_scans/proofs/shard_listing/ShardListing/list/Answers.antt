@@ -1,4 +1,4 @@
-use Rattle.std.proofs.Common.{inl, inr, ◌≡◌, ◌≢◌, ◌∙◌, ◌+◌, ◌*◌, ◌-◌, ◌<◌, ap, arith, length-set, refl, subst, sym}
+use Rattle.std.proofs.Common.{inl, inr, ◌≡◌, ◌≢◌, ◌∙◌, ◌+◌, ◌*◌, ap, arith, length-set, refl, subst, sym}
 use Rattle.room_core.specs.declared.parts.Session.{Session}
 use Rattle.room_core.specs.Gauges.{IsGaugeOf, IsPass, clock_of}
 use Rattle.room_core.specs.Meetings.{IsMet, MayMark, generation_met}

@@ -1,5 +1,4 @@
-use Rattle.std.proofs.Common.{◌≡◌, ◌∙◌, ◌<◌, List, ap, arith, subst, sym}
-use Rattle.watch_lists.specs.declared.watch.Watch.{Watch}
+use Rattle.std.proofs.Common.{arith, subst}
 use Rattle.watch_lists.specs.Row.{IsRow}
 use Rattle.watch_lists.specs.Watches.{row_of}
 use Rattle.room_scans.specs.Desks.{ShardView}

@@ -1,4 +1,4 @@
-use Rattle.std.proofs.Common.{◌≡◌, ◌∙◌, ◌<◌, ap, arith}
+use Rattle.std.proofs.Common.{◌∙◌, ap, arith}
 use Rattle.std.specs.List.{slice_get}
 use Rattle.room_core.specs.declared.shape.Shape.{Shape}
 use Rattle.watch_lists.specs.Watches.{Watches, row_of}
