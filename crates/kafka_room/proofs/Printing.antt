@@ -62,6 +62,7 @@ numbered n (pass ∷ passes) each =
     shifted : (i : ℕ) → HoldsOne n (pass ∷ passes) (suc i) → HoldsOne (n + 1) passes i
     shifted i (inl none) = inl none
     shifted i (inr one) = inr (one.0, one.1, omega (arith, one.2), one.3)
+
     by_pass : (first : List Transcript) → HoldsOne n (first ∷ passes) 0 → AreNumbered (n + 1) passes → AreNumbered n (first ∷ passes)
     by_pass [] holds later = later
     by_pass (t ∷ []) (inl none) later = absurd cc

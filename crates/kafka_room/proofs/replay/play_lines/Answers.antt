@@ -26,8 +26,8 @@ returns-in_err-event-clause-front g c =
     let i = c.loop-line.line-index in
     let inv = c.loop-line.invariant in
     rw p.1 (λ start stands.
-        let h = inv.played start stands in
-        (h.0.text, front_of_lines start lines (take i lines) (drop i lines) h.0 (sym (take-append-drop i lines)) h.1, h.3))
+    let h = inv.played start stands in
+    (h.0.text, front_of_lines start lines (take i lines) (drop i lines) h.0 (sym (take-append-drop i lines)) h.1, h.3))
 
 pub returns-in_err-write_all-clause-front : goal.returns-in_err-write_all-clause-front
 returns-in_err-write_all-clause-front g c =
@@ -41,18 +41,18 @@ returns-in_err-write_all-clause-front g c =
     let between = g.K.Sink.written c.loop-line.sink in
     let after = g.K.Sink.written c.write_all.new.sink in
     rw p.1 (λ start stands.
-        let h = inv.played start stands in
-        let here = c.in_ok-event.ensures h.0.board h.2 in
-        let text = h.0.text ++ here.0.text in
-        let part : c.as_slice.result.now ≡ here.0.text = c.as_slice.ensures ∙ here.3 ∙ ap (λ (xs : List ℕ). xs ++ here.0.text) c.new-text.ensures in
-        let last : Turned = record { board = here.0.board; text = text } in
-        let played : Plays start (take (i + 1) lines) last =
-        subst (λ (ls : List Line). Plays start ls last) (sym (lines_more lines i line c.loop-line-test.true c.line-item.is)) (plays_on start (take i lines) line h.0 here.0 h.1 here.1) in
-        let written : Appends between after (take front.0 here.0.text) = subst (λ (xs : List ℕ). Appends between after (take front.0 xs)) part front.2 in (
-          take (length h.0.text + front.0) text,
-          front_within start lines (take (i + 1) lines) (drop (i + 1) lines) last (length h.0.text + front.0) (sym (take-append-drop (i + 1) lines)) played,
-          front_behind before between after h.0.text here.0.text front.0 h.3 written,
-        ))
+    let h = inv.played start stands in
+    let here = c.in_ok-event.ensures h.0.board h.2 in
+    let text = h.0.text ++ here.0.text in
+    let part : c.as_slice.result.now ≡ here.0.text = c.as_slice.ensures ∙ here.3 ∙ ap (λ (xs : List ℕ). xs ++ here.0.text) c.new-text.ensures in
+    let last : Turned = record { board = here.0.board; text = text } in
+    let played : Plays start (take (i + 1) lines) last =
+    subst (λ (ls : List Line). Plays start ls last) (sym (lines_more lines i line c.loop-line-test.true c.line-item.is)) (plays_on start (take i lines) line h.0 here.0 h.1 here.1) in
+    let written : Appends between after (take front.0 here.0.text) = subst (λ (xs : List ℕ). Appends between after (take front.0 xs)) part front.2 in (
+      take (length h.0.text + front.0) text,
+      front_within start lines (take (i + 1) lines) (drop (i + 1) lines) last (length h.0.text + front.0) (sym (take-append-drop (i + 1) lines)) played,
+      front_behind before between after h.0.text here.0.text front.0 h.3 written,
+    ))
 
 pub loop-line-init : goal.loop-line-init
 loop-line-init g c = record {

@@ -1,0 +1,5 @@
+use Rattle.room_scans.proofs.Sessions.{session_small}
+use Rattle.room_scans.proofs.inspector.Inspector.meet.Goals as goal
+
+pub unpacked-requires : goal.unpacked-requires
+unpacked-requires c = session_small c.meet.result c.meet.ensures.word

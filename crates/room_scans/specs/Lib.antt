@@ -1,0 +1,20 @@
+-- ==== the words of public contracts
+
+-- a scanner's seat that goes on: its steps are those before and newer ones
+pub mod Going
+-- a scan of a gauge, as the steps of its scanner
+pub mod Scanned
+-- how an operation comes to be listed, or why not, as the steps of its scanner
+pub mod Listing
+-- what a clause sees of a shard's desk and of the clock's, and their names
+pub mod Desks
+-- what a shard's desk keeps between any two calls
+pub mod ShardKeeps
+-- ==== the words of private functions
+
+-- what a scanner keeps of its present meeting
+pub mod Inspected
+-- what a check leaves of the scanner's listing and duties
+pub mod Checked
+-- a shard beside its scanner's listing, and what becomes of its rows
+pub mod Shelf

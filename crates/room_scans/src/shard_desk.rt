@@ -1,0 +1,114 @@
+//! What stands behind a shard's lock.
+ghost use Rattle.std.specs.Prelude.{◌≡◌, ◌<◌, ◌≤◌, [], IfOk, length};
+ghost use Rattle.room_core.specs.Gauges.{IsGaugeOf, IsPass, IsShape};
+ghost use Rattle.room_core.specs.Numbers.{clock_scanner, most_needs};
+ghost use Rattle.room_core.specs.Scans.{HasNoDuty};
+ghost use Rattle.room_table.specs.Seats.{scanner_now};
+ghost use Rattle.watch_lists.specs.Watches.{size_of};
+ghost use Rattle.room_scans.specs.Going.{GoesOn, HasMetAll};
+ghost use Rattle.room_scans.specs.Listing.{HasListedNeed};
+ghost use Rattle.room_scans.specs.Scanned.{HasScanned};
+ghost use Rattle.room_scans.specs.ShardKeeps.{ShardKeeps};
+
+use crate::numbers::SHARDS;
+use crate::shard_listing::ShardListing;
+use kbytes::NoMemory;
+use room_core::Shape;
+use room_table::{RoomTable, ScanSeat};
+use std::alloc::Global;
+use std::marker::Model;
+use std::sync::Wait;
+
+/// A shard's scanner and the watchers of its gauges. Between any two calls the watchers are exactly the scanner's listing, and the
+/// scanner has no duty.
+#[derive(Drop)]
+pub struct ShardDesk {
+    listing: ShardListing,
+}
+
+impl Model for ShardDesk {
+    ghost use Rattle.room_scans.specs.Desks.{ShardView};
+    ghost use Rattle.room_scans.specs.ShardKeeps.{ShardKeeps};
+
+    ghost Value = { ShardView };
+
+    ghost view = { λ d. d.listing };
+
+    ghost invariant = { λ d. ShardKeeps d.listing };
+}
+
+impl ShardDesk {
+    /// The desk of the scanner of this number, from its seat as the table hands it out. It is refused where no memory is left;
+    /// nothing takes memory after this.
+    pub fn make(
+        alloc: Global,
+        seat: ScanSeat,
+        shape: Shape,
+        number: u32,
+    ) -> Result<ShardDesk, NoMemory>
+        requires shape { (shape ≡ seat.table.shape) × IsShape shape × (shape.scanners ≡ 17) }
+        requires number { (number ≡ seat.scanner) × (number < clock_scanner) }
+        requires fresh { seat.steps ≡ [] }
+        ensures { IfOk result (λ desk. desk.seat ≡ seat) }
+    {
+        let listing = ShardListing::make(alloc, seat, shape, number)?;
+        Ok(ShardDesk { listing })
+    }
+
+    /// Scans a gauge of the scanner's own: hears up to which value, begins, and checks each watcher against all gauges of its
+    /// operation. Those that are satisfied are won.
+    pub fn scan(&mut self, rt: &impl Wait, table: &RoomTable, gauge: u32)
+        requires table { self.old.seat.table ≡ table.now }
+        requires gauge { IsGaugeOf table.now.shape self.old.seat.scanner gauge }
+        ensures { HasScanned gauge self.old.seat self.new.seat }
+    {
+        self.listing.begin(table, gauge);
+        let key = gauge / SHARDS;
+        let mut left = self.listing.watchers(key);
+        while left > 0 {
+            left -= 1;
+            if let Some(watch) = self.listing.watcher(key, left) {
+                self.listing.check(rt, table, gauge, watch);
+            }
+        }
+        self.listing.is_listed();
+    }
+
+    /// Lists the operation that the pass has open at this generation under the gauge of its need of this number, and marks that.
+    /// Where the pass isn't open at it, or the gauge isn't the scanner's, nothing is listed; the pass's own look at the mark shows
+    /// it. A shard with 500 watchers or more is purged first.
+    pub fn list(&mut self, table: &RoomTable, pass: u32, generation: u32, at: u32)
+        requires table { self.old.seat.table ≡ table.now }
+        requires pass { IsPass table.now.shape pass }
+        requires generation { 1 ≤ generation }
+        requires need { at < most_needs }
+        ensures listed { HasListedNeed pass generation at self.old.seat self.new.seat }
+        ensures purged { 500 ≤ size_of self.old.watches → HasMetAll self.old.seat self.new.seat }
+    {
+        self.listing.list(table, pass, generation, at);
+        self.listing.is_listed();
+    }
+
+    /// How many operations the scanner won.
+    pub fn wins(&self) -> u64
+        ensures { result ≡ length (scanner_now self.now.seat).wins }
+    {
+        self.listing.wins()
+    }
+
+    /// Law: what the desk keeps between any two calls.
+    pub fn keeps(&self)
+        ensures { ShardKeeps self.now }
+    {
+        let _ = &self.listing;
+    }
+
+    /// The scanner's seat, for the close of the table.
+    pub fn into_seat(self) -> ScanSeat
+        ensures seat { result ≡ self.seat }
+        ensures no_duty { HasNoDuty (scanner_now result) }
+    {
+        let ShardDesk { listing } = self;
+        listing.into_seat()
+    }
+}

@@ -1,0 +1,257 @@
+//! A shard and its scanner: what is listed there is the scanner's listing.
+ghost use Rattle.std.specs.Prelude.{◌≡◌, ◌≢◌, ◌≤◌, ◌<◌, ◌/◌, ◌↔◌, ℕ, List as Items, [], IfOk, Some, length, slice_get};
+ghost use Rattle.room_core.specs.Gauges.{IsGaugeOf, IsPass, IsShape};
+ghost use Rattle.room_core.specs.Numbers.{clock_scanner, most_needs};
+ghost use Rattle.room_core.specs.Scans.{HasNoDuty};
+ghost use Rattle.room_table.specs.declared.part.ScannerStep.TheVariants.{Met};
+ghost use Rattle.room_table.specs.Seats.{scanner_did, scanner_now};
+ghost use Rattle.watch_lists.specs.Row.{IsRow};
+ghost use Rattle.watch_lists.specs.Watches.{IsListed, keys_of, row_of, size_of};
+ghost use Rattle.room_scans.specs.Going.{GoesOn, HasMetAll};
+ghost use Rattle.room_scans.specs.Listing.{HasListedNeed};
+ghost use Rattle.room_scans.specs.Scanned.{scan_begun};
+ghost use Rattle.room_scans.specs.Shelf.{AreAllBelow, AreDutiesBelow, IsShelf, KeepsLower, WasChecked, open_generation};
+
+use crate::inspector::Inspector;
+use crate::numbers::{KEYS, PURGE_SIZE};
+use crate::verdict::Verdict;
+use kbytes::NoMemory;
+use room_core::{Phase, Session, Shape};
+use room_table::{RoomTable, ScanSeat};
+use std::alloc::Global;
+use std::marker::Model;
+use std::sync::Wait;
+use watch_lists::{Shard, Watch};
+
+/// A shard's scanner, and the watchers of its gauges.
+#[derive(Drop)]
+pub(crate) struct ShardListing {
+    scanner: Inspector,
+    shard: Shard,
+    // by pass: the generation of its watchers, if it has any
+    generations: Vec<u32>,
+}
+
+impl Model for ShardListing {
+    ghost use Rattle.room_scans.specs.Desks.{ShardView};
+    ghost use Rattle.room_scans.specs.Shelf.{IsShelf};
+
+    ghost Value = { ShardView };
+
+    ghost view = { λ l. record { seat = l.scanner; watches = l.shard } };
+
+    ghost invariant = { λ l. IsShelf l.generations.items (record { seat = l.scanner; watches = l.shard }) };
+}
+
+/// The generation at which a session word is open, and 0 where it isn't.
+pub(crate) fn open_generation(found: Session) -> u32
+    ensures { result ≡ open_generation found }
+{
+    match found.phase {
+        Phase::Open => found.generation,
+        Phase::Idle | Phase::Won { how: _, by: _ } => 0,
+    }
+}
+
+// Takes the watchers of a pass that have this generation out, under every key.
+fn drop_pass(shard: &mut Shard, pass: u32, generation: u32)
+    requires keys { keys_of shard.old ≡ 12 }
+    requires pass { pass < shard.old.ids }
+    ensures same { (shard.new.ids ≡ shard.old.ids) × (keys_of shard.new ≡ 12) }
+    ensures listed { (k i g : ℕ) → IsListed shard.new k i g ↔ (IsListed shard.old k i g × (i ≡ pass → g ≢ generation)) }
+    ensures lower { KeepsLower pass shard.old shard.new }
+{
+    for key in 0..KEYS {
+        shard.watchers_rise();
+        shard.drop_stale(key, pass, generation);
+    }
+}
+
+impl ShardListing {
+    pub(crate) fn make(
+        alloc: Global,
+        seat: ScanSeat,
+        shape: Shape,
+        number: u32,
+    ) -> Result<ShardListing, NoMemory>
+        requires shape { (shape ≡ seat.table.shape) × IsShape shape × (shape.scanners ≡ 17) }
+        requires number { (number ≡ seat.scanner) × (number < clock_scanner) }
+        requires fresh { seat.steps ≡ [] }
+        ensures { IfOk result (λ l. l.seat ≡ seat) }
+    {
+        let scanner = Inspector::make(alloc, seat, shape, number)?;
+        let shard = Shard::new(alloc, KEYS, shape.passes)?;
+        let generations = vec![in alloc; 0; shape.passes as usize]?;
+        Ok(ShardListing {
+            scanner,
+            shard,
+            generations,
+        })
+    }
+
+    pub(crate) fn wins(&self) -> u64
+        ensures { result ≡ length (scanner_now self.now.seat).wins }
+    {
+        self.scanner.wins()
+    }
+
+    pub(crate) fn into_seat(self) -> ScanSeat
+        ensures { result ≡ self.seat }
+    {
+        let ShardListing {
+            scanner,
+            shard: _,
+            generations: _,
+        } = self;
+        scanner.into_seat()
+    }
+
+    /// Law: the watchers are exactly the scanner's listing.
+    pub(crate) fn is_listed(&self)
+        ensures { (generations : Items ℕ) × IsShelf generations self.now }
+    {
+        let _ = &self.shard;
+    }
+
+    /// Begins a scan of a gauge of its own. All watchers of the gauge are its duties then.
+    pub(crate) fn begin(&mut self, table: &RoomTable, gauge: u32) -> u64
+        requires table { self.old.seat.table ≡ table.now }
+        requires gauge { IsGaugeOf table.now.shape self.old.seat.scanner gauge }
+        requires no_duty { HasNoDuty (scanner_now self.old.seat) }
+        ensures step { self.new.seat ≡ scan_begun self.old.seat gauge result }
+        ensures least { (scanner_now self.old.seat).began gauge ≤ result }
+        ensures shard { self.new.watches ≡ self.old.watches }
+        ensures duties { (count : ℕ) → AreAllBelow (gauge / 16) count self.new.watches → AreDutiesBelow gauge (gauge / 16) count self.new.watches (scanner_now self.new.seat) }
+    {
+        self.shard.watchers_rise();
+        self.scanner.begin(table, gauge)
+    }
+
+    /// How many watchers a key has.
+    pub(crate) fn watchers(&self, key: u32) -> u32
+        requires { key < 12 }
+        ensures { AreAllBelow key result self.now.watches }
+    {
+        self.shard.watchers_rise();
+        let passes = self.scanner.shape().passes;
+        for count in 0..passes {
+            if self.shard.each(key, count).is_none() {
+                return count;
+            }
+        }
+        passes
+    }
+
+    /// The watcher at a place of a key.
+    pub(crate) fn watcher(&self, key: u32, place: u32) -> Option<Watch>
+        requires { key < 12 }
+        ensures place { result ≡ slice_get (row_of self.now.watches key) place }
+        ensures row { IsRow key self.now.seat.table.shape.passes (row_of self.now.watches key) }
+    {
+        self.shard.watchers_rise();
+        self.shard.each(key, place)
+    }
+
+    // Meets a pass. Its watchers at a generation that isn't open go.
+    fn meet(&mut self, table: &RoomTable, pass: u32) -> Session
+        requires table { self.old.seat.table ≡ table.now }
+        requires pass { IsPass table.now.shape pass }
+        ensures step { self.new.seat ≡ scanner_did self.old.seat (Met pass result) }
+        ensures lower { KeepsLower pass self.old.watches self.new.watches }
+        ensures live { (key g : ℕ) → IsListed self.new.watches key pass g → g ≡ open_generation result }
+    {
+        let found = self.scanner.meet(table, pass);
+        let open = open_generation(found);
+        let kept = self.generations[pass as usize];
+        if kept == open {
+            return found;
+        }
+        drop_pass(&mut self.shard, pass, kept);
+        self.generations[pass as usize] = open;
+        found
+    }
+
+    /// Checks a watcher of the gauge that is a duty, until it is none any more.
+    pub(crate) fn check(&mut self, rt: &impl Wait, table: &RoomTable, gauge: u32, watch: Watch)
+        requires table { self.old.seat.table ≡ table.now }
+        requires gauge { IsGaugeOf table.now.shape self.old.seat.scanner gauge }
+        requires pass { IsPass table.now.shape watch.id }
+        requires duty { (scanner_now self.old.seat).duties watch.id ≡ Some (record { gauge = gauge; generation = watch.generation }) }
+        requires key { watch.key ≡ gauge / 16 }
+        requires generation { 1 ≤ watch.generation }
+        ensures { WasChecked watch.id self.old self.new }
+    {
+        for _ in rt.forever() {
+            let found = self.meet(table, watch.id);
+            if open_generation(found) != watch.generation {
+                return;
+            }
+            match self.scanner.check_needs(rt, table, watch.id, gauge) {
+                Verdict::Unclear => {}
+                Verdict::Waits => return,
+                Verdict::Over => {
+                    self.shard.watchers_rise();
+                    self.shard.drop_stale(watch.key, watch.id, watch.generation);
+                    return;
+                }
+            }
+        }
+        unreachable!()
+    }
+
+    // Meets every pass, and takes out all watchers whose operation isn't open.
+    fn purge(&mut self, table: &RoomTable)
+        requires table { self.old.seat.table ≡ table.now }
+        ensures went { GoesOn self.old.seat self.new.seat }
+        ensures met { HasMetAll self.old.seat self.new.seat }
+        ensures no_duty { HasNoDuty (scanner_now self.old.seat) → HasNoDuty (scanner_now self.new.seat) }
+    {
+        self.shard.watchers_rise();
+        for pass in 0..self.generations.len() {
+            let found = self.scanner.meet(table, pass as u32);
+            self.generations[pass] = open_generation(found);
+        }
+        self.shard.purge(self.generations.as_slice());
+    }
+
+    // Purges the shard where it holds too many watchers.
+    fn make_room(&mut self, table: &RoomTable)
+        requires table { self.old.seat.table ≡ table.now }
+        ensures went { GoesOn self.old.seat self.new.seat }
+        ensures purged { 500 ≤ size_of self.old.watches → HasMetAll self.old.seat self.new.seat }
+        ensures no_duty { HasNoDuty (scanner_now self.old.seat) → HasNoDuty (scanner_now self.new.seat) }
+    {
+        if self.shard.len() < PURGE_SIZE {
+            return;
+        }
+        self.purge(table);
+    }
+
+    /// Lists the operation that the pass has open at this generation under its need of this number.
+    pub(crate) fn list(&mut self, table: &RoomTable, pass: u32, generation: u32, at: u32)
+        requires table { self.old.seat.table ≡ table.now }
+        requires pass { IsPass table.now.shape pass }
+        requires generation { 1 ≤ generation }
+        requires need { at < most_needs }
+        ensures no_duty { HasNoDuty (scanner_now self.old.seat) → HasNoDuty (scanner_now self.new.seat) }
+        ensures listed { HasListedNeed pass generation at self.old.seat self.new.seat }
+        ensures purged { 500 ≤ size_of self.old.watches → HasMetAll self.old.seat self.new.seat }
+    {
+        self.make_room(table);
+        let found = self.meet(table, pass);
+        if open_generation(found) != generation {
+            return;
+        }
+        let needs = self.scanner.learn(table, pass, 2);
+        let gauge = self.scanner.learn(table, pass, 3 + 3 * at);
+        if u64::from(at) >= needs {
+            return;
+        }
+        let Some(key) = self.scanner.key_of(gauge) else {
+            return;
+        };
+        self.scanner.mark(table, pass, at, generation);
+        self.generations[pass as usize] = generation;
+        self.shard.list(key, pass, generation);
+    }
+}
