@@ -4,17 +4,11 @@ use Rattle.atomic_table.specs.Seated.{TableId}
 use Rattle.room_core.specs.declared.shape.Shape.{Shape}
 use Rattle.room_table.specs.Seats.{TableView, ScanView}
 use Rattle.watch_lists.specs.Watches.{Watches}
-use Rattle.timing_wheel.specs.Timers.{Timers}
 
 -- a shard's scanner, and the watchers of its gauges: the key of a gauge is a sixteenth of its number
 pub record ShardView : Type 0 where
   pub seat : ScanView
   pub watches : Watches
-
--- the clock's scanner, and the wheels
-pub record ClockView : Type 0 where
-  pub seat : ScanView
-  pub timers : Timers
 
 abbrev pub shape_numbers : Shape → List ℕ → List ℕ
 shape_numbers shape rest = shape.gauges ∷ shape.passes ∷ shape.scanners ∷ rest
