@@ -95,6 +95,69 @@ def small(requests, partitions):
     yield b"end\n"
 
 
+def draws(seed):
+    """Draws below a number, as the load asks for them: a linear congruential sequence modulo 2^64."""
+    state = seed
+
+    def draw(below):
+        nonlocal state
+        state = (state * 6364136223846793005 + 1442695040888963407) % 2**64
+        return (state >> 33) % below
+
+    return draw
+
+
+def storm_produce(number, partition, acks, timeout):
+    one = batch(b"%016d" % number)
+    asked = struct.pack(">hhii", -1, acks, timeout, 1) + b"\0\5storm" + struct.pack(">ii", 1, partition)
+    return frame(struct.pack(">hhih", 0, 3, number, -1) + asked + struct.pack(">i", len(one)) + one)
+
+
+def storm_fetch(number, partition, replica, wait, least_bytes, offset):
+    asked = struct.pack(">iiiibi", replica, wait, least_bytes, 65536, 0, 1) + b"\0\5storm" + struct.pack(">ii", 1, partition)
+    return frame(struct.pack(">hhih", 1, 4, number, -1) + asked + struct.pack(">qi", offset, 4096))
+
+
+def storm(requests, seed=7):
+    """16 sessions and 8 partitions with a follower each, by blocks of 16 requests: produces for all replicas, fetches of the
+    followers, which complete them, produces for the leader, and fetches of consumers. Most wait. Each block takes 10 ms, and at the end seconds pass until nobody waits."""
+    draw = draws(seed)
+    yield b"topic storm 8 1\n"
+    for number in range(requests):
+        block = number // 16
+        partition = (number + block) % 8
+        behind = 2 * ((block + 1) // 2)
+        if block % 4 == 0:
+            request = storm_produce(number, partition, -1, 1 + draw(200))
+        elif block % 4 == 1:
+            request = storm_fetch(number, partition, 1, 1 + draw(200), 1, behind)
+        elif block % 4 == 2:
+            request = storm_produce(number, partition, 1, 1000)
+        else:
+            wait, least_bytes = 1 + draw(200), 1 + draw(2000)
+            request = storm_fetch(number, partition, -1, wait, least_bytes, draw(behind + 1))
+        yield fed(number % 16, request)
+        if number % 16 == 15 or number == requests - 1:
+            yield b"clock %d\n" % (10 * (block + 1))
+    # Until all have been answered: with each second every request that waits expires, and its session takes the next.
+    for second in range(1, requests // 16 + 2):
+        yield b"clock %d\n" % (10 * (block + 1) + 1000 * second)
+    yield b"end\n"
+
+
+def beside(requests, waiting):
+    """One session as in `small`, while so many others wait at other partitions for bytes that never come."""
+    one = batch(b"value")
+    yield b"topic t 64 0\n"
+    for session in range(1, waiting + 1):
+        asked = struct.pack(">iiiibihc", -1, 2**31 - 1, 1, 52428800, 0, 1, 1, b"t") + struct.pack(">iiqi", 1, session, 0, 1048576)
+        yield fed(session, frame(header(1, 4, session) + asked))
+    for number in range(requests // 2):
+        yield fed(0, produce(2 * number, 0, one))
+        yield fed(0, fetch(2 * number + 1, 0, number))
+    yield b"end\n"
+
+
 def large(count):
     """One partition: batches of 1,048,576 bytes."""
     one = batch(bytes(1048504))
@@ -139,15 +202,17 @@ def timed(words, trace, out):
 
 
 def told(out):
-    """How many replies were printed, and how many records the partitions have in all."""
-    replies, records = 0, 0
+    """How many replies were printed, how many requests wait at the end, and how many records the partitions have in all."""
+    replies, waiting, records = 0, 0, 0
     with open(out, "rb") as lines:
         for line in lines:
             if line.startswith(b"reply "):
                 replies += 1
+            elif line.startswith(b"session "):
+                waiting += int(line.split()[7])
             elif line.startswith(b"part "):
                 records += int(line.split()[3])
-    return replies, records
+    return replies, waiting, records
 
 
 def least(words, source, out):
@@ -161,9 +226,9 @@ def measured(program, folder, lines, requests, produces):
     trace, out = folder / "trace", folder / "out"
     write(folder, lines)
     seconds, memory = least([str(program), "replay"], trace, out)
-    replies, records = told(out)
-    if replies != requests:
-        raise Wrong(f"{requests} requests had {replies} replies")
+    replies, waiting, records = told(out)
+    if replies + waiting != requests:
+        raise Wrong(f"{requests} requests had {replies} replies, and {waiting} wait")
     if records != produces:
         raise Wrong(f"{produces} produces of one record left {records} records")
     plain, _ = least(YARDSTICK, folder / "digits", out)
@@ -184,11 +249,18 @@ def show_lines(program, folder, batches):
     print(f"  {seconds:.3f} s, {lines / seconds:.0f} lines/s; {seconds / plain:.1f} times the yardstick", flush=True)
 
 
-def show_growth(program, folder, first):
-    print("growth: one partition", flush=True)
+def show_beside(program, folder, requests):
+    print(f"beside those who wait: {requests} requests of one session", flush=True)
+    for waiting in (0, 63):
+        seconds, _, _, _ = measured(program, folder, beside(requests, waiting), requests + waiting, requests // 2)
+        print(f"  while {waiting} others wait elsewhere: {seconds:.3f} s", flush=True)
+
+
+def show_growth(program, folder, name, lines_of, first):
+    print(f"growth: {name}", flush=True)
     before = None
     for requests in (first, 2 * first, 4 * first):
-        seconds, memory, plain, _ = measured(program, folder, small(requests, 1), requests, requests // 2)
+        seconds, memory, plain, _ = measured(program, folder, lines_of(requests), requests, requests // 2)
         grown = "" if before is None else f", {seconds / before:.2f} times the time for half as many"
         print(f"  {requests} requests: {seconds:.3f} s{grown}; {seconds / plain:.1f} times the yardstick;"
               f" peak memory {memory / 1e6:.1f} MB", flush=True)
@@ -213,11 +285,14 @@ def main():
             for title, lines, requests, produces in [
                 ("one partition", small(chosen.small, 1), chosen.small, chosen.small // 2),
                 ("64 partitions", small(chosen.small, 64), chosen.small, chosen.small // 2),
+                ("requests that wait", storm(chosen.small), chosen.small, chosen.small // 2),
                 ("large batches", large(chosen.large), chosen.large, chosen.large),
             ]:
                 show(title, requests, *measured(chosen.program, folder, lines, requests, produces))
+            show_beside(chosen.program, folder, chosen.small)
             show_lines(chosen.program, folder, chosen.lines)
-            show_growth(chosen.program, folder, chosen.growth)
+            show_growth(chosen.program, folder, "one partition", lambda requests: small(requests, 1), chosen.growth)
+            show_growth(chosen.program, folder, "requests that wait", storm, chosen.growth)
         except Wrong as wrong:
             print(wrong, file=sys.stderr)
             return 1
