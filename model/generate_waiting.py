@@ -50,7 +50,7 @@ class Maker:
     def send(self, session, data):
         """The bytes in one line, or in pieces of which the later ones come after other lines."""
         data = self.pieces.pop(session, b"") + data
-        if self.random.random() < 0.15:
+        if self.random.random() < 0.15 and len(data) > 1:
             at = self.random.randrange(1, len(data))
             data, self.pieces[session] = data[:at], data[at:]
         self.bytes_line(session, data)
