@@ -145,6 +145,11 @@ def storm(requests, seed=7):
     yield b"end\n"
 
 
+def storm_produces(requests):
+    """How many of the load's requests are produces: those of every second block."""
+    return sum(number // 16 % 2 == 0 for number in range(requests))
+
+
 def beside(requests, waiting):
     """One session as in `small`, while so many others wait at other partitions for bytes that never come."""
     one = batch(b"value")
@@ -256,11 +261,11 @@ def show_beside(program, folder, requests):
         print(f"  while {waiting} others wait elsewhere: {seconds:.3f} s", flush=True)
 
 
-def show_growth(program, folder, name, lines_of, first):
+def show_growth(program, folder, name, lines_of, produces_of, first):
     print(f"growth: {name}", flush=True)
     before = None
     for requests in (first, 2 * first, 4 * first):
-        seconds, memory, plain, _ = measured(program, folder, lines_of(requests), requests, requests // 2)
+        seconds, memory, plain, _ = measured(program, folder, lines_of(requests), requests, produces_of(requests))
         grown = "" if before is None else f", {seconds / before:.2f} times the time for half as many"
         print(f"  {requests} requests: {seconds:.3f} s{grown}; {seconds / plain:.1f} times the yardstick;"
               f" peak memory {memory / 1e6:.1f} MB", flush=True)
@@ -285,14 +290,15 @@ def main():
             for title, lines, requests, produces in [
                 ("one partition", small(chosen.small, 1), chosen.small, chosen.small // 2),
                 ("64 partitions", small(chosen.small, 64), chosen.small, chosen.small // 2),
-                ("requests that wait", storm(chosen.small), chosen.small, chosen.small // 2),
+                ("requests that wait", storm(chosen.small), chosen.small, storm_produces(chosen.small)),
                 ("large batches", large(chosen.large), chosen.large, chosen.large),
             ]:
                 show(title, requests, *measured(chosen.program, folder, lines, requests, produces))
             show_beside(chosen.program, folder, chosen.small)
             show_lines(chosen.program, folder, chosen.lines)
-            show_growth(chosen.program, folder, "one partition", lambda requests: small(requests, 1), chosen.growth)
-            show_growth(chosen.program, folder, "requests that wait", storm, chosen.growth)
+            show_growth(chosen.program, folder, "one partition", lambda requests: small(requests, 1), lambda requests: requests // 2,
+                        chosen.growth)
+            show_growth(chosen.program, folder, "requests that wait", storm, storm_produces, chosen.growth)
         except Wrong as wrong:
             print(wrong, file=sys.stderr)
             return 1
