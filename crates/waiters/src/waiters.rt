@@ -71,11 +71,8 @@ impl Waiters {
         self.live[at] = generation;
         self.last[at] = generation;
         list_all(&mut self.shelves, &self.live, session, op.needs());
-        if self.wheels.insert(session, op.deadline()) {
-            self.suspects.remove(session);
-        } else {
-            self.suspects.insert(session);
-        }
+        let is_ahead = self.wheels.insert(session, op.deadline());
+        self.suspects.put(session, !is_ahead);
     }
 
     /// A gauge has risen: who waits for it becomes a suspect.
@@ -131,6 +128,6 @@ impl Waiters {
     {
         self.live[session as usize] = 0;
         self.wheels.remove(session);
-        self.suspects.remove(session);
+        self.suspects.put(session, false);
     }
 }
