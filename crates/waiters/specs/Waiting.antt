@@ -19,10 +19,10 @@ pub record WaitsOn (old new : Index) (session : ℕ) : Type 0 where
   pub watches : WatchesOn old new session
   pub coming : coming_of new session ≡ coming_of old session
 
--- the session waits for the gauges and the deadline of the operation, and for nothing else
-pub record WaitsWith (new : Index) (session generation : ℕ) (op : Operation) : Type 0 where
-  pub generation : generation_of new session ≡ generation
-  pub last : last_of new session ≡ generation
+-- the session waits for the gauges and the deadline of the operation, and for nothing else, with the generation of this number
+pub record WaitsWith (new : Index) (session number : ℕ) (op : Operation) : Type 0 where
+  pub generation : generation_of new session ≡ number
+  pub last : last_of new session ≡ number
   pub gauges : (gauge : ℕ) → WaitsFor new session gauge ↔ Names op.needs gauge
   pub coming : moment_of new < op.deadline → coming_of new session ≡ Some op.deadline
   pub come : op.deadline ≤ moment_of new → coming_of new session ≡ None

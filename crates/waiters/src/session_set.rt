@@ -83,10 +83,11 @@ impl SessionSet {
         ensures within { IfSome result (λ session. session < SESSIONS) }
         ensures none { IfNone result ((session : ℕ) → from ≤ session → ¬ Has self.now session) }
     {
+        let word = self.word;
         if from >= SESSIONS {
             return None;
         }
-        let rest = self.word >> from;
+        let rest = word >> from;
         if rest == 0 {
             return None;
         }
