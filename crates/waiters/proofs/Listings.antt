@@ -3,7 +3,7 @@ use Rattle.std.proofs.Common.{◌≡◌, ◌≢◌, ℕ, ◌+◌, ◌*◌, ◌/�
 use Rattle.std.proofs.lemmas.Bool.{cases_eq, cases_lt}
 use Rattle.std.proofs.lemmas.List.{get_or_append_left, get_or_default, get_or_push, length_push}
 use Rattle.watch_lists.specs.declared.watch.Watch.{Watch}
-use Rattle.watch_lists.specs.Watches.{Watches, IsListed, keys_of, row_of}
+use Rattle.watch_lists.specs.Watches.{Watches, IsListed, keys_of, row_of, with_row}
 use Rattle.waiters.specs.Index.{IsWatching, shard_of}
 use Rattle.waiters.specs.Shelved.{AreShelved, row_at}
 
@@ -199,3 +199,14 @@ fresh_shelved shards fresh many = record {
 pub nobody_watches : (shards : List Watches) → AreFresh shards → length shards ≡ 16 → (gauge session generation : ℕ) → ¬ IsWatching shards gauge session generation
 unfolding IsWatching
 nobody_watches shards fresh many gauge session generation h = fresh.none (gauge % 16) no_shard (omega arith) (gauge / 16) session generation h
+
+-- the watchers of a key that were replaced
+pub replaced_row : (shard new : Watches) (key : ℕ) (row : List Watch) → key < keys_of shard → new ≡ with_row shard key row → row_of new key ≡ row
+replaced_row shard new key row l is = ap (λ (w : Watches). row_of w key) is ∙ get_or-set_same shard.rows key row [] l
+
+-- how many keys and ids the shard of a gauge has
+pub shard_keys : (shards : List Watches) (at : ℕ) (shard : Watches) → AreShelved shards → at < 16 → shard ≡ get_or shards at shard → keys_of shard ≡ 12
+shard_keys shards at shard are l is = ap keys_of is ∙ are.keys at shard l
+
+pub shard_ids : (shards : List Watches) (at : ℕ) (shard : Watches) → AreShelved shards → at < 16 → shard ≡ get_or shards at shard → shard.ids ≡ 64
+shard_ids shards at shard are l is = ap (λ (w : Watches). w.ids) is ∙ are.ids at shard l

@@ -1,6 +1,7 @@
 -- The watchers of a gauge, when one is taken out in a walk.
 use Rattle.std.proofs.Common.{◌≡◌, ℕ, ◌<◌, ◌≤◌, List, [], ◌∷◌, Option, Some, None, Bool, true, false, AllPairs, cond, filter, length, get_or, zero, suc, sym, ap, ◌∙◌, refl, subst, arith}
 use Rattle.std.specs.List.{slice_get}
+use Rattle.std.specs.Option.{IfSome}
 use Rattle.std.proofs.lemmas.Option.{slice_get_within, slice_get-get_or, get_or_from_slice_get}
 use Rattle.watch_lists.specs.declared.watch.Watch.{Watch}
 
@@ -45,3 +46,7 @@ low_id row rising at w is =
     let l = low_place row rising at w (slice_get_within row at w is) in
     let e : (get_or row at w).id ≡ w.id = ap (λ (v : Watch). v.id) (get_or_from_slice_get row at w w is) in
     omega arith
+
+pub low_ids : (o : Option Watch) (row : List Watch) (at : ℕ) → o ≡ slice_get row at → AllPairs (λ (a b : Watch). a.id < b.id) row → IfSome o (λ w. at ≤ w.id)
+low_ids None row at is rising = tt
+low_ids (Some w) row at is rising = low_id row rising at w (sym is)
