@@ -1,6 +1,7 @@
 -- What a call of the index leaves of each session.
 use Rattle.std.proofs.Common.{◌≡◌, ◌≢◌, ℕ, ◌<◌, ◌≤◌, ◌↔◌, ◌⊎◌, inl, inr, ⊎_elim, List, [], Option, Some, None, length, get_or, set, replicate, option_map, sym, ap, ◌∙◌, refl, subst, arith, length-set, get_or-set_same, get_or-set_other}
-use Rattle.std.proofs.lemmas.Bool.{cases_eq}
+use Rattle.std.proofs.lemmas.Bool.{cases_eq, cases_lt}
+use Rattle.std.proofs.lemmas.List.{get_or-replicate, get_or_past, length-replicate}
 use Rattle.watch_lists.specs.Watches.{Watches}
 use Rattle.timing_wheel.specs.declared.timer.Timer.{Timer}
 use Rattle.timing_wheel.specs.DueList.{DueList}
@@ -9,7 +10,7 @@ use Rattle.opcond.specs.declared.need.Need.{Need}
 use Rattle.opcond.specs.Operation.{Operation}
 use Rattle.waiters.specs.Index.{Index, IsWatching, WaitsFor, coming_of, generation_of, last_of, moment_of}
 use Rattle.waiters.specs.Kept.{IsIndex}
-use Rattle.waiters.specs.Waiting.{Names, WaitsNoMore, WaitsOn, WaitsWith, WatchesOn}
+use Rattle.waiters.specs.Waiting.{IsIdle, Names, WaitsNoMore, WaitsOn, WaitsWith, WatchesOn}
 use Rattle.waiters.proofs.Deadlines.{IsInserted, deadline_same, deadline_other, ids_same}
 
 abbrev pub index_of : List Watches → Timers → List ℕ → List ℕ → ℕ → Index
@@ -39,10 +40,10 @@ waits_on shards shards' timers live last suspects suspects' fewer kept session =
 pub kept_by_fewer : (shards shards' : List Watches) (timers : Timers) (due : DueList) (live last : List ℕ) → IsIndex shards timers due live last
     → ((gauge id n : ℕ) → IsWatching shards' gauge id n → IsWatching shards gauge id n) → IsIndex shards' timers due live last
 kept_by_fewer shards shards' timers due live last is fewer = record {
-  live = is.live;
-  last = is.last;
-  timers = is.timers;
-  due = is.due;
+  live_each = is.live_each;
+  last_each = is.last_each;
+  timer_each = is.timer_each;
+  none_due = is.none_due;
   room = is.room;
   listed = λ gauge id n h. is.listed gauge id n (fewer gauge id n h);
 }
@@ -62,10 +63,10 @@ module _ (shards shards' : List Watches) (timers timers' : Timers) (due : DueLis
   last' = set last session generation
 
   live_now : get_or live' session 0 ≡ generation
-  live_now = let long = is.live in get_or-set_same live session generation 0 (omega arith)
+  live_now = let long = is.live_each in get_or-set_same live session generation 0 (omega arith)
 
   last_now : get_or last' session 0 ≡ generation
-  last_now = let long = is.last in get_or-set_same last session generation 0 (omega arith)
+  last_now = let long = is.last_each in get_or-set_same last session generation 0 (omega arith)
 
   -- nobody watched with this generation before
   fresh : (gauge : ℕ) → ¬ IsWatching shards gauge session (get_or live' session 0)
@@ -78,7 +79,7 @@ module _ (shards shards' : List Watches) (timers timers' : Timers) (due : DueLis
   moment_now = ap (λ (t : Timers). t.moment) wheels.changed
 
   inside : session < ids_of timers
-  inside = let many = is.timers in omega arith
+  inside = let many = is.timer_each in omega arith
 
   pub begins_waiting : (op : Operation) → op.needs ≡ needs → op.deadline ≡ deadline → WaitsWith (index_of shards' timers' live' last' suspects') session generation op
   begins_waiting op same_needs same_deadline =
@@ -121,10 +122,10 @@ module _ (shards shards' : List Watches) (timers timers' : Timers) (due : DueLis
 
   pub kept_when_begun : IsIndex shards' timers' due live' last'
   kept_when_begun = record {
-    live = length-set live session generation ∙ is.live;
-    last = length-set last session generation ∙ is.last;
-    timers = ap (λ (t : Timers). ids_of t) wheels.changed ∙ ids_same timers session wheels.slot ∙ is.timers;
-    due = is.due;
+    live_each = length-set live session generation ∙ is.live_each;
+    last_each = length-set last session generation ∙ is.last_each;
+    timer_each = ap (λ (t : Timers). ids_of t) wheels.changed ∙ ids_same timers session wheels.slot ∙ is.timer_each;
+    none_due = is.none_due;
     room = is.room;
     listed = λ gauge id n h.
         ⊎_elim
@@ -156,14 +157,14 @@ module _ (shards : List Watches) (timers : Timers) (due : DueList) (live last : 
   gone = with_entry timers session None
 
   live_none : get_or (set live session 0) session 0 ≡ 0
-  live_none = let long = is.live in get_or-set_same live session 0 0 (omega arith)
+  live_none = let long = is.live_each in get_or-set_same live session 0 0 (omega arith)
 
   pub ends_waiting : WaitsNoMore (index_of shards timers live last suspects) (index_of shards gone (set live session 0) last suspects') session
   ends_waiting = record {
     generation = live_none;
     last = refl;
     gauges = λ gauge h. let low = (is.listed gauge session (get_or (set live session 0) session 0) h).0 in let none = live_none in omega arith;
-    coming = deadline_same timers session None (let many = is.timers in omega arith);
+    coming = deadline_same timers session None (let many = is.timer_each in omega arith);
   }
 
   pub others_stay : (other : ℕ) → other ≢ session → WaitsOn (index_of shards timers live last suspects) (index_of shards gone (set live session 0) last suspects') other
@@ -180,10 +181,28 @@ module _ (shards : List Watches) (timers : Timers) (due : DueList) (live last : 
 
   pub kept_when_ended : IsIndex shards gone due (set live session 0) last
   kept_when_ended = record {
-    live = length-set live session 0 ∙ is.live;
-    last = is.last;
-    timers = ids_same timers session None ∙ is.timers;
-    due = is.due;
+    live_each = length-set live session 0 ∙ is.live_each;
+    last_each = is.last_each;
+    timer_each = ids_same timers session None ∙ is.timer_each;
+    none_due = is.none_due;
     room = is.room;
     listed = is.listed;
   }
+
+-- nobody waits yet
+all_default : {A : Type 0} (n i : ℕ) (d : A) → get_or (replicate n d) i d ≡ d
+all_default n i d =
+    ⊎_elim
+    (λ (l : i < n). get_or-replicate n i d d l)
+    (λ (l : n ≤ i). get_or_past (replicate n d) i d (rw length-replicate l))
+    (cases_lt i n)
+
+pub idle : (shards : List Watches) (timers : Timers) (suspects : ℕ) → ((gauge session generation : ℕ) → ¬ IsWatching shards gauge session generation)
+    → timers ≡ record { moment = 0; slots = replicate 64 None } → IsIdle (index_of shards timers (replicate 64 0) (replicate 64 0) suspects)
+idle shards timers suspects nobody is = record {
+  generation = λ session. all_default 64 session 0;
+  last = λ session. all_default 64 session 0;
+  gauges = λ session gauge. nobody gauge session (get_or (replicate 64 0) session 0);
+  coming = λ session. ap (λ (t : Timers). deadline_of t session) is ∙ ap (λ (slot : Option Timer). option_map (λ entry. entry.deadline) slot) (all_default 64 session None);
+  moment = ap (λ (t : Timers). t.moment) is;
+}

@@ -8,10 +8,10 @@ use Rattle.waiters.specs.Index.{IsWatching}
 -- There are 64 sessions. A session is listed with generations from 1 to the greatest at which it has waited. The list of due sessions
 -- is empty, and has room for all.
 pub record IsIndex (shards : List Watches) (timers : Timers) (due : DueList) (live last : List ℕ) : Type 0 where
-  pub live : length live ≡ 64
-  pub last : length last ≡ 64
-  pub timers : ids_of timers ≡ 64
-  pub due : due.ids ≡ []
+  pub live_each : length live ≡ 64
+  pub last_each : length last ≡ 64
+  pub timer_each : ids_of timers ≡ 64
+  pub none_due : due.ids ≡ []
   pub room : due.room ≡ 64
   pub listed : (gauge session generation : ℕ) → IsWatching shards gauge session generation
       → (1 ≤ generation) × (generation ≤ slice_index last session)

@@ -1,4 +1,5 @@
-use Rattle.std.proofs.Common.{ℕ, ◌≡◌, ◌↔◌, ◌⊎◌, ◌≤◌, ◌<◌, inl, inr, ⊎_elim, Some, ap, sym, ◌∙◌, subst, arith, length-map}
+use Rattle.std.proofs.Common.{ℕ, ◌≡◌, ◌↔◌, ◌⊎◌, ◌≤◌, ◌<◌, inl, inr, ⊎_elim, Some, ap, sym, ◌∙◌, subst, arith}
+use Rattle.std.proofs.lemmas.List.{length-map}
 use Rattle.std.specs.Prelude.{Contains}
 use Rattle.timing_wheel.specs.Timers.{Timers, deadline_of, ids_of}
 use Rattle.timing_wheel.specs.Turn.{IsDue}
@@ -13,7 +14,7 @@ use Rattle.waiters.proofs.waiters.Waiters.tick.Goals as goal
 pub insert_all-requires : goal.insert_all-requires
 insert_all-requires c =
     let s = c.self.inside in
-    all_within c.args.t s.wheels c.ids.result.now c.self.invariant.timers
+    all_within c.args.t s.wheels c.ids.result.now c.self.invariant.timer_each
     (λ id. subst (λ ids. Contains ids id ↔ IsDue c.args.t s.wheels id) (sym c.ids.ensures) (c.pop_due.ensures.due id))
 
 pub returns-clause-suspects : goal.returns-clause-suspects
@@ -22,7 +23,19 @@ returns-clause-suspects c = λ session.
     let more = c.insert_all.ensures session in
     let due = c.pop_due.ensures.due session in
     let comes = due_comes c.args.t s.wheels session in
-    subst (λ (i : Index). Has c.insert_all.new.self session ↔ (IsSuspect i session ⊎ ComesBy c.args.t i session)) c.self.view_is ?
+    subst (λ (i : Index). Has c.insert_all.new.self session ↔ (IsSuspect i session ⊎ ComesBy c.args.t i session)) c.self.view_is (
+      (λ (h : Has c.insert_all.new.self session).
+          ⊎_elim
+          (λ (old : Has s.suspects session). inl old)
+          (λ (new : Contains c.ids.result.now session). inr (comes.0 (due.0 (subst (λ ids. Contains ids session) c.ids.ensures new))))
+          (more.0 h)),
+      (λ (h : Has s.suspects session ⊎ ComesBy c.args.t (index_of s.shelves s.wheels s.live s.last s.suspects) session).
+          ⊎_elim
+          (λ (old : Has s.suspects session). more.1 (inl old))
+          (λ (new : ComesBy c.args.t (index_of s.shelves s.wheels s.live s.last s.suspects) session).
+          more.1 (inr (subst (λ ids. Contains ids session) (sym c.ids.ensures) (due.1 (comes.1 new)))))
+          h),
+    )
 
 pub returns-clause-watches : goal.returns-clause-watches
 returns-clause-watches c = λ session.

@@ -8,12 +8,12 @@ use Rattle.waiters.proofs.Sessions.{index_of, begins_waiting, others_wait_on, ke
 use Rattle.waiters.proofs.waiters.Waiters.wait.Goals as goal
 
 pub list_all-requires-clause-live : goal.list_all-requires-clause-live
-list_all-requires-clause-live c = length-set _ _ _ ∙ c.self.invariant.live
+list_all-requires-clause-live c = length-set _ _ _ ∙ c.self.invariant.live_each
 
 pub list_all-requires-clause-generation : goal.list_all-requires-clause-generation
 list_all-requires-clause-generation c =
     let s = c.self.inside in
-    let long = c.self.invariant.live in
+    let long = c.self.invariant.live_each in
     let now : get_or (set s.live c.args.session c.args.generation) c.args.session 0 ≡ c.args.generation = get_or-set_same s.live c.args.session c.args.generation 0 (let low = c.requires.session in omega arith) in
     let later = c.requires.generation in
     omega arith
