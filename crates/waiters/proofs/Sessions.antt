@@ -52,9 +52,9 @@ kept_by_fewer shards shards' timers due live last is fewer = record {
 module _ (shards shards' : List Watches) (timers timers' : Timers) (due : DueList) (live last : List ℕ) (suspects suspects' session generation deadline : ℕ) (needs : List Need)
     (is : IsIndex shards timers due live last) (within : session < 64) (later : get_or last session 0 < generation)
     (listed : (gauge id : ℕ) → let n = get_or (set live session generation) id 0 in
-        IsWatching shards' gauge id n ↔ (IsWatching shards gauge id n ⊎ (Names needs gauge × (id ≡ session))))
+    IsWatching shards' gauge id n ↔ (IsWatching shards gauge id n ⊎ (Names needs gauge × (id ≡ session))))
     (only : (gauge id n : ℕ) → IsWatching shards' gauge id n
-        → IsWatching shards gauge id n ⊎ ((id ≡ session) × (n ≡ get_or (set live session generation) session 0)))
+    → IsWatching shards gauge id n ⊎ ((id ≡ session) × (n ≡ get_or (set live session generation) session 0)))
     (wheels : IsInserted timers timers' session deadline) where
   abbrev live' : List ℕ
   live' = set live session generation

@@ -87,9 +87,7 @@ fn all_sessions_wait_for_one_gauge(rt: HostRuntime) -> Result<(), Fail> {
     let twelve = op_of(rt.alloc(), 12, 500)
         .ok()
         .ok_or("memory for the needs")?;
-    let one = op_of(rt.alloc(), 1, 900)
-        .ok()
-        .ok_or("memory for a need")?;
+    let one = op_of(rt.alloc(), 1, 900).ok().ok_or("memory for a need")?;
     all_wait(&mut waiters, 1, &twelve);
     all_wait(&mut waiters, 2, &one);
     waiters.rise(16);

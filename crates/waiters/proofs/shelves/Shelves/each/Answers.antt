@@ -46,6 +46,6 @@ returns-clause-all c =
     let row = sym (row_at-shard shards gauge shard is) ∙ ap (λ (old : List Watches). row_at old gauge) c.self.view_is in
     IfNone-weaker c.each.result
     (λ all id generation h.
-        let there = all id generation ((IsWatching-shard shards gauge id generation shard is).0 (subst (λ (old : List Watches). IsWatching old gauge id generation) (sym c.self.view_is) h)) in
-        (there.0, there.1, ap (λ (r : List Watch). slice_get r there.0) (sym row) ∙ there.2))
+    let there = all id generation ((IsWatching-shard shards gauge id generation shard is).0 (subst (λ (old : List Watches). IsWatching old gauge id generation) (sym c.self.view_is) h)) in
+    (there.0, there.1, ap (λ (r : List Watch). slice_get r there.0) (sym row) ∙ there.2))
     c.each.ensures.all
