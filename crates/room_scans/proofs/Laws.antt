@@ -1,5 +1,5 @@
 -- What the crates above may cite.
-use Rattle.std.proofs.Common.{⊎_elim, ◌≡◌, ◌⊎◌, ℕ, zero, suc, ◌+◌, ◌*◌, List, [], ◌∷◌, ap, refl, subst, sym}
+use Rattle.std.proofs.Common.{⊎_elim, ◌≡◌, ◌∙◌, ◌⊎◌, ℕ, zero, suc, ◌+◌, ◌*◌, List, [], ◌∷◌, ap, refl, subst, sym}
 use Rattle.room_core.specs.Numbers.{clock_mark}
 use Rattle.room_table.specs.declared.part.ScannerStep.{ScannerStep}
 use Rattle.room_table.specs.Seats.{ScanView, TableView, scanner_did, scanner_now}
@@ -86,3 +86,10 @@ scanned_goes gauge old new h =
     goes_far old (scan_begun old gauge h.heard) new
     (goes_by old heard (scan_begun old gauge h.heard) (ScannerStep.Began gauge ((scanner_now old).began gauge)) (goes_by old old heard (ScannerStep.Heard gauge h.heard) (stays old) refl) refl)
     h.went
+
+-- a seat that goes on keeps its desk's name
+pub name_goes : (old new : ScanView) → GoesOn old new → desk_name new.table new.scanner ≡ desk_name old.table old.scanner
+name_goes old new g = ap (λ (t : TableView). desk_name t new.scanner) g.table ∙ ap (desk_name old.table) g.scanner
+
+pub goes_twice : (a b c : ScanView) → GoesOn a b → GoesOn b c → GoesOn a c
+goes_twice = goes_far
