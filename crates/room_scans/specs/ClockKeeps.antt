@@ -26,8 +26,3 @@ pub record ClockKeeps (desk : ClockView) : Type 0 where
   pub moment : desk.timers.moment ≡ (scanner_now desk.seat).began (clock_of desk.seat.table.shape)
   pub timers : AreTimersOf desk.seat.table.shape (scanner_now desk.seat) desk.timers
   pub no_duty : HasNoDuty (scanner_now desk.seat)
-
--- and there is room for as many due passes as there are timers
-pub record HasRoom (desk : ClockView) (room : ℕ) : Type 0 where
-  pub keeps : ClockKeeps desk
-  pub all : room ≡ ids_of desk.timers

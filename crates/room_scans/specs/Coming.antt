@@ -8,6 +8,7 @@ use Rattle.room_core.specs.Numbers.{clock_scanner}
 use Rattle.room_table.specs.declared.part.ScannerStep.{ScannerStep}
 use Rattle.room_table.specs.Seats.{scanner_did, scanner_now}
 use Rattle.timing_wheel.specs.Timers.{deadline_of, ids_of}
+use Rattle.room_scans.specs.ClockKeeps.{ClockKeeps}
 use Rattle.room_scans.specs.Desks.{ClockView}
 use Rattle.room_scans.specs.Going.{GoesOn}
 use Rattle.room_scans.specs.Timing.{IsTimed}
@@ -84,3 +85,8 @@ is_stale (Some entry) generation = not (entry.generation == generation)
 pub record AreComingFrom (place : ℕ) (ids : List ℕ) (desk : ClockView) : Type 0 where
   pub come : (i : ℕ) → place ≤ i → i < length ids → HasComeOut (slice_index ids i) desk
   pub settled : (pass : ℕ) → ((i : ℕ) → place ≤ i → i < length ids → slice_index ids i ≢ pass) → IsSettled pass desk
+
+-- what the desk keeps, with room for as many due passes as there are timers
+pub record HasRoom (desk : ClockView) (room : ℕ) : Type 0 where
+  pub keeps : ClockKeeps desk
+  pub all : room ≡ ids_of desk.timers

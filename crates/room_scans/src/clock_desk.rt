@@ -27,7 +27,7 @@ pub struct ClockDesk {
 }
 
 impl Model for ClockDesk {
-    ghost use Rattle.room_scans.specs.ClockKeeps.{HasRoom};
+    ghost use Rattle.room_scans.specs.Coming.{HasRoom};
     ghost use Rattle.room_scans.specs.Desks.{ClockView};
 
     ghost Value = { ClockView };

@@ -14,7 +14,7 @@ ghost use Rattle.room_scans.specs.Coming.{AreComingFrom, ChangesOnly, HasComeOut
 
 use crate::inspector::Inspector;
 use crate::numbers::FARTHEST;
-use crate::shard_listing::open_generation;
+use crate::open_generation::open_generation;
 use crate::verdict::Verdict;
 use kbytes::NoMemory;
 use room_core::{CLOCK_MARK, CLOCK_SCANNER, Entry, Session, Shape};

@@ -64,6 +64,7 @@ mod clock_listing;
 mod inspector;
 mod kept;
 mod numbers;
+mod open_generation;
 mod shard_desk;
 mod shard_listing;
 mod tally;
