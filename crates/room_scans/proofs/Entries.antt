@@ -36,7 +36,7 @@ cond_some : (b : Bool) (entry e : Entry) → (if b then Some entry else None) �
 cond_some true entry e h = h
 cond_some false entry e h = absurd (cc)
 
-live_entry_some : (w : Session) (o : Option Entry) (e : Entry) → live_entry w o ≡ Some e → o ≡ Some e
+pub live_entry_some : (w : Session) (o : Option Entry) (e : Entry) → live_entry w o ≡ Some e → o ≡ Some e
 unfolding live_entry
 live_entry_some w None e h = h
 live_entry_some w (Some entry) e h = cond_some (is_live w entry.generation) entry e h

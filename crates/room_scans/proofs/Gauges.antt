@@ -12,7 +12,7 @@ unfolding scanner_of
 scanner_is shape gauge all n =
     ap (λ b. cond b clock_scanner (gauge % (shape.scanners - 1))) (ne_eqb gauge (shape.gauges - 1) n) ∙ ap (λ s. gauge % (s - 1)) all
 
-clock_is : (shape : Shape) → scanner_of shape (clock_of shape) ≡ clock_scanner
+pub clock_is : (shape : Shape) → scanner_of shape (clock_of shape) ≡ clock_scanner
 unfolding scanner_of
 clock_is shape = ap (λ b. cond b clock_scanner (clock_of shape % (shape.scanners - 1))) (eq-eqb (clock_of shape) (clock_of shape) refl)
 
@@ -46,3 +46,7 @@ key_few shape k gauge s few own =
     let most = s.few_gauges in
     let below : gauge < 192 = less_one gauge shape.gauges there n most in
     omega (arith, below)
+
+-- the clock is its scanner's
+pub clock_own : (shape : Shape) → IsShape shape → IsGaugeOf shape clock_scanner (clock_of shape)
+clock_own shape s = let some = s.some_gauges in record { there = omega (arith, some); scans = clock_is shape }

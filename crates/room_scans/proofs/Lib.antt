@@ -32,3 +32,15 @@ pub mod Watching
 pub mod Marking
 -- a shard that is purged
 pub mod Purging
+-- an operation that is listed under its deadline
+pub mod Deadlines
+-- the timers of the wheels
+pub mod Timers
+-- a pass of the clock's listing that is met and checked
+pub mod Settling
+-- the clock's listing after a step
+pub mod ClockEntries
+-- the timers that come out as a scan of the clock begins, one after another
+pub mod Coming
+-- the room of the tests
+pub mod Rooms

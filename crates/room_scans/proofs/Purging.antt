@@ -15,7 +15,7 @@ use Rattle.room_scans.proofs.Entries.{entries_by, entries_met}
 use Rattle.room_scans.proofs.Sessions.{is_live_at, live_at}
 use Rattle.room_scans.proofs.Tables.{at_put}
 
-no_duty_lives : (w : Session) (o : Option Duty) → o ≡ None → live_duty w o ≡ None
+pub no_duty_lives : (w : Session) (o : Option Duty) → o ≡ None → live_duty w o ≡ None
 unfolding live_duty
 no_duty_lives w o e = ap (live_duty w) e
 

@@ -23,7 +23,7 @@ pub check_starts : (gauge id generation : ℕ) (a : ShardView) → (scanner_now 
 check_starts gauge id generation a duty = record { went = stays a.seat; began = refl; duty = duty; others = λ other n. refl; lower = lower_same id a.watches }
 
 -- what a meeting leaves of a duty
-duty_left : (w : Session) (gauge generation : ℕ) (b : Bool) → is_live w generation ≡ b
+pub duty_left : (w : Session) (gauge generation : ℕ) (b : Bool) → is_live w generation ≡ b
     → live_duty w (Some (record { gauge = gauge; generation = generation })) ≡ cond b (Some (record { gauge = gauge; generation = generation })) None
 unfolding live_duty
 duty_left w gauge generation b e = ap (λ x. cond x (Some (let d : Duty = record { gauge = gauge; generation = generation } in d)) None) e

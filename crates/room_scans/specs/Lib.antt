@@ -10,6 +10,10 @@ pub mod Listing
 pub mod Desks
 -- what a shard's desk keeps between any two calls
 pub mod ShardKeeps
+-- when the timer of a deadline comes, and which entries have one
+pub mod Timing
+-- what the clock's desk keeps between any two calls
+pub mod ClockKeeps
 -- ==== the words of private functions
 
 -- what a scanner keeps of its present meeting
@@ -18,3 +22,5 @@ pub mod Inspected
 pub mod Checked
 -- a shard beside its scanner's listing, and what becomes of its rows
 pub mod Shelf
+-- the clock's scanner beside the timers of its entries, and what becomes of a pass's
+pub mod Coming

@@ -1,15 +1,18 @@
-//! What stands behind the locks of the room's shards: each shard's scanner with the watchers of its gauges. Who has the lock lists
-//! operations here, and scans.
+//! What stands behind the locks of the room's shards and of its clock: each shard's scanner with the watchers of its gauges, and the
+//! clock's scanner with the timers of its deadlines. Who has the lock lists operations here, and scans.
 //!
-//! The layer above may use `ShardDesk`. It makes one for each shard's scanner, puts it behind a turn lock, and with the turn lists an
-//! operation that a pass has opened, or scans a gauge that was raised:
+//! The layer above may use `ShardDesk` and `ClockDesk`. It makes one for each scanner, puts it behind a turn lock, and with the turn
+//! lists an operation that a pass has opened, or scans a gauge that was raised:
 //!
 //! ```text
 //! desk.list(table, pass, generation, 0);     // under the gauge of the operation's first need
 //! desk.scan(rt, table, gauge);               // every watcher of the gauge is checked
+//!
+//! clock.list(table, pass, generation);       // under the operation's deadline
+//! clock.scan(rt, table);                     // every operation whose deadline has come is checked
 //! ```
 //!
-//! # How a scan goes
+//! # How a scan of a gauge goes
 //!
 //! The scanner hears up to which value the gauge is to be scanned, and begins. From then on each watcher of the gauge is a duty, which
 //! the table's rule lets go only for a reason. So the desk goes through the watchers, the last one first, and with each one
@@ -26,6 +29,22 @@
 //! show that, and the desk meets the pass again. Any other mixture does no harm: the exchange fails, since the word isn't open at the
 //! generation any more. A sum of such caps may be above 64 bits.
 //!
+//! # How a scan of the clock goes
+//!
+//! The scanner hears up to which moment, and begins. Now its duties are the operations whose deadline lies past the moment of the scan
+//! before, and not past this one. The wheels are turned to this moment, and hand out the passes whose timers have come:
+//!
+//! ```text
+//! moment 900    pass 2 is listed with the deadline 1,200: a timer at 1,200
+//!               pass 5 is listed with the deadline 3,000,000,000: a timer at 2,147,484,547, as far ahead as the wheels take it
+//! moment 1,300  pass 2 comes out, a duty: met and learned as above; the clock is read, and it is won as expired
+//! moment 2,147,484,600
+//!               pass 5 comes out: its deadline is later, so it has a timer again, now at 3,000,000,000
+//! ```
+//!
+//! An operation whose deadline had come before it was listed has no timer and is no scan's duty: its own pass reads the clock after it
+//! was listed.
+//!
 //! # How the proof goes
 //!
 //! `Inspector` has the seat and what it keeps of its meeting: its words and values mirror what the seat's steps say. `ShardListing` has
@@ -33,14 +52,26 @@
 //! goes from the shard, and so does what was won; what is marked is listed. All watchers of a pass have one generation, which the desk
 //! keeps by pass, so that the stale ones are found without a search. In a scan the duties are on the watchers below a place, and a
 //! check takes none out below its own (`proofs/Duties.antt`); at place 0 there is no duty left.
+//!
+//! `ClockListing` keeps each pass's entry as it stands in the scanner's listing, beside the wheels. A pass is settled where it is no
+//! duty and its entry has its timer (`specs/Coming.antt`). As a scan begins, all passes are settled but those whose timers came out
+//! (`proofs/Coming.antt`): a duty's deadline is past the moment before, so it had a timer, which comes no later than the deadline. A
+//! check settles its pass and changes nothing of another one; after the last of them all are settled again.
 #![tactic(auto)]
 
+mod clock_desk;
+mod clock_listing;
 mod inspector;
 mod kept;
 mod numbers;
+mod open_generation;
 mod shard_desk;
 mod shard_listing;
 mod tally;
 mod verdict;
 
+pub use clock_desk::ClockDesk;
 pub use shard_desk::ShardDesk;
+
+#[cfg(test)]
+mod tests;

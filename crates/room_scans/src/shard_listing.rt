@@ -14,9 +14,10 @@ ghost use Rattle.room_scans.specs.Shelf.{AreAllBelow, AreDutiesBelow, IsShelf, K
 
 use crate::inspector::Inspector;
 use crate::numbers::{KEYS, PURGE_SIZE};
+use crate::open_generation::open_generation;
 use crate::verdict::Verdict;
 use kbytes::NoMemory;
-use room_core::{Phase, Session, Shape};
+use room_core::{Session, Shape};
 use room_table::{RoomTable, ScanSeat};
 use std::alloc::Global;
 use std::marker::Model;
@@ -41,16 +42,6 @@ impl Model for ShardListing {
     ghost view = { λ l. record { seat = l.scanner; watches = l.shard } };
 
     ghost invariant = { λ l. IsShelf l.generations.items (record { seat = l.scanner; watches = l.shard }) };
-}
-
-/// The generation at which a session word is open, and 0 where it isn't.
-pub(crate) fn open_generation(found: Session) -> u32
-    ensures { result ≡ open_generation found }
-{
-    match found.phase {
-        Phase::Open => found.generation,
-        Phase::Idle | Phase::Won { how: _, by: _ } => 0,
-    }
 }
 
 // Takes the watchers of a pass that have this generation out, under every key.

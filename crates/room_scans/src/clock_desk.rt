@@ -1,0 +1,104 @@
+//! What stands behind the wheels' lock.
+ghost use Rattle.std.specs.Prelude.{◌≡◌, ◌≤◌, [], IfOk, length};
+ghost use Rattle.room_core.specs.Gauges.{IsPass, IsShape, clock_of};
+ghost use Rattle.room_core.specs.Numbers.{clock_scanner};
+ghost use Rattle.room_core.specs.Scans.{HasNoDuty};
+ghost use Rattle.room_table.specs.Seats.{scanner_now};
+ghost use Rattle.room_scans.specs.ClockKeeps.{ClockKeeps};
+ghost use Rattle.room_scans.specs.Listing.{HasListedDeadline};
+ghost use Rattle.room_scans.specs.Scanned.{HasScanned};
+
+use crate::clock_listing::ClockListing;
+use kbytes::NoMemory;
+use room_core::Shape;
+use room_table::{RoomTable, ScanSeat};
+use std::alloc::Global;
+use std::marker::Model;
+use std::sync::Wait;
+use timing_wheel::Due;
+
+/// The clock's scanner and the timers of its entries. Between any two calls the timers are exactly those of the entries whose deadline
+/// is past the moment up to which the scanner has begun to scan the clock, and the scanner has no duty.
+#[derive(Drop)]
+pub struct ClockDesk {
+    listing: ClockListing,
+    // the passes whose timers come out in a scan
+    due: Due,
+}
+
+impl Model for ClockDesk {
+    ghost use Rattle.room_scans.specs.Coming.{HasRoom};
+    ghost use Rattle.room_scans.specs.Desks.{ClockView};
+
+    ghost Value = { ClockView };
+
+    ghost view = { λ d. d.listing };
+
+    ghost invariant = { λ d. HasRoom d.listing d.due.room };
+}
+
+impl ClockDesk {
+    /// The desk of the clock's scanner, from its seat as the table hands it out. It is refused where no memory is left; nothing takes
+    /// memory after this.
+    pub fn make(alloc: Global, seat: ScanSeat, shape: Shape) -> Result<ClockDesk, NoMemory>
+        requires shape { (shape ≡ seat.table.shape) × IsShape shape × (shape.scanners ≡ 17) }
+        requires number { seat.scanner ≡ clock_scanner }
+        requires fresh { seat.steps ≡ [] }
+        ensures { IfOk result (λ desk. desk.seat ≡ seat) }
+    {
+        let listing = ClockListing::make(alloc, seat, shape)?;
+        listing.is_listed();
+        let due = Due::new(alloc, shape.passes)?;
+        Ok(ClockDesk { listing, due })
+    }
+
+    /// Scans the clock: hears up to which moment, in milliseconds, begins, and checks each operation whose deadline has come since
+    /// the scan before. Those that are overdue are won.
+    pub fn scan(&mut self, rt: &impl Wait, table: &RoomTable)
+        requires table { self.old.seat.table ≡ table.now }
+        ensures { HasScanned (clock_of table.now.shape) self.old.seat self.new.seat }
+    {
+        self.due.clear();
+        self.listing.begin(table, &mut self.due);
+        for place in 0..self.due.ids().len() {
+            let pass = self.due.ids()[place];
+            self.listing.check(rt, table, pass);
+        }
+        self.listing.is_listed();
+    }
+
+    /// Lists the operation that the pass has open at this generation under its deadline, and marks that. Where the pass isn't open at
+    /// it nothing is listed; the pass's own look at the mark shows it.
+    pub fn list(&mut self, table: &RoomTable, pass: u32, generation: u32)
+        requires table { self.old.seat.table ≡ table.now }
+        requires pass { IsPass table.now.shape pass }
+        requires generation { 1 ≤ generation }
+        ensures { HasListedDeadline pass generation self.old.seat self.new.seat }
+    {
+        self.listing.list(table, pass, generation);
+        self.listing.is_listed();
+    }
+
+    /// How many operations the scanner won.
+    pub fn wins(&self) -> u64
+        ensures { result ≡ length (scanner_now self.now.seat).wins }
+    {
+        self.listing.wins()
+    }
+
+    /// Law: what the desk keeps between any two calls.
+    pub fn keeps(&self)
+        ensures { ClockKeeps self.now }
+    {
+        let _ = &self.listing;
+    }
+
+    /// The scanner's seat, for the close of the table.
+    pub fn into_seat(self) -> ScanSeat
+        ensures seat { result ≡ self.seat }
+        ensures no_duty { HasNoDuty (scanner_now result) }
+    {
+        let ClockDesk { listing, due: _ } = self;
+        listing.into_seat()
+    }
+}
