@@ -1,0 +1,178 @@
+//! An operation is registered: described, opened, listed under each of its gauges and under the clock, and checked once more.
+ghost use Rattle.std.specs.Prelude.{◌≡◌, ◌≢◌, ◌-◌, ◌^◌, ◌<◌, ◌≤◌, ℕ, false, true, All, IfNone, IfSome, List as Items, length};
+ghost use Rattle.opcond.specs.declared.need.Need.{Need as OneNeed};
+ghost use Rattle.opcond.specs.Operation.{IsValid};
+ghost use Rattle.opcond.specs.Tally.{IsSatisfied};
+ghost use Rattle.room_core.specs.declared.parts.Stage.TheVariants.{Checking, Idle, Listing};
+ghost use Rattle.room_core.specs.Described.{operation_of};
+ghost use Rattle.room_core.specs.Gauges.{clock_of};
+ghost use Rattle.room_table.specs.Seats.{caller_now};
+ghost use Rattle.purgatory.specs.Going.{GoesOn, OwesNothing};
+ghost use Rattle.purgatory.specs.Listed.{HasDescribed, HasOpened, IsListedBelow, IsListing, KeepsAccount};
+ghost use Rattle.purgatory.specs.Polled.{HasTaken};
+ghost use Rattle.purgatory.specs.Registered.{HasEnded, HasRegistered, have_read};
+ghost use Rattle.purgatory.specs.Rooms.{IsOfRoom};
+
+use crate::locks::{Keys, Mark};
+use crate::outcome::{Done, Registered};
+use crate::owner::Owner;
+use crate::pass::RoomPass;
+use crate::room::Room;
+use opcond::{Need, Op, is_overdue, is_satisfied};
+use room_core::{CLOCK_MARK, How};
+use std::sync::Wait;
+
+impl Room {
+    // Writes a need down.
+    fn describe_need(&self, owner: &mut Owner, i: u32, need: Need)
+    {
+        let at = 3 + 3 * i;
+        owner.describe(&self.table, at, u64::from(need.gauge));
+        owner.describe(&self.table, at + 1, need.start);
+        owner.describe(&self.table, at + 2, need.cap);
+    }
+
+    // Writes an operation down.
+    fn describe(&self, owner: &mut Owner, op: &Op)
+    {
+        let needs = op.needs();
+        owner.describe(&self.table, 0, op.min());
+        owner.describe(&self.table, 1, op.deadline());
+        owner.describe(&self.table, 2, needs.len() as u64);
+        for i in 0..needs.len() {
+            self.describe_need(owner, i as u32, needs[i]);
+        }
+    }
+
+    // Lists the operation under a need's gauge, until the pass sees that, or that the operation is over.
+    fn list_need(
+        &self,
+        rt: &impl Wait,
+        owner: &mut Owner,
+        keys: &mut Keys,
+        at: u32,
+        gauge: u32,
+    ) -> Option<Done>
+    {
+        let mark = owner.mark(at);
+        for _ in rt.forever() {
+            self.locks
+                .list_need(rt, keys, &self.table, mark, gauge);
+            if owner.sees_mark(&self.table, at) {
+                return None;
+            }
+            if let Some(done) = owner.poll(&self.table) {
+                return Some(done);
+            }
+        }
+        unreachable!()
+    }
+
+    // The same under the clock.
+    fn list_deadline(
+        &self,
+        rt: &impl Wait,
+        owner: &mut Owner,
+        keys: &mut Keys,
+    ) -> Option<Done>
+    {
+        let mark = owner.mark(CLOCK_MARK);
+        for _ in rt.forever() {
+            self.locks.list_deadline(rt, keys, &self.table, mark);
+            if owner.sees_mark(&self.table, CLOCK_MARK) {
+                return None;
+            }
+            if let Some(done) = owner.poll(&self.table) {
+                return Some(done);
+            }
+        }
+        unreachable!()
+    }
+
+    // Lists the operation under every gauge of its needs. Some where it is over before.
+    fn list_needs(
+        &self,
+        rt: &impl Wait,
+        owner: &mut Owner,
+        keys: &mut Keys,
+        needs: &[Need],
+    ) -> Option<Done>
+    {
+        for i in 0..needs.len() {
+            if let Some(done) = self.list_need(rt, owner, keys, i as u32, needs[i].gauge) {
+                return Some(done);
+            }
+        }
+        None
+    }
+
+    // Reads the gauge of every need.
+    fn read_needs(&self, owner: &mut Owner, needs: &[Need], values: &mut [u64])
+    {
+        for i in 0..needs.len() {
+            values[i] = owner.read(&self.table, needs[i].gauge);
+        }
+    }
+
+    // Takes the end of the operation, which is won.
+    fn take_end(&self, rt: &impl Wait, owner: &mut Owner) -> Done
+    {
+        for _ in rt.forever() {
+            if let Some(done) = owner.poll(&self.table) {
+                return done;
+            }
+        }
+        unreachable!()
+    }
+
+    // Reads every gauge and the clock, and leaves the operation where it isn't answerable, or wins it.
+    fn check(&self, rt: &impl Wait, owner: &mut Owner, op: &Op) -> Registered
+    {
+        let needs = op.needs();
+        let mut values = [0; 64];
+        self.read_needs(owner, needs, &mut values);
+        let moment = owner.leave(&self.table, self.shape.gauges - 1);
+        let satisfied = is_satisfied(op, &values[..needs.len()]);
+        if !satisfied && !is_overdue(op, moment) {
+            return Registered::Parked;
+        }
+        let how = if satisfied {
+            How::Satisfied
+        } else {
+            How::Expired
+        };
+        owner.win(&self.table, how);
+        Registered::Won(self.take_end(rt, owner))
+    }
+
+    // Opens the operation that is described, lists it, and checks it.
+    fn run(&self, rt: &impl Wait, owner: &mut Owner, keys: &mut Keys, op: &Op) -> Registered
+    {
+        self.describe(owner, op);
+        owner.open(&self.table);
+        if let Some(done) = self.list_needs(rt, owner, keys, op.needs()) {
+            return Registered::Won(done);
+        }
+        if let Some(done) = self.list_deadline(rt, owner, keys) {
+            return Registered::Won(done);
+        }
+        self.check(rt, owner, op)
+    }
+
+    /// Registers an operation: opens it, lists it under each of its gauges and under the clock, and then reads all of these. `Parked`:
+    /// these last readings don't satisfy it, and the clock is before its deadline, so that it waits, until somebody wins it or the clock
+    /// comes to its deadline. `Won`: it was won in this call, by the pass or by a scanner.
+    pub fn register(&self, rt: &impl Wait, pass: &mut RoomPass, op: &Op) -> Registered
+        requires pass { IsOfRoom self.now pass.old }
+        requires idle { (caller_now pass.old.seat).stage ≡ Idle }
+        requires paid { OwesNothing (caller_now pass.old.seat) }
+        requires next { (caller_now pass.old.seat).generation < 2 ^ 32 - 1 }
+        requires gauges { All (λ need. need.gauge < clock_of self.now.table.shape) op.now.needs }
+        ensures made { IsOfRoom self.now pass.new }
+        ensures went { GoesOn pass.old.seat pass.new.seat }
+        ensures paid { OwesNothing (caller_now pass.new.seat) }
+        ensures registered { HasRegistered op.now result pass.old.seat pass.new.seat }
+    {
+        self.run(rt, &mut pass.owner, &mut pass.keys, op)
+    }
+}
