@@ -22,3 +22,5 @@ pub mod Paying
 pub mod Making
 -- a gauge that was raised
 pub mod Raised
+-- an operation that a pass describes, opens, sees listed, and checks
+pub mod Listed

@@ -1,17 +1,18 @@
 //! A pass as the owner of its operation: its seat, and what it keeps beside it.
-ghost use Rattle.std.specs.Prelude.{◌≡◌, ◌≢◌, ◌≤◌, ◌<◌, ◌+◌, ◌*◌, ◌↔◌, ℕ, [], IfOk, IsTrue};
+ghost use Rattle.std.specs.Prelude.{◌≡◌, ◌≢◌, ◌≤◌, ◌<◌, ◌-◌, ◌^◌, ◌↔◌, ℕ, [], IfOk, IsTrue};
 ghost use Rattle.room_core.specs.declared.event.How.{How as Way};
 ghost use Rattle.room_core.specs.declared.parts.Session.{Session as SessionWord};
-ghost use Rattle.room_core.specs.declared.parts.Stage.TheVariants.{Idle};
-ghost use Rattle.room_core.specs.Checks.{OwnerMayLeave, OwnerMayWin};
-ghost use Rattle.room_core.specs.Gauges.{IsGauge, IsPass};
-ghost use Rattle.room_core.specs.Numbers.{description_words};
-ghost use Rattle.room_core.specs.Passes.{MayDescribe, MayOpen, MaySeeMark};
+ghost use Rattle.room_core.specs.declared.parts.Stage.TheVariants.{Checking, Idle, Listing};
+ghost use Rattle.room_core.specs.Checks.{AreRead, IsRead, IsWon};
+ghost use Rattle.room_core.specs.Description.{IsMark, IsOperation};
+ghost use Rattle.room_core.specs.Gauges.{IsGauge, IsPass, clock_of};
+ghost use Rattle.room_core.specs.Numbers.{clock_mark, description_words};
 ghost use Rattle.room_table.specs.declared.part.CallerStep.TheVariants.{Asked, Described, Left, Opened, Read, SawMark, Won};
 ghost use Rattle.room_table.specs.Seats.{caller_did, caller_now};
 ghost use Rattle.purgatory.specs.Polled.{HasPolled};
 ghost use Rattle.purgatory.specs.Paying.{Pays};
 
+use crate::locks::Mark;
 use crate::outcome::Done;
 use kbytes::NoMemory;
 use room_core::{How, Phase, Session, Shape};
@@ -69,10 +70,16 @@ impl Owner {
         self.number
     }
 
-    pub(crate) fn generation(&self) -> u32
-        ensures { result ≡ (caller_now self.now).generation }
+    /// A mark of its operation.
+    pub(crate) fn mark(&self, at: u32) -> Mark
+        ensures mark { result ≡ record { pass = self.now.pass; generation = (caller_now self.now).generation; at = at } }
+        ensures there { IsPass self.now.table.shape self.now.pass }
     {
-        self.generation
+        Mark {
+            pass: self.number,
+            generation: self.generation,
+            at,
+        }
     }
 
     /// How many gauges there are. It owes nothing of any other.
@@ -127,7 +134,8 @@ impl Owner {
     /// Writes a word of the description.
     pub(crate) fn describe(&mut self, table: &RoomTable, at: u32, word: u64)
         requires table { self.old.table ≡ table.now }
-        requires may { (at < description_words) × ((caller_now self.old).stage ≡ Idle) }
+        requires idle { (caller_now self.old).stage ≡ Idle }
+        requires at { at < description_words }
         ensures { self.new ≡ caller_did self.old (Described at word) }
     {
         table.describe(&mut self.seat, at, word);
@@ -136,7 +144,9 @@ impl Owner {
     /// Opens the operation that is described.
     pub(crate) fn open(&mut self, table: &RoomTable)
         requires table { self.old.table ≡ table.now }
-        requires may { MayOpen table.now.shape self.old.pass (caller_now self.old) }
+        requires idle { (caller_now self.old).stage ≡ Idle }
+        requires operation { IsOperation table.now.shape (caller_now self.old).description }
+        requires next { (caller_now self.old).generation < 2 ^ 32 - 1 }
         ensures { self.new ≡ caller_did self.old Opened }
     {
         table.open(&mut self.seat);
@@ -146,7 +156,8 @@ impl Owner {
     /// Whether a mark of the operation is there: whether it was listed so.
     pub(crate) fn sees_mark(&mut self, table: &RoomTable, at: u32) -> bool
         requires table { self.old.table ≡ table.now }
-        requires may { MaySeeMark table.now.shape self.old.pass (caller_now self.old) at }
+        requires listing { (caller_now self.old).stage ≡ Listing }
+        requires mark { (at ≤ clock_mark) × IsMark (caller_now self.old).description at }
         ensures { (mark : ℕ) × (self.new ≡ caller_did self.old (SawMark at mark)) × (IsTrue result ↔ (mark ≡ (caller_now self.old).generation)) }
     {
         table.marked(&mut self.seat, at) == u64::from(self.generation)
@@ -155,7 +166,10 @@ impl Owner {
     /// Reads the last gauge of its check.
     pub(crate) fn leave(&mut self, table: &RoomTable, gauge: u32) -> u64
         requires table { self.old.table ≡ table.now }
-        requires may { OwnerMayLeave table.now.shape self.old.pass (caller_now self.old) gauge }
+        requires gauge { IsGauge self.old.table.shape gauge }
+        requires checking { (caller_now self.old).stage ≡ Checking }
+        requires read { AreRead (caller_now self.old).readings gauge (caller_now self.old).description }
+        requires clock { IsRead (caller_now self.old).readings gauge (clock_of self.old.table.shape) }
         ensures { self.new ≡ caller_did self.old (Left gauge result) }
     {
         table.leave(&mut self.seat, self.number, gauge)
@@ -164,7 +178,8 @@ impl Owner {
     /// Tries to win its own operation.
     pub(crate) fn win(&mut self, table: &RoomTable, how: How)
         requires table { self.old.table ≡ table.now }
-        requires may { OwnerMayWin table.now.shape self.old.pass (caller_now self.old) how }
+        requires checking { (caller_now self.old).stage ≡ Checking }
+        requires may { IsWon self.old.table.shape how (caller_now self.old).description (caller_now self.old).readings }
         ensures { (found : SessionWord) × (self.new ≡ caller_did self.old (Won how found)) }
     {
         table.win(&mut self.seat, self.number, how);

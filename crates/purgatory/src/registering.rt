@@ -1,19 +1,16 @@
 //! An operation is registered: described, opened, listed under each of its gauges and under the clock, and checked once more.
-ghost use Rattle.std.specs.Prelude.{◌≡◌, ◌≢◌, ◌-◌, ◌^◌, ◌<◌, ◌≤◌, ℕ, false, true, All, IfNone, IfSome, List as Items, length};
-ghost use Rattle.opcond.specs.declared.need.Need.{Need as OneNeed};
-ghost use Rattle.opcond.specs.Operation.{IsValid};
-ghost use Rattle.opcond.specs.Tally.{IsSatisfied};
+ghost use Rattle.std.specs.Prelude.{◌≡◌, ◌-◌, ◌*◌, ◌+◌, ◌^◌, ◌<◌, ◌≤◌, ◌≢◌, false, All, AllPairs, IfNone, IfSome, length, take};
 ghost use Rattle.room_core.specs.declared.parts.Stage.TheVariants.{Checking, Idle, Listing};
-ghost use Rattle.room_core.specs.Described.{operation_of};
-ghost use Rattle.room_core.specs.Gauges.{clock_of};
+ghost use Rattle.room_core.specs.Description.{IsOperation, needs_of};
+ghost use Rattle.room_core.specs.Gauges.{IsGauge, clock_of};
+ghost use Rattle.room_core.specs.Numbers.{clock_mark, most_needs};
 ghost use Rattle.room_table.specs.Seats.{caller_now};
 ghost use Rattle.purgatory.specs.Going.{GoesOn, OwesNothing};
-ghost use Rattle.purgatory.specs.Listed.{HasDescribed, HasOpened, IsListedBelow, IsListing, KeepsAccount};
-ghost use Rattle.purgatory.specs.Polled.{HasTaken};
-ghost use Rattle.purgatory.specs.Registered.{HasEnded, HasRegistered, have_read};
+ghost use Rattle.purgatory.specs.Listed.{BeginsCheck, Describes, Ends, GoesListing, HasChecked, HasReadAll, HasSeen, HasSeenBelow, IsDescribed, need_described};
+ghost use Rattle.purgatory.specs.Registered.{HasRegistered};
 ghost use Rattle.purgatory.specs.Rooms.{IsOfRoom};
 
-use crate::locks::{Keys, Mark};
+use crate::locks::Keys;
 use crate::outcome::{Done, Registered};
 use crate::owner::Owner;
 use crate::pass::RoomPass;
@@ -25,6 +22,10 @@ use std::sync::Wait;
 impl Room {
     // Writes a need down.
     fn describe_need(&self, owner: &mut Owner, i: u32, need: Need)
+        requires table { owner.old.table ≡ self.now.table }
+        requires idle { (caller_now owner.old).stage ≡ Idle }
+        requires few { i < most_needs }
+        ensures { owner.new ≡ need_described owner.old (3 + 3 * i) need }
     {
         let at = 3 + 3 * i;
         owner.describe(&self.table, at, u64::from(need.gauge));
@@ -34,6 +35,10 @@ impl Room {
 
     // Writes an operation down.
     fn describe(&self, owner: &mut Owner, op: &Op)
+        requires table { owner.old.table ≡ self.now.table }
+        requires idle { (caller_now owner.old).stage ≡ Idle }
+        ensures describes { Describes owner.old owner.new }
+        ensures words { IsDescribed op.now (caller_now owner.new).description }
     {
         let needs = op.needs();
         owner.describe(&self.table, 0, op.min());
@@ -53,6 +58,14 @@ impl Room {
         at: u32,
         gauge: u32,
     ) -> Option<Done>
+        requires table { owner.old.table ≡ self.now.table }
+        requires keys { keys.old ≡ self.now.locks }
+        requires generation { 1 ≤ (caller_now owner.old).generation }
+        requires listing { ((caller_now owner.old).stage ≡ Listing) × ((caller_now owner.old).seen clock_mark ≡ false) }
+        requires need { (at < needs_of (caller_now owner.old).description) × (at < most_needs) }
+        ensures keys { keys.new ≡ keys.old }
+        ensures none { IfNone result (HasSeen at owner.old owner.new) }
+        ensures some { IfSome result (λ done. Ends done owner.old owner.new) }
     {
         let mark = owner.mark(at);
         for _ in rt.forever() {
@@ -75,6 +88,15 @@ impl Room {
         owner: &mut Owner,
         keys: &mut Keys,
     ) -> Option<Done>
+        requires table { owner.old.table ≡ self.now.table }
+        requires keys { keys.old ≡ self.now.locks }
+        requires generation { 1 ≤ (caller_now owner.old).generation }
+        requires listing { ((caller_now owner.old).stage ≡ Listing) × ((caller_now owner.old).seen clock_mark ≡ false) }
+        requires needs { needs_of (caller_now owner.old).description ≤ most_needs }
+        requires seen { HasSeenBelow (needs_of (caller_now owner.old).description) (caller_now owner.old) }
+        ensures keys { keys.new ≡ keys.old }
+        ensures none { IfNone result (BeginsCheck owner.old owner.new) }
+        ensures some { IfSome result (λ done. Ends done owner.old owner.new) }
     {
         let mark = owner.mark(CLOCK_MARK);
         for _ in rt.forever() {
@@ -97,6 +119,14 @@ impl Room {
         keys: &mut Keys,
         needs: &[Need],
     ) -> Option<Done>
+        requires table { owner.old.table ≡ self.now.table }
+        requires keys { keys.old ≡ self.now.locks }
+        requires generation { 1 ≤ (caller_now owner.old).generation }
+        requires listing { ((caller_now owner.old).stage ≡ Listing) × ((caller_now owner.old).seen clock_mark ≡ false) }
+        requires needs { (length needs.now ≡ needs_of (caller_now owner.old).description) × (length needs.now ≤ most_needs) }
+        ensures keys { keys.new ≡ keys.old }
+        ensures none { IfNone result (GoesListing owner.old owner.new × HasSeenBelow (length needs.now) (caller_now owner.new)) }
+        ensures some { IfSome result (λ done. Ends done owner.old owner.new) }
     {
         for i in 0..needs.len() {
             if let Some(done) = self.list_need(rt, owner, keys, i as u32, needs[i].gauge) {
@@ -108,6 +138,12 @@ impl Room {
 
     // Reads the gauge of every need.
     fn read_needs(&self, owner: &mut Owner, needs: &[Need], values: &mut [u64])
+        requires table { owner.old.table ≡ self.now.table }
+        requires checking { (caller_now owner.old).stage ≡ Checking }
+        requires room { length needs.now ≤ length values.old }
+        requires gauges { All (λ need. need.gauge < clock_of self.now.table.shape) needs.now }
+        requires distinct { AllPairs (λ a b. a.gauge ≢ b.gauge) needs.now }
+        ensures { HasReadAll needs.now (take (length needs.now) values.new) owner.old owner.new }
     {
         for i in 0..needs.len() {
             values[i] = owner.read(&self.table, needs[i].gauge);
@@ -116,6 +152,9 @@ impl Room {
 
     // Takes the end of the operation, which is won.
     fn take_end(&self, rt: &impl Wait, owner: &mut Owner) -> Done
+        requires table { owner.old.table ≡ self.now.table }
+        requires busy { (caller_now owner.old).stage ≢ Idle }
+        ensures { Ends result owner.old owner.new }
     {
         for _ in rt.forever() {
             if let Some(done) = owner.poll(&self.table) {
@@ -127,6 +166,11 @@ impl Room {
 
     // Reads every gauge and the clock, and leaves the operation where it isn't answerable, or wins it.
     fn check(&self, rt: &impl Wait, owner: &mut Owner, op: &Op) -> Registered
+        requires table { owner.old.table ≡ self.now.table }
+        requires checking { (caller_now owner.old).stage ≡ Checking }
+        requires words { IsDescribed op.now (caller_now owner.old).description }
+        requires gauges { All (λ need. need.gauge < clock_of self.now.table.shape) op.now.needs }
+        ensures { HasChecked op.now result owner.old owner.new }
     {
         let needs = op.needs();
         let mut values = [0; 64];
@@ -147,6 +191,15 @@ impl Room {
 
     // Opens the operation that is described, lists it, and checks it.
     fn run(&self, rt: &impl Wait, owner: &mut Owner, keys: &mut Keys, op: &Op) -> Registered
+        requires table { owner.old.table ≡ self.now.table }
+        requires keys { keys.old ≡ self.now.locks }
+        requires idle { (caller_now owner.old).stage ≡ Idle }
+        requires next { (caller_now owner.old).generation < 2 ^ 32 - 1 }
+        requires gauges { All (λ need. need.gauge < clock_of self.now.table.shape) op.now.needs }
+        ensures keys { keys.new ≡ keys.old }
+        ensures went { GoesOn owner.old owner.new }
+        ensures owed { (caller_now owner.new).owed ≡ (caller_now owner.old).owed }
+        ensures registered { HasRegistered op.now result owner.old owner.new }
     {
         self.describe(owner, op);
         owner.open(&self.table);
