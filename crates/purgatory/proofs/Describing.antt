@@ -46,7 +46,10 @@ word_else a b at word i e n = ap (λ (v : CallerView). (caller_now v).descriptio
 -- a need is written
 pub describes_need : (a b : CallerView) (at : ℕ) (need : Need) → b ≡ need_described a at need → Describes a b
 describes_need a b at need e = record {
-  went = goes_by a _ b _ (goes_by a _ _ _ (one_step a _ (CallerStep.Described at need.gauge) refl) refl) e;
+  went =
+      let first = caller_did a (CallerStep.Described at need.gauge) in
+      let second = caller_did first (CallerStep.Described (at + 1) need.start) in
+      goes_by a second b (CallerStep.Described (at + 2) need.cap) (goes_by a first second (CallerStep.Described (at + 1) need.start) (one_step a first (CallerStep.Described at need.gauge) refl) refl) e;
   same = subst (λ (v : CallerView). caller_now v ≡ with_words (caller_now a) (caller_now v).description) (sym e) refl;
 }
 

@@ -18,3 +18,5 @@ pub mod Doors
 pub mod Made
 -- a gauge is raised
 pub mod Raises
+-- an operation from its opening to its end
+pub mod Runs

@@ -12,7 +12,7 @@ use Rattle.room_core.specs.State.{Caller}
 use Rattle.room_core.proofs.Laws.{put_else, put_here}
 use Rattle.room_table.specs.declared.part.CallerStep.{CallerStep}
 use Rattle.room_table.specs.Seats.{CallerView, caller_did, caller_now}
-use Rattle.purgatory.specs.Going.{GoesOn}
+use Rattle.room_scans.specs.Listing.{open_at}
 use Rattle.purgatory.specs.Listed.{BeginsCheck, GoesListing, HasSeen, HasSeenBelow, Keeps}
 use Rattle.purgatory.specs.Polled.{found_open}
 use Rattle.purgatory.proofs.Goes.{account_same, keeps_by, keeps_far, keeps_same}
@@ -111,7 +111,7 @@ listing_far a b c g h = record {
 -- its word is open still
 pub listing_open : (a b : CallerView) → b ≡ found_open a → (caller_now a).stage ≡ Listing → (caller_now a).seen clock_mark ≡ false → GoesListing a b
 listing_open a b e listing clock = record {
-  keeps = keeps_by a b _ (account_same (caller_now a)) e;
+  keeps = keeps_by a b (CallerStep.Peeked (open_at (caller_now a).generation)) (account_same (caller_now a)) e;
   listing = open_stage a b e ∙ listing;
   clock = ap (λ (v : CallerView). (caller_now v).seen clock_mark) e ∙ clock;
   marks = λ i seen. ap (λ (v : CallerView). (caller_now v).seen i) e ∙ seen;

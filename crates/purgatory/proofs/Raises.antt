@@ -17,7 +17,7 @@ asks a b gauge value e =
     let debt : (caller_now b).owed gauge ≡ max (owed gauge) value =
     ap (λ (v : CallerView). (caller_now v).owed gauge) e ∙ put_here owed gauge (max (owed gauge) value) in
     record {
-      went = goes_by a _ b (CallerStep.Asked gauge value) (one_step a _ (CallerStep.Read gauge value) refl) e;
+      went = goes_by a (caller_did a (CallerStep.Read gauge value)) b (CallerStep.Asked gauge value) (one_step a (caller_did a (CallerStep.Read gauge value)) (CallerStep.Read gauge value) refl) e;
       kept = record {
         generation = ap (λ (v : CallerView). (caller_now v).generation) e;
         description = ap (λ (v : CallerView). (caller_now v).description) e;

@@ -107,3 +107,11 @@ pub record Leaves (op : Operation) (old new : CallerView) : Type 0 where
 abbrev pub HasChecked : Operation → Registered → CallerView → CallerView → Type 0
 HasChecked op Registered.Parked old new = Leaves op old new
 HasChecked op (Registered.Won done) old new = Ends done old new
+
+-- the operation is opened, at the next generation
+pub record IsOpened (op : Operation) (old new : CallerView) : Type 0 where
+  pub went : GoesOn old new
+  pub generation : (caller_now new).generation ≡ (caller_now old).generation + 1
+  pub described : IsDescribed op (caller_now new).description
+  pub owed : (caller_now new).owed ≡ (caller_now old).owed
+  pub taken : (caller_now new).taken ≡ (caller_now old).taken

@@ -128,8 +128,8 @@ impl Room {
         ensures none { IfNone result (GoesListing owner.old owner.new × HasSeenBelow (length needs.now) (caller_now owner.new)) }
         ensures some { IfSome result (λ done. Ends done owner.old owner.new) }
     {
-        for i in 0..needs.len() {
-            if let Some(done) = self.list_need(rt, owner, keys, i as u32, needs[i].gauge) {
+        for at in 0..needs.len() {
+            if let Some(done) = self.list_need(rt, owner, keys, at as u32, needs[at].gauge) {
                 return Some(done);
             }
         }
