@@ -24,6 +24,8 @@ pub mod Ready
 pub mod Handing
 -- the table at its start
 pub mod Starts
+-- as many items as places
+pub mod Pigeons
 -- the seats that come back
 pub mod Ends
 -- the last of the seats
@@ -32,3 +34,5 @@ pub mod Popped
 pub mod Besides
 -- operations that threads open and win, in a test
 pub mod Winners
+-- what the crates above may cite
+pub mod Laws

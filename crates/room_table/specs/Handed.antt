@@ -1,7 +1,8 @@
 -- The seats of a table as they are handed out, and as they come back.
-use Rattle.std.specs.Prelude.{◌≡◌, ℕ, ◌-◌, List, [], ◌∷◌, ◌++◌, All, length, map}
+use Rattle.std.specs.Prelude.{◌≡◌, ℕ, ◌-◌, ◌==◌, List, [], ◌∷◌, ◌++◌, All, count_by, length, map}
 use Rattle.std.specs.List.{range_with_len}
 use Rattle.room_core.specs.Carried.{IsCarried}
+use Rattle.room_core.specs.Gauges.{IsGauge, IsPass, IsScanner}
 use Rattle.room_core.specs.Numbers.{clock_scanner}
 use Rattle.room_core.specs.State.{State}
 use Rattle.room_table.specs.declared.part.Part.{Part}
@@ -41,7 +42,8 @@ pub record AreScanners (table : TableView) (seats : List ScanView) : Type 0 wher
   pub all : length seats ≡ table.shape.scanners
   pub each : All (λ seat. seat.table ≡ table) seats
 
--- the words and what the seats know show a state that the room's machine carries
+-- The words and what the seats know show a state that the room's machine carries. Each seat is of a gauge, a pass or a scanner of the
+-- shape, and of each of these there is exactly one seat: so every part of the state is one that a seat shows.
 pub record AreShown (table : TableView) (sources : List SourceView) (callers : List CallerView) (scanners : List ScanView) (row : List ℕ) : Type 0 where
   pub state : State
   pub shape : state.shape ≡ table.shape
@@ -50,6 +52,12 @@ pub record AreShown (table : TableView) (sources : List SourceView) (callers : L
   pub source : All (λ seat. state.source seat.gauge ≡ source_now seat) sources
   pub caller : All (λ seat. state.caller seat.pass ≡ caller_now seat) callers
   pub scanner : All (λ seat. state.scanner seat.scanner ≡ scanner_now seat) scanners
+  pub gauges : All (λ seat. IsGauge table.shape seat.gauge) sources
+  pub passes : All (λ seat. IsPass table.shape seat.pass) callers
+  pub numbers : All (λ seat. IsScanner table.shape seat.scanner) scanners
+  pub one_source : (gauge : ℕ) → IsGauge table.shape gauge → count_by (λ seat. seat.gauge == gauge) sources ≡ 1
+  pub one_caller : (pass : ℕ) → IsPass table.shape pass → count_by (λ seat. seat.pass == pass) callers ≡ 1
+  pub one_scanner : (k : ℕ) → IsScanner table.shape k → count_by (λ seat. seat.scanner == k) scanners ≡ 1
 
 -- a seat's part
 abbrev pub source_part : SourceView → Part

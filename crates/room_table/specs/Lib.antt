@@ -8,6 +8,8 @@ pub mod Parts
 pub mod Tells
 -- the seats as they are handed out, and as they come back
 pub mod Handed
+-- a table that is closed seat by seat
+pub mod Closing
 -- the rule of the table, and the words that a state has
 pub mod Shown
 -- where each word stands

@@ -1,12 +1,13 @@
 //! The seats are handed out as the table is made, and come back as it is closed.
-ghost use Rattle.std.specs.Prelude.{◌≡◌, ◌<◌, ◌∷◌, ◌++◌, [], All, IfOk, length, map};
+ghost use Rattle.std.specs.Prelude.{◌≡◌, ◌<◌, ◌++◌, [], All, IfOk};
 ghost use Rattle.room_core.specs.Gauges.{IsShape};
 ghost use Rattle.room_table.specs.Fresh.{all_callers, all_parts, all_scanners};
-ghost use Rattle.room_table.specs.Handed.{caller_part, fresh_callers, fresh_scanners, fresh_sources, scanner_part, source_part};
+ghost use Rattle.room_table.specs.Handed.{fresh_callers, fresh_scanners, fresh_sources};
 ghost use Rattle.room_table.specs.Seats.{HasScanner, scan_view, table_view};
 ghost use Rattle.room_table.specs.Tells.{scanner_steps};
 
-use crate::plays::{HandOut, TakeBack};
+use crate::closing::Closing;
+use crate::plays::HandOut;
 use crate::rule::{Place, Top};
 use crate::seats::{CallerSeat, ScanSeat, SourceSeat};
 use kbytes::{List, NoMemory};
@@ -90,63 +91,29 @@ pub(crate) fn hand_scanners(
     Ok(all)
 }
 
-pub(crate) fn take_sources(top: &Top, mut sources: List<SourceSeat>, seat: &mut Place)
-    requires table { (seat.old.table_id ≡ top.now.table_id) × (0 < top.now.table_id.words) }
-    requires each { All (λ s. s.table.id ≡ top.now.table_id) sources }
-    requires none { seat.old.me.1 ≡ [] }
-    ensures table { seat.new.table_id ≡ seat.old.table_id }
-    ensures parts { seat.new.me ≡ (map source_part sources ++ seat.old.me.0, []) }
+pub(crate) fn take_sources(closing: &mut Closing, mut sources: List<SourceSeat>)
+    requires { All (λ s. s.table ≡ closing.old.table) sources }
+    ensures { closing.new ≡ record closing.old { sources = sources ++ closing.old.sources } }
 {
     while let Some(source) = sources.pop() {
-        let SourceSeat {
-            seat: other,
-            gauge: _,
-        } = source;
-        top.join_seat::<TakeBack>(seat, other);
+        closing.take_source(source);
     }
 }
 
-pub(crate) fn take_callers(top: &Top, mut callers: List<CallerSeat>, seat: &mut Place)
-    requires table { (seat.old.table_id ≡ top.now.table_id) × (0 < top.now.table_id.words) }
-    requires each { All (λ s. s.table.id ≡ top.now.table_id) callers }
-    requires none { seat.old.me.1 ≡ [] }
-    ensures table { seat.new.table_id ≡ seat.old.table_id }
-    ensures parts { seat.new.me ≡ (map caller_part callers ++ seat.old.me.0, []) }
+pub(crate) fn take_callers(closing: &mut Closing, mut callers: List<CallerSeat>)
+    requires { All (λ s. s.table ≡ closing.old.table) callers }
+    ensures { closing.new ≡ record closing.old { callers = callers ++ closing.old.callers } }
 {
     while let Some(caller) = callers.pop() {
-        let CallerSeat {
-            seat: other,
-            pass: _,
-            generation: _,
-        } = caller;
-        top.join_seat::<TakeBack>(seat, other);
+        closing.take_caller(caller);
     }
 }
 
-pub(crate) fn take_scanners(top: &Top, mut scanners: List<ScanSeat>) -> Place
-    requires words { 0 < top.now.table_id.words }
-    requires some { 0 < length scanners }
-    requires each { All (λ s. s.table.id ≡ top.now.table_id) scanners }
-    ensures table { result.table_id ≡ top.now.table_id }
-    ensures parts { result.me ≡ (map scanner_part scanners, []) }
+pub(crate) fn take_scanners(closing: &mut Closing, mut scanners: List<ScanSeat>)
+    requires { All (λ s. s.table ≡ closing.old.table) scanners }
+    ensures { closing.new ≡ record closing.old { scanners = scanners ++ closing.old.scanners } }
 {
-    let Some(last) = scanners.pop() else {
-        unreachable!()
-    };
-    let ScanSeat {
-        mut seat,
-        scanner: _,
-        heard: _,
-        met: _,
-    } = last;
     while let Some(scan) = scanners.pop() {
-        let ScanSeat {
-            seat: other,
-            scanner: _,
-            heard: _,
-            met: _,
-        } = scan;
-        top.join_seat::<TakeBack>(&mut seat, other);
+        closing.take_scanner(scan);
     }
-    seat
 }

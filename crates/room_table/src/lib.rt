@@ -25,6 +25,7 @@
 
 mod checker;
 mod checks;
+mod closing;
 mod hand;
 mod layout;
 mod meetings;
@@ -38,6 +39,7 @@ mod sleep;
 mod table;
 
 pub use checker::Checker;
+pub use closing::Closing;
 pub use part::{CallerStep, Part, ScannerStep, SourceStep};
 pub use seats::{CallerSeat, ScanSeat, SourceSeat};
 pub use table::{RoomTable, TableParts, TableWords};

@@ -1,13 +1,15 @@
 //! The table: made with its seats, and closed with them.
-ghost use Rattle.std.specs.Prelude.{◌≡◌, ◌<◌, IfOk, length, slice_index};
+ghost use Rattle.std.specs.Prelude.{◌≡◌, ◌<◌, ◌++◌, [], IfOk, length, slice_index};
 ghost use Rattle.room_core.specs.Gauges.{IsShape};
+ghost use Rattle.room_table.specs.Closing.{AreAllBack, closing_view};
 ghost use Rattle.room_table.specs.Handed.{AreCallers, AreScanners, AreShown, AreSources, fresh_callers, fresh_scanners, fresh_sources};
 
 use crate::hand::{
     hand_callers, hand_scanners, hand_sources, take_callers, take_scanners, take_sources,
 };
 use crate::layout::size;
-use crate::rule::{Board, Top};
+use crate::plays::TakeBack;
+use crate::rule::{Board, Place, Top};
 use crate::seats::{CallerSeat, ScanSeat, SourceSeat};
 use atomic_table::{Closed, Table};
 use kbytes::{List, NoMemory};
@@ -103,23 +105,47 @@ impl RoomTable {
         })
     }
 
-    /// Takes all seats back, and gives the words out. They and what the seats know show a state that the room's machine carries.
+    /// Takes all seats back, and gives the words out. They and what the seats know show a state that the room's machine carries, each
+    /// part of which is one seat's.
     pub fn close(
         self,
         sources: List<SourceSeat>,
         callers: List<CallerSeat>,
-        scanners: List<ScanSeat>,
+        mut scanners: List<ScanSeat>,
     ) -> TableWords
         requires sources { AreSources self sources }
         requires callers { AreCallers self callers }
         requires scanners { AreScanners self scanners }
         ensures { AreShown self sources callers scanners result }
     {
+        let _ = &self.shape;
+        let Some(last) = scanners.pop() else {
+            unreachable!()
+        };
+        let mut closing = self.closing(last);
+        take_scanners(&mut closing, scanners);
+        take_callers(&mut closing, callers);
+        take_sources(&mut closing, sources);
+        closing.close()
+    }
+
+    // A seat comes back into another.
+    pub(crate) fn take_back(&self, seat: &mut Place, other: Place)
+        requires seats { (seat.old.table_id ≡ self.now.id) × (other.table_id ≡ self.now.id) }
+        requires none { other.me.1 ≡ [] }
+        ensures table { seat.new.table_id ≡ seat.old.table_id }
+        ensures parts { seat.new.me ≡ (other.me.0 ++ seat.old.me.0, seat.old.me.1) }
+    {
+        self.board.shared.join_seat::<TakeBack>(seat, other);
+    }
+
+    // The words, where all seats came back into this one.
+    pub(crate) fn words_by(self, seat: Place) -> TableWords
+        requires table { seat.table_id ≡ self.id }
+        requires all { AreAllBack (closing_view self seat.me.0) }
+        ensures { let back = closing_view self seat.me.0 in AreShown self back.sources back.callers back.scanners result }
+    {
         let RoomTable { board, shape: _ } = self;
-        let top: &Top = &board.shared;
-        let mut seat = take_scanners(top, scanners);
-        take_callers(top, callers, &mut seat);
-        take_sources(top, sources, &mut seat);
         TableWords {
             closed: board.close_with(seat),
         }

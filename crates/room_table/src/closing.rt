@@ -1,0 +1,92 @@
+//! A table is closed seat by seat. So who keeps the seats inside other values needs no memory for lists of them.
+ghost use Rattle.std.specs.Prelude.{◌≡◌};
+ghost use Rattle.room_table.specs.Closing.{AreAllBack, none_back, with_caller, with_scanner, with_source};
+ghost use Rattle.room_table.specs.Handed.{AreShown};
+
+use crate::rule::Place;
+use crate::seats::{CallerSeat, ScanSeat, SourceSeat};
+use crate::table::{RoomTable, TableWords};
+use std::marker::Model;
+
+/// A table whose seats come back one after the other, in any order. A contract sees the table, and the seats that came back, the
+/// newest first. None of its calls takes memory.
+#[derive(Drop)]
+pub struct Closing {
+    table: RoomTable,
+    seat: Place,
+}
+
+impl Model for Closing {
+    ghost use Rattle.std.specs.Prelude.{◌≡◌, []};
+    ghost use Rattle.room_table.specs.Closing.{ClosingView, closing_view};
+
+    ghost Value = { ClosingView };
+
+    ghost view = { λ c. closing_view c.table c.seat.me.0 };
+
+    ghost invariant = { λ c. (c.seat.table_id ≡ c.table.id) × (c.seat.me.1 ≡ []) };
+}
+
+impl RoomTable {
+    /// Begins to close the table, with the seat of one of its scanners. Nobody can step on it any more.
+    pub fn closing(self, first: ScanSeat) -> Closing
+        requires { first.table ≡ self }
+        ensures { result ≡ with_scanner (none_back self) first }
+    {
+        let ScanSeat {
+            seat,
+            scanner: _,
+            heard: _,
+            met: _,
+        } = first;
+        Closing { table: self, seat }
+    }
+}
+
+impl Closing {
+    /// Takes the seat of a gauge's source back.
+    pub fn take_source(&mut self, source: SourceSeat)
+        requires { source.table ≡ self.old.table }
+        ensures { self.new ≡ with_source self.old source }
+    {
+        let SourceSeat { seat, gauge: _ } = source;
+        self.table.take_back(&mut self.seat, seat);
+    }
+
+    /// Takes the seat of a pass back.
+    pub fn take_caller(&mut self, caller: CallerSeat)
+        requires { caller.table ≡ self.old.table }
+        ensures { self.new ≡ with_caller self.old caller }
+    {
+        let CallerSeat {
+            seat,
+            pass: _,
+            generation: _,
+        } = caller;
+        self.table.take_back(&mut self.seat, seat);
+    }
+
+    /// Takes the seat of a scanner back.
+    pub fn take_scanner(&mut self, scan: ScanSeat)
+        requires { scan.table ≡ self.old.table }
+        ensures { self.new ≡ with_scanner self.old scan }
+    {
+        let ScanSeat {
+            seat,
+            scanner: _,
+            heard: _,
+            met: _,
+        } = scan;
+        self.table.take_back(&mut self.seat, seat);
+    }
+
+    /// Gives the words out, where all seats are back. They and what the seats know show a state that the room's machine carries, each
+    /// part of which is one seat's.
+    pub fn close(self) -> TableWords
+        requires { AreAllBack self }
+        ensures { AreShown self.table self.sources self.callers self.scanners result }
+    {
+        let Closing { table, seat } = self;
+        table.words_by(seat)
+    }
+}
