@@ -20,3 +20,13 @@ pub mod Made
 pub mod Raises
 -- an operation from its opening to its end
 pub mod Runs
+-- what a pass has won and taken, step by step
+pub mod OwnCounts
+-- lists whose items have numbers
+pub mod Numbered
+-- no more exchanges than operations taken
+pub mod Exchanges
+-- the seats of a still room, and what they show
+pub mod Settling
+-- turns that are held
+pub mod Holds

@@ -29,17 +29,21 @@ pub(crate) struct Owner {
     number: u32,
     generation: u32,
     owed: Vec<u64>,
+    // the operations that it won itself, and those that it has taken
+    won: u32,
+    taken: u32,
 }
 
 impl Model for Owner {
-    ghost use Rattle.room_table.specs.Seats.{CallerView};
+    ghost use Rattle.room_table.specs.Seats.{CallerView, caller_now};
+    ghost use Rattle.purgatory.specs.Counted.{IsCounted};
     ghost use Rattle.purgatory.specs.Owned.{IsOwner};
 
     ghost Value = { CallerView };
 
     ghost view = { λ o. o.seat };
 
-    ghost invariant = { λ o. IsOwner o.number o.generation o.owed.items o.seat };
+    ghost invariant = { λ o. IsOwner o.number o.generation o.owed.items o.seat × IsCounted o.won o.taken (caller_now o.seat) };
 }
 
 impl Owner {
@@ -60,6 +64,8 @@ impl Owner {
             number,
             generation: 0,
             owed,
+            won: 0,
+            taken: 0,
         })
     }
 
@@ -80,6 +86,35 @@ impl Owner {
             generation: self.generation,
             at,
         }
+    }
+
+    /// How many operations it won itself.
+    pub(crate) fn won(&self) -> u32
+        ensures { result ≡ length (caller_now self.now).wins }
+    {
+        self.won
+    }
+
+    /// How many it has taken.
+    pub(crate) fn taken(&self) -> u32
+        ensures { result ≡ length (caller_now self.now).taken }
+    {
+        self.taken
+    }
+
+    /// Its seat, for the close of the table.
+    pub(crate) fn into_seat(self) -> CallerSeat
+        ensures { result ≡ self }
+    {
+        let Owner {
+            seat,
+            number: _,
+            generation: _,
+            owed: _,
+            won: _,
+            taken: _,
+        } = self;
+        seat
     }
 
     /// How many gauges there are. It owes nothing of any other.
@@ -182,7 +217,9 @@ impl Owner {
         requires may { IsWon self.old.table.shape how (caller_now self.old).description (caller_now self.old).readings }
         ensures { (found : SessionWord) × (self.new ≡ caller_did self.old (Won how found)) }
     {
-        table.win(&mut self.seat, self.number, how);
+        if table.win(&mut self.seat, self.number, how) {
+            self.won += 1;
+        }
     }
 
     /// Sleeps while its session word is open, for no longer than this.
@@ -203,6 +240,7 @@ impl Owner {
             return None;
         };
         table.idle(&mut self.seat);
+        self.taken += 1;
         Some(Done { how, by })
     }
 }

@@ -1,0 +1,63 @@
+-- Turns that are held, one lock after the other.
+use Rattle.std.proofs.Common.{◌≡◌, ◌≢◌, ◌⊎◌, ℕ, zero, suc, ◌+◌, ◌-◌, ◌<◌, ◌≤◌, List, [], ◌∷◌, Option, Some, None, length, get_or, set, map, refl, sym, ap, ◌∙◌, subst, inl, inr, ⊎_elim, arith}
+use Rattle.std.specs.Prelude.{All, slice_index_or}
+use Rattle.std.proofs.lemmas.List.{get_or-set_other, get_or-set_same}
+use Rattle.std.proofs.lemmas.List.Elements.{All-nil, All-cons, All-head, All-tail}
+use Rattle.std.proofs.lemmas.List.Sums.{sum_by-cons}
+use Rattle.room_core.specs.Scans.{HasNoDuty}
+use Rattle.room_table.specs.Closing.{ClosingView, none_back, with_scanner}
+use Rattle.room_table.specs.Seats.{TableView, ScanView, scanner_now}
+use Rattle.purgatory.specs.Holding.{won_by_scanners}
+use Rattle.purgatory.specs.Still.{AreScannersTo, numbers_down}
+use Rattle.purgatory.specs.Written.{AreWritten}
+
+-- the numbers below n, and the clock's
+small_numbers : (n : ℕ) → All (λ k. (k < n) ⊎ (k ≡ 16)) (numbers_down n)
+small_numbers zero = All-cons (λ k. (k < 0) ⊎ (k ≡ 16)) 16 [] (inr refl) (All-nil (λ k. (k < 0) ⊎ (k ≡ 16)))
+small_numbers (suc n) =
+    All-cons (λ k. (k < suc n) ⊎ (k ≡ 16)) n (numbers_down n) (inl (omega arith))
+    (λ i d l. ⊎_elim (λ (m : get_or (numbers_down n) i d < n). inl (omega arith)) (λ (e : get_or (numbers_down n) i d ≡ 16). inr e) (small_numbers n i d l))
+
+numbers_of : {A : Type 0} (key : A → ℕ) (P : ℕ → Type 0) (xs : List A) → All P (map key xs) → All (λ x. P (key x)) xs
+numbers_of key P [] all = All-nil (λ x. P (key x))
+numbers_of key P (x ∷ xs) all = All-cons (λ y. P (key y)) x xs (All-head P (key x) (map key xs) all) (numbers_of key P xs (All-tail P (key x) (map key xs) all))
+
+pub small_scanners : (n : ℕ) (table : TableView) (scanners : List ScanView) → AreScannersTo n table scanners → All (λ seat. (seat.scanner < n) ⊎ (seat.scanner ≡ 16)) scanners
+small_scanners n table scanners are =
+    numbers_of (λ (seat : ScanView). seat.scanner) (λ k. (k < n) ⊎ (k ≡ 16)) scanners (subst (All (λ k. (k < n) ⊎ (k ≡ 16))) (sym are.numbers) (small_numbers n))
+
+-- the clock's scanner alone
+pub first_scanner : (table : TableView) (seat : ScanView) → seat.table ≡ table → seat.scanner ≡ 16 → HasNoDuty (scanner_now seat) → AreScannersTo 0 table (seat ∷ [])
+first_scanner table seat own number rests = record {
+  numbers = ap (λ k. k ∷ []) number;
+  of_table = All-cons (λ s. s.table ≡ table) seat [] own (All-nil (λ s. s.table ≡ table));
+  no_duty = All-cons (λ s. HasNoDuty (scanner_now s)) seat [] rests (All-nil (λ s. HasNoDuty (scanner_now s)));
+}
+
+-- a shard's scanner more
+pub next_scanner : (n k : ℕ) (table : TableView) (seat : ScanView) (scanners : List ScanView) → n ≡ suc k → seat.table ≡ table → seat.scanner ≡ k → HasNoDuty (scanner_now seat)
+    → AreScannersTo k table scanners → AreScannersTo n table (seat ∷ scanners)
+next_scanner n k table seat scanners next own number rests are = subst (λ m. AreScannersTo m table (seat ∷ scanners)) (sym next) record {
+  numbers = ap (λ m. m ∷ map (λ (s : ScanView). s.scanner) scanners) number ∙ ap (λ ms. k ∷ ms) are.numbers;
+  of_table = All-cons (λ s. s.table ≡ table) seat scanners own are.of_table;
+  no_duty = All-cons (λ s. HasNoDuty (scanner_now s)) seat scanners rests are.no_duty;
+}
+
+pub won_next : (seat : ScanView) (scanners : List ScanView) → won_by_scanners (seat ∷ scanners) ≡ length (scanner_now seat).wins + won_by_scanners scanners
+won_next seat scanners = sum_by-cons (λ s. length (scanner_now s).wins) seat scanners
+
+-- a number is written more
+pub written_next : (k : ℕ) (table : TableView) (seat : ScanView) (scanners : List ScanView) (old new : List ℕ) (won : ℕ) → AreScannersTo k table scanners → AreWritten scanners old → k < 16
+    → k < length old → seat.scanner ≡ k → won ≡ length (scanner_now seat).wins → new ≡ set old k won → AreWritten (seat ∷ scanners) new
+written_next k table seat scanners old new won are written few there number is e =
+    let P : ScanView → Type 0 = λ s. get_or new s.scanner 0 ≡ length (scanner_now s).wins in
+    All-cons P seat scanners (ap (λ xs. get_or xs seat.scanner 0) e ∙ (ap (λ m. get_or (set old k won) m 0) number ∙ (get_or-set_same old k won 0 there ∙ is)))
+    (λ i d l.
+    let other : ScanView = slice_index_or scanners i d in
+    let apart : other.scanner ≢ k = ⊎_elim (λ (m : other.scanner < k). λ (q : other.scanner ≡ k). absurd (omega arith)) (λ (m : other.scanner ≡ 16). λ (q : other.scanner ≡ k). absurd (omega arith)) (small_scanners k table scanners are i d l) in
+    ap (λ xs. get_or xs other.scanner 0) e ∙ (get_or-set_other old k other.scanner won 0 apart ∙ written i d l))
+
+pub written_first : (seat : ScanView) (old new : List ℕ) (won : ℕ) → 16 < length old → seat.scanner ≡ 16 → won ≡ length (scanner_now seat).wins → new ≡ set old 16 won → AreWritten (seat ∷ []) new
+written_first seat old new won there number is e =
+    let P : ScanView → Type 0 = λ s. get_or new s.scanner 0 ≡ length (scanner_now s).wins in
+    All-cons P seat [] (ap (λ xs. get_or xs seat.scanner 0) e ∙ (ap (λ m. get_or (set old 16 won) m 0) number ∙ (get_or-set_same old 16 won 0 there ∙ is))) (All-nil P)
