@@ -1,13 +1,21 @@
 -- Turns that are held, one lock after the other.
 use Rattle.std.proofs.Common.{◌≡◌, ◌≢◌, ◌⊎◌, ℕ, zero, suc, ◌+◌, ◌-◌, ◌<◌, ◌≤◌, List, [], ◌∷◌, Option, Some, None, length, get_or, set, map, refl, sym, ap, ◌∙◌, subst, inl, inr, ⊎_elim, arith}
 use Rattle.std.specs.Prelude.{All, slice_index_or}
-use Rattle.std.proofs.lemmas.List.{get_or-set_other, get_or-set_same}
+use Rattle.std.proofs.lemmas.Bool.{cases_eq}
+use Rattle.std.proofs.lemmas.List.{get_or-set_other, get_or-set_same, get_or_default, length-set, length-append, length-map}
 use Rattle.std.proofs.lemmas.List.Elements.{All-nil, All-cons, All-head, All-tail}
 use Rattle.std.proofs.lemmas.List.Sums.{sum_by-cons}
 use Rattle.room_core.specs.Scans.{HasNoDuty}
 use Rattle.room_table.specs.Closing.{ClosingView, none_back, with_scanner}
 use Rattle.room_table.specs.Seats.{TableView, ScanView, scanner_now}
-use Rattle.purgatory.specs.Holding.{won_by_scanners}
+use Rattle.turn_lock.specs.declared.lock.TurnLock.{TurnLock}
+use Rattle.turn_lock.specs.declared.pass.TurnPass.{TurnPass}
+use Rattle.turn_lock.specs.Locks.{IsPassOf, IsReady}
+use Rattle.room_scans.specs.Desks.{ClockView, ShardView}
+use Rattle.purgatory.specs.Holding.{AreKeysTo, IsLeft, won_by_scanners}
+use Rattle.purgatory.specs.Rooms.{LockView}
+use Rattle.purgatory.specs.Turning.{IsKeyOf, clock_name, key_view, lock_view, lock_views, shard_name}
+use Rattle.purgatory.proofs.Doors.{belongs, front_at, shows}
 use Rattle.purgatory.specs.Still.{AreScannersTo, numbers_down}
 use Rattle.purgatory.specs.Written.{AreWritten}
 
@@ -61,3 +69,53 @@ pub written_first : (seat : ScanView) (old new : List ℕ) (won : ℕ) → 16 < 
 written_first seat old new won there number is e =
     let P : ScanView → Type 0 = λ s. get_or new s.scanner 0 ≡ length (scanner_now s).wins in
     All-cons P seat [] (ap (λ xs. get_or xs seat.scanner 0) e ∙ (ap (λ m. get_or (set old 16 won) m 0) number ∙ (get_or-set_same old 16 won 0 there ∙ is))) (All-nil P)
+
+-- something is left, or too much was counted
+pub some_left : (left : Option ℕ) → (won : ℕ) × (taken : ℕ) × IsLeft left won taken
+some_left None = (1, 0, omega arith)
+some_left (Some left) = (0, left, omega arith)
+
+module _ {E F : Type 0} (views : List LockView) (locks : List (TurnLock ShardView E)) (clock : TurnLock ClockView F) (is : lock_views locks clock ≡ views) (sixteen : length locks ≡ 16)
+    (k : ℕ) (lock : TurnLock ShardView E) (here : lock ≡ get_or locks k lock) (few : k < 16) where
+  -- what the list of locks has at the place of this one
+  view_at : (d : LockView) → get_or views k d ≡ lock_view shard_name lock
+  view_at d =
+      let size = length-map locks (lock_view shard_name) in
+      ap (λ vs. get_or vs k d) (sym is)
+      ∙ (get_or_default (lock_views locks clock) k d (lock_view shard_name lock) (omega (arith, few, sixteen, size, length-append (map (lock_view shard_name) locks) (lock_view clock_name clock ∷ [])))
+      ∙ (front_at (lock_view shard_name) locks (lock_view clock_name clock) k lock (omega (arith, few, sixteen)) ∙ sym (ap (lock_view shard_name) here)))
+
+  module _ (n : ℕ) (keys : List (TurnPass ShardView E)) (last : TurnPass ClockView F) where
+    -- a pass of it
+    pub key_of : AreKeysTo n views keys last → k < n → (key : TurnPass ShardView E) → key ≡ get_or keys k key → IsPassOf shard_name lock key × IsReady key
+    key_of fit less key at =
+        let fits = fit.each k (lock_view shard_name lock) key less in
+        (belongs shard_name lock key (ap key_view at ∙ (fits.0 ∙ view_at (lock_view shard_name lock))), subst IsReady (sym at) fits.1)
+
+    -- and where its turn was ended
+    pub keys_after : AreKeysTo k views keys last → n ≡ suc k → (new : TurnPass ShardView E) → IsPassOf shard_name lock new × IsReady new → AreKeysTo n views (set keys k new) last
+    keys_after fit next new done = record {
+      all = length-set keys k new ∙ fit.all;
+      each = λ j d key less. ⊎_elim
+          (λ (e : j ≡ k).
+          let at : get_or (set keys k new) j key ≡ new = ap (λ m. get_or (set keys k new) m key) e ∙ get_or-set_same keys k new key (let size = fit.all in omega arith) in
+          let P : TurnPass ShardView E → Type 0 = IsKeyOf (get_or views j d) in
+          subst P (sym at) (shows shard_name lock new done.0 ∙ (sym (view_at d) ∙ ap (λ m. get_or views m d) (sym e)), done.1))
+          (λ (m : j ≢ k).
+          let P : TurnPass ShardView E → Type 0 = IsKeyOf (get_or views j d) in
+          subst P (sym (get_or-set_other keys k j new key m)) (fit.each j d key (omega arith)))
+          (cases_eq j k);
+      last = fit.last;
+    }
+
+-- while its turn is out, the passes of the locks before it
+pub keys_before : {E F : Type 0} (views : List LockView) (n k : ℕ) (keys : List (TurnPass ShardView E)) (last : TurnPass ClockView F) (new : TurnPass ShardView E) → n ≡ suc k
+    → AreKeysTo n views keys last → AreKeysTo k views (set keys k new) last
+keys_before {E} views n k keys last new next fit = record {
+  all = length-set keys k new ∙ fit.all;
+  each = λ j d key less.
+      let apart : j ≢ k = λ (e : j ≡ k). absurd (omega arith) in
+      let P : TurnPass ShardView E → Type 0 = IsKeyOf (get_or views j d) in
+      subst P (sym (get_or-set_other keys k j new key apart)) (fit.each j d key (omega arith));
+  last = fit.last;
+}

@@ -27,6 +27,6 @@ pub mod Numbered
 -- no more exchanges than operations taken
 pub mod Exchanges
 -- the seats of a still room, and what they show
-pub mod Settling
+pub mod Endings
 -- turns that are held
 pub mod Holds

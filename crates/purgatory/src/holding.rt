@@ -1,8 +1,10 @@
 //! The turns of all locks are taken and held together, while the exchanges that the scanners won are counted.
 ghost use Rattle.std.specs.Prelude.{◌≡◌, ◌≢◌, ◌≤◌, ◌<◌, ◌+◌, ℕ, List as Items, length, slice_index, slice_set};
+ghost use Rattle.room_core.specs.Numbers.{clock_scanner};
 ghost use Rattle.room_core.specs.Scans.{HasNoDuty};
 ghost use Rattle.room_table.specs.Seats.{ScanView, scanner_now};
-ghost use Rattle.turn_lock.specs.Locks.{IsPassOf, IsReady};
+ghost use Rattle.room_scans.specs.Desks.{desk_name};
+ghost use Rattle.turn_lock.specs.Locks.{IsPassOf, IsReady, lock_name};
 ghost use Rattle.purgatory.specs.Holding.{AreKeysTo, AreSameFrom, HasHeld, IsLeft, IsUntaken};
 ghost use Rattle.purgatory.specs.Rooms.{IsRoom};
 ghost use Rattle.purgatory.specs.Still.{AreScannersTo};
@@ -14,7 +16,7 @@ use room_core::CLOCK_SCANNER;
 use room_scans::{ClockDesk, ShardDesk};
 use room_table::{Closing, RoomTable};
 use std::sync::Wait;
-use turn_lock::{Turn, TurnPass};
+use turn_lock::{Turn, TurnLock, TurnPass};
 
 /// The table, after the turns were held.
 #[derive(Drop)]
@@ -93,20 +95,20 @@ pub(crate) fn write(wins: &mut List<u64>, winner: usize, won: u64)
 fn hold_clock(
     rt: &impl Wait,
     table: RoomTable,
-    locks: &Locks,
+    lock: &TurnLock<ClockDesk>,
     key: &mut TurnPass<ClockDesk>,
     wins: &mut List<u64>,
     left: Option<u64>,
 ) -> Held
-    requires room { IsRoom table locks.now }
-    requires key { IsPassOf clock_name locks.now.clock key.old × IsReady key.old }
+    requires key { IsPassOf clock_name lock.now key.old × IsReady key.old }
+    requires name { lock_name clock_name lock.now ≡ desk_name table clock_scanner }
     requires places { 17 ≤ length wins.old }
     ensures held { (won taken : ℕ) → IsLeft left won taken → (scanners : Items ScanView) × AreScannersTo 0 table scanners × HasHeld table won taken scanners wins.new result }
     ensures places { length wins.new ≡ length wins.old }
     ensures others { (winner : ℕ) → winner ≢ 16 → slice_index wins.new winner ≡ slice_index wins.old winner }
     ensures key { IsUntaken result → (key_view key.new ≡ key_view key.old) × IsReady key.new }
 {
-    let turn = locks.clock.turn(rt, key);
+    let turn = lock.turn(rt, key);
     let won = clock_wins(&turn);
     match less(left, won) {
         Some(_) => {
@@ -114,7 +116,7 @@ fn hold_clock(
             Held::Still(table.closing(turn.take().into_seat()))
         }
         None => {
-            locks.clock.end(key, turn);
+            lock.end(key, turn);
             Held::Untaken(table)
         }
     }
@@ -142,7 +144,7 @@ pub(crate) fn hold(
     ensures keys { IsUntaken result → AreKeysTo n locks.now keys.new.shards.items keys.new.clock }
 {
     if n == 0 {
-        return hold_clock(rt, table, locks, &mut keys.clock, wins, left);
+        return hold_clock(rt, table, &locks.clock, &mut keys.clock, wins, left);
     }
     let k = n - 1;
     let turn = locks.shards[k].turn(rt, &mut keys.shards[k]);

@@ -15,7 +15,7 @@ use crate::pass::RoomPass;
 use crate::room::Room;
 use crate::source::Source;
 use kbytes::List;
-use room_core::{quiet_is_answered, wins_are_counted};
+use room_core::theorems::{quiet_is_answered, wins_are_counted};
 use room_table::Closing;
 use std::marker::Model;
 use std::sync::Wait;
