@@ -30,3 +30,5 @@ pub mod Exchanges
 pub mod Endings
 -- turns that are held
 pub mod Holds
+-- seats that come back
+pub mod Returns

@@ -1,27 +1,20 @@
 //! The seats of passes and sources come back to the table.
 ghost use Rattle.std.specs.Prelude.{◌≡◌, ◌+◌, ◌<◌, ◌≤◌, ◌++◌, ℕ, All, false, length, map, slice_index};
-ghost use Rattle.room_core.specs.Gauges.{IsPass};
 ghost use Rattle.room_core.specs.Numbers.{scanner_numbers};
 ghost use Rattle.room_table.specs.Seats.{source_now};
 ghost use Rattle.purgatory.specs.Written.{pass_wins};
 
+use crate::holding::write;
 use crate::pass::RoomPass;
 use crate::source::Source;
 use kbytes::List;
 use room_core::SCANNER_NUMBERS;
 use room_table::Closing;
 
-// Writes a winner's number of exchanges.
-fn write(wins: &mut List<u64>, winner: usize, won: u64)
-    requires { winner < length wins.old }
-    ensures { wins.new ≡ slice_set wins.old winner won }
-{
-    wins.as_mut_slice()[winner] = won;
-}
-
 /// Takes the seats of the passes back, and writes how many exchanges each won.
 pub(crate) fn close_passes(closing: &mut Closing, mut passes: List<RoomPass>, wins: &mut List<u64>)
     requires table { All (λ pass. pass.seat.table ≡ closing.old.table) passes }
+    requires few { closing.old.table.shape.passes ≤ 80 }
     requires places { length wins.old ≡ scanner_numbers + closing.old.table.shape.passes }
     ensures back { closing.new ≡ record closing.old { callers = map (λ pass. pass.seat) passes ++ closing.old.callers } }
     ensures places { length wins.new ≡ length wins.old }

@@ -1,5 +1,5 @@
 //! A pass as the owner of its operation: its seat, and what it keeps beside it.
-ghost use Rattle.std.specs.Prelude.{◌≡◌, ◌≢◌, ◌≤◌, ◌<◌, ◌-◌, ◌^◌, ◌↔◌, ℕ, [], IfOk, IsTrue};
+ghost use Rattle.std.specs.Prelude.{◌≡◌, ◌≢◌, ◌≤◌, ◌<◌, ◌-◌, ◌^◌, ◌↔◌, ℕ, [], IfOk, IsTrue, length};
 ghost use Rattle.room_core.specs.declared.event.How.{How as Way};
 ghost use Rattle.room_core.specs.declared.parts.Session.{Session as SessionWord};
 ghost use Rattle.room_core.specs.declared.parts.Stage.TheVariants.{Checking, Idle, Listing};
