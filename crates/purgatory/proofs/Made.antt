@@ -35,7 +35,7 @@ pub fresh_callers_from : (table : TableView) (size : Shape) → size ≡ table.s
 fresh_callers_from table size same shape =
     let passes = ap (λ (s : Shape). s.passes) same in
     made_from (IsFreshCaller size) (fresh_caller table) 0 table.shape.passes table.shape.passes (omega arith)
-    (λ k less. record { number = refl; shape_is = same; there = omega (arith, less, passes); few = shape.few_passes; fresh = refl })
+    (λ k less. record { number = refl; shape_is = same; is_shape = shape; there = omega (arith, less, passes); fresh = refl })
 
 pub fresh_scanners_from : (table : TableView) (size : Shape) → size ≡ table.shape → size.scanners ≡ scanner_numbers → AreFrom (IsFreshScanner size) 0 (fresh_scanners table)
 fresh_scanners_from table size same all =

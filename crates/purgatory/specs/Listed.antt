@@ -2,7 +2,9 @@
 use Rattle.std.specs.Prelude.{◌≡◌, ℕ, ◌+◌, ◌<◌, true, false, List, Some, length, slice_index_or}
 use Rattle.opcond.specs.declared.need.Need.{Need}
 use Rattle.opcond.specs.Operation.{Operation}
-use Rattle.opcond.specs.Tally.{IsSatisfied}
+use Rattle.opcond.specs.Tally.{IsOverdue, IsSatisfied}
+use Rattle.room_core.specs.declared.event.How.{How}
+use Rattle.room_core.specs.declared.event.How.TheVariants.{Expired, Satisfied}
 use Rattle.room_core.specs.declared.parts.Stage.{Stage}
 use Rattle.room_core.specs.Description.{need_of}
 use Rattle.room_core.specs.Gauges.{clock_of}
@@ -92,6 +94,11 @@ pub record HasReadAll (needs : List Need) (values : List ℕ) (old new : CallerV
   pub read : new ≡ have_read old needs values
   pub each : length values ≡ length needs
   pub taken : AreTaken needs values (length needs) (caller_now new)
+
+-- how an operation can be answered at these values and this moment
+abbrev pub IsEarned : How → Operation → List ℕ → ℕ → Type 0
+IsEarned Satisfied op values moment = IsSatisfied op values
+IsEarned Expired op values moment = IsOverdue op moment
 
 -- it has read them and the clock, and left the operation, which isn't answerable
 pub record Leaves (op : Operation) (old new : CallerView) : Type 0 where
