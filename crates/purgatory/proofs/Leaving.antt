@@ -26,7 +26,7 @@ use Rattle.room_core.proofs.Laws.{put_else, put_here}
 use Rattle.room_table.specs.declared.part.CallerStep.{CallerStep}
 use Rattle.room_table.specs.Seats.{CallerView, TableView, caller_did, caller_now}
 use Rattle.purgatory.specs.declared.outcome.Done.{Done}
-use Rattle.purgatory.specs.Listed.{AreDescribed, AreTaken, Ends, HasReadAll, IsDescribed, IsEarned, Keeps, Leaves}
+use Rattle.purgatory.specs.Listed.{AreDescribed, AreTaken, Ends, HasReadings, IsDescribed, IsEarned, Keeps, Leaves}
 use Rattle.purgatory.specs.Registered.{have_read}
 use Rattle.purgatory.proofs.Goes.{ends_after, keeps_by, keeps_far}
 
@@ -124,40 +124,41 @@ checking_busy : Checking ≢ Stage.Idle
 checking_busy e = cc
 
 -- what a check comes to that has read the gauges of the needs, and then the clock
-module _ (op : Operation) (old a b : CallerView) (values : List ℕ) (moment : ℕ) (all : HasReadAll op.needs values old a) (is : IsDescribed op (caller_now old).description)
-    (below : All (λ (need : Need). need.gauge < clock_of a.table.shape) op.needs) (e : b ≡ caller_did a (CallerStep.Left (clock_of a.table.shape) moment)) where
-  words : IsDescribed op (caller_now a).description
-  words = subst (IsDescribed op) (sym all.keeps.account.description) is
+module _ (op : Operation) (values : List ℕ) (moment : ℕ) (old b : CallerView) (h : HasReadings op values moment old b) where
+  words : IsDescribed op (caller_now h.last).description
+  words = subst (IsDescribed op) (sym h.needs.keeps.account.description) h.described
 
   left_keeps : Keeps old b
-  left_keeps = keeps_far old a b all.keeps (keeps_by a b (CallerStep.Left (clock_of a.table.shape) moment) (record { generation = refl; description = refl; owed = refl; taken = refl }) e)
+  left_keeps =
+      let step = CallerStep.Left (clock_of h.last.table.shape) moment in
+      keeps_far old h.last b h.needs.keeps (keeps_by h.last b step (record { generation = refl; description = refl; owed = refl; taken = refl }) h.clock)
 
   pub check_left : ¬ listed.IsSatisfied op values → moment < op.deadline → Leaves op old b
   check_left n early = record {
     values = values;
     moment = moment;
     keeps = left_keeps;
-    each = all.each;
+    each = h.needs.each;
     steps =
-        e ∙ ap (λ (v : CallerView). caller_did v (CallerStep.Left (clock_of a.table.shape) moment)) all.read
-        ∙ ap (λ (t : TableView). caller_did (have_read old op.needs values) (CallerStep.Left (clock_of t.shape) moment)) all.keeps.went.table;
+        h.clock ∙ ap (λ (v : CallerView). caller_did v (CallerStep.Left (clock_of h.last.table.shape) moment)) h.needs.read
+        ∙ ap (λ (t : TableView). caller_did (have_read old op.needs values) (CallerStep.Left (clock_of t.shape) moment)) h.needs.keeps.went.table;
     unsatisfied = n;
     early = early;
-    waits = ap (λ (v : CallerView). (caller_now v).stage) e ∙ leaves_waiting a.table.shape op (caller_now a) values moment words all.each below all.taken n early;
+    waits = ap (λ (v : CallerView). (caller_now v).stage) h.clock ∙ leaves_waiting h.last.table.shape op (caller_now h.last) values moment words h.needs.each h.before_clock h.needs.taken n early;
   }
 
-  earned : (how : How) → IsEarned how op values moment → ((caller_now b).stage ≡ Checking) × IsWon a.table.shape how (caller_now b).description (caller_now b).readings
+  earned : (how : How) → IsEarned how op values moment → ((caller_now b).stage ≡ Checking) × IsWon h.last.table.shape how (caller_now b).description (caller_now b).readings
   earned Satisfied enough =
-      subst (λ (v : CallerView). ((caller_now v).stage ≡ Checking) × IsWon a.table.shape Satisfied (caller_now v).description (caller_now v).readings) (sym e)
-      (satisfied_wins a.table.shape op (caller_now a) values moment words all.each below all.taken enough)
+      subst (λ (v : CallerView). ((caller_now v).stage ≡ Checking) × IsWon h.last.table.shape Satisfied (caller_now v).description (caller_now v).readings) (sym h.clock)
+      (satisfied_wins h.last.table.shape op (caller_now h.last) values moment words h.needs.each h.before_clock h.needs.taken enough)
   earned Expired late =
-      subst (λ (v : CallerView). ((caller_now v).stage ≡ Checking) × IsWon a.table.shape Expired (caller_now v).description (caller_now v).readings) (sym e)
-      (overdue_wins a.table.shape op (caller_now a) values moment words all.each below all.taken late)
+      subst (λ (v : CallerView). ((caller_now v).stage ≡ Checking) × IsWon h.last.table.shape Expired (caller_now v).description (caller_now v).readings) (sym h.clock)
+      (overdue_wins h.last.table.shape op (caller_now h.last) values moment words h.needs.each h.before_clock h.needs.taken late)
 
   pub check_earned : (how : How) → IsEarned how op values moment → ((caller_now b).stage ≡ Checking) × IsWon b.table.shape how (caller_now b).description (caller_now b).readings
-  check_earned how h =
-      let w = earned how h in
-      (w.0, subst (λ (s : Shape). IsWon s how (caller_now b).description (caller_now b).readings) (sym (ap (λ (v : CallerView). v.table.shape) e)) w.1)
+  check_earned how so =
+      let w = earned how so in
+      (w.0, subst (λ (s : Shape). IsWon s how (caller_now b).description (caller_now b).readings) (sym (ap (λ (v : CallerView). v.table.shape) h.clock)) w.1)
 
   -- then it tries to win
   pub check_tried : (how : How) (found : Session) (c d : CallerView) (done : Done) → c ≡ caller_did b (CallerStep.Won how found) → Ends done c d → Ends done old d

@@ -8,7 +8,7 @@ ghost use Rattle.room_core.specs.Gauges.{IsGauge, clock_of};
 ghost use Rattle.room_core.specs.Numbers.{clock_mark, most_needs};
 ghost use Rattle.room_table.specs.Seats.{caller_now};
 ghost use Rattle.purgatory.specs.Going.{GoesOn, OwesNothing};
-ghost use Rattle.purgatory.specs.Listed.{BeginsCheck, Describes, Ends, GoesListing, HasChecked, HasReadAll, HasSeen, HasSeenBelow, IsDescribed, IsEarned, need_described};
+ghost use Rattle.purgatory.specs.Listed.{BeginsCheck, Describes, Ends, GoesListing, HasChecked, HasReadAll, HasReadings, HasSeen, HasSeenBelow, IsDescribed, IsEarned, need_described};
 ghost use Rattle.purgatory.specs.Registered.{HasRegistered};
 ghost use Rattle.purgatory.specs.Rooms.{IsOfRoom};
 
@@ -182,6 +182,19 @@ impl Room {
         unreachable!()
     }
 
+    // Reads every gauge, and the clock last, whose value it gives.
+    fn read_all(&self, owner: &mut Owner, op: &Op, values: &mut [u64]) -> u64
+        requires table { owner.old.table ≡ self.now.table }
+        requires checking { (caller_now owner.old).stage ≡ Checking }
+        requires words { IsDescribed op.now (caller_now owner.old).description }
+        requires gauges { All (λ need. need.gauge < clock_of self.now.table.shape) op.now.needs }
+        requires room { length op.now.needs ≤ length values.old }
+        ensures { HasReadings op.now (take (length op.now.needs) values.new) result owner.old owner.new }
+    {
+        self.read_needs(owner, op.needs(), values);
+        owner.leave(&self.table, self.shape.gauges - 1)
+    }
+
     // Reads every gauge and the clock, and leaves the operation where it isn't answerable, or wins it.
     fn check(&self, rt: &impl Wait, owner: &mut Owner, op: &Op) -> Registered
         requires table { owner.old.table ≡ self.now.table }
@@ -190,11 +203,10 @@ impl Room {
         requires gauges { All (λ need. need.gauge < clock_of self.now.table.shape) op.now.needs }
         ensures { HasChecked op.now result owner.old owner.new }
     {
-        let needs = op.needs();
+        let count = op.needs().len();
         let mut values = [0; MOST_NEEDS as usize];
-        self.read_needs(owner, needs, &mut values);
-        let moment = owner.leave(&self.table, self.shape.gauges - 1);
-        let Some(how) = answerable(op, &values[..needs.len()], moment) else {
+        let moment = self.read_all(owner, op, &mut values);
+        let Some(how) = answerable(op, &values[..count], moment) else {
             return Registered::Parked;
         };
         owner.win(&self.table, how);

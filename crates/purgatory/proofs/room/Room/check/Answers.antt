@@ -1,7 +1,11 @@
+use Rattle.std.proofs.Common.{◌≡◌, List, length, subst, sym, take}
+use Rattle.opcond.specs.declared.need.Need.{Need}
+use Rattle.purgatory.specs.Listed.{HasReadings}
+use Rattle.purgatory.proofs.Leaving.{check_earned, check_left, check_tried, tried_busy}
 use Rattle.purgatory.proofs.room.Room.check.Goals as goal
 
-pub leave-moment-requires-clause-read : goal.leave-moment-requires-clause-read
-leave-moment-requires-clause-read g c = ?
+pub returns-in_default : goal.returns-in_default
+returns-in_default g c = ?
 
 pub win-requires-clause-checking : goal.win-requires-clause-checking
 win-requires-clause-checking g c = ?
