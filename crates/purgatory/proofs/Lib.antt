@@ -32,3 +32,5 @@ pub mod Endings
 pub mod Holds
 -- seats that come back
 pub mod Returns
+-- the passes of the locks, as they are dealt out
+pub mod Rings
