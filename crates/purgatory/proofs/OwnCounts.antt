@@ -1,5 +1,6 @@
 -- What a pass has won itself and has taken, step by step.
 use Rattle.std.proofs.Common.{◌≡◌, ◌≢◌, ℕ, ◌+◌, ◌<◌, ◌≤◌, Bool, true, false, cond, List, [], ◌∷◌, ◌++◌, length, refl, sym, ap, ◌∙◌, subst, ⊎_elim, arith, length-append}
+use Rattle.std.specs.Prelude.{IsTrue}
 use Rattle.room_core.specs.declared.event.How.{How}
 use Rattle.room_core.specs.declared.parts.Phase.{Phase}
 use Rattle.room_core.specs.declared.parts.Phase.TheVariants.{Open, Won}
@@ -11,6 +12,8 @@ use Rattle.room_core.specs.Checks.{caller_wins, exchanged, with_prize}
 use Rattle.room_core.specs.Meetings.{is_live}
 use Rattle.room_core.specs.Passes.{IsOver, caller_idles, caller_opens, caller_peeks, peeked, taken_of}
 use Rattle.room_core.specs.State.{Caller}
+use Rattle.room_table.specs.declared.part.CallerStep.{CallerStep}
+use Rattle.room_table.specs.Seats.{CallerView, caller_did, caller_now}
 use Rattle.purgatory.specs.Counted.{left_to_take, left_to_win, IsCounted}
 
 -- a step that leaves as much to win and to take
@@ -122,3 +125,16 @@ lost_counts won taken pass caller how found checks live h =
     counted_same won taken caller (caller_wins caller pass how found) h wins refl refl
     (omega (arith, ap left_to_win stage, peeked_win found.phase caller.stage))
     (omega (arith, ap left_to_take stage, ap left_to_take checks, take_few (peeked found.phase caller.stage)))
+
+-- a step of the seat that touches none of it
+pub step_same : (won taken : ℕ) (a b : CallerView) (step : CallerStep) → b ≡ caller_did a step → (caller_now (caller_did a step)).wins ≡ (caller_now a).wins
+    → (caller_now (caller_did a step)).taken ≡ (caller_now a).taken → (caller_now (caller_did a step)).generation ≡ (caller_now a).generation
+    → (caller_now (caller_did a step)).stage ≡ (caller_now a).stage → IsCounted won taken (caller_now a) → IsCounted won taken (caller_now b)
+step_same won taken a b step e wins items generation stage h =
+    subst (λ (v : CallerView). IsCounted won taken (caller_now v)) (sym e)
+    (counted_same won taken (caller_now a) (caller_now (caller_did a step)) h wins items generation (omega (arith, ap left_to_win stage)) (omega (arith, ap left_to_take stage)))
+
+-- a test whose truth would make another true is false where that is
+pub not_true : (b r : Bool) → (b ≡ true → IsTrue r) → r ≡ false → b ≡ false
+not_true true r tells isnt = let yes : r ≡ true = tells refl in absurd (cc)
+not_true false r tells isnt = refl

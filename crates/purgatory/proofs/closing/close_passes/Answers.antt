@@ -41,15 +41,15 @@ loop-pass-preserved c =
     let places = c.requires.places in
     let is : c.number-winner.result ≡ x.seat.pass = c.number-winner.ensures.is in
     let taken = c.loop-pass.invariant.taken in
-    let wins : c.write.new.wins ≡ set c.loop-pass.wins (17 + x.seat.pass) c.won.result = c.write.ensures ∙ ap (λ n. set c.loop-pass.wins (17 + n) c.won.result) is in
+    let wins : c.write.new.wins ≡ set c.loop-pass.wins (17 + x.seat.pass) c.from.result = c.write.ensures ∙ ap (λ n. set c.loop-pass.wins (17 + n) c.from.result) is in
     record {
       table = popped.0;
-      places = ap length wins ∙ (length-set c.loop-pass.wins (17 + x.seat.pass) c.won.result ∙ size);
-      others = λ winner below. scanners_stay c.loop-pass.wins c.write.new.wins x.seat.pass c.won.result wins winner below ∙ c.loop-pass.invariant.others winner below;
+      places = ap length wins ∙ (length-set c.loop-pass.wins (17 + x.seat.pass) c.from.result ∙ size);
+      others = λ winner below. scanners_stay c.loop-pass.wins c.write.new.wins x.seat.pass c.from.result wins winner below ∙ c.loop-pass.invariant.others winner below;
       taken = (
         x ∷ taken.0,
         shifted c.args.passes c.loop-pass.passes c.pop.new.self taken.0 x taken.1 c.in-Some.ensures.items,
         c.take_caller.ensures ∙ (ap (λ s. with_caller c.loop-pass.closing s) c.into_seat.ensures ∙ ap (λ v. with_caller v x.seat) taken.2),
-        pass_written x.seat (map (λ (one : PassView). one.seat) taken.0) c.loop-pass.wins c.write.new.wins c.args.wins.now c.won.result (omega arith) c.won.ensures wins taken.3,
+        pass_written x.seat (map (λ (one : PassView). one.seat) taken.0) c.loop-pass.wins c.write.new.wins c.args.wins.now c.from.result (omega arith) (c.from.ensures ∙ c.won.ensures) wins taken.3,
       );
     }
