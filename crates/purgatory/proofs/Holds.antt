@@ -1,5 +1,5 @@
 -- Turns that are held, one lock after the other.
-use Rattle.std.proofs.Common.{◌≡◌, ◌≢◌, ◌⊎◌, ℕ, zero, suc, ◌+◌, ◌-◌, ◌<◌, ◌≤◌, List, [], ◌∷◌, Option, Some, None, length, get_or, set, map, refl, sym, ap, ◌∙◌, subst, inl, inr, ⊎_elim, arith}
+use Rattle.std.proofs.Common.{◌≡◌, ◌≢◌, ◌⊎◌, ℕ, zero, suc, ◌+◌, ◌-◌, ◌<◌, ◌≤◌, List, [], ◌∷◌, ◌++◌, Option, Some, None, length, get_or, set, map, refl, sym, ap, ◌∙◌, subst, inl, inr, ⊎_elim, arith}
 use Rattle.std.specs.Prelude.{All, slice_index_or}
 use Rattle.std.proofs.lemmas.Bool.{cases_eq}
 use Rattle.std.proofs.lemmas.List.{get_or-set_other, get_or-set_same, get_or_default, length-set, length-append, length-map}
@@ -14,7 +14,7 @@ use Rattle.turn_lock.specs.Locks.{IsPassOf, IsReady}
 use Rattle.room_scans.specs.Desks.{ClockView, ShardView}
 use Rattle.purgatory.specs.Holding.{AreKeysTo, IsLeft, won_by_scanners}
 use Rattle.purgatory.specs.Rooms.{LockView}
-use Rattle.purgatory.specs.Turning.{IsKeyOf, clock_name, key_view, lock_view, lock_views, shard_name}
+use Rattle.purgatory.specs.Turning.{AreReady, IsKeyOf, clock_name, key_view, key_views, lock_view, lock_views, shard_name}
 use Rattle.purgatory.proofs.Doors.{belongs, front_at, shows}
 use Rattle.purgatory.specs.Still.{AreScannersTo, numbers_down}
 use Rattle.purgatory.specs.Written.{AreWritten}
@@ -26,13 +26,13 @@ small_numbers (suc n) =
     All-cons (λ k. (k < suc n) ⊎ (k ≡ 16)) n (numbers_down n) (inl (omega arith))
     (λ i d l. ⊎_elim (λ (m : get_or (numbers_down n) i d < n). inl (omega arith)) (λ (e : get_or (numbers_down n) i d ≡ 16). inr e) (small_numbers n i d l))
 
-numbers_of : {A : Type 0} (key : A → ℕ) (P : ℕ → Type 0) (xs : List A) → All P (map key xs) → All (λ x. P (key x)) xs
-numbers_of key P [] all = All-nil (λ x. P (key x))
-numbers_of key P (x ∷ xs) all = All-cons (λ y. P (key y)) x xs (All-head P (key x) (map key xs) all) (numbers_of key P xs (All-tail P (key x) (map key xs) all))
+pub unmapped : {A B : Type 0} (f : A → B) (P : B → Type 0) (xs : List A) → All P (map f xs) → All (λ x. P (f x)) xs
+unmapped f P [] all = All-nil (λ x. P (f x))
+unmapped f P (x ∷ xs) all = All-cons (λ y. P (f y)) x xs (All-head P (f x) (map f xs) all) (unmapped f P xs (All-tail P (f x) (map f xs) all))
 
 pub small_scanners : (n : ℕ) (table : TableView) (scanners : List ScanView) → AreScannersTo n table scanners → All (λ seat. (seat.scanner < n) ⊎ (seat.scanner ≡ 16)) scanners
 small_scanners n table scanners are =
-    numbers_of (λ (seat : ScanView). seat.scanner) (λ k. (k < n) ⊎ (k ≡ 16)) scanners (subst (All (λ k. (k < n) ⊎ (k ≡ 16))) (sym are.numbers) (small_numbers n))
+    unmapped (λ (seat : ScanView). seat.scanner) (λ k. (k < n) ⊎ (k ≡ 16)) scanners (subst (All (λ k. (k < n) ⊎ (k ≡ 16))) (sym are.numbers) (small_numbers n))
 
 -- the clock's scanner alone
 pub first_scanner : (table : TableView) (seat : ScanView) → seat.table ≡ table → seat.scanner ≡ 16 → HasNoDuty (scanner_now seat) → AreScannersTo 0 table (seat ∷ [])
@@ -119,3 +119,27 @@ keys_before {E} views n k keys last new next fit = record {
       subst P (sym (get_or-set_other keys k j new key apart)) (fit.each j d key (omega arith));
   last = fit.last;
 }
+
+-- the passes of all locks, none of which has a turn out
+pub keys_ready : {E F : Type 0} (views : List LockView) (shards : List (TurnPass ShardView E)) (clock : TurnPass ClockView F) → AreKeysTo 16 views shards clock → AreReady shards clock
+keys_ready views shards clock fit = record {
+  all = fit.all;
+  each = λ k d l. (fit.each k (key_view d) d (let size = fit.all in omega arith)).1;
+  last = (fit.last (key_view clock)).1;
+}
+
+same_views : {A : Type 0} (f : A → LockView) (xs : List A) (last : LockView) (views : List LockView) → length views ≡ length xs + 1
+    → ((k : ℕ) (d : LockView) (x : A) → k < length xs → f (get_or xs k x) ≡ get_or views k d) → ((d : LockView) → last ≡ get_or views (length xs) d) → map f xs ++ last ∷ [] ≡ views
+same_views f [] last [] size each end = absurd (omega arith)
+same_views f [] last (y ∷ []) size each end = ap (λ z. z ∷ []) (end y)
+same_views f [] last (y ∷ (z ∷ ys)) size each end = absurd (omega arith)
+same_views f (x ∷ xs) last [] size each end = absurd (omega arith)
+same_views f (x ∷ xs) last (y ∷ ys) size each end =
+    ap (λ z. z ∷ (map f xs ++ last ∷ [])) (each 0 y x (omega arith))
+    ∙ ap (λ zs. y ∷ zs) (same_views f xs last ys (omega arith) (λ k d z l. each (suc k) d z (omega arith)) end)
+
+pub keys_seen : {E F : Type 0} (views : List LockView) (shards : List (TurnPass ShardView E)) (clock : TurnPass ClockView F) → length views ≡ 17 → AreKeysTo 16 views shards clock → key_views shards clock ≡ views
+keys_seen views shards clock size fit =
+    let all = fit.all in
+    same_views key_view shards (key_view clock) views (omega arith) (λ k d key l. (fit.each k d key (omega arith)).0)
+    (λ d. (fit.last d).0 ∙ ap (λ n. get_or views n d) (sym all))

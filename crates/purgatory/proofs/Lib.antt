@@ -32,5 +32,7 @@ pub mod Endings
 pub mod Holds
 -- seats that come back
 pub mod Returns
+-- what a room comes to
+pub mod Standing
 -- the passes of the locks, as they are dealt out
 pub mod Rings

@@ -72,7 +72,7 @@ fn clock_wins(turn: &Turn<ClockDesk>) -> u64
 }
 
 // What is left of the operations taken, once so many more exchanges are counted.
-fn less(left: Option<u64>, more: u64) -> Option<u64>
+pub(crate) fn less(left: Option<u64>, more: u64) -> Option<u64>
     ensures { (won taken : ℕ) → IsLeft left won taken → IsLeft result (won + more) taken }
 {
     let left = left?;

@@ -40,7 +40,8 @@ impl RoomPass {
 
     /// How many operations the pass won itself.
     pub(crate) fn won(&self) -> u32
-        ensures { result ≡ length (caller_now self.now.seat).wins }
+        ensures is { result ≡ length (caller_now self.now.seat).wins }
+        ensures rests { IsAtRest (caller_now self.now.seat).stage }
     {
         self.owner.won()
     }

@@ -9,7 +9,7 @@ ghost use Rattle.purgatory.specs.Still.{IsClosed};
 use crate::closing::{close_passes, close_sources};
 use crate::counting::counts;
 use crate::reserve::Reserve;
-use crate::holding::{Held, OpenKeys, hold};
+use crate::holding::{Held, OpenKeys, hold, less};
 use crate::locks::SHARDS;
 use crate::pass::RoomPass;
 use crate::room::Room;
@@ -58,7 +58,6 @@ impl Room {
         requires paid { All (λ pass. OwesNothing (caller_now pass.seat)) passes }
         ensures { HasComeTo self passes result }
     {
-        let (won, taken) = counts(&passes);
         let Room {
             table,
             locks,
@@ -67,7 +66,8 @@ impl Room {
         } = self;
         let Reserve { keys, mut wins } = reserve;
         let mut keys = OpenKeys::of(keys);
-        let left = taken.checked_sub(won);
+        let (won, taken) = counts(&passes);
+        let left = less(Some(taken), won);
         match hold(rt, table, &locks, &mut keys, &mut wins, SHARDS as usize, left) {
             Held::Still(closing) => RoomEnd::Still(StillRoom {
                 closing,

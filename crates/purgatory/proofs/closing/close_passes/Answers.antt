@@ -50,6 +50,6 @@ loop-pass-preserved c =
         x ∷ taken.0,
         shifted c.args.passes c.loop-pass.passes c.pop.new.self taken.0 x taken.1 c.in-Some.ensures.items,
         c.take_caller.ensures ∙ (ap (λ s. with_caller c.loop-pass.closing s) c.into_seat.ensures ∙ ap (λ v. with_caller v x.seat) taken.2),
-        pass_written x.seat (map (λ (one : PassView). one.seat) taken.0) c.loop-pass.wins c.write.new.wins c.args.wins.now c.from.result (omega arith) (c.from.ensures ∙ c.won.ensures) wins taken.3,
+        pass_written x.seat (map (λ (one : PassView). one.seat) taken.0) c.loop-pass.wins c.write.new.wins c.args.wins.now c.from.result (omega arith) (c.from.ensures ∙ c.won.ensures.is) wins taken.3,
       );
     }
