@@ -1,4 +1,4 @@
-use Rattle.std.proofs.Common.{◌≡◌, ◌∙◌, ◌+◌, List, arith, length, map, subst, sym}
+use Rattle.std.proofs.Common.{◌∙◌, arith, map, subst}
 use Rattle.std.proofs.lemmas.List.{length-map}
 use Rattle.purgatory.specs.Making.{AreFrom, IsFreshScanner}
 use Rattle.purgatory.specs.Turning.{clock_name, lock_view, shard_name}

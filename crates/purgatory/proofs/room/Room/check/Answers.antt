@@ -1,4 +1,4 @@
-use Rattle.std.proofs.Common.{◌≡◌, List, length, subst, sym, take}
+use Rattle.std.proofs.Common.{List, length, subst, sym, take}
 use Rattle.opcond.specs.declared.need.Need.{Need}
 use Rattle.purgatory.specs.Listed.{HasReadings}
 use Rattle.purgatory.proofs.Leaving.{check_earned, check_left, check_tried, tried_busy}
