@@ -83,6 +83,7 @@ parked op old a b o checking l =
         waits = l.waits;
         generation = now.generation;
         operation = operation_is op (caller_now b).description now.described;
+        taken = now.taken;
       };
     }
 
