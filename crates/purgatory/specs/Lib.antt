@@ -1,0 +1,41 @@
+-- ==== the words of public contracts
+
+-- what a clause sees of the room and of its passes, and what was made together
+pub mod Rooms
+-- a pass that goes on, what it keeps, and what it owes
+pub mod Going
+-- what a pass finds of its operation, and how it takes the end
+pub mod Polled
+-- what becomes of an operation that a pass registers, and why
+pub mod Registered
+-- a room that is still, and what it comes to
+pub mod Still
+-- how a room ends
+pub mod RoomEnds
+-- ==== the words of private functions
+
+
+-- locks and their passes, as views show them
+pub mod Turning
+-- what a pass keeps beside its seat
+pub mod Owned
+-- what is so of every source
+pub mod Sources
+-- a pass that looks whether its debt of a gauge was paid
+pub mod Paying
+-- the seats with which a room is made
+pub mod Making
+-- a gauge that was raised
+pub mod Raised
+-- an operation that a pass describes, opens, sees listed, and checks
+pub mod Listed
+-- how many operations a pass won and has taken
+pub mod Counted
+-- what a room needs at its end
+pub mod Reserves
+-- the turns of all locks, held together
+pub mod Holding
+-- the numbers of exchanges, by winner
+pub mod Written
+-- what a still room keeps
+pub mod StillKeeps
