@@ -101,19 +101,24 @@ told_by least sum false holds fails = elim (leb_tells least sum) [
   | inr lt ↦ lt.0
 ]
 
+pub satisfied_as : (board : Board) (parts : ℕ) (frame : List ℕ) (parked : Parked) (w : Waiting) → IsKeptOf parts frame parked w
+    → is_satisfied_now board w ≡ nat_le parked.op.least (tally parked.op.needs (map (gauge_now board.parts) parked.op.needs))
+satisfied_as board parts frame parked w kept =
+    ap (λ (op : Operation). nat_le op.least (tally op.needs (values_of w.request.ask (shown_now board w.steps)))) kept.operation
+    ∙ ap (λ (vs : List ℕ). nat_le parked.op.least (tally parked.op.needs vs)) (now_values board parts frame parked w kept)
+
+pub overdue_as : (board : Board) (parts : ℕ) (frame : List ℕ) (parked : Parked) (w : Waiting) → IsKeptOf parts frame parked w → is_overdue_now board w ≡ nat_le parked.op.deadline (moment_of board.clock)
+overdue_as board parts frame parked w kept = ap (λ (op : Operation). nat_le op.deadline (moment_of board.clock)) kept.operation
+
 pub satisfied_is : (board : Board) (parts : ℕ) (frame : List ℕ) (parked : Parked) (w : Waiting) (b : Bool) → IsKeptOf parts frame parked w
     → (b ≡ true → IsSatisfied parked.op (map (gauge_now board.parts) parked.op.needs)) → (IsSatisfied parked.op (map (gauge_now board.parts) parked.op.needs) → b ≡ true) → is_satisfied_now board w ≡ b
 satisfied_is board parts frame parked w b kept holds fails =
-    ap (λ (op : Operation). nat_le op.least (tally op.needs (values_of w.request.ask (shown_now board w.steps)))) kept.operation
-    ∙ ap (λ (vs : List ℕ). nat_le parked.op.least (tally parked.op.needs vs)) (now_values board parts frame parked w kept)
-    ∙ told_by parked.op.least (tally parked.op.needs (map (gauge_now board.parts) parked.op.needs)) b holds fails
+    satisfied_as board parts frame parked w kept ∙ told_by parked.op.least (tally parked.op.needs (map (gauge_now board.parts) parked.op.needs)) b holds fails
 
 pub overdue_is : (board : Board) (parts : ℕ) (frame : List ℕ) (parked : Parked) (w : Waiting) (now : ℕ) (b : Bool) → IsKeptOf parts frame parked w → now ≡ moment_of board.clock
     → (b ≡ true → IsOverdue parked.op now) → (IsOverdue parked.op now → b ≡ true) → is_overdue_now board w ≡ b
 overdue_is board parts frame parked w now b kept at holds fails =
-    ap (λ (op : Operation). nat_le op.deadline (moment_of board.clock)) kept.operation
-    ∙ ap (λ (m : ℕ). nat_le parked.op.deadline m) (sym at)
-    ∙ told_by parked.op.deadline now b holds fails
+    overdue_as board parts frame parked w kept ∙ ap (λ (m : ℕ). nat_le parked.op.deadline m) (sym at) ∙ told_by parked.op.deadline now b holds fails
 
 -- ---- looks
 

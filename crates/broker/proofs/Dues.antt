@@ -76,7 +76,7 @@ gauges_there kept session parked parts stands slot same =
     subst (λ (ps : List History). AllByRecursion (HasGauge (length ps)) parked.op.needs) (sym same)
     (kept_gauges (count_of kept) (length kept.board.parts) (frame_at kept session) parked t.w t.kept_of (as_many_parts kept stands.0.waiting are))
 
-due_at : (board : Board) (w : Waiting) (sat over : Bool) → is_satisfied_now board w ≡ sat → is_overdue_now board w ≡ over → due_as board w ≡ cond sat (Some (Satisfied 0)) (cond over (Some (Expired 0)) None)
+pub due_at : (board : Board) (w : Waiting) (sat over : Bool) → is_satisfied_now board w ≡ sat → is_overdue_now board w ≡ over → due_as board w ≡ cond sat (Some (Satisfied 0)) (cond over (Some (Expired 0)) None)
 due_at board w sat over a b =
     ap (λ (x : Bool). cond x (Some (Satisfied 0)) (cond (is_overdue_now board w) (Some (Expired 0)) None)) a
     ∙ ap (λ (x : Bool). cond sat (Some (Satisfied 0)) (cond x (Some (Expired 0)) None)) b

@@ -1,0 +1,19 @@
+use Rattle.std.proofs.Common.{◌↔◌, ◌≢◌, ap, subst}
+use Rattle.waiters.specs.Sessions.{Has}
+use Rattle.waiters.specs.Index.{Index, IsSuspect, moment_of}
+use Rattle.waiters.specs.Waiting.{WaitsOn}
+use Rattle.waiters.proofs.Sessions.{index_of, waits_on}
+use Rattle.waiters.proofs.waiters.Waiters.clear.Goals as goal
+
+pub returns-clause-suspects : goal.returns-clause-suspects
+returns-clause-suspects c = λ other.
+    subst (λ (i : Index). Has c.remove.new.self other ↔ (IsSuspect i other × (other ≢ c.args.session))) c.self.view_is (c.remove.ensures other)
+
+pub returns-clause-sessions : goal.returns-clause-sessions
+returns-clause-sessions c = λ other.
+    let s = c.self.inside in
+    subst (λ (i : Index). WaitsOn i (index_of s.shelves s.wheels s.live s.last c.remove.new.self) other) c.self.view_is
+    (waits_on s.shelves s.shelves s.wheels s.live s.last s.suspects c.remove.new.self (λ gauge id n h. h) (λ gauge id h. h) other)
+
+pub returns-clause-moment : goal.returns-clause-moment
+returns-clause-moment c = ap (λ (i : Index). moment_of i) c.self.view_is
