@@ -120,8 +120,13 @@ impl Engine {
             return Ok(Bytes::new(self.alloc));
         };
         let frame = self.desks.as_slice()[session as usize].last_frame();
-        let Ok(request) = view_request(self.alloc, frame) else {
-            return Err(NoMemory);
+        // The frame was read when its request was accepted.
+        let request = match view_request(self.alloc, frame) {
+            Ok(request) => request,
+            Err(why) => match why {
+                WireFault::NoMemory => return Err(NoMemory),
+                _ => unreachable!(),
+            },
         };
         let accepted = parked.accepted.as_slice();
         reply_frame(
