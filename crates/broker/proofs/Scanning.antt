@@ -1,21 +1,19 @@
 -- A scan goes through the suspects alone, and the next to act is the least that can.
-use Rattle.std.proofs.Common.{◌≡◌, ◌≢◌, ◌↔◌, ℕ, zero, suc, ◌+◌, ◌-◌, ◌<◌, ◌≤◌, Bool, true, false, not, ◌&&◌, List, [], ◌∷◌, length, map, replicate, Option, Some, None, unwrap_or, refl, sym, ap, subst, ◌∙◌, arith}
+use Rattle.std.proofs.Common.{◌≡◌, ℕ, zero, suc, ◌+◌, ◌-◌, ◌<◌, ◌≤◌, Bool, true, false, not, ◌&&◌, List, [], ◌∷◌, length, map, replicate, Option, Some, None, unwrap_or, refl, sym, ap, subst, ◌∙◌, arith}
 use Rattle.std.proofs.lemmas.List.{length-map}
 use Rattle.std.specs.Prelude.{is_some, slice_get}
 use Rattle.partlog.specs.Gauges.{numbers_of}
 use Rattle.partlog.specs.History.{History}
 use Rattle.partlog.specs.Moment.{moment_of as clock_moment}
 use Rattle.partlog.specs.State.{state_of}
-use Rattle.partlog.specs.declared.clock_event.ClockEvent.{ClockEvent}
 use Rattle.partlog.specs.declared.numbers.Numbers.{Numbers}
 use Rattle.kwire.specs.Configuration.{Configuration}
 use Rattle.waiters.specs.Index.{Index, IsSuspect, moment_of}
 use Rattle.waiters.specs.Sessions.{Has, IsLeastFrom}
 use Rattle.waiters.specs.Waiting.{IsIdle}
 use Rattle.plain_broker.specs.Acting.{has_work, next_to_act}
-use Rattle.plain_broker.specs.Board.{Board, Seat, Waiting, empty_seat, opening, seat_at}
+use Rattle.plain_broker.specs.Board.{Board, Seat, empty_seat, opening, seat_at}
 use Rattle.plain_broker.specs.Completing.{answered_in}
-use Rattle.plain_broker.specs.Turns.{Turned}
 use Rattle.broker.specs.Kept.{Kept, MatchesWaiting, StandsFor, TurnsBy, parked_at}
 use Rattle.broker.specs.Steps.{is_ready}
 use Rattle.broker.specs.Watching.{AreTold, IsIndexed, IsQuiet, IsWatched, numbers_now, told_at}

@@ -1,5 +1,5 @@
 -- What a step of one session leaves as it was.
-use Rattle.std.proofs.Common.{◌≡◌, ◌≢◌, ◌⊎◌, ℤ, pos, negsuc, ℕ, zero, suc, ◌+◌, ◌-◌, ◌<◌, ◌≤◌, ◌^◌, Bool, true, false, cond, ◌&&◌, List, [], ◌∷◌, ◌++◌, length, drop, map, set, Option, Some, None, unwrap_or, MatchBool, refl, sym, ap, subst, ◌∙◌, arith, inl, inr, max, fold}
+use Rattle.std.proofs.Common.{◌≡◌, ◌≢◌, ◌⊎◌, ℤ, pos, negsuc, ℕ, zero, suc, ◌+◌, ◌-◌, ◌<◌, ◌≤◌, ◌^◌, Bool, true, false, cond, ◌&&◌, List, [], ◌∷◌, ◌++◌, length, map, set, Option, None, unwrap_or, MatchBool, refl, sym, ap, subst, ◌∙◌, arith, inl, inr, max, fold}
 use Rattle.std.proofs.lemmas.Bool.{ltb-true}
 use Rattle.std.proofs.lemmas.List.{length-append}
 use Rattle.std.proofs.lemmas.List.Elements.{filter_map-append}
@@ -36,11 +36,11 @@ use Rattle.audit.specs.declared.account.CallHow.TheVariants.{Quiet, AtOnce, Sati
 use Rattle.audit.specs.declared.account.Point.{Point}
 use Rattle.plain_broker.specs.Board.{Seat, empty_history, empty_seat, history_at, next_call, seat_at, transcript_at}
 use Rattle.plain_broker.specs.Completing.{finish_last, look_all}
-use Rattle.plain_broker.specs.Entering.{Noted, accept_all, entered, shown_of, steps_of}
+use Rattle.plain_broker.specs.Entering.{accept_all, entered, shown_of, steps_of}
 use Rattle.plain_broker.proofs.Laws.{looked_moment, looked_state}
 use Rattle.broker.specs.Desks.{next_of, transcript_of}
-use Rattle.broker.specs.Handled.{IsAnswered, IsHandled, IsParked, looked_by}
-use Rattle.broker.specs.Kept.{AreKept, Kept, Stands, parked_at}
+use Rattle.broker.specs.Handled.{IsAnswered, IsHandled, IsParked}
+use Rattle.broker.specs.Kept.{Kept, Stands, parked_at}
 use Rattle.broker.specs.Looks.{clock_after, clock_points, gauge_now}
 use Rattle.broker.specs.Steps.{AnyLeft, HasPart, IsActed, IsAlone, IsFreed, IsLeft, IsReseated, IsTicked, last_points}
 use Rattle.broker.specs.declared.handling.Handled.{Handled}

@@ -1,8 +1,8 @@
 -- What those who wait are told of the partitions at a call's points.
-use Rattle.std.proofs.Common.{◌≡◌, ◌≢◌, ◌⊎◌, ◌↔◌, ℕ, zero, suc, ◌+◌, ◌*◌, ◌/◌, ◌%◌, ◌<◌, ◌≤◌, Bool, true, false, cond, eqb, List, [], ◌∷◌, ◌++◌, length, get_or, set, take, map, Option, Some, None, refl, sym, ap, subst, ◌∙◌, arith, inl, inr}
+use Rattle.std.proofs.Common.{◌≡◌, ◌≢◌, ◌⊎◌, ◌↔◌, ℕ, zero, suc, ◌+◌, ◌*◌, ◌/◌, ◌%◌, ◌<◌, ◌≤◌, List, [], ◌∷◌, ◌++◌, length, get_or, set, take, map, Option, Some, None, refl, sym, ap, subst, ◌∙◌, arith, inl, inr}
 use Rattle.std.proofs.lemmas.Bool.{cases_lt}
 use Rattle.std.proofs.lemmas.List.{length-set, take_all, take_more}
-use Rattle.std.specs.Prelude.{slice_get, slice_index_or, unwrap_or}
+use Rattle.std.specs.Prelude.{unwrap_or}
 use Rattle.partlog.specs.Gauges.{numbers_of}
 use Rattle.partlog.specs.History.{History}
 use Rattle.partlog.specs.State.{state_of}
@@ -13,11 +13,11 @@ use Rattle.kanswer.specs.Reached.{gauge_in}
 use Rattle.audit.proofs.Laws.{get_set_other, get_set_same, same_or_not}
 use Rattle.audit.specs.declared.account.Point.{Point}
 use Rattle.waiters.specs.Index.{Index, IsSuspect, WaitsFor, moment_of}
-use Rattle.waiters.specs.Waiting.{Names, WaitsOn, WatchesOn}
+use Rattle.waiters.specs.Waiting.{Names, WaitsOn}
 use Rattle.plain_broker.specs.Board.{empty_history, history_at}
 use Rattle.broker.specs.Steps.{HasPart}
 use Rattle.broker.specs.Telling.{AreToldOf, AreWarned, IsWarned, StayWatched}
-use Rattle.broker.specs.Watching.{AreWatched, IsIndexed, IsQuiet, IsShort, numbers_now, told_at, told_value}
+use Rattle.broker.specs.Watching.{IsIndexed, IsQuiet, numbers_now, told_at, told_value}
 use Rattle.broker.specs.declared.parked.Parked.{Parked}
 use Rattle.broker.proofs.Watching.{indexed_on}
 

@@ -1,5 +1,5 @@
 -- Who waits isn't answerable unless it is a suspect: how that stays so, as one session acts or is answered and as the clock goes on.
-use Rattle.std.proofs.Common.{◌≡◌, ◌≢◌, ◌⊎◌, ◌↔◌, ℕ, zero, suc, ◌+◌, ◌*◌, ◌/◌, ◌<◌, ◌≤◌, ◌^◌, Bool, true, false, cond, not, ◌&&◌, List, [], ◌∷◌, length, map, All, Option, Some, None, refl, sym, ap, subst, ◌∙◌, arith, inl, inr}
+use Rattle.std.proofs.Common.{◌≡◌, ◌≢◌, ◌⊎◌, ◌↔◌, ℕ, zero, suc, ◌/◌, ◌<◌, ◌≤◌, Bool, true, false, cond, not, ◌&&◌, List, [], ◌∷◌, length, map, All, Option, Some, None, refl, sym, ap, subst, ◌∙◌, arith, inl, inr}
 use Rattle.std.proofs.lemmas.Bool.{cases_lt}
 use Rattle.std.proofs.lemmas.Bool.Decides.{leb_tells}
 use Rattle.std.specs.Prelude.{is_some, nat_le, slice_get, unwrap_or}
@@ -14,11 +14,10 @@ use Rattle.opcond.specs.Tally.{tally}
 use Rattle.opcond.specs.declared.need.Need.{Need}
 use Rattle.kanswer.specs.Reached.{gauge_in}
 use Rattle.audit.proofs.Laws.{same_or_not, some_is}
-use Rattle.audit.specs.declared.account.CallHow.{CallHow}
 use Rattle.audit.specs.declared.account.CallHow.TheVariants.{Expired, Satisfied}
-use Rattle.waiters.specs.Index.{ComesBy, Index, IsSuspect, WaitsFor, coming_of, last_of, moment_of}
+use Rattle.waiters.specs.Index.{ComesBy, Index, IsSuspect, coming_of, last_of, moment_of}
 use Rattle.waiters.specs.Sessions.{Has}
-use Rattle.waiters.specs.Waiting.{Names, WaitsNoMore, WaitsOn, WaitsWith, WatchesOn}
+use Rattle.waiters.specs.Waiting.{WaitsNoMore, WaitsOn, WatchesOn}
 use Rattle.plain_broker.specs.Acting.{can_act, has_work}
 use Rattle.plain_broker.specs.Board.{Board, Seat, empty_seat, history_at, next_call, seat_at, transcript_at}
 use Rattle.plain_broker.specs.Completing.{is_overdue_now, is_satisfied_now}
@@ -26,8 +25,8 @@ use Rattle.broker.specs.Desks.{next_of}
 use Rattle.broker.specs.Kept.{Kept, StandsFor, Stands, parked_at, waiting_in, with_waiting}
 use Rattle.broker.specs.Looks.{HasGauge, due_in, gauge_now}
 use Rattle.broker.specs.Steps.{AnyLeft, IsActed, IsAlone, IsFreed, IsLeft, IsReseated, IsTicked, is_ready, last_points, operation_at, operation_in}
-use Rattle.broker.specs.Telling.{AreToldOf, IsWarned}
-use Rattle.broker.specs.Watching.{AreTold, AreWatched, IsIndexed, IsQuiet, IsShort, IsTaken, IsWatched, MayWait, WaitsBy, WaitsNowhere, told_value}
+use Rattle.broker.specs.Telling.{AreToldOf}
+use Rattle.broker.specs.Watching.{AreTold, AreWatched, IsIndexed, IsQuiet, IsShort, IsTaken, IsWatched, MayWait, WaitsBy, told_value}
 use Rattle.broker.specs.declared.parked.Parked.{Parked}
 use Rattle.broker.specs.declared.watched.Watched.{Watched}
 use Rattle.broker.proofs.Completes.{overdue_as, satisfied_as}
@@ -257,6 +256,7 @@ module _ (w : Watched) (engine : Kept) (told : List Numbers) (first next : Index
         early = subst (λ (m : ℕ). m < parked.op.deadline) (sym moment) (still_early (moment_of first) parked.op.deadline (λ come. never (taken.1.1 come)));
       } in
       subst (IsQuiet told (moment_of next)) (sym slot) short
+
   pub acted_waits : (generation : ℕ) → IsTaken session generation first next (operation_at engine session) → ((other : ℕ) → other ≢ session → WaitsOn first next other)
       → ((other : ℕ) → other ≢ session → IsSuspect next other ↔ IsSuspect first other) → AreWatched next told (parked_at engine)
   acted_waits generation taken on suspects = record {

@@ -1,7 +1,6 @@
 -- What a step of one session leaves as it was: the sessions and the requests that wait of all others, the clock's moment, and the
 -- histories of the partitions that it didn't ask.
 use Rattle.std.specs.Prelude.{ℕ, ◌≡◌, ◌≢◌, ◌+◌, ◌^◌, ◌<◌, ◌≤◌, ◌⊎◌, List, [], ◌∷◌, length, map, not, ◌&&◌, Bool, Option, Some, None, is_some}
-use Rattle.partlog.specs.History.{History}
 use Rattle.partlog.specs.Moment.{moment_of}
 use Rattle.partlog.specs.State.{state_of}
 use Rattle.opcond.specs.Operation.{Operation}
@@ -11,7 +10,7 @@ use Rattle.audit.specs.declared.account.Point.{Point}
 use Rattle.trace_file.specs.declared.line.Line.{Line}
 use Rattle.trace_file.specs.declared.line.Line.TheVariants as lines
 use Rattle.plain_broker.specs.Acting.{has_work}
-use Rattle.plain_broker.specs.Board.{Board, history_at, next_call, seat_at, transcript_at}
+use Rattle.plain_broker.specs.Board.{history_at, next_call, seat_at, transcript_at}
 use Rattle.broker.specs.Kept.{Kept, parked_at}
 use Rattle.broker.specs.Looks.{gauge_now}
 use Rattle.broker.specs.declared.parked.Parked.{Parked}

@@ -164,12 +164,7 @@ impl Engine {
     }
 
     /// Answers the request of a session, which is completed so now.
-    pub fn complete(
-        &mut self,
-        session: u32,
-        how: CallHow,
-        out: &mut Bytes,
-    ) -> Result<(), NoMemory>
+    pub fn complete(&mut self, session: u32, how: CallHow, out: &mut Bytes) -> Result<(), NoMemory>
         requires there { session < most_sessions }
         requires stands { Stands self.old }
         requires due { (board : Board) → StandsFor self.old board → Some how ≡ due_in board (waiting_in board.waiting session) }

@@ -1,5 +1,4 @@
-use Rattle.std.proofs.Common.{◌≡◌, ◌<◌, ℕ, sym, ap, subst, ◌∙◌, arith, refl}
-use Rattle.opcond.specs.Operation.{Operation}
+use Rattle.std.proofs.Common.{ℕ, sym, subst, arith}
 use Rattle.waiters.specs.Waiting.{WaitsWith}
 use Rattle.plain_broker.specs.Board.{next_call}
 use Rattle.broker.specs.Watching.{IsTaken, MayWait}

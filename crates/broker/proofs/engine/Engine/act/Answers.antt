@@ -3,7 +3,7 @@ use Rattle.std.proofs.lemmas.Int.{to_z-of_z}
 use Rattle.std.specs.Int.{w32}
 use mir.Val.{SFits}
 use Rattle.kwire.specs.Frames.{next_frame_of}
-use Rattle.kwire.specs.declared.frame.Frame.TheVariants.{Whole, NotYet, TooLong}
+use Rattle.kwire.specs.declared.frame.Frame.TheVariants.{NotYet, TooLong}
 use Rattle.audit.specs.declared.account.SessionEnd.TheVariants.{FrameTooLong}
 use Rattle.plain_broker.specs.Board.{Seat, seat_at}
 use Rattle.plain_broker.specs.Acting.{end_of_input}

@@ -1,6 +1,5 @@
-use Rattle.std.proofs.Common.{◌≡◌, ◌<◌, List, ℕ, get_or, length, sym, ap, subst, ◌∙◌, arith}
+use Rattle.std.proofs.Common.{◌<◌, List, ℕ, get_or, length, sym, ap, subst, ◌∙◌, arith}
 use Rattle.trace_file.specs.declared.line.Line.{Line}
-use Rattle.trace_file.specs.declared.line.Line.TheVariants.{Feed, Shut}
 use Rattle.plain_broker.specs.Board.{next_call, seat_at}
 use Rattle.plain_broker.specs.Play.{brought}
 use Rattle.broker.specs.Kept.{IsPlayable, Kept, StandsFor}

@@ -1,6 +1,5 @@
-use Rattle.std.proofs.Common.{◌≡◌, ◌<◌, Some, length, sym, ap, ◌∙◌, arith, cond, Bool, Option, None}
+use Rattle.std.proofs.Common.{◌≡◌, ◌<◌, Some, length, sym, ap, ◌∙◌, arith, cond, Bool, None}
 use Rattle.partlog.specs.Moment.{moment_of}
-use Rattle.audit.specs.declared.account.CallHow.{CallHow}
 use Rattle.audit.specs.declared.account.CallHow.TheVariants.{Expired}
 use Rattle.broker.specs.Kept.{Kept, parked_at}
 use Rattle.broker.proofs.Dues.{due_late, due_reached, gauges_there}

@@ -1,16 +1,10 @@
-use Rattle.std.proofs.Common.{◌≡◌, ◌<◌, ◌-◌, ℕ, List, Some, None, length, sym, ap, subst, ◌∙◌, arith}
-use Rattle.std.specs.List.{AllByRecursion}
-use Rattle.partlog.specs.History.{History}
-use Rattle.kanswer.specs.Results.{parts_asked}
-use Rattle.kanswer.specs.declared.accepted.Accepted.{Accepted}
-use Rattle.plain_broker.specs.Board.{Board, Seat, next_call}
-use Rattle.plain_broker.specs.Completing.{look_all}
+use Rattle.std.proofs.Common.{◌≡◌, ◌<◌, ◌-◌, ℕ, Some, None, length, sym, ap, subst, ◌∙◌, arith}
+use Rattle.plain_broker.specs.Board.{next_call}
 use Rattle.broker.specs.Desks.{next_of}
 use Rattle.broker.specs.Kept.{Kept, StandsFor, parked_at}
 use Rattle.broker.specs.Looks.{finished}
-use Rattle.broker.specs.Replying.{HasLog}
 use Rattle.broker.specs.Steps.{IsFreed}
-use Rattle.broker.proofs.Completes.{done_seat, look_size}
+use Rattle.broker.proofs.Completes.{done_seat}
 use Rattle.broker.proofs.Dues.{logs_there}
 use Rattle.broker.proofs.Finishing.{finish_is, finishes}
 use Rattle.broker.proofs.Standing.{all_written, parked_shown, seat_shown}

@@ -1,4 +1,4 @@
-use Rattle.std.proofs.Common.{◌≡◌, ◌≢◌, ◌<◌, ◌≤◌, ℕ, List, [], get_or, length, sym, ap, subst, ◌∙◌, arith, refl}
+use Rattle.std.proofs.Common.{◌≡◌, ◌≢◌, ◌<◌, ℕ, List, get_or, length, sym, ap, subst, ◌∙◌, arith}
 use Rattle.audit.specs.declared.account.SessionEnd.TheVariants.{CallsFull, Refused}
 use Rattle.audit.specs.declared.account.TheConstants.{MOST_CALLS}
 use Rattle.audit.specs.declared.account.Point.{Point}
@@ -6,10 +6,8 @@ use Rattle.kwire.specs.IsRequest.{IsRequest}
 use Rattle.kwire.specs.Refusal.{IsRefused}
 use Rattle.kwire.proofs.Laws.{whole_within}
 use Rattle.partlog.specs.History.{History}
-use Rattle.partlog.specs.declared.clock_event.ClockEvent.{ClockEvent}
-use Rattle.kwire.specs.Configuration.{Configuration}
 use Rattle.plain_broker.specs.Acting.{Acts}
-use Rattle.plain_broker.specs.Board.{Board, Seat, next_call, seat_at}
+use Rattle.plain_broker.specs.Board.{Seat, next_call, seat_at}
 use Rattle.broker.specs.Desks.{front_body, next_of}
 use Rattle.broker.specs.Handled.{IsHandled}
 use Rattle.broker.specs.Kept.{Kept, TurnsBy}

@@ -1,4 +1,4 @@
-use Rattle.std.proofs.Common.{◌≡◌, ◌≤◌, ◌+◌, ◌<◌, List, length, refl, sym, ap, subst, ◌∙◌, arith}
+use Rattle.std.proofs.Common.{List, length, refl, sym, ap, subst, ◌∙◌, arith}
 use Rattle.partlog.specs.History.{History}
 use Rattle.partlog.specs.declared.numbers.Numbers.{Numbers}
 use Rattle.audit.specs.declared.account.Point.{Point}

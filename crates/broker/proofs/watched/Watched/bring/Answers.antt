@@ -1,4 +1,4 @@
-use Rattle.std.proofs.Common.{◌≡◌, sym, subst}
+use Rattle.std.proofs.Common.{subst}
 use Rattle.trace_file.specs.declared.line.Line.{Line}
 use Rattle.plain_broker.specs.Play.{brought}
 use Rattle.broker.specs.Steps.{IsBrought}
