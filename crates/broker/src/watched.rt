@@ -5,6 +5,7 @@
 //! only the session changes that acted, was answered or was named by a line.
 
 ghost use Rattle.std.specs.Prelude.{◌≡◌, ◌≢◌, ◌∷◌, ◌<◌, ◌≤◌, ◌↔◌, ℕ, [], true, None, length, map, IfOk, OnOk};
+ghost use Rattle.kwire.specs.declared.config.TheConstants.{MOST_PARTITIONS};
 ghost use Rattle.partlog.specs.Gauges.{numbers_of};
 ghost use Rattle.partlog.specs.State.{state_of};
 ghost use Rattle.waiters.specs.Index.{IsSuspect, WaitsFor, moment_of};
@@ -27,7 +28,7 @@ use kwire::Config;
 use partlog::{Numbers, PartLog};
 use std::alloc::Global;
 use trace_file::Line;
-use waiters::{SessionSet, Waiters};
+use waiters::{GAUGES, SessionSet, Waiters};
 
 /// What the broker keeps, and by what it finds what a line can have changed. After want of memory it may only be dropped.
 #[derive(Debug, Drop)]
@@ -67,7 +68,7 @@ fn note(engine: &Engine, ready: &mut SessionSet, session: u32)
 
 // Tells those who wait for a gauge where its value changed.
 fn tell_gauge(waiters: &mut Waiters, gauge: u32, was: u64, now: u64)
-    requires { gauge < 192 }
+    requires { gauge < GAUGES }
     ensures warned { IsWarned waiters.old waiters.new }
     ensures told { was ≢ now → (session : ℕ) → WaitsFor waiters.old session gauge → IsSuspect waiters.new session }
 {
@@ -78,7 +79,7 @@ fn tell_gauge(waiters: &mut Waiters, gauge: u32, was: u64, now: u64)
 
 // Tells those who wait for a gauge of a partition where its value changed.
 fn tell_gauges(waiters: &mut Waiters, part: u32, was: &Numbers, now: &Numbers)
-    requires { part < 64 }
+    requires { part < MOST_PARTITIONS }
     ensures warned { IsWarned waiters.old waiters.new }
     ensures told { AreWarned part was.now now.now waiters.old waiters.new }
 {
@@ -90,7 +91,7 @@ fn tell_gauges(waiters: &mut Waiters, part: u32, was: &Numbers, now: &Numbers)
 // Tells those who wait of the partition at a point. The clock's history has none.
 fn tell_at(parts: &[PartLog], point: &Point, told: &mut [Numbers], waiters: &mut Waiters)
     requires size { length told.old ≡ length parts.now }
-    requires few { length told.old ≤ 64 }
+    requires few { length told.old ≤ MOST_PARTITIONS }
     ensures told { AreToldOf parts.now (point.now ∷ []) told.old told.new }
     ensures warned { IsWarned waiters.old waiters.new }
     ensures watched { StayWatched waiters.old told.old waiters.new told.new }
@@ -108,7 +109,7 @@ fn tell_at(parts: &[PartLog], point: &Point, told: &mut [Numbers], waiters: &mut
 // Tells those who wait of the partitions at these points.
 fn tell(parts: &[PartLog], points: &[Point], told: &mut [Numbers], waiters: &mut Waiters)
     requires size { length told.old ≡ length parts.now }
-    requires few { length told.old ≤ 64 }
+    requires few { length told.old ≤ MOST_PARTITIONS }
     ensures told { AreToldOf parts.now points.now told.old told.new }
     ensures warned { IsWarned waiters.old waiters.new }
     ensures watched { StayWatched waiters.old told.old waiters.new told.new }
