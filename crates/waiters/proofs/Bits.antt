@@ -1,5 +1,5 @@
 -- The bits of a set.
-use Rattle.std.proofs.Common.{◌≡◌, ◌≢◌, ℕ, ◌+◌, ◌-◌, ◌*◌, ◌/◌, ◌%◌, ◌^◌, ◌<◌, ◌≤◌, ◌↔◌, ◌⊎◌, inl, inr, ⊎_elim, ap, sym, ◌∙◌, subst, refl, arith, eqb, true, eqb-true, eq-eqb, w64}
+use Rattle.std.proofs.Common.{◌≡◌, ◌≢◌, ℕ, ◌+◌, ◌-◌, ◌*◌, ◌/◌, ◌%◌, ◌^◌, ◌<◌, ◌≤◌, ◌↔◌, ◌⊎◌, inl, inr, ⊎_elim, ap, sym, ◌∙◌, arith, eqb, true, eqb-true, eq-eqb, w64}
 use Rattle.std.specs.Prelude.{bit_and, bit_or}
 use Rattle.std.specs.Int.{bit_at, bit_not, trailing_zeros}
 use Rattle.std.proofs.lemmas.Nat.{and_le_l, shr-shr, shr_le}

@@ -1,5 +1,5 @@
 -- Deadlines that are to come, under an insert and a turn.
-use Rattle.std.proofs.Common.{◌≡◌, ◌≢◌, ℕ, ◌<◌, ◌≤◌, ◌↔◌, ⊎_elim, List, Option, Some, None, Bool, true, false, not, IsSomeAnd, IsTrue, length, get_or, set, option_map, sym, ap, ◌∙◌, refl, subst, arith, length-set, get_or-set_same, get_or-set_other}
+use Rattle.std.proofs.Common.{◌≡◌, ◌≢◌, ℕ, ◌<◌, ◌≤◌, ◌↔◌, ⊎_elim, List, Option, Some, None, Bool, true, false, not, IsSomeAnd, IsTrue, get_or, option_map, ap, refl, subst, arith, length-set, get_or-set_same, get_or-set_other}
 use Rattle.std.specs.Bool.{OnFalse, OnTrue}
 use Rattle.std.proofs.lemmas.List.{get_or_past, get_or_default}
 use Rattle.std.proofs.lemmas.Bool.{cases_lt}
@@ -77,3 +77,11 @@ all_within t timers ids many due k d l =
     let it : ℕ = get_or ids k d in
     let within = due_within t timers it ((due it).0 (k, l, get_or_default ids k it d l)) in
     omega arith
+
+-- a deadline to come is past the moment, where each entry is
+past_slot : (moment deadline : ℕ) (slot : Option Timer) → ((e : Timer) → slot ≡ Some e → moment < e.deadline) → deadline_in slot ≡ Some deadline → moment < deadline
+past_slot moment deadline None past is = absurd cc
+past_slot moment deadline (Some e) past is = let l = past e refl in let same : e.deadline ≡ deadline = cc in omega arith
+
+pub coming_past : (timers : Timers) (id deadline : ℕ) → ((e : Timer) → entry_of timers id ≡ Some e → timers.moment < e.deadline) → deadline_of timers id ≡ Some deadline → timers.moment < deadline
+coming_past timers id deadline past is = past_slot timers.moment deadline (entry_of timers id) past is

@@ -6,3 +6,4 @@ pub mod Listings
 pub mod Watchers
 pub mod Deadlines
 pub mod Sessions
+pub mod Waits

@@ -1,5 +1,5 @@
 -- What a call of the index leaves of each session.
-use Rattle.std.proofs.Common.{◌≡◌, ◌≢◌, ℕ, ◌<◌, ◌≤◌, ◌↔◌, ◌⊎◌, inl, inr, ⊎_elim, List, [], Option, Some, None, length, get_or, set, replicate, option_map, sym, ap, ◌∙◌, refl, subst, arith, length-set, get_or-set_same, get_or-set_other}
+use Rattle.std.proofs.Common.{◌≡◌, ◌≢◌, ℕ, ◌<◌, ◌≤◌, ◌↔◌, ◌⊎◌, inl, inr, ⊎_elim, List, Option, Some, None, get_or, set, replicate, option_map, sym, ap, ◌∙◌, refl, subst, arith, length-set, get_or-set_same, get_or-set_other}
 use Rattle.std.proofs.lemmas.Bool.{cases_eq, cases_lt}
 use Rattle.std.proofs.lemmas.List.{get_or-replicate, get_or_past, length-replicate}
 use Rattle.watch_lists.specs.Watches.{Watches}
@@ -8,7 +8,7 @@ use Rattle.timing_wheel.specs.DueList.{DueList}
 use Rattle.timing_wheel.specs.Timers.{Timers, deadline_of, ids_of, with_entry}
 use Rattle.opcond.specs.declared.need.Need.{Need}
 use Rattle.opcond.specs.Operation.{Operation}
-use Rattle.waiters.specs.Index.{Index, IsWatching, WaitsFor, coming_of, generation_of, last_of, moment_of}
+use Rattle.waiters.specs.Index.{Index, IsWatching}
 use Rattle.waiters.specs.Kept.{IsIndex}
 use Rattle.waiters.specs.Waiting.{IsIdle, Names, WaitsNoMore, WaitsOn, WaitsWith, WatchesOn}
 use Rattle.waiters.proofs.Deadlines.{IsInserted, deadline_same, deadline_other, ids_same}

@@ -1,12 +1,11 @@
 -- Watchers at the present generations, when one is listed, and in a walk.
-use Rattle.std.proofs.Common.{◌≡◌, ◌≢◌, ℕ, ◌+◌, ◌-◌, ◌<◌, ◌≤◌, ◌↔◌, ◌⊎◌, inl, inr, ⊎_elim, List, Option, Some, None, Bool, true, false, not, eqb, eqb-true, eq-eqb, filter, length, get_or, sym, ap, ◌∙◌, refl, subst, arith}
+use Rattle.std.proofs.Common.{◌≡◌, ◌≢◌, ℕ, ◌+◌, ◌-◌, ◌<◌, ◌↔◌, ◌⊎◌, inl, inr, ⊎_elim, List, Some, Bool, true, false, not, eqb, eqb-true, eq-eqb, filter, length, get_or, sym, ap, ◌∙◌, refl, subst, arith}
 use Rattle.std.specs.List.{slice_get}
-use Rattle.std.proofs.lemmas.Bool.{and_from, and_parts, cases_Bool, cases_eq, true≢false}
+use Rattle.std.proofs.lemmas.Bool.{and_from, and_parts, cases_Bool, cases_eq}
 use Rattle.std.proofs.lemmas.Option.{slice_get_within}
 use Rattle.watch_lists.specs.declared.watch.Watch.{Watch}
 use Rattle.watch_lists.specs.Watches.{Watches, IsListed, is_of}
 use Rattle.waiters.specs.Sessions.{Has}
-use Rattle.waiters.specs.Index.{IsWatching}
 use Rattle.waiters.specs.Shelved.{row_at}
 use Rattle.waiters.proofs.Prefixes.{first_stay, fewer_left}
 

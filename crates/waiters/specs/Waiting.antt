@@ -34,7 +34,7 @@ pub record WaitsNoMore (old new : Index) (session : ℕ) : Type 0 where
   pub gauges : (gauge : ℕ) → ¬ WaitsFor new session gauge
   pub coming : coming_of new session ≡ None
 
--- nobody waits or ever did, and nobody is a suspect; the moment is 0
+-- nobody waits or ever did, and the moment is 0
 pub record IsIdle (index : Index) : Type 0 where
   pub generation : (session : ℕ) → generation_of index session ≡ 0
   pub last : (session : ℕ) → last_of index session ≡ 0

@@ -41,10 +41,10 @@ impl Model for Shelves {
 
 // Purges a shard that is full. `live` has the generation of each session.
 fn make_room(shard: &mut Shard, live: &[u32])
-    requires ids { shard.old.ids ≡ 64 }
-    requires live { length live.now ≡ 64 }
+    requires ids { shard.old.ids ≡ SESSIONS }
+    requires live { length live.now ≡ SESSIONS }
     ensures keys { keys_of shard.new ≡ keys_of shard.old }
-    ensures ids { shard.new.ids ≡ 64 }
+    ensures ids { shard.new.ids ≡ SESSIONS }
     ensures fewer { (key id generation : ℕ) → IsListed shard.new key id generation → IsListed shard.old key id generation }
     ensures kept { (key id : ℕ) → IsListed shard.old key id (slice_index live.now id) → IsListed shard.new key id (slice_index live.now id) }
     ensures purged { 500 ≤ size_of shard.old → (key id generation : ℕ) → IsListed shard.new key id generation
@@ -58,12 +58,12 @@ fn make_room(shard: &mut Shard, live: &[u32])
 // Lists a session under a key of a shard, with its generation.
 fn list_in(shard: &mut Shard, key: u32, session: u32, live: &[u32])
     requires key { key < keys_of shard.old }
-    requires ids { shard.old.ids ≡ 64 }
-    requires session { session < 64 }
-    requires live { length live.now ≡ 64 }
+    requires ids { shard.old.ids ≡ SESSIONS }
+    requires session { session < SESSIONS }
+    requires live { length live.now ≡ SESSIONS }
     requires generation { 1 ≤ slice_index live.now session }
     ensures keys { keys_of shard.new ≡ keys_of shard.old }
-    ensures ids { shard.new.ids ≡ 64 }
+    ensures ids { shard.new.ids ≡ SESSIONS }
     ensures listed { (k id : ℕ) → IsListed shard.new k id (slice_index live.now id)
         ↔ (IsListed shard.old k id (slice_index live.now id) ⊎ ((k ≡ key) × (id ≡ session))) }
     ensures within { (k id generation : ℕ) → IsListed shard.new k id generation

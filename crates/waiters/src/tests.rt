@@ -25,6 +25,15 @@ fn op_of(alloc: Global, gauges: u32, deadline: u64) -> Result<Op, NoMemory>
     Ok(op)
 }
 
+// Nobody waits yet.
+fn idle(alloc: Global) -> Result<Waiters, NoMemory>
+    ensures moment { IfOk result (λ waiters. moment_of waiters ≡ 0) }
+    ensures last { IfOk result (λ waiters. (session : ℕ) → last_of waiters session < 1) }
+{
+    let waiters = Waiters::new(alloc)?;
+    Ok(waiters)
+}
+
 // Every session waits with the operation.
 fn all_wait(waiters: &mut Waiters, generation: u32, op: &Op)
     requires gauges { All (λ need. need.gauge < GAUGES) op.now.needs }
@@ -53,49 +62,48 @@ fn a_set_of_sessions(rt: HostRuntime) -> Result<(), Fail> {
     Ok(())
 }
 
+// Session 3 waits and is looked at: the least suspect after each step.
+fn least_in_a_wait(alloc: Global) -> Result<[Option<u32>; 4], NoMemory> {
+    let mut waiters = idle(alloc)?;
+    let op = op_of(alloc, 2, 500)?;
+    waiters.wait(3, 1, &op);
+    waiters.rise(16);
+    let risen = waiters.least_suspect(0);
+    waiters.clear(3);
+    waiters.tick(499);
+    let early = waiters.least_suspect(0);
+    waiters.tick(500);
+    let due = waiters.least_suspect(3);
+    waiters.done(3);
+    let done = waiters.least_suspect(0);
+    Ok([risen, early, due, done])
+}
+
 #[test]
 fn a_session_waits(rt: HostRuntime) -> Result<(), Fail> {
-    let mut waiters = Waiters::new(rt.alloc())
-        .ok()
-        .ok_or("memory for the waiters")?;
-    let op = op_of(rt.alloc(), 2, 500)
-        .ok()
-        .ok_or("memory for the needs")?;
-    waiters.wait(3, 1, &op);
-    assert_eq!(rt; waiters.least_suspect(0), None);
-    waiters.rise(16);
-    assert_eq!(rt; waiters.least_suspect(0), Some(3));
-    waiters.clear(3);
-    waiters.rise(1);
-    waiters.tick(499);
-    assert_eq!(rt; waiters.least_suspect(0), None);
-    waiters.tick(500);
-    assert_eq!(rt; waiters.least_suspect(3), Some(3));
-    waiters.done(3);
-    waiters.rise(16);
-    assert_eq!(rt; waiters.least_suspect(0), None);
-    waiters.wait(3, 2, &op);
-    assert_eq!(rt; waiters.least_suspect(0), Some(3));
+    let found = least_in_a_wait(rt.alloc()).ok().ok_or("memory")?;
+    assert_eq!(rt; found, [Some(3), None, Some(3), None]);
     Ok(())
+}
+
+// All sessions wait, twice, and two gauges rise: the least suspect after each, and the last one.
+fn least_after_rises(alloc: Global) -> Result<[Option<u32>; 3], NoMemory> {
+    let mut waiters = idle(alloc)?;
+    let twelve = op_of(alloc, 12, 500)?;
+    let one = op_of(alloc, 1, 900)?;
+    all_wait(&mut waiters, 1, &twelve);
+    all_wait(&mut waiters, 2, &one);
+    waiters.rise(16);
+    let stale = waiters.least_suspect(0);
+    waiters.rise(0);
+    let least = waiters.least_suspect(0);
+    let last = waiters.least_suspect(63);
+    Ok([stale, least, last])
 }
 
 #[test]
 fn all_sessions_wait_for_one_gauge(rt: HostRuntime) -> Result<(), Fail> {
-    let mut waiters = Waiters::new(rt.alloc())
-        .ok()
-        .ok_or("memory for the waiters")?;
-    let twelve = op_of(rt.alloc(), 12, 500)
-        .ok()
-        .ok_or("memory for the needs")?;
-    let one = op_of(rt.alloc(), 1, 900).ok().ok_or("memory for a need")?;
-    all_wait(&mut waiters, 1, &twelve);
-    all_wait(&mut waiters, 2, &one);
-    waiters.rise(16);
-    assert_eq!(rt; waiters.least_suspect(0), None);
-    waiters.rise(0);
-    assert_eq!(rt; waiters.least_suspect(0), Some(0));
-    assert_eq!(rt; waiters.least_suspect(63), Some(63));
-    waiters.done(63);
-    assert_eq!(rt; waiters.least_suspect(63), None);
+    let found = least_after_rises(rt.alloc()).ok().ok_or("memory")?;
+    assert_eq!(rt; found, [None, Some(0), Some(63)]);
     Ok(())
 }

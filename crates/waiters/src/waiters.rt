@@ -1,7 +1,7 @@
 //! The index: who waits for what, and who is a suspect.
 ghost use Rattle.std.specs.Prelude.{◌≡◌, ◌≢◌, ℕ, ◌+◌, ◌^◌, ◌<◌, ◌≤◌, ◌↔◌, ◌⊎◌, All, IfNone, IfOk, IfSome, Some};
 ghost use Rattle.waiters.specs.Sessions.{IsLeastFrom};
-ghost use Rattle.waiters.specs.Index.{ComesBy, IsSuspect, WaitsFor, coming_of, last_of, moment_of};
+ghost use Rattle.waiters.specs.Index.{ComesBy, IsSuspect, WaitsFor, coming_of, generation_of, last_of, moment_of};
 ghost use Rattle.waiters.specs.Waiting.{IsIdle, WaitsNoMore, WaitsOn, WaitsWith, WatchesOn};
 
 use crate::session_set::{SESSIONS, SessionSet};
@@ -26,13 +26,13 @@ pub struct Waiters {
 
 impl Model for Waiters {
     ghost use Rattle.waiters.specs.Index.{Index};
-    ghost use Rattle.waiters.specs.Kept.{IsIndex};
+    ghost use Rattle.waiters.specs.Kept.{AreWaiting, IsIndex};
 
     ghost Value = { Index };
 
     ghost view = { λ w. record { shards = w.shelves; timers = w.wheels; live = w.live; last = w.last; suspects = w.suspects } };
 
-    ghost invariant = { λ w. IsIndex w.shelves w.wheels w.due w.live w.last };
+    ghost invariant = { λ w. IsIndex w.shelves w.wheels w.due w.live w.last × AreWaiting w.wheels w.live w.suspects };
 }
 
 impl Waiters {
@@ -129,5 +129,15 @@ impl Waiters {
         self.live[session as usize] = 0;
         self.wheels.remove(session);
         self.suspects.put(session, false);
+    }
+
+    /// Law: who watches a gauge, has a deadline to come or is a suspect waits, and a deadline to come is past the moment.
+    pub fn who_waits(&self)
+        ensures gauges { (session gauge : ℕ) → WaitsFor self.now session gauge → 1 ≤ generation_of self.now session }
+        ensures coming { (session deadline : ℕ) → coming_of self.now session ≡ Some deadline → 1 ≤ generation_of self.now session }
+        ensures past { (session deadline : ℕ) → coming_of self.now session ≡ Some deadline → moment_of self.now < deadline }
+        ensures suspects { (session : ℕ) → IsSuspect self.now session → 1 ≤ generation_of self.now session }
+    {
+        self.wheels.entries_wait();
     }
 }

@@ -1,4 +1,4 @@
-use Rattle.std.proofs.Common.{ℕ, ◌≡◌, ◌+◌, ◌↔◌, ◌⊎◌, inl, inr, ⊎_elim, get_or, length, sym, subst, arith}
+use Rattle.std.proofs.Common.{◌≡◌, ◌↔◌, ◌⊎◌, inl, inr, ⊎_elim, get_or, length, subst, arith}
 use Rattle.opcond.specs.declared.need.Need.{Need}
 use Rattle.waiters.specs.Index.{IsWatching}
 use Rattle.waiters.specs.Waiting.{Names}

@@ -1,4 +1,4 @@
-use Rattle.std.proofs.Common.{ℕ, ◌≡◌, ◌⊎◌, ⊎_elim, ap, sym, ◌∙◌, get_or}
+use Rattle.std.proofs.Common.{ℕ, ◌⊎◌, ⊎_elim, ap, sym, ◌∙◌, get_or}
 use Rattle.waiters.specs.Sessions.{Has}
 use Rattle.waiters.specs.Index.{IsWatching}
 use Rattle.waiters.proofs.Watchers.{left_by_stale, passed_stay}

@@ -1,4 +1,4 @@
-use Rattle.std.proofs.Common.{ℕ, ◌≡◌, ◌⊎◌, get_or}
+use Rattle.std.proofs.Common.{ℕ, ◌⊎◌, get_or}
 use Rattle.waiters.specs.Sessions.{Has}
 use Rattle.waiters.specs.Index.{IsWatching}
 use Rattle.waiters.proofs.Watchers.{ArePassed, left}

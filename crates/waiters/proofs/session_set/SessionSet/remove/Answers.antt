@@ -1,4 +1,4 @@
-use Rattle.std.proofs.Common.{ℕ, ◌*◌, ◌^◌, ◌%◌, ◌↔◌, ◌≡◌, ◌≢◌, subst, arith, w64}
+use Rattle.std.proofs.Common.{ℕ, ◌*◌, ◌^◌, ◌%◌, ◌↔◌, ◌≢◌, subst, arith, w64}
 use Rattle.std.specs.Prelude.{bit_and}
 use Rattle.std.specs.Int.{bit_not}
 use Rattle.waiters.specs.Sessions.{Has}

@@ -1,4 +1,4 @@
-use Rattle.std.proofs.Common.{ℕ, ◌≡◌, ◌≢◌, ◌↔◌, ◌%◌, ◌/◌, List, filter, not, set, ap, sym, ◌∙◌, subst, arith}
+use Rattle.std.proofs.Common.{◌≡◌, ◌≢◌, ◌↔◌, ◌%◌, ◌/◌, List, filter, not, set, ap, sym, ◌∙◌, subst, arith}
 use Rattle.watch_lists.specs.declared.watch.Watch.{Watch}
 use Rattle.watch_lists.specs.Watches.{Watches, is_of, row_of}
 use Rattle.waiters.specs.Index.{IsWatching}

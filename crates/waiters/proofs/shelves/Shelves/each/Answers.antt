@@ -1,4 +1,4 @@
-use Rattle.std.proofs.Common.{ℕ, ◌≡◌, ◌<◌, ◌%◌, ◌/◌, List, Some, ap, sym, ◌∙◌, subst, arith}
+use Rattle.std.proofs.Common.{◌%◌, ◌/◌, List, ap, sym, ◌∙◌, subst, arith}
 use Rattle.std.specs.List.{slice_get}
 use Rattle.watch_lists.specs.declared.watch.Watch.{Watch}
 use Rattle.watch_lists.specs.Watches.{Watches, row_of}

@@ -1,4 +1,4 @@
-use Rattle.std.proofs.Common.{ℕ, ◌≡◌, ◌↔◌, ◌⊎◌, ◌%◌, List, get_or, set, subst}
+use Rattle.std.proofs.Common.{◌≡◌, ◌↔◌, ◌⊎◌, ◌%◌, List, get_or, set, subst}
 use Rattle.watch_lists.specs.Watches.{Watches}
 use Rattle.waiters.specs.Index.{IsWatching}
 use Rattle.waiters.proofs.Listings.{one_more, no_other}

@@ -1,9 +1,15 @@
-use Rattle.std.proofs.Common.{◌↔◌, ◌≢◌, ap, subst}
+use Rattle.std.proofs.Common.{◌↔◌, ◌≢◌, inl, ap, subst}
 use Rattle.waiters.specs.Sessions.{Has}
 use Rattle.waiters.specs.Index.{Index, IsSuspect, moment_of}
 use Rattle.waiters.specs.Waiting.{WaitsOn}
 use Rattle.waiters.proofs.Sessions.{index_of, waits_on}
+use Rattle.waiters.proofs.Waits.{waiting_suspects}
 use Rattle.waiters.proofs.waiters.Waiters.clear.Goals as goal
+
+pub invariant_of-self : goal.invariant_of-self
+invariant_of-self c =
+    let s = c.self.inside in
+    (c.self.invariant.0, waiting_suspects s.wheels s.wheels s.live s.suspects c.remove.new.self c.self.invariant.1 (λ session deadline is. is) (λ session h. inl ((c.remove.ensures session).0 h).0))
 
 pub returns-clause-suspects : goal.returns-clause-suspects
 returns-clause-suspects c = λ other.

@@ -1,32 +1,39 @@
-use Rattle.std.proofs.Common.{◌≡◌, ◌↔◌, ◌≢◌, ⊎_elim, None, ap, sym, ◌∙◌, set, subst, arith, false, true}
+use Rattle.std.proofs.Common.{◌≡◌, ◌↔◌, ◌≢◌, ⊎_elim, None, ap, sym, ◌∙◌, set, refl, subst, arith, false, true}
 use Rattle.std.proofs.lemmas.Bool.{cases_eq}
-use Rattle.timing_wheel.specs.Timers.{Timers, with_entry}
+use Rattle.timing_wheel.specs.Timers.{Timers}
 use Rattle.waiters.specs.Sessions.{Has}
 use Rattle.waiters.specs.Index.{Index, IsSuspect, moment_of}
 use Rattle.waiters.specs.Kept.{IsIndex}
 use Rattle.waiters.specs.Waiting.{WaitsNoMore, WaitsOn}
 use Rattle.waiters.proofs.Sessions.{index_of, ends_waiting, others_stay, kept_when_ended}
+use Rattle.waiters.proofs.Waits.{waiting_ended}
 use Rattle.waiters.proofs.waiters.Waiters.done.Goals as goal
 
 pub invariant_of-self : goal.invariant_of-self
 invariant_of-self c =
     let s = c.self.inside in
-    subst (λ (t : Timers). IsIndex s.shelves t s.due (set s.live c.args.session 0) s.last) (sym c.remove.ensures.none)
-    (kept_when_ended s.shelves s.wheels s.due s.live s.last s.suspects c.put.new.self c.args.session c.self.invariant c.requires)
+    let live = c.self.invariant.0.live_each in
+    let timers = c.self.invariant.0.timer_each in
+    let low = c.requires in (
+      subst (λ (t : Timers). IsIndex s.shelves t s.due (set s.live c.args.session 0) s.last) (sym c.remove.ensures.none)
+          (kept_when_ended s.shelves s.wheels s.due s.live s.last s.suspects c.put.new.self c.args.session c.self.invariant.0 c.requires),
+      waiting_ended s.wheels c.remove.new.self s.live s.suspects c.put.new.self c.args.session 0 None c.self.invariant.1 c.remove.ensures.none c.put.ensures.others (omega arith) refl
+          (λ h. let is : false ≡ true = c.put.ensures.same.0 h in absurd cc),
+    )
 
 pub returns-clause-done : goal.returns-clause-done
 returns-clause-done c =
     let s = c.self.inside in
     subst (λ (i : Index). WaitsNoMore i (index_of s.shelves c.remove.new.self (set s.live c.args.session 0) s.last c.put.new.self) c.args.session) c.self.view_is
     (subst (λ (t : Timers). WaitsNoMore (index_of s.shelves s.wheels s.live s.last s.suspects) (index_of s.shelves t (set s.live c.args.session 0) s.last c.put.new.self) c.args.session) (sym c.remove.ensures.none)
-    (ends_waiting s.shelves s.wheels s.due s.live s.last s.suspects c.put.new.self c.args.session c.self.invariant c.requires))
+    (ends_waiting s.shelves s.wheels s.due s.live s.last s.suspects c.put.new.self c.args.session c.self.invariant.0 c.requires))
 
 pub returns-clause-others : goal.returns-clause-others
 returns-clause-others c = λ other differs.
     let s = c.self.inside in
     subst (λ (i : Index). WaitsOn i (index_of s.shelves c.remove.new.self (set s.live c.args.session 0) s.last c.put.new.self) other) c.self.view_is
     (subst (λ (t : Timers). WaitsOn (index_of s.shelves s.wheels s.live s.last s.suspects) (index_of s.shelves t (set s.live c.args.session 0) s.last c.put.new.self) other) (sym c.remove.ensures.none)
-    (others_stay s.shelves s.wheels s.due s.live s.last s.suspects c.put.new.self c.args.session c.self.invariant c.requires other differs))
+    (others_stay s.shelves s.wheels s.due s.live s.last s.suspects c.put.new.self c.args.session c.self.invariant.0 c.requires other differs))
 
 pub returns-clause-suspects : goal.returns-clause-suspects
 returns-clause-suspects c = λ other.

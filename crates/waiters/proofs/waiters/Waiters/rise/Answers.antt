@@ -1,14 +1,22 @@
-use Rattle.std.proofs.Common.{◌↔◌, ◌⊎◌, ap, subst}
+use Rattle.std.proofs.Common.{◌↔◌, ◌⊎◌, inl, inr, ⊎_elim, get_or, ap, subst}
 use Rattle.waiters.specs.Sessions.{Has}
-use Rattle.waiters.specs.Index.{Index, IsSuspect, WaitsFor, moment_of}
+use Rattle.waiters.specs.Index.{Index, IsSuspect, IsWatching, WaitsFor, moment_of}
 use Rattle.waiters.specs.Waiting.{WaitsOn}
 use Rattle.waiters.proofs.Sessions.{index_of, kept_by_fewer, waits_on}
+use Rattle.waiters.proofs.Waits.{waiting_suspects}
 use Rattle.waiters.proofs.waiters.Waiters.rise.Goals as goal
 
 pub invariant_of-self : goal.invariant_of-self
 invariant_of-self c =
-    let s = c.self.inside in
-    kept_by_fewer s.shelves c.walk.new.shelves s.wheels s.due s.live s.last c.self.invariant c.walk.ensures.fewer
+    let s = c.self.inside in (
+      kept_by_fewer s.shelves c.walk.new.shelves s.wheels s.due s.live s.last c.self.invariant.0 c.walk.ensures.fewer,
+      waiting_suspects s.wheels s.wheels s.live s.suspects c.walk.new.found c.self.invariant.1 (λ session deadline is. is)
+          (λ session h.
+          ⊎_elim
+          (λ (old : Has s.suspects session). inl old)
+          (λ (waits : IsWatching s.shelves c.args.gauge session (get_or s.live session 0)). inr (c.self.invariant.0.listed c.args.gauge session (get_or s.live session 0) waits).0)
+          ((c.walk.ensures.found session).0 h)),
+    )
 
 pub returns-clause-suspects : goal.returns-clause-suspects
 returns-clause-suspects c = λ session.

@@ -1,21 +1,44 @@
-use Rattle.std.proofs.Common.{ℕ, ◌≡◌, ◌↔◌, ◌⊎◌, ◌≤◌, ◌<◌, inl, inr, ⊎_elim, Some, ap, sym, ◌∙◌, subst, arith}
+use Rattle.std.proofs.Common.{◌≡◌, ◌↔◌, ◌⊎◌, ◌<◌, inl, inr, ⊎_elim, Some, ap, sym, ◌∙◌, subst}
 use Rattle.std.proofs.lemmas.List.{length-map}
 use Rattle.std.specs.Prelude.{Contains}
 use Rattle.timing_wheel.specs.Timers.{Timers, deadline_of, ids_of}
 use Rattle.timing_wheel.specs.Turn.{IsDue}
 use Rattle.timing_wheel.specs.DueList.{DueList}
 use Rattle.waiters.specs.Sessions.{Has}
-use Rattle.waiters.specs.Index.{ComesBy, Index, IsSuspect, coming_of, moment_of}
+use Rattle.waiters.specs.Index.{ComesBy, Index, IsSuspect, coming_of}
 use Rattle.waiters.specs.Waiting.{WatchesOn}
 use Rattle.waiters.proofs.Deadlines.{all_within, due_comes}
 use Rattle.waiters.proofs.Sessions.{index_of, watches_on}
+use Rattle.waiters.proofs.Waits.{waiting_suspects}
 use Rattle.waiters.proofs.waiters.Waiters.tick.Goals as goal
 
 pub insert_all-requires : goal.insert_all-requires
 insert_all-requires c =
     let s = c.self.inside in
-    all_within c.args.t s.wheels c.ids.result.now c.self.invariant.timer_each
+    all_within c.args.t s.wheels c.ids.result.now c.self.invariant.0.timer_each
     (λ id. subst (λ ids. Contains ids id ↔ IsDue c.args.t s.wheels id) (sym c.ids.ensures) (c.pop_due.ensures.due id))
+
+pub invariant_of-self : goal.invariant_of-self
+invariant_of-self c =
+    let s = c.self.inside in
+    let is = c.self.invariant.0 in (
+      record {
+        live_each = is.live_each;
+        last_each = is.last_each;
+        timer_each = ap (λ (t : Timers). ids_of t) c.pop_due.ensures.rest ∙ length-map _ _ ∙ is.timer_each;
+        none_due = ap (λ (d : DueList). d.ids) c.clear.ensures;
+        room = ap (λ (d : DueList). d.room) c.clear.ensures ∙ c.pop_due.ensures.room ∙ is.room;
+        listed = is.listed;
+      },
+      waiting_suspects s.wheels c.pop_due.new.self s.live s.suspects c.insert_all.new.self c.self.invariant.1 (λ session deadline h. ((c.pop_due.ensures.others session deadline).0 h).0)
+          (λ session h.
+          ⊎_elim
+          (λ (old : Has s.suspects session). inl old)
+          (λ (new : Contains c.ids.result.now session).
+          let comes = (due_comes c.args.t s.wheels session).0 ((c.pop_due.ensures.due session).0 (subst (λ ids. Contains ids session) c.ids.ensures new)) in
+          inr (c.self.invariant.1.coming session comes.0 comes.1))
+          ((c.insert_all.ensures session).0 h)),
+    )
 
 pub returns-clause-suspects : goal.returns-clause-suspects
 returns-clause-suspects c = λ session.
