@@ -1,11 +1,10 @@
 -- A request that is completed: whether it is, the looks that it leaves, and that it waits no more.
-use Rattle.std.proofs.Common.{◌≡◌, ◌≢◌, ℕ, ◌+◌, ◌-◌, ◌<◌, ◌≤◌, Bool, true, false, cond, ◌||◌, List, [], ◌∷◌, ◌++◌, length, map, set, take, get_or, Option, Some, None, unwrap_or, refl, sym, ap, subst, ◌∙◌, arith, inl, inr, append_assoc}
+use Rattle.std.proofs.Common.{◌≡◌, ℕ, ◌-◌, ◌<◌, ◌≤◌, Bool, true, false, cond, ◌||◌, List, [], ◌∷◌, ◌++◌, length, map, set, Option, Some, None, refl, sym, ap, subst, ◌∙◌, inl, inr}
 use Rattle.std.proofs.lemmas.List.{length-set}
 use Rattle.std.proofs.lemmas.Bool.{le-leb}
 use Rattle.std.proofs.lemmas.Bool.Decides.{leb_tells}
 use Rattle.std.specs.Prelude.{nat_le}
-use Rattle.std.specs.List.{AllByRecursion, cons_option, filter_map}
-use Rattle.partlog.specs.declared.clock_event.ClockEvent.{ClockEvent}
+use Rattle.std.specs.List.{cons_option}
 use Rattle.partlog.specs.History.{History}
 use Rattle.partlog.specs.Moment.{moment_of}
 use Rattle.kwire.specs.Configuration.{partitions_of}
@@ -23,16 +22,15 @@ use Rattle.audit.specs.declared.account.CallHow.TheVariants.{Expired, Satisfied}
 use Rattle.audit.specs.declared.account.Point.{Point}
 use Rattle.trace_file.specs.PrintedLine.{reply_line}
 use Rattle.plain_broker.specs.Board.{Board, Seat, Waiting, history_at, next_call, seat_at, transcript_at}
-use Rattle.plain_broker.specs.Completing.{answered_in, completed, completed_as, finish_last, is_answerable_now, is_overdue_now, is_satisfied_now, last_call, look_all, shown_now, unless_none}
+use Rattle.plain_broker.specs.Completing.{answered_in, completed, finish_last, is_answerable_now, is_overdue_now, is_satisfied_now, look_all, shown_now, unless_none}
 use Rattle.plain_broker.specs.Entering.{entered}
-use Rattle.plain_broker.specs.Turns.{Turned}
 use Rattle.broker.specs.Desks.{transcript_of}
-use Rattle.broker.specs.Kept.{AreKept, IsKeptOf, Kept, MatchesWaiting, StandsFor, last_frame, parked_at, waiting_in, with_waiting}
+use Rattle.broker.specs.Kept.{AreKept, IsKeptOf, Kept, MatchesWaiting, StandsFor, last_frame, waiting_in, with_waiting}
 use Rattle.broker.specs.Looks.{clock_after, clock_points, due_as, due_in, finished, gauge_now}
 use Rattle.broker.specs.declared.parked.Parked.{Parked}
 use Rattle.broker.proofs.FetchParts.{entered_followers, set_followers}
 use Rattle.broker.proofs.Needs.{now_values}
-use Rattle.broker.proofs.Standing.{are_moved, by_waiting, moved, stands_of}
+use Rattle.broker.proofs.Standing.{are_moved, moved, stands_of}
 use Rattle.broker.proofs.Turning.{turned}
 use Rattle.broker.proofs.Waits.{found_is, others_of, waits_no_more, waits_still}
 
@@ -101,19 +99,24 @@ told_by least sum false holds fails = elim (leb_tells least sum) [
   | inr lt ↦ lt.0
 ]
 
+pub satisfied_as : (board : Board) (parts : ℕ) (frame : List ℕ) (parked : Parked) (w : Waiting) → IsKeptOf parts frame parked w
+    → is_satisfied_now board w ≡ nat_le parked.op.least (tally parked.op.needs (map (gauge_now board.parts) parked.op.needs))
+satisfied_as board parts frame parked w kept =
+    ap (λ (op : Operation). nat_le op.least (tally op.needs (values_of w.request.ask (shown_now board w.steps)))) kept.operation
+    ∙ ap (λ (vs : List ℕ). nat_le parked.op.least (tally parked.op.needs vs)) (now_values board parts frame parked w kept)
+
+pub overdue_as : (board : Board) (parts : ℕ) (frame : List ℕ) (parked : Parked) (w : Waiting) → IsKeptOf parts frame parked w → is_overdue_now board w ≡ nat_le parked.op.deadline (moment_of board.clock)
+overdue_as board parts frame parked w kept = ap (λ (op : Operation). nat_le op.deadline (moment_of board.clock)) kept.operation
+
 pub satisfied_is : (board : Board) (parts : ℕ) (frame : List ℕ) (parked : Parked) (w : Waiting) (b : Bool) → IsKeptOf parts frame parked w
     → (b ≡ true → IsSatisfied parked.op (map (gauge_now board.parts) parked.op.needs)) → (IsSatisfied parked.op (map (gauge_now board.parts) parked.op.needs) → b ≡ true) → is_satisfied_now board w ≡ b
 satisfied_is board parts frame parked w b kept holds fails =
-    ap (λ (op : Operation). nat_le op.least (tally op.needs (values_of w.request.ask (shown_now board w.steps)))) kept.operation
-    ∙ ap (λ (vs : List ℕ). nat_le parked.op.least (tally parked.op.needs vs)) (now_values board parts frame parked w kept)
-    ∙ told_by parked.op.least (tally parked.op.needs (map (gauge_now board.parts) parked.op.needs)) b holds fails
+    satisfied_as board parts frame parked w kept ∙ told_by parked.op.least (tally parked.op.needs (map (gauge_now board.parts) parked.op.needs)) b holds fails
 
 pub overdue_is : (board : Board) (parts : ℕ) (frame : List ℕ) (parked : Parked) (w : Waiting) (now : ℕ) (b : Bool) → IsKeptOf parts frame parked w → now ≡ moment_of board.clock
     → (b ≡ true → IsOverdue parked.op now) → (IsOverdue parked.op now → b ≡ true) → is_overdue_now board w ≡ b
 overdue_is board parts frame parked w now b kept at holds fails =
-    ap (λ (op : Operation). nat_le op.deadline (moment_of board.clock)) kept.operation
-    ∙ ap (λ (m : ℕ). nat_le parked.op.deadline m) (sym at)
-    ∙ told_by parked.op.deadline now b holds fails
+    overdue_as board parts frame parked w kept ∙ ap (λ (m : ℕ). nat_le parked.op.deadline m) (sym at) ∙ told_by parked.op.deadline now b holds fails
 
 -- ---- looks
 

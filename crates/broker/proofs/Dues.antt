@@ -1,12 +1,12 @@
 -- What is kept of the requests that wait, as the code shows it.
-use Rattle.std.proofs.Common.{◌≡◌, ◌↔◌, ℕ, ◌<◌, ◌-◌, ◌+◌, Bool, true, false, cond, List, [], ◌∷◌, ◌++◌, length, get_or, take, map, Option, Some, None, All, refl, sym, ap, subst, ◌∙◌, arith, append_assoc}
+use Rattle.std.proofs.Common.{◌≡◌, ◌↔◌, ℕ, ◌<◌, ◌+◌, Bool, true, false, cond, List, [], ◌∷◌, ◌++◌, length, get_or, take, map, Option, Some, None, All, refl, sym, ap, subst, ◌∙◌, append_assoc}
 use Rattle.std.proofs.lemmas.List.{take_more}
 use Rattle.std.proofs.lemmas.List.Elements.{filter_map-append}
 use Rattle.std.specs.Prelude.{IsTrue}
 use Rattle.std.specs.List.{AllByRecursion}
 use Rattle.partlog.specs.History.{History}
 use Rattle.partlog.specs.Moment.{moment_of}
-use Rattle.kwire.specs.Configuration.{Configuration, partitions_of}
+use Rattle.kwire.specs.Configuration.{partitions_of}
 use Rattle.kwire.specs.IsRequest.{IsRequest}
 use Rattle.kwire.specs.Spelling.{spelling}
 use Rattle.kwire.specs.declared.request.Request.{Request}
@@ -18,10 +18,9 @@ use Rattle.kanswer.specs.Waiting.{Shown}
 use Rattle.kanswer.specs.declared.accepted.Accepted.{Accepted}
 use Rattle.kanswer.specs.declared.accepted.Accepted.TheVariants.{Refused, Appended, Seen}
 use Rattle.opcond.specs.Tally.{IsOverdue, IsSatisfied}
-use Rattle.audit.specs.declared.account.CallHow.{CallHow}
 use Rattle.audit.specs.declared.account.CallHow.TheVariants.{Expired, Satisfied}
 use Rattle.audit.specs.declared.account.Point.{Point}
-use Rattle.plain_broker.specs.Board.{Board, Waiting, seat_at, transcript_at}
+use Rattle.plain_broker.specs.Board.{Board, Waiting, transcript_at}
 use Rattle.plain_broker.specs.Completing.{is_overdue_now, is_satisfied_now, look_all, shown_now}
 use Rattle.broker.specs.Kept.{AreKept, IsKeptOf, Kept, MatchesWaiting, StandsFor, Stands, last_frame, parked_at, waiting_in, with_waiting}
 use Rattle.broker.specs.Looks.{HasGauge, due_as, due_in, gauge_now}
@@ -76,7 +75,7 @@ gauges_there kept session parked parts stands slot same =
     subst (λ (ps : List History). AllByRecursion (HasGauge (length ps)) parked.op.needs) (sym same)
     (kept_gauges (count_of kept) (length kept.board.parts) (frame_at kept session) parked t.w t.kept_of (as_many_parts kept stands.0.waiting are))
 
-due_at : (board : Board) (w : Waiting) (sat over : Bool) → is_satisfied_now board w ≡ sat → is_overdue_now board w ≡ over → due_as board w ≡ cond sat (Some (Satisfied 0)) (cond over (Some (Expired 0)) None)
+pub due_at : (board : Board) (w : Waiting) (sat over : Bool) → is_satisfied_now board w ≡ sat → is_overdue_now board w ≡ over → due_as board w ≡ cond sat (Some (Satisfied 0)) (cond over (Some (Expired 0)) None)
 due_at board w sat over a b =
     ap (λ (x : Bool). cond x (Some (Satisfied 0)) (cond (is_overdue_now board w) (Some (Expired 0)) None)) a
     ∙ ap (λ (x : Bool). cond sat (Some (Satisfied 0)) (cond x (Some (Expired 0)) None)) b

@@ -1,11 +1,11 @@
 -- What becomes of a partition of a fetch, and that no partition's followers change.
-use Rattle.std.proofs.Common.{◌≡◌, ◌⊎◌, ℕ, zero, suc, ◌<◌, ◌≤◌, ℤ, pos, negsuc, Bool, true, false, cond, ltb, ◌&&◌, List, [], ◌∷◌, ◌++◌, length, get_or, map, set, replicate, Option, Some, None, unwrap_or, refl, sym, ap, subst, ◌∙◌, arith, inl, inr, length-append}
-use Rattle.std.proofs.lemmas.Bool.{lt-ltb, le-ltb, le-leb, lt-leb}
+use Rattle.std.proofs.Common.{◌≡◌, ◌⊎◌, ℕ, zero, suc, ◌<◌, ◌≤◌, ℤ, pos, negsuc, Bool, true, false, cond, ltb, ◌&&◌, List, [], ◌∷◌, ◌++◌, length, get_or, map, set, replicate, refl, sym, ap, subst, ◌∙◌, arith, inl, inr, length-append}
+use Rattle.std.proofs.lemmas.Bool.{lt-ltb, le-ltb, le-leb}
 use Rattle.std.proofs.lemmas.Bool.Decides.{leb_tells}
 use Rattle.std.proofs.lemmas.List.{length-map, length-replicate}
 use Rattle.std.proofs.lemmas.List.Sums.{sum_by-cons}
 use Rattle.std.proofs.lemmas.Int.{ints}
-use Rattle.std.specs.Prelude.{nat_lt, nat_le, slice_get, ◌≤ℤ◌}
+use Rattle.std.specs.Prelude.{nat_lt, nat_le, ◌≤ℤ◌}
 use lib.Dec.{T}
 use lib.Signed.{le_z}
 use Rattle.partlog.specs.Added.{log_end_of}
@@ -20,7 +20,7 @@ use Rattle.kwire.specs.declared.request.FetchPart.{FetchPart}
 use Rattle.kwire.specs.Configuration.{followers_of, partitions_of}
 use Rattle.kanswer.specs.declared.accepted.Accepted.TheVariants.{Refused, Seen}
 use Rattle.kanswer.specs.Decisions.{Entry, Put, Looked, Followed, Outcome, Decision, Refuse, AskLog, look, offset_of, fetch_outcome, in_range_outcome}
-use Rattle.plain_broker.specs.Board.{history_at, empty_history}
+use Rattle.plain_broker.specs.Board.{history_at}
 use Rattle.plain_broker.specs.Entering.{entered, accept_all}
 use Rattle.broker.specs.Carried.{Came, IsCarried, IsEntered}
 

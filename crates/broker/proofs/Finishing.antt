@@ -1,5 +1,5 @@
 -- What the code leaves of a request that is completed, and of the broker before the first line.
-use Rattle.std.proofs.Common.{◌≡◌, ℕ, zero, suc, ◌+◌, ◌-◌, ◌<◌, List, [], ◌∷◌, ◌++◌, length, map, replicate, Option, Some, None, unwrap_or, refl, sym, ap, subst, ◌∙◌, arith}
+use Rattle.std.proofs.Common.{◌≡◌, ℕ, zero, suc, ◌-◌, ◌<◌, List, [], ◌∷◌, ◌++◌, map, replicate, Option, Some, None, unwrap_or, refl, sym, ap, subst, ◌∙◌}
 use Rattle.std.proofs.lemmas.List.{length-replicate}
 use Rattle.std.specs.Prelude.{slice_get}
 use Rattle.partlog.specs.declared.clock_event.ClockEvent.{ClockEvent}
@@ -13,7 +13,7 @@ use Rattle.audit.specs.declared.account.Point.{Point}
 use Rattle.plain_broker.specs.Board.{Board, Seat, Waiting, empty_history, empty_seat, next_call, opening, seat_at, transcript_at}
 use Rattle.plain_broker.specs.Completing.{look_all}
 use Rattle.plain_broker.specs.Declared.{AreDeclared}
-use Rattle.broker.specs.Kept.{AreKept, Kept, MatchesWaiting, StandsFor, last_frame, parked_at, waiting_in, with_waiting}
+use Rattle.broker.specs.Kept.{Kept, MatchesWaiting, StandsFor, last_frame, parked_at, waiting_in}
 use Rattle.broker.specs.Looks.{clock_after, clock_points, finished}
 use Rattle.broker.specs.declared.parked.Parked.{Parked}
 use Rattle.broker.proofs.Completes.{done_seat, finished_of, finished_stands}

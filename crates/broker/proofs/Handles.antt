@@ -1,12 +1,12 @@
 -- What an accepted request gives: its results, their logs and numbers, and that it is handled.
-use Rattle.std.proofs.Common.{◌≡◌, ℕ, Bool, true, false, cond, List, [], ◌∷◌, ◌++◌, length, map, Option, Some, None, All, MatchBool, Result, Ok, Err, IfOk, OnOk, refl, sym, ap, subst, ◌∙◌}
-use Rattle.std.specs.List.{AllByRecursion, AllZip}
+use Rattle.std.proofs.Common.{◌≡◌, ℕ, Bool, true, false, List, [], ◌∷◌, ◌++◌, length, map, Option, Some, None, All, MatchBool, Result, Ok, Err, IfOk, OnOk, refl, sym, ap, subst, ◌∙◌}
+use Rattle.std.specs.List.{AllByRecursion}
 use Rattle.partlog.specs.declared.clock_event.ClockEvent.{ClockEvent}
 use Rattle.partlog.specs.declared.numbers.Numbers.{Numbers}
 use Rattle.partlog.specs.Gauges.{numbers_of}
 use Rattle.partlog.specs.History.{History}
 use Rattle.partlog.specs.Moment.{moment_of}
-use Rattle.partlog.specs.State.{PartState, state_of}
+use Rattle.partlog.specs.State.{PartState}
 use Rattle.kwire.specs.Configuration.{Configuration, followers_of, partitions_of}
 use Rattle.kwire.specs.IsRequest.{IsRequest}
 use Rattle.kwire.specs.declared.request.Request.{Request}
@@ -18,12 +18,10 @@ use Rattle.kanswer.specs.Waiting.{Shown, becomes_delayed, operation_of, results_
 use Rattle.kanswer.specs.declared.accepted.Accepted.{Accepted}
 use Rattle.kanswer.specs.declared.accepted.Accepted.TheVariants.{Refused, Appended, Seen}
 use Rattle.audit.specs.Histories.{clock_part}
-use Rattle.audit.specs.LawfulCall.{step_points}
 use Rattle.audit.specs.declared.account.CallHow.TheVariants.{Parked as Waits}
 use Rattle.audit.specs.declared.account.Point.{Point}
-use Rattle.plain_broker.specs.Board.{history_at}
 use Rattle.plain_broker.specs.Declared.{AreDeclared}
-use Rattle.plain_broker.specs.Entering.{Noted, accept_all, shown_of, steps_of}
+use Rattle.plain_broker.specs.Entering.{Noted, accept_all, shown_of}
 use Rattle.plain_broker.specs.Turns.{how_at_once, text_at_once}
 use Rattle.broker.specs.Carried.{Came, IsCarried}
 use Rattle.broker.specs.Gathered.{numbers_in, part_numbers}

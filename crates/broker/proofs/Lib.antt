@@ -44,3 +44,11 @@ pub mod Dues
 pub mod Finishing
 -- a request that waits is answered
 pub mod Answering
+-- what a step of one session leaves as it was
+pub mod Steps
+-- who waits isn't answerable unless it is a suspect
+pub mod Watching
+-- what those who wait are told
+pub mod Telling
+-- a scan goes through the suspects, and the next to act is the least that can
+pub mod Scanning

@@ -17,8 +17,7 @@ use Rattle.kwire.specs.declared.request.ProduceTopic.{ProduceTopic}
 use Rattle.kwire.specs.declared.request.Request.{Request}
 use Rattle.kwire.specs.Configuration.{Configuration, part_from, part_of, partitions_of}
 use Rattle.kwire.specs.IsRequest.{IsRequest, Named, named_of}
-use Rattle.kanswer.specs.Decisions.{Outcome, Decision, Refuse, AskLog, Decides, BatchDecides, ProduceDecides, fetch_decision, is_acks, produce_parts, fetch_parts}
-use Rattle.partlog.specs.State.{PartState}
+use Rattle.kanswer.specs.Decisions.{Decision, Refuse, AskLog, Decides, BatchDecides, ProduceDecides, fetch_decision, is_acks, produce_parts, fetch_parts}
 use Rattle.audit.proofs.Laws.{some_is}
 
 -- ---- a partition has one name

@@ -1,10 +1,8 @@
 -- What a request that waits needs of the logs: its gauges are those of its partitions, and their values are those that the logs show.
-use Rattle.std.proofs.Common.{◌≡◌, ℕ, ◌+◌, ◌*◌, ◌/◌, ◌<◌, ℤ, Bool, true, false, cond, List, [], ◌∷◌, map, Option, Some, None, refl, sym, ap, subst, ◌∙◌, arith}
+use Rattle.std.proofs.Common.{◌≡◌, ℕ, ◌+◌, ◌*◌, ◌<◌, ℤ, Bool, true, false, cond, List, [], ◌∷◌, map, Option, Some, None, refl, sym, ap, subst, ◌∙◌, arith}
 use Rattle.std.specs.List.{AllByRecursion, cons_option, filter_map, zip}
-use Rattle.partlog.specs.History.{History}
-use Rattle.partlog.specs.State.{PartState, state_of}
+use Rattle.partlog.specs.State.{state_of}
 use Rattle.opcond.specs.Operation.{Operation}
-use Rattle.opcond.specs.Tally.{tally}
 use Rattle.opcond.specs.declared.need.Need.{Need}
 use Rattle.kwire.specs.declared.request.Ask.{Ask}
 use Rattle.kwire.specs.declared.request.Ask.TheVariants.{Produce, Fetch, Metadata, Versions}
@@ -13,7 +11,7 @@ use Rattle.kanswer.specs.declared.accepted.Accepted.{Accepted}
 use Rattle.kanswer.specs.declared.accepted.Accepted.TheVariants.{Refused, Appended, Seen}
 use Rattle.kanswer.specs.ByPart.{AreByPart}
 use Rattle.kanswer.specs.Decisions.{fetch_parts}
-use Rattle.kanswer.specs.Waiting.{Shown, at_least_zero, fetch_need, gauge_value, is_consumer, needs_by_part, needs_of, operation_of, produce_need, results_of, values_of}
+use Rattle.kanswer.specs.Waiting.{fetch_need, is_consumer, needs_of, produce_need, results_of, values_of}
 use Rattle.kanswer.proofs.Laws.{values_by_part}
 use Rattle.audit.specs.LawfulCall.{Step, part_in}
 use Rattle.plain_broker.specs.Board.{Board, Waiting, history_at}

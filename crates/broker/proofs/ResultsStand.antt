@@ -21,7 +21,7 @@ use Rattle.kwire.specs.declared.request.Request.{Request}
 use Rattle.kwire.specs.Configuration.{Configuration, followers_of, part_of, partitions_of}
 use Rattle.kwire.specs.IsRequest.{IsRequest, Named, named_of}
 use Rattle.kwire.proofs.Laws.{spelled_partitions}
-use Rattle.kanswer.specs.Decisions.{Entry, Put, Looked, Followed, Outcome, Decision, Refuse, AskLog, Decides, BatchDecides, ProduceDecides, fetch_decision, fetch_outcome, in_range_outcome, offset_of, look, append_outcome, is_acks, produce_parts, fetch_parts}
+use Rattle.kanswer.specs.Decisions.{Entry, Put, Looked, Followed, Outcome, Decision, Refuse, AskLog, Decides, BatchDecides, ProduceDecides, fetch_decision, fetch_outcome, in_range_outcome, offset_of, look, is_acks, produce_parts, fetch_parts}
 use Rattle.kanswer.specs.LogReadings.{IsCarriable, named_count}
 use Rattle.kanswer.specs.Results.{AreResults, IsBounded, part_asked, parts_asked}
 use Rattle.kanswer.specs.Waiting.{results_of}

@@ -1,5 +1,5 @@
 -- What is kept stands for a board: how it goes on to where one session's seat changes, and what is written back into the fields.
-use Rattle.std.proofs.Common.{◌≡◌, ◌≢◌, ◌⊎◌, ℕ, suc, ◌+◌, ◌<◌, ◌≤◌, Bool, true, false, cond, List, [], ◌∷◌, ◌++◌, length, get_or, take, drop, map, set, Option, Some, None, unwrap_or, refl, sym, ap, subst, ◌∙◌, arith, inl, inr}
+use Rattle.std.proofs.Common.{◌≡◌, ◌≢◌, ℕ, ◌<◌, List, [], ◌++◌, length, get_or, take, drop, map, set, Option, Some, None, unwrap_or, refl, sym, ap, subst, ◌∙◌, arith, inl, inr}
 use Rattle.std.proofs.lemmas.List.{length-set, set-get_or, take_at}
 use Rattle.std.proofs.lemmas.Option.{unwrap_or-slice_get}
 use Rattle.std.specs.Prelude.{slice_get}
@@ -7,7 +7,6 @@ use Rattle.partlog.specs.declared.clock_event.ClockEvent.{ClockEvent}
 use Rattle.partlog.specs.History.{History}
 use Rattle.kwire.specs.Configuration.{Configuration, partitions_of}
 use Rattle.audit.specs.declared.account.Call.{Call}
-use Rattle.audit.specs.declared.account.Transcript.{Transcript}
 use Rattle.plain_broker.specs.Board.{Board, Seat, Waiting, empty_seat, seat_at, transcript_at}
 use Rattle.broker.specs.Desks.{transcript_of}
 use Rattle.broker.specs.Kept.{AreKept, Kept, MatchesWaiting, StandsFor, last_frame, parked_at, waiting_in, with_waiting}

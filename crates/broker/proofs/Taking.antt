@@ -1,10 +1,10 @@
 -- A request that was handled: it was answered at once, or waits from now on.
-use Rattle.std.proofs.Common.{◌≡◌, ◌≢◌, ℕ, ◌+◌, ◌<◌, ◌≤◌, ℤ, pos, negsuc, ltb, eqb, Bool, true, false, cond, List, [], ◌∷◌, ◌++◌, length, drop, take, map, set, Option, Some, None, unwrap_or, MatchBool, refl, sym, ap, subst, ◌∙◌, arith, inl, inr, append-nil, eq-eqb}
+use Rattle.std.proofs.Common.{◌≡◌, ◌≢◌, ℕ, ◌+◌, ◌<◌, ℤ, pos, negsuc, ltb, eqb, Bool, true, false, cond, List, [], ◌∷◌, ◌++◌, length, drop, take, map, Option, Some, None, MatchBool, refl, sym, ap, subst, ◌∙◌, arith, inl, inr, append-nil, eq-eqb}
 use Rattle.std.proofs.lemmas.Bool.{ne_eqb, cases_lt, lt-ltb, le-ltb}
 use Rattle.partlog.specs.declared.clock_event.ClockEvent.{ClockEvent}
 use Rattle.partlog.specs.History.{History}
 use Rattle.partlog.specs.Moment.{moment_of}
-use Rattle.kwire.specs.Configuration.{Configuration, partitions_of}
+use Rattle.kwire.specs.Configuration.{partitions_of}
 use Rattle.kwire.specs.Frames.{frame_of_size, next_frame_of}
 use Rattle.kwire.specs.declared.framing.TheConstants.{MOST_FRAME_BYTES}
 use Rattle.std.specs.Int.{w32, from_be_bytes, cast_signed}
@@ -31,7 +31,7 @@ use Rattle.plain_broker.specs.Acting.{Acts, HandlesFrame, end_of_input}
 use Rattle.plain_broker.specs.Board.{Board, Seat, Waiting, next_call, seat_at, transcript_at}
 use Rattle.plain_broker.specs.Entering.{Noted, accept_all, shown_of, steps_of}
 use Rattle.plain_broker.specs.Turns.{Turned, answered_at_once, ended, handled, how_at_once, left_waiting, seat_with}
-use Rattle.broker.specs.Desks.{front_body, next_of, transcript_of}
+use Rattle.broker.specs.Desks.{front_body, transcript_of}
 use Rattle.broker.specs.Handled.{IsAnswered, IsHandled, IsParked, looked_by}
 use Rattle.broker.specs.Kept.{AreKept, IsKeptOf, Kept, MatchesWaiting, StandsFor, TurnsBy, last_frame, parked_at, waiting_in, with_waiting}
 use Rattle.broker.specs.declared.handling.Handled.{Handled}

@@ -1,17 +1,16 @@
 -- How what is kept turns: one turn after the other, the scan over the sessions, whose turn it is, and the acts of a line.
-use Rattle.std.proofs.Common.{◌≡◌, ◌≢◌, ◌⊎◌, ℕ, zero, suc, ◌+◌, ◌<◌, ◌≤◌, Bool, true, false, cond, not, ◌&&◌, ◌||◌, List, [], ◌∷◌, ◌++◌, length, set, Option, Some, None, unwrap_or, refl, sym, ap, subst, ◌∙◌, arith, inl, inr, append_assoc, append-nil, zero-add, add-one}
+use Rattle.std.proofs.Common.{◌≡◌, ℕ, zero, suc, ◌+◌, ◌<◌, Bool, true, false, cond, not, ◌&&◌, ◌||◌, List, [], ◌∷◌, ◌++◌, Option, Some, None, unwrap_or, refl, sym, ap, subst, ◌∙◌, arith, append_assoc, append-nil, zero-add, add-one}
 use Rattle.std.specs.Prelude.{◌==◌, is_some}
 use Rattle.std.specs.List.{find, list_any, range_with_len}
-use Rattle.audit.proofs.Laws.{some_is}
 use Rattle.plain_broker.specs.Acting.{Acts, can_act, has_ended, has_work, is_there, next_to_act, shows_work}
-use Rattle.plain_broker.specs.Board.{Board, Seat, Waiting, new_transcript, seat_at, transcript_at}
+use Rattle.plain_broker.specs.Board.{Board, Waiting, new_transcript, seat_at}
 use Rattle.plain_broker.specs.Completing.{answered_in, scan_sessions, scanned}
 use Rattle.plain_broker.specs.Play.{PlaysLine, Rests, brought}
 use Rattle.plain_broker.specs.Turns.{Turned}
 use Rattle.audit.specs.declared.account.Transcript.{Transcript}
 use Rattle.trace_file.specs.declared.line.Line.{Line}
 use Rattle.kwire.specs.Frames.{next_frame_of}
-use Rattle.broker.specs.Kept.{Kept, StandsFor, Stands, TurnsBy, AreKept, MatchesWaiting, last_frame, parked_at, waiting_in, with_waiting}
+use Rattle.broker.specs.Kept.{Kept, StandsFor, Stands, TurnsBy, AreKept, MatchesWaiting, parked_at, waiting_in, with_waiting}
 use Rattle.broker.specs.declared.parked.Parked.{Parked}
 
 abbrev pub turned : Board → List ℕ → Turned

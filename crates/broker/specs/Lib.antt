@@ -2,6 +2,8 @@
 
 -- what the broker keeps, and the board that this stands for
 pub mod Kept
+-- what it holds, as a caller meets it
+pub mod Held
 -- ==== the words of private functions
 
 -- decisions that were carried out
@@ -16,3 +18,9 @@ pub mod Desks
 pub mod Handled
 -- the looks of a request that is completed
 pub mod Looks
+-- what a step of one session leaves as it was
+pub mod Steps
+-- who waits for what, and which sessions can act
+pub mod Watching
+-- what those who wait are told
+pub mod Telling

@@ -8,6 +8,7 @@ ghost use Rattle.plain_broker.specs.Board.{empty_seat, new_transcript};
 ghost use Rattle.plain_broker.specs.Completing.{finish_last};
 ghost use Rattle.broker.specs.Desks.{front_body, next_of, transcript_of};
 ghost use Rattle.broker.specs.Kept.{last_frame};
+ghost use Rattle.broker.specs.Steps.{last_points};
 ghost use Rattle.kwire.specs.Frames.{next_frame_of};
 
 use audit::{Call, CallHow, Point, SessionEnd, Transcript};
@@ -220,6 +221,19 @@ impl Desk {
         match transcript.calls.as_slice().last() {
             None => &[],
             Some(call) => call.frame.as_slice(),
+        }
+    }
+
+    /// The points of the entries that its last call left as it was accepted; none where there is no call.
+    pub fn last_points(&self) -> &[Point]
+        ensures { (session : ℕ) → result.now ≡ last_points (transcript_of session self.now).calls }
+    {
+        let Some(transcript) = &self.transcript else {
+            return &[];
+        };
+        match transcript.calls.as_slice().last() {
+            None => &[],
+            Some(call) => call.accept.as_slice(),
         }
     }
 

@@ -8,10 +8,12 @@ mod came;
 mod closing;
 mod completing;
 mod desk;
+mod engine;
 mod handling;
 mod lone;
 mod opening;
 mod parked;
 mod reply;
+mod watched;
 
 pub use lone::Lone;

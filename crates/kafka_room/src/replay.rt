@@ -6,7 +6,7 @@ ghost use Rattle.std.specs.Io.KnownBytes.{Appends, Keeps, IsAtEnd};
 ghost use Rattle.outside.specs.Causes.{Rose};
 ghost use Rattle.audit.specs.IsLawful.{IsLawful};
 ghost use Rattle.trace_file.specs.Trace.{IsTrace};
-ghost use Rattle.broker.specs.Kept.{IsPlayable, Stands};
+ghost use Rattle.broker.specs.Kept.{IsPlayable};
 ghost use Rattle.kafka_room.specs.Codes.{bad_line_of};
 ghost use Rattle.kafka_room.specs.LinesFront.{LinesPlayed, LinesFront};
 ghost use Rattle.kafka_room.specs.Replay.{IsReplayOf, IsReplay, IsReplayFront, IsFirstBadOf};
@@ -40,10 +40,9 @@ fn play_lines<K: Sink>(
     lone: &mut Lone,
     sink: &mut K,
 ) -> Result<(), Stop>
-    requires playable { AllByRecursion IsPlayable lines.now }
-    requires stands { Stands lone.old }
-    ensures played { OnOk result (LinesPlayed (K.written sink.old) (K.written sink.new) lone.old lone.new lines.now) }
-    ensures front { OnErr result (LinesFront (K.written sink.old) (K.written sink.new) lone.old lines.now) }
+    requires { AllByRecursion IsPlayable lines.now }
+    ensures played { OnOk result (LinesPlayed (K.written sink.old) (K.written sink.new) lone.old.kept lone.new.kept lines.now) }
+    ensures front { OnErr result (LinesFront (K.written sink.old) (K.written sink.new) lone.old.kept lines.now) }
     ensures later { K.faults sink.old ≤ K.faults sink.new }
     ensures failed { IsErrOf result Stop.WriteFault → Rose (K.faults sink.old) (K.faults sink.new) }
     ensures only { IfErr result (λ stop. (stop ≡ Stop.WriteFault) ⊎ (stop ≡ Stop.NoMemory)) }

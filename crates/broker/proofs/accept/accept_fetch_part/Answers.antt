@@ -1,4 +1,4 @@
-use Rattle.std.proofs.Common.{◌≡◌, ℤ, pos, sym, ap, subst, ◌∙◌}
+use Rattle.std.proofs.Common.{ℤ, pos, sym, ap, subst, ◌∙◌}
 use Rattle.std.proofs.lemmas.Int.{to_z-of_z}
 use Rattle.std.specs.Int.{w32}
 use lib.Signed.{le_z}

@@ -1,4 +1,4 @@
-use Rattle.std.proofs.Common.{ℤ, [], ◌∷◌, take, ◌+◌, sym, subst, ◌∙◌, arith}
+use Rattle.std.proofs.Common.{ℤ, [], ◌∷◌, take, ◌+◌, sym, subst, arith}
 use Rattle.std.proofs.lemmas.Int.{to_z-of_z}
 use Rattle.std.specs.Int.{w32}
 use Rattle.broker.specs.Carried.{IsCarried, fetch_decisions}

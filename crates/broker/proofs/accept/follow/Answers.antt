@@ -1,4 +1,4 @@
-use Rattle.std.proofs.Common.{◌≡◌, ℤ, Err, pos, sym, ap, subst, ◌∙◌, refl, rules, inl, inr}
+use Rattle.std.proofs.Common.{◌≡◌, ℤ, Err, pos, sym, ap, subst, ◌∙◌, refl, rules}
 use Rattle.std.proofs.lemmas.Int.{to_z-of_z}
 use Rattle.std.specs.Int.{w32, w64}
 use mir.Val.{SFits}

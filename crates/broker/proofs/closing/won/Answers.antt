@@ -1,4 +1,4 @@
-use Rattle.std.proofs.Common.{ap, arith, ◌∙◌, length, sum_by}
+use Rattle.std.proofs.Common.{ap, arith, ◌∙◌, sum_by}
 use Rattle.std.proofs.lemmas.List.{take_all}
 use Rattle.broker.proofs.Closings.{won_in, won_all}
 use Rattle.broker.proofs.closing.won.Goals as goal

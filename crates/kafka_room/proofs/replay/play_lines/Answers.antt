@@ -11,13 +11,8 @@ use Rattle.kafka_room.proofs.Replays.{playable_at, front_of_lines, front_within}
 use Rattle.kafka_room.proofs.Writes.{front_behind}
 use Rattle.kafka_room.proofs.replay.play_lines.Goals as goal
 
-pub event-requires-clause-playable : goal.event-requires-clause-playable
-event-requires-clause-playable g c = playable_at c.args.lines.now c.loop-line.line-index c.line-item.result c.requires.playable c.loop-line-test.true c.line-item.is
-
-pub event-requires-clause-stands : goal.event-requires-clause-stands
-event-requires-clause-stands g c =
-    let h = c.loop-line.invariant.played c.requires.stands.0 c.requires.stands.1 in
-    (h.0.board, h.2)
+pub event-requires : goal.event-requires
+event-requires g c = playable_at c.args.lines.now c.loop-line.line-index c.line-item.result c.requires c.loop-line-test.true c.line-item.is
 
 pub returns-in_err-event-clause-front : goal.returns-in_err-event-clause-front
 returns-in_err-event-clause-front g c =
@@ -42,7 +37,7 @@ returns-in_err-write_all-clause-front g c =
     let after = g.K.Sink.written c.write_all.new.sink in
     rw p.1 (λ start stands.
     let h = inv.played start stands in
-    let here = c.in_ok-event.ensures h.0.board h.2 in
+    let here = c.in_ok-event.ensures.plays h.0.board h.2 in
     let text = h.0.text ++ here.0.text in
     let part : c.as_slice.result.now ≡ here.0.text = c.as_slice.ensures ∙ here.3 ∙ ap (λ (xs : List ℕ). xs ++ here.0.text) c.new-text.ensures in
     let last : Turned = record { board = here.0.board; text = text } in
@@ -71,7 +66,7 @@ loop-line-preserved g c =
     let after = g.K.Sink.written c.write_all.new.sink in record {
       played = λ start stands.
           let h = inv.played start stands in
-          let here = c.in_ok-event.ensures h.0.board h.2 in
+          let here = c.in_ok-event.ensures.plays h.0.board h.2 in
           let last : Turned = record { board = here.0.board; text = h.0.text ++ here.0.text } in
           let part : c.as_slice.result.now ≡ here.0.text = c.as_slice.ensures ∙ here.3 ∙ ap (λ (xs : List ℕ). xs ++ here.0.text) c.new-text.ensures in (
             last,

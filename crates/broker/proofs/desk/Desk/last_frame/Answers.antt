@@ -1,4 +1,3 @@
-use Rattle.std.proofs.Common.{◌∙◌}
 use Rattle.broker.proofs.Seats.{last_shown}
 use Rattle.broker.proofs.desk.Desk.last_frame.Goals as goal
 
