@@ -1,10 +1,9 @@
 -- What the seats of a still room show, once its sources are back.
-use Rattle.std.proofs.Common.{◌≡◌, ◌≢◌, ℕ, ◌+◌, ◌-◌, ◌<◌, ◌≤◌, false, List, [], ◌∷◌, length, cond, eqb, refl, sym, ap, ◌∙◌, subst, inl, inr, ⊎_elim, arith}
+use Rattle.std.proofs.Common.{◌≡◌, ◌≢◌, ℕ, ◌+◌, ◌-◌, ◌<◌, ◌≤◌, false, List, [], ◌∷◌, length, cond, eqb, sym, ap, ◌∙◌, subst, inl, inr, ⊎_elim, arith}
 use Rattle.std.specs.Prelude.{All, count_by, sum_by, slice_index, slice_index_or}
 use Rattle.std.proofs.lemmas.Bool.{cases_eq, cases_lt, eq-eqb, ne_eqb, lt-ltb, le-ltb}
 use Rattle.std.proofs.lemmas.List.Elements.{All-head, All-tail}
 use Rattle.std.proofs.lemmas.List.Sums.{sum_by-cons}
-use Rattle.room_core.specs.declared.parts.Phase.TheVariants.{Open}
 use Rattle.room_core.specs.declared.parts.Stage.{Stage}
 use Rattle.room_core.specs.declared.parts.Stage.TheVariants.{Waiting}
 use Rattle.room_core.specs.declared.shape.Shape.{Shape}
@@ -21,7 +20,7 @@ use Rattle.room_table.specs.Handed.{AreShown}
 use Rattle.room_table.specs.Seats.{SourceView, CallerView, ScanView, source_now, caller_now, scanner_now}
 use Rattle.room_table.specs.Shown.{one_if}
 use Rattle.purgatory.specs.Going.{IsAtRest}
-use Rattle.purgatory.specs.Still.{StillView, IsStill, IsClosed, exchanges_won, operations_taken, taken_of}
+use Rattle.purgatory.specs.Still.{StillView, IsStill, IsClosed}
 use Rattle.purgatory.specs.Written.{AreWritten, pass_wins}
 use Rattle.purgatory.proofs.Exchanges.{all_taken, waiting_open}
 use Rattle.purgatory.proofs.Numbered.{sum_same, sum_split, over_numbers, item_of}

@@ -36,5 +36,7 @@ pub mod Holds
 pub mod Returns
 -- what a room comes to
 pub mod Standing
+-- a room in which nothing happened
+pub mod NewRooms
 -- the passes of the locks, as they are dealt out
 pub mod Rings

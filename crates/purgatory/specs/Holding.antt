@@ -1,7 +1,6 @@
 -- The turns of all locks are held together while the exchanges are counted.
 use Rattle.std.specs.Prelude.{◌≡◌, ℕ, ◌+◌, ◌<◌, ◌≤◌, List, [], Option, Some, None, length, slice_index_or, sum_by, ⊤}
 use Rattle.turn_lock.specs.declared.pass.TurnPass.{TurnPass}
-use Rattle.turn_lock.specs.Locks.{IsReady}
 use Rattle.room_scans.specs.Desks.{ShardView, ClockView}
 use Rattle.room_table.specs.Seats.{TableView, ScanView, scanner_now}
 use Rattle.purgatory.specs.declared.holding.Held.{Held}

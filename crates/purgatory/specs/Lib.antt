@@ -14,7 +14,6 @@ pub mod Still
 pub mod RoomEnds
 -- ==== the words of private functions
 
-
 -- locks and their passes, as views show them
 pub mod Turning
 -- what a pass keeps beside its seat

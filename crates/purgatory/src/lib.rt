@@ -69,3 +69,6 @@ pub use room::{Room, RoomParts};
 pub use room_core::How;
 pub use source::Source;
 pub use still::{RoomEnd, StillRoom};
+
+#[cfg(test)]
+mod still_tests;

@@ -8,10 +8,10 @@ ghost use Rattle.purgatory.specs.Still.{IsClosed};
 
 use crate::closing::{close_passes, close_sources};
 use crate::counting::counts;
-use crate::reserve::Reserve;
 use crate::holding::{Held, OpenKeys, hold, less};
 use crate::locks::SHARDS;
 use crate::pass::RoomPass;
+use crate::reserve::Reserve;
 use crate::room::Room;
 use crate::source::Source;
 use kbytes::List;
@@ -68,7 +68,15 @@ impl Room {
         let mut keys = OpenKeys::of(keys);
         let (won, taken) = counts(&passes);
         let left = less(Some(taken), won);
-        match hold(rt, table, &locks, &mut keys, &mut wins, SHARDS as usize, left) {
+        match hold(
+            rt,
+            table,
+            &locks,
+            &mut keys,
+            &mut wins,
+            SHARDS as usize,
+            left,
+        ) {
             Held::Still(closing) => RoomEnd::Still(StillRoom {
                 closing,
                 passes,
@@ -105,6 +113,7 @@ impl StillRoom {
         close_passes(&mut closing, passes, &mut wins);
         close_sources(&mut closing, sources);
         let _words = closing.close();
+        // what every sound state of the machine meets, and a quiet one
         wins_are_counted();
         quiet_is_answered();
         wins

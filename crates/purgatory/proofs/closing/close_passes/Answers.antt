@@ -1,5 +1,4 @@
-use Rattle.std.proofs.Common.{◌≡◌, ◌<◌, ◌+◌, Some, ◌∷◌, length, map, set, sym, ap, subst, ◌∙◌, arith, length-set}
-use Rattle.std.specs.Prelude.{All}
+use Rattle.std.proofs.Common.{◌≡◌, ◌+◌, Some, ◌∷◌, length, map, set, sym, ap, subst, ◌∙◌, arith, length-set}
 use Rattle.std.proofs.lemmas.List.Elements.{All-pop}
 use Rattle.room_core.specs.Gauges.{IsPass}
 use Rattle.room_table.specs.Closing.{with_caller}

@@ -1,4 +1,4 @@
-use Rattle.std.proofs.Common.{rules, ◌≡◌, ◌<◌, ◌≤◌, ◌+◌, ◌-◌, suc, [], ◌∷◌, length, get_or, refl, sym, ap, subst, ◌∙◌, arith}
+use Rattle.std.proofs.Common.{rules, ◌≡◌, ◌+◌, ◌-◌, ◌∷◌, length, sym, ap, subst, ◌∙◌, arith}
 use Rattle.room_table.specs.Closing.{ClosingView, with_scanner}
 use Rattle.room_table.specs.Seats.{ScanView, scanner_now}
 use Rattle.room_scans.specs.Desks.{ShardView, desk_name}

@@ -2,7 +2,6 @@ use Rattle.std.proofs.Common.{◌≡◌, ◌<◌, ◌+◌, [], ◌∷◌, length
 use Rattle.room_table.specs.Seats.{scanner_now}
 use Rattle.room_scans.specs.Desks.{desk_name}
 use Rattle.room_scans.proofs.Laws.{name_number, name_table}
-use Rattle.purgatory.specs.Holding.{won_by_scanners}
 use Rattle.purgatory.proofs.Holds.{first_scanner, won_next}
 use Rattle.purgatory.proofs.holding.hold_clock.Goals as goal
 

@@ -1,4 +1,4 @@
-use Rattle.std.proofs.Common.{◌≡◌, ◌∙◌, ap, arith, refl}
+use Rattle.std.proofs.Common.{◌∙◌, ap, arith, refl}
 use Rattle.std.specs.Prelude.{max}
 use Rattle.std.proofs.lemmas.List.{get_or_default}
 use Rattle.room_table.specs.declared.part.CallerStep.{CallerStep}
@@ -29,7 +29,7 @@ invariant_of-self c =
     let read : IsCounted i.won i.taken (caller_now c.read-value.new.who) =
     step_same i.won i.taken i.seat c.read-value.new.who (CallerStep.Read c.args.gauge c.read-value.result) c.read-value.ensures.step refl refl refl refl c.self.invariant.1 in (
       owner_asks i.number i.generation i.owed.items c.read-value.new.who c.ask.new.caller c.args.gauge c.read-value.result c.max.result
-    (owner_reads i.number i.generation i.owed.items i.seat c.read-value.new.who c.args.gauge c.read-value.result c.self.invariant.0 c.read-value.ensures.step)
-    c.ask.ensures (c.max.ensures ∙ ap (λ n. max n c.read-value.result) owed) (omega (arith, size, gauge, gauges)),
+          (owner_reads i.number i.generation i.owed.items i.seat c.read-value.new.who c.args.gauge c.read-value.result c.self.invariant.0 c.read-value.ensures.step)
+          c.ask.ensures (c.max.ensures ∙ ap (λ n. max n c.read-value.result) owed) (omega (arith, size, gauge, gauges)),
       step_same i.won i.taken c.read-value.new.who c.ask.new.caller (CallerStep.Asked c.args.gauge c.read-value.result) c.ask.ensures refl refl refl refl read,
     )

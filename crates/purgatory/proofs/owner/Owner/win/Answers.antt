@@ -1,5 +1,4 @@
-use Rattle.std.proofs.Common.{rules, ◌≡◌, ◌+◌, Bool, true, false, ap, refl, subst, sym, ◌∙◌}
-use Rattle.room_core.specs.declared.parts.Stage.{Stage}
+use Rattle.std.proofs.Common.{rules, ◌≡◌, ◌+◌, true, false, ap, subst, sym, ◌∙◌}
 use Rattle.room_core.specs.declared.parts.Stage.TheVariants.{Checking}
 use Rattle.room_core.specs.Meetings.{is_live}
 use Rattle.room_core.specs.Packing.{unpacked}
