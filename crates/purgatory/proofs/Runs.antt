@@ -54,6 +54,7 @@ ended op old a b done o ends =
       registered = record {
         before = before;
         came = now.went;
+        operation = operation_is op (caller_now before).description now.described;
         steps = ends.steps;
         taken = record {
           idle = t.idle;
