@@ -47,8 +47,9 @@ fn play_lines<K: Sink>(
     ensures failed { IsErrOf result Stop.WriteFault → Rose (K.faults sink.old) (K.faults sink.new) }
     ensures only { IfErr result (λ stop. (stop ≡ Stop.WriteFault) ⊎ (stop ≡ Stop.NoMemory)) }
 {
+    let mut text = Bytes::new(alloc);
     for line in lines {
-        let mut text = Bytes::new(alloc);
+        text.truncate(0);
         lone.event(line, &mut text)?;
         write_all(sink, text.as_slice())?;
     }

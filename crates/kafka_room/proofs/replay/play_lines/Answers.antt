@@ -39,7 +39,7 @@ returns-in_err-write_all-clause-front g c =
     let h = inv.played start stands in
     let here = c.in_ok-event.ensures.plays h.0.board h.2 in
     let text = h.0.text ++ here.0.text in
-    let part : c.as_slice.result.now ≡ here.0.text = c.as_slice.ensures ∙ here.3 ∙ ap (λ (xs : List ℕ). xs ++ here.0.text) c.new-text.ensures in
+    let part : c.as_slice.result.now ≡ here.0.text = c.as_slice.ensures ∙ here.3 ∙ ap (λ (xs : List ℕ). xs ++ here.0.text) c.truncate.ensures in
     let last : Turned = record { board = here.0.board; text = text } in
     let played : Plays start (take (i + 1) lines) last =
     subst (λ (ls : List Line). Plays start ls last) (sym (lines_more lines i line c.loop-line-test.true c.line-item.is)) (plays_on start (take i lines) line h.0 here.0 h.1 here.1) in
@@ -68,7 +68,7 @@ loop-line-preserved g c =
           let h = inv.played start stands in
           let here = c.in_ok-event.ensures.plays h.0.board h.2 in
           let last : Turned = record { board = here.0.board; text = h.0.text ++ here.0.text } in
-          let part : c.as_slice.result.now ≡ here.0.text = c.as_slice.ensures ∙ here.3 ∙ ap (λ (xs : List ℕ). xs ++ here.0.text) c.new-text.ensures in (
+          let part : c.as_slice.result.now ≡ here.0.text = c.as_slice.ensures ∙ here.3 ∙ ap (λ (xs : List ℕ). xs ++ here.0.text) c.truncate.ensures in (
             last,
             subst (λ (ls : List Line). Plays start ls last) (sym (lines_more lines i line c.loop-line-test.true c.line-item.is)) (plays_on start (take i lines) line h.0 here.0 h.1 here.1),
             here.2,
