@@ -100,9 +100,10 @@ need_before words n i need less =
     (else_where words at need (5 + 3 * i) (omega (arith, less)))
 
 -- the first needs of a list, and one more
-pub described_more : (needs : List Need) (a b : CallerView) (n : ℕ) (need : Need) → b ≡ need_described a (3 + 3 * n) need → n < length needs
-    → ((d : Need) → need ≡ get_or needs n d) → AreDescribed needs n (caller_now a).description → AreDescribed needs (n + 1) (caller_now b).description
-described_more needs a b n need e there is before i d less =
+pub described_more : (needs : List Need) (a b : CallerView) (n : ℕ) (last : Need) → b ≡ need_described a (3 + 3 * n) (get_or needs n last) → n < length needs
+    → AreDescribed needs n (caller_now a).description → AreDescribed needs (n + 1) (caller_now b).description
+described_more needs a b n last e there before i d less =
+    let need = get_or needs n last in
     let words = (caller_now a).description in
     let w = with_need words (3 + 3 * n) need in
     subst (λ (v : CallerView). need_of (caller_now v).description i ≡ get_or needs i d) (sym e)
@@ -110,7 +111,7 @@ described_more needs a b n need e there is before i d less =
     (λ (l : i < n). need_before words n i need l ∙ before i d l)
     (λ (m : n ≤ i).
     let same : i ≡ n = omega (arith, less, m) in
-    ap (need_of w) same ∙ need_here words n need ∙ is d ∙ ap (λ k. get_or needs k d) (sym same))
+    ap (need_of w) same ∙ need_here words n need ∙ get_or_default needs n last d there ∙ ap (λ k. get_or needs k d) (sym same))
     (cases_lt i n))
 
 -- the first words stay

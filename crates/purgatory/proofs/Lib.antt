@@ -20,3 +20,5 @@ pub mod Made
 pub mod Raises
 -- an operation from its opening to its end
 pub mod Runs
+-- the passes of the locks, as they are dealt out
+pub mod Rings
