@@ -1,5 +1,5 @@
 -- A pass that writes its operation down.
-use Rattle.std.proofs.Common.{⊎_elim, ◌≡◌, ◌≢◌, ◌∙◌, ℕ, zero, suc, ◌+◌, ◌-◌, ◌*◌, ◌^◌, ◌<◌, ◌≤◌, List, length, get_or, map, ap, refl, subst, sym, arith}
+use Rattle.std.proofs.Common.{⊎_elim, ◌≡◌, ◌≢◌, ◌∙◌, ℕ, ◌+◌, ◌*◌, ◌^◌, ◌<◌, ◌≤◌, List, length, get_or, map, ap, refl, subst, sym, arith}
 use Rattle.std.specs.Prelude.{All}
 use Rattle.std.specs.List.{range_with_len}
 use Rattle.std.proofs.lemmas.Bool.{cases_lt}
@@ -7,17 +7,15 @@ use Rattle.std.proofs.lemmas.List.{get_or_default, same_lists}
 use Rattle.std.proofs.lemmas.List.FromFn.{get_or-map-range_with_len, length-map-range_with_len}
 use Rattle.opcond.specs.declared.need.Need.{Need}
 use Rattle.opcond.specs.Operation.{IsValid, Operation}
-use Rattle.room_core.specs.declared.parts.Stage.{Stage}
 use Rattle.room_core.specs.declared.shape.Shape.{Shape}
 use Rattle.room_core.specs.Described.{operation_of}
-use Rattle.room_core.specs.Description.{IsOperation, gauge_of, need_of, needs_of}
+use Rattle.room_core.specs.Description.{IsOperation, need_of, needs_of}
 use Rattle.room_core.specs.Gauges.{clock_of}
 use Rattle.room_core.specs.Put.{put}
 use Rattle.room_core.specs.State.{Caller}
 use Rattle.room_core.proofs.Laws.{put_else, put_here}
 use Rattle.room_table.specs.declared.part.CallerStep.{CallerStep}
 use Rattle.room_table.specs.Seats.{CallerView, caller_did, caller_now}
-use Rattle.purgatory.specs.Going.{GoesOn}
 use Rattle.purgatory.specs.Listed.{AreDescribed, Describes, IsDescribed, need_described, with_words}
 use Rattle.purgatory.proofs.Goes.{goes_by, goes_far, one_step, stays}
 

@@ -1,6 +1,6 @@
 -- A pass whose check has all its readings: it leaves its operation, or wins it.
-use Rattle.std.proofs.Common.{⊎_elim, ◌≡◌, ◌≢◌, ◌∙◌, ℕ, zero, suc, ◌+◌, ◌<◌, ◌≤◌, List, [], ◌∷◌, Option, Some, None, Bool, true, false, ◌||◌, cond, length, get_or, take, ap, refl, subst, sym, arith}
-use Rattle.std.specs.Prelude.{All, IsSome, nat_le, unwrap_or}
+use Rattle.std.proofs.Common.{⊎_elim, ◌≡◌, ◌≢◌, ◌∙◌, ℕ, zero, suc, ◌+◌, ◌<◌, ◌≤◌, List, [], ◌∷◌, Option, Some, ◌||◌, length, get_or, take, ap, refl, subst, sym, arith}
+use Rattle.std.specs.Prelude.{All, IsSome, unwrap_or}
 use Rattle.std.proofs.lemmas.Bool.{cond-false, cond-true, le-leb, lt-leb, or_from, or_left, or_right, cases_lt}
 use Rattle.std.proofs.lemmas.List.{take_all}
 use Rattle.opcond.specs.declared.need.Need.{Need}

@@ -1,19 +1,17 @@
 -- A pass that looks at the marks of its operation.
-use Rattle.std.proofs.Common.{⊎_elim, ◌≡◌, ◌≢◌, ◌∙◌, ℕ, zero, suc, ◌+◌, ◌<◌, ◌≤◌, Bool, true, false, ◌&&◌, cond, ap, refl, subst, sym, arith}
+use Rattle.std.proofs.Common.{⊎_elim, ◌≡◌, ◌≢◌, ◌∙◌, ℕ, zero, suc, ◌<◌, Bool, true, false, cond, ap, refl, sym, arith}
 use Rattle.std.specs.Prelude.{◌==◌}
 use Rattle.std.proofs.lemmas.Bool.{and_from, and_right, cases_eq, cond-false, cond-true, eq-eqb, ne_eqb}
-use Rattle.room_core.specs.declared.parts.Stage.{Stage}
 use Rattle.room_core.specs.declared.parts.Stage.TheVariants.{Checking, Listing}
 use Rattle.room_core.specs.Description.{needs_of}
 use Rattle.room_core.specs.Numbers.{clock_mark}
-use Rattle.room_core.specs.Passes.{all_below, all_seen, caller_sees_mark, seen_with}
-use Rattle.room_core.specs.Put.{put}
+use Rattle.room_core.specs.Passes.{all_below, all_seen, seen_with}
 use Rattle.room_core.specs.State.{Caller}
 use Rattle.room_core.proofs.Laws.{put_else, put_here}
 use Rattle.room_table.specs.declared.part.CallerStep.{CallerStep}
 use Rattle.room_table.specs.Seats.{CallerView, caller_did, caller_now}
 use Rattle.room_scans.specs.Listing.{open_at}
-use Rattle.purgatory.specs.Listed.{BeginsCheck, GoesListing, HasSeen, HasSeenBelow, Keeps}
+use Rattle.purgatory.specs.Listed.{BeginsCheck, GoesListing, HasSeenBelow}
 use Rattle.purgatory.specs.Polled.{found_open}
 use Rattle.purgatory.proofs.Goes.{keeps_by, keeps_far, keeps_same}
 use Rattle.purgatory.proofs.Words.{open_stage}

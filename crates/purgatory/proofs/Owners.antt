@@ -1,6 +1,6 @@
 -- What a pass keeps beside its seat, after a step.
-use Rattle.std.proofs.Common.{⊎_elim, ◌≡◌, ◌≢◌, ◌∙◌, ℕ, ◌<◌, ◌≤◌, List, [], length, get_or, set, cond, ap, refl, subst, sym, arith}
-use Rattle.std.specs.Prelude.{◌+◌, true, false, max, nat_le}
+use Rattle.std.proofs.Common.{⊎_elim, ◌≡◌, ◌≢◌, ◌∙◌, ℕ, ◌<◌, ◌≤◌, List, length, get_or, set, cond, ap, refl, sym, arith}
+use Rattle.std.specs.Prelude.{true, false, max, nat_le}
 use Rattle.std.proofs.lemmas.Bool.{cases_eq, cond-true, cond-false, le-leb, lt-leb}
 use Rattle.std.proofs.lemmas.List.{get_or-set_other, get_or-set_same, get_or_past, length-set}
 use Rattle.room_core.specs.Gauges.{IsPass}
@@ -8,7 +8,7 @@ use Rattle.room_core.specs.Put.{put}
 use Rattle.room_core.proofs.Laws.{put_else, put_here}
 use Rattle.room_table.specs.declared.part.CallerStep.{CallerStep}
 use Rattle.room_table.specs.Seats.{CallerView, caller_did, caller_now}
-use Rattle.purgatory.specs.Going.{KeepsOperation, OwesElse}
+use Rattle.purgatory.specs.Going.{OwesElse}
 use Rattle.purgatory.specs.Owned.{IsOwner}
 use Rattle.purgatory.specs.Paying.{Pays}
 use Rattle.purgatory.proofs.Goes.{kept_same, one_step, stays}

@@ -1,5 +1,5 @@
 -- A pass's own session word.
-use Rattle.std.proofs.Common.{inl, inr, ◌≡◌, ◌≢◌, ◌∙◌, ℕ, ◌+◌, ◌*◌, ◌^◌, ◌<◌, [], ◌∷◌, ◌++◌, Option, Some, None, ap, refl, subst, sym, arith}
+use Rattle.std.proofs.Common.{inl, inr, ◌≡◌, ◌≢◌, ◌∙◌, ℕ, ◌+◌, ◌*◌, ◌^◌, ◌<◌, Option, Some, None, ap, refl, subst, sym, arith}
 use Rattle.std.specs.Prelude.{IfNone, IfSome}
 use Rattle.room_core.specs.declared.event.How.{How}
 use Rattle.room_core.specs.declared.event.How.TheVariants.{Expired, Satisfied}

@@ -34,6 +34,7 @@ pub record HasParked (op : Operation) (old new : CallerView) : Type 0 where
   pub waits : (caller_now new).stage ≡ Stage.Waiting
   pub generation : (caller_now new).generation ≡ (caller_now old).generation + 1
   pub operation : operation_of (caller_now new).description ≡ op
+  pub taken : (caller_now new).taken ≡ (caller_now old).taken
 
 -- The operation was opened at the next generation, and the pass found it won, and took that.
 pub record HasEnded (done : Done) (old new : CallerView) : Type 0 where

@@ -87,8 +87,7 @@ impl Room {
     {
         let mark = owner.mark(at);
         for _ in rt.forever() {
-            self.locks
-                .list_need(rt, keys, &self.table, mark, gauge);
+            self.locks.list_need(rt, keys, &self.table, mark, gauge);
             if owner.sees_mark(&self.table, at) {
                 return None;
             }
@@ -100,12 +99,7 @@ impl Room {
     }
 
     // The same under the clock.
-    fn list_deadline(
-        &self,
-        rt: &impl Wait,
-        owner: &mut Owner,
-        keys: &mut Keys,
-    ) -> Option<Done>
+    fn list_deadline(&self, rt: &impl Wait, owner: &mut Owner, keys: &mut Keys) -> Option<Done>
         requires table { owner.old.table ≡ self.now.table }
         requires keys { keys.old ≡ self.now.locks }
         requires generation { 1 ≤ (caller_now owner.old).generation }

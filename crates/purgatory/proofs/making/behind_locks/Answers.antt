@@ -1,5 +1,5 @@
-use Rattle.std.proofs.Common.{◌≡◌, ◌∙◌, ◌+◌, List, arith, length, map, subst, sym}
-use Rattle.room_table.specs.Seats.{ScanView}
+use Rattle.std.proofs.Common.{◌∙◌, arith, map, subst}
+use Rattle.std.proofs.lemmas.List.{length-map}
 use Rattle.purgatory.specs.Making.{AreFrom, IsFreshScanner}
 use Rattle.purgatory.specs.Turning.{clock_name, lock_view, shard_name}
 use Rattle.purgatory.proofs.Made.{from_pop}
@@ -35,16 +35,33 @@ make-requires-clause-fresh c =
     all.1.fresh
 
 pub key_rings-requires-clause-rows : goal.key_rings-requires-clause-rows
-key_rings-requires-clause-rows c = ?
+key_rings-requires-clause-rows c =
+    let items = c.in-Some.ensures.items in
+    let count = popped_len c.args.scanners c.pop.new.self c.in-Some.last items in
+    let size = c.requires.scanners.0 in
+    let shards = c.in_ok-shards.shards.items in
+    let sixteen =
+    sixteen_so shards c.in_ok-clock.clock c.args.scanners c.pop.new.self c.in-Some.last c.in_ok-desk.desk items c.in_ok-shards.ensures.names c.in_ok-clock.ensures.lock.0 c.in_ok-desk.ensures (omega (arith, count, size)) in
+    (map (lock_view shard_name) shards, length-map shards (lock_view shard_name) ∙ sixteen, c.in_ok-shards.ensures.rows.1)
 
 pub key_rings-requires-clause-passes : goal.key_rings-requires-clause-passes
 key_rings-requires-clause-passes c = (lock_view clock_name c.in_ok-clock.clock, fresh_keys clock_name c.in_ok-clock.clock _ c.in_ok-clock.passes c.in_ok-clock.ensures.lock.0 c.in_ok-clock.ensures.passes.1)
 
 pub invariant_of-result : goal.invariant_of-result
-invariant_of-result c = ?
+invariant_of-result c =
+    let items = c.in-Some.ensures.items in
+    let count = popped_len c.args.scanners c.pop.new.self c.in-Some.last items in
+    let size = c.requires.scanners.0 in
+    sixteen_so c.in_ok-shards.shards.items c.in_ok-clock.clock c.args.scanners c.pop.new.self c.in-Some.last c.in_ok-desk.desk items c.in_ok-shards.ensures.names c.in_ok-clock.ensures.lock.0 c.in_ok-desk.ensures
+    (omega (arith, count, size))
 
 pub returns-clause-names : goal.returns-clause-names
-returns-clause-names c = ?
+returns-clause-names c =
+    names_so c.in_ok-shards.shards.items c.in_ok-clock.clock c.args.scanners c.pop.new.self c.in-Some.last c.in_ok-desk.desk c.in-Some.ensures.items c.in_ok-shards.ensures.names c.in_ok-clock.ensures.lock.0 c.in_ok-desk.ensures
 
 pub returns-clause-keys : goal.returns-clause-keys
-returns-clause-keys c = ?
+returns-clause-keys c = (
+  c.in_ok-keys.ensures.len ∙ c.in_ok-shards.ensures.rows.0,
+  c.in_ok-keys.ensures.rings (map (lock_view shard_name) c.in_ok-shards.shards.items) (lock_view clock_name c.in_ok-clock.clock) c.in_ok-shards.ensures.rows.1
+      (fresh_keys clock_name c.in_ok-clock.clock _ c.in_ok-clock.passes c.in_ok-clock.ensures.lock.0 c.in_ok-clock.ensures.passes.1),
+)

@@ -1,4 +1,4 @@
-use Rattle.std.proofs.Common.{◌≡◌, List, [], ◌∷◌, ◌++◌, ap, arith, map}
+use Rattle.std.proofs.Common.{List, [], ◌∷◌, ◌++◌, ap, arith, map}
 use Rattle.turn_lock.specs.declared.pass.TurnPass.{TurnPass}
 use Rattle.room_scans.specs.Desks.{ShardView}
 use Rattle.purgatory.specs.Turning.{key_view}

@@ -1,4 +1,4 @@
-use Rattle.std.proofs.Common.{◌≡◌, ◌∙◌, ◌%◌, ◌<◌, List, arith, subst, sym}
+use Rattle.std.proofs.Common.{◌∙◌, ◌%◌, ◌<◌, List, arith, subst, sym}
 use Rattle.turn_lock.specs.Locks.{IsReady}
 use Rattle.purgatory.specs.Rooms.{AreNamed, LockView}
 use Rattle.purgatory.proofs.Doors.{shard_belongs, shard_named, shard_turned}
@@ -31,4 +31,4 @@ returns g c =
     let keys = c.keys.inside in
     let same = c.keys.view_is ∙ c.requires.keys ∙ sym c.self.view_is in
     (shard_turned locks.shards.items locks.clock keys.shards.items keys.clock same c.self.invariant c.keys.invariant (c.args.gauge % 16) c.index.result.now c.index_mut.result.now c.list_shard.new.key
-        (omega arith) c.index.ensures c.index_mut.ensures.value c.list_shard.ensures).0 ∙ c.keys.view_is
+    (omega arith) c.index.ensures c.index_mut.ensures.value c.list_shard.ensures).0 ∙ c.keys.view_is

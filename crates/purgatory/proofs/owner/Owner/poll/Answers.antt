@@ -1,4 +1,4 @@
-use Rattle.std.proofs.Common.{◌≡◌, ◌∙◌, ap, arith, sym}
+use Rattle.std.proofs.Common.{◌∙◌, ap, arith, sym}
 use Rattle.room_core.specs.declared.parts.Session.{Session}
 use Rattle.room_core.specs.Packing.{unpacked}
 use Rattle.room_table.specs.Seats.{CallerView, TableView}

@@ -1,4 +1,4 @@
-use Rattle.std.proofs.Common.{◌≡◌, ◌∙◌, ◌+◌, ◌*◌, arith}
+use Rattle.std.proofs.Common.{◌∙◌, ◌+◌, ◌*◌, arith}
 use Rattle.purgatory.proofs.Describing.{described_more, describes_far, describes_need, describes_one, head_stays, word_else, word_here}
 use Rattle.purgatory.proofs.room.Room.describe.Goals as goal
 

@@ -1,4 +1,4 @@
-use Rattle.std.proofs.Common.{◌≡◌, ◌≢◌, ◌∙◌, ℕ, ap, arith, sym}
+use Rattle.std.proofs.Common.{◌≢◌, ◌∙◌, ℕ, ap, arith, sym}
 use Rattle.std.proofs.lemmas.Bool.{false≢true}
 use Rattle.room_table.specs.Seats.{caller_now}
 use Rattle.purgatory.proofs.Goes.{keeps_far}

@@ -1,6 +1,5 @@
-use Rattle.std.proofs.Common.{◌≡◌, ◌∙◌, ap, subst}
-use Rattle.room_core.specs.declared.parts.Stage.{Stage}
-use Rattle.room_table.specs.Seats.{CallerView, caller_now}
+use Rattle.std.proofs.Common.{◌∙◌, ap, subst}
+use Rattle.room_table.specs.Seats.{caller_now}
 use Rattle.purgatory.specs.Polled.{HasPolled}
 use Rattle.purgatory.specs.Rooms.{PassView}
 use Rattle.purgatory.proofs.Words.{has_taken, rests, waits_still}

@@ -1,8 +1,7 @@
-use Rattle.std.proofs.Common.{◌≡◌, ◌∙◌, ◌-◌, ◌<◌, List, ap, length, subst, sym, take}
+use Rattle.std.proofs.Common.{◌∙◌, ◌-◌, ◌<◌, List, ap, length, subst, sym, take}
 use Rattle.std.specs.Prelude.{All}
 use Rattle.opcond.specs.declared.need.Need.{Need}
 use Rattle.room_core.specs.declared.shape.Shape.{Shape}
-use Rattle.room_core.specs.Checks.{AreRead}
 use Rattle.room_core.specs.Gauges.{clock_of}
 use Rattle.room_table.specs.declared.part.CallerStep.{CallerStep}
 use Rattle.room_table.specs.Seats.{TableView, caller_did, caller_now}

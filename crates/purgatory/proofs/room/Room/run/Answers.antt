@@ -1,4 +1,4 @@
-use Rattle.std.proofs.Common.{◌≡◌, ◌∙◌, ◌<◌, ap, subst, sym}
+use Rattle.std.proofs.Common.{◌<◌, ap, subst, sym}
 use Rattle.std.specs.Prelude.{All}
 use Rattle.opcond.specs.declared.need.Need.{Need}
 use Rattle.room_core.specs.Gauges.{clock_of}
