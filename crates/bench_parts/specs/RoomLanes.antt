@@ -8,13 +8,11 @@ use Rattle.purgatory.specs.Rooms.{RoomView, PassView, IsOfRoom, IsSourceOf}
 use Rattle.bench_parts.specs.declared.room_lane.RoomLane.{RoomLane}
 
 -- of this room, and nobody has used it
-pub record IsFreshSource (room : RoomView) (source : SourceView) : Type 0 where
-  pub made : IsSourceOf room source
-  pub fresh : source.steps ≡ []
+abbrev pub IsFreshSource : RoomView → SourceView → Type 0
+IsFreshSource room source = IsSourceOf room source × (source.steps ≡ [])
 
-pub record IsFreshPass (room : RoomView) (pass : PassView) : Type 0 where
-  pub made : IsOfRoom room pass
-  pub fresh : pass.seat.steps ≡ []
+abbrev pub IsFreshPass : RoomView → PassView → Type 0
+IsFreshPass room pass = IsOfRoom room pass × (pass.seat.steps ≡ [])
 
 -- a pass of this room with so many operations behind it, that has none now and owes nothing
 pub record IsIdleAt (room : RoomView) (round : ℕ) (pass : PassView) : Type 0 where

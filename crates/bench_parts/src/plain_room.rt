@@ -46,9 +46,7 @@ pub struct PlainRoom {
 fn tally(values: &[u64], op: &Op) -> u64 {
     let mut sum: u64 = 0;
     for need in op.needs() {
-        let value = values
-            .get(need.gauge as usize)
-            .map_or(0, |value| *value);
+        let value = values.get(need.gauge as usize).map_or(0, |value| *value);
         sum = sum.saturating_add(value.saturating_sub(need.start).min(need.cap));
     }
     sum

@@ -1,7 +1,7 @@
 //! Operations in the room, on some threads in a ring: each thread registers an operation, raises the gauge for which the
 //! thread before it waits, settles, and polls until the next thread has answered its own. Beside it stands a plain room.
 ghost use Rattle.std.specs.Prelude.{◌≡◌, ◌+◌, ◌-◌, ◌^◌, ◌≤◌, ◌<◌, IsTrue};
-ghost use Rattle.room_table.specs.Seats.{source_now};
+ghost use Rattle.room_table.specs.Seats.{caller_now};
 ghost use Rattle.bench_parts.specs.RoomLanes.{IsAtRound, IsIdleAt, IsWaitingAt};
 
 use crate::fault::Fault;
@@ -43,11 +43,10 @@ pub fn park(
 }
 
 // Polls until the pass's operation is answered. Whether it is: else a thread has stopped.
-fn answered(rt: &impl Wait, room: &Room, signals: &Signals, pass: &mut RoomPass, round: u32) -> bool
-    requires { IsWaitingAt room.now round pass.old }
-    ensures { IsTrue result → IsIdleAt room.now round pass.new }
+fn answered(rt: &impl Wait, room: &Room, signals: &Signals, pass: &mut RoomPass) -> bool
+    requires { IsWaitingAt room.now (caller_now pass.old.seat).generation pass.old }
+    ensures { IsTrue result → IsIdleAt room.now (caller_now pass.old.seat).generation pass.new }
 {
-    let _ = round;
     let mut patience = Patience::new();
     for _ in rt.forever() {
         if room.poll(pass).is_some() {
@@ -84,7 +83,7 @@ fn go_round(
     }
     room.raise(rt, &mut lane.source, &mut lane.raiser, u64::from(round + 1));
     room.settle(rt, &mut lane.raiser);
-    answered(rt, room, signals, &mut lane.waiter, round + 1)
+    answered(rt, room, signals, &mut lane.waiter)
 }
 
 fn go_round_often(

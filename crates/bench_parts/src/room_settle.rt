@@ -95,13 +95,7 @@ fn park_all(
     Ok(true)
 }
 
-fn settle_often(
-    rt: &impl Wait,
-    room: &Room,
-    source: &mut Source,
-    pass: &mut RoomPass,
-    rounds: u32,
-)
+fn settle_often(rt: &impl Wait, room: &Room, source: &mut Source, pass: &mut RoomPass, rounds: u32)
     requires source { HasStored room.now 0 source.old }
     requires pass { IsOfRoom room.now pass.old }
 {

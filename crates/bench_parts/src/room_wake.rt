@@ -1,6 +1,7 @@
 //! The time from a raise to the moment at which the owner, who sleeps, is awake and has its answer. Beside it stands a plain
 //! room with a `Condvar`.
-ghost use Rattle.std.specs.Prelude.{◌≡◌, ◌+◌, ◌-◌, ◌^◌, ◌≤◌, ◌<◌, IsTrue};
+ghost use Rattle.std.specs.Prelude.{◌≡◌, ◌+◌, ◌-◌, ◌^◌, ◌≤◌, ◌<◌, IfSome, IsTrue};
+ghost use Rattle.room_table.specs.Seats.{caller_now};
 ghost use Rattle.bench_parts.specs.RoomLanes.{HasStored, IsAtRound, IsIdleAt, IsWaitingAt};
 ghost use Rattle.purgatory.specs.Rooms.{IsOfRoom};
 
@@ -59,8 +60,7 @@ impl Watch {
     }
 
     fn raises(&self, clock: &impl Clock) {
-        self.raised
-            .store(self.moment(clock), Ordering::SeqCst);
+        self.raised.store(self.moment(clock), Ordering::SeqCst);
     }
 
     // Nanoseconds since the last raise.
@@ -100,11 +100,10 @@ impl Run {
 }
 
 // Sleeps until the pass's operation is answered. Whether it is.
-fn sleep(rt: &impl Wait, room: &Room, signals: &Signals, pass: &mut RoomPass, round: u32) -> bool
-    requires { IsWaitingAt room.now round pass.old }
-    ensures { IsTrue result → IsIdleAt room.now round pass.new }
+fn sleep(rt: &impl Wait, room: &Room, signals: &Signals, pass: &mut RoomPass) -> bool
+    requires { IsWaitingAt room.now (caller_now pass.old.seat).generation pass.old }
+    ensures { IsTrue result → IsIdleAt room.now (caller_now pass.old.seat).generation pass.new }
 {
-    let _ = round;
     for _ in rt.forever() {
         room.wait(rt, pass, Duration::from_secs(AT_MOST));
         if room.poll(pass).is_some() {
@@ -135,7 +134,7 @@ fn sleep_once<R: Wait + Clock>(
         return None;
     }
     run.signals.tell(SLEEPS, round + 1);
-    if !sleep(rt, room, &run.signals, pass, round + 1) {
+    if !sleep(rt, room, &run.signals, pass) {
         return None;
     }
     Some(run.watch.since(rt))
