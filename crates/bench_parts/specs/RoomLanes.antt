@@ -1,7 +1,6 @@
 -- What a thread acts by in the room.
 use Rattle.std.specs.Prelude.{◌≡◌, ℕ, ◌<◌, ◌≤◌, []}
 use Rattle.room_core.specs.declared.parts.Stage.{Stage}
-use Rattle.room_core.specs.Gauges.{clock_of}
 use Rattle.room_table.specs.Seats.{SourceView, caller_now, source_now}
 use Rattle.purgatory.specs.Going.{OwesNothing}
 use Rattle.purgatory.specs.Rooms.{RoomView, PassView, IsOfRoom, IsSourceOf}

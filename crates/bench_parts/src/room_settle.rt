@@ -105,7 +105,7 @@ fn settle_often(rt: &impl Wait, room: &Room, source: &mut Source, pass: &mut Roo
     }
 }
 
-// What a run took, in nanoseconds and a part: None where an operation didn't wait.
+// Picoseconds for each round.
 fn in_the_room<R: Wait + Clock>(
     rt: &R,
     alloc: Global,
