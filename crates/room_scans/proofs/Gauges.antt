@@ -12,7 +12,7 @@ unfolding scanner_of
 scanner_is shape gauge all n =
     ap (λ b. cond b clock_scanner (gauge % (shape.scanners - 1))) (ne_eqb gauge (shape.gauges - 1) n) ∙ ap (λ s. gauge % (s - 1)) all
 
-clock_is : (shape : Shape) → scanner_of shape (clock_of shape) ≡ clock_scanner
+pub clock_is : (shape : Shape) → scanner_of shape (clock_of shape) ≡ clock_scanner
 unfolding scanner_of
 clock_is shape = ap (λ b. cond b clock_scanner (clock_of shape % (shape.scanners - 1))) (eq-eqb (clock_of shape) (clock_of shape) refl)
 

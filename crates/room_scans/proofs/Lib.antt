@@ -32,3 +32,5 @@ pub mod Watching
 pub mod Marking
 -- a shard that is purged
 pub mod Purging
+-- an operation that is listed under its deadline
+pub mod Deadlines

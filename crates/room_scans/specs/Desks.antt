@@ -3,12 +3,18 @@ use Rattle.std.specs.Prelude.{ℕ, List, ◌∷◌}
 use Rattle.atomic_table.specs.Seated.{TableId}
 use Rattle.room_core.specs.declared.shape.Shape.{Shape}
 use Rattle.room_table.specs.Seats.{TableView, ScanView}
+use Rattle.timing_wheel.specs.Timers.{Timers}
 use Rattle.watch_lists.specs.Watches.{Watches}
 
 -- a shard's scanner, and the watchers of its gauges: the key of a gauge is a sixteenth of its number
 pub record ShardView : Type 0 where
   pub seat : ScanView
   pub watches : Watches
+
+-- the clock's scanner, and the timers of its entries: the id of a timer is the pass
+pub record ClockView : Type 0 where
+  pub seat : ScanView
+  pub timers : Timers
 
 abbrev pub shape_numbers : Shape → List ℕ → List ℕ
 shape_numbers shape rest = shape.gauges ∷ shape.passes ∷ shape.scanners ∷ rest

@@ -10,6 +10,10 @@ pub mod Listing
 pub mod Desks
 -- what a shard's desk keeps between any two calls
 pub mod ShardKeeps
+-- when the timer of a deadline comes, and which entries have one
+pub mod Timing
+-- what the clock's desk keeps between any two calls
+pub mod ClockKeeps
 -- ==== the words of private functions
 
 -- what a scanner keeps of its present meeting

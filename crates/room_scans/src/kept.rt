@@ -1,8 +1,26 @@
 //! What a turn lock knows of the desks: their names. They have no entries.
+use crate::clock_desk::ClockDesk;
 use crate::shard_desk::ShardDesk;
 use turn_lock::Kept;
 
 impl Kept for ShardDesk {
+    ghost use Rattle.std.specs.Prelude.{[]};
+    ghost use Rattle.room_scans.specs.Desks.{desk_name};
+
+    type Entry = ();
+
+    ghost entries = { λ d. [] };
+
+    ghost by = { λ e. 0 };
+
+    ghost name = { λ d. desk_name d.seat.table d.seat.scanner };
+
+    fn count(&self) -> u64 {
+        0
+    }
+}
+
+impl Kept for ClockDesk {
     ghost use Rattle.std.specs.Prelude.{[]};
     ghost use Rattle.room_scans.specs.Desks.{desk_name};
 

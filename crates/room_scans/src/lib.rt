@@ -35,6 +35,7 @@
 //! check takes none out below its own (`proofs/Duties.antt`); at place 0 there is no duty left.
 #![tactic(auto)]
 
+mod clock_desk;
 mod inspector;
 mod kept;
 mod numbers;
@@ -43,4 +44,5 @@ mod shard_listing;
 mod tally;
 mod verdict;
 
+pub use clock_desk::ClockDesk;
 pub use shard_desk::ShardDesk;
