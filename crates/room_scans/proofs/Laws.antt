@@ -1,7 +1,13 @@
 -- What the crates above may cite.
-use Rattle.std.proofs.Common.{◌≡◌, ℕ, zero, suc, List, [], ◌∷◌, ap}
-use Rattle.room_table.specs.Seats.{TableView}
+use Rattle.std.proofs.Common.{⊎_elim, ◌≡◌, ◌⊎◌, ℕ, zero, suc, ◌+◌, ◌*◌, List, [], ◌∷◌, ap, refl, subst, sym}
+use Rattle.room_core.specs.Numbers.{clock_mark}
+use Rattle.room_table.specs.declared.part.ScannerStep.{ScannerStep}
+use Rattle.room_table.specs.Seats.{ScanView, TableView, scanner_did, scanner_now}
 use Rattle.room_scans.specs.Desks.{desk_name}
+use Rattle.room_scans.specs.Going.{GoesOn}
+use Rattle.room_scans.specs.Listing.{FoundElse, HasListedDeadline, HasListedNeed, IsListedDeadline, IsListedNeed, IsNoNeed, need_learned, open_at}
+use Rattle.room_scans.specs.Scanned.{HasScanned, scan_begun}
+use Rattle.room_scans.proofs.Goes.{goes_by, goes_far, stays}
 
 abbrev head_or : ℕ → List ℕ → ℕ
 head_or n [] = n
@@ -36,3 +42,47 @@ table_in xs = record {
 
 pub name_table : (t u : TableView) (k l : ℕ) → desk_name t k ≡ desk_name u l → t ≡ u
 name_table t u k l e = ap table_in e
+
+-- whatever a call listed or scanned, the seat goes on
+
+need_goes : (old before : ScanView) (pass generation at needs gauge : ℕ) → GoesOn old before → GoesOn old (need_learned before pass generation at needs gauge)
+need_goes old before pass generation at needs gauge came =
+    let met = scanner_did before (ScannerStep.Met pass (open_at generation)) in
+    let count = scanner_did met (ScannerStep.Learned 2 needs) in
+    goes_by old count (need_learned before pass generation at needs gauge) (ScannerStep.Learned (3 + 3 * at) gauge)
+    (goes_by old met count (ScannerStep.Learned 2 needs) (goes_by old before met (ScannerStep.Met pass (open_at generation)) came refl) refl) refl
+
+else_goes : (pass generation : ℕ) (old new : ScanView) → FoundElse pass generation old new → GoesOn old new
+else_goes pass generation old new e = goes_by old e.before new (ScannerStep.Met pass e.found) e.came e.steps
+
+pub listed_goes : (pass generation at : ℕ) (old new : ScanView) → HasListedNeed pass generation at old new → GoesOn old new
+listed_goes pass generation at old new h =
+    ⊎_elim
+    (λ (l : IsListedNeed pass generation at old new).
+    goes_by old (need_learned l.before pass generation at l.needs l.gauge) new (ScannerStep.Listed pass at) (need_goes old l.before pass generation at l.needs l.gauge l.came) l.steps)
+    (λ (o : FoundElse pass generation old new ⊎ IsNoNeed pass generation at old new).
+    ⊎_elim
+    (λ (e : FoundElse pass generation old new). else_goes pass generation old new e)
+    (λ (n : IsNoNeed pass generation at old new).
+    goes_far old (need_learned n.before pass generation at n.needs n.gauge) new (need_goes old n.before pass generation at n.needs n.gauge n.came)
+    (subst (GoesOn (need_learned n.before pass generation at n.needs n.gauge)) (sym n.steps) (stays (need_learned n.before pass generation at n.needs n.gauge))))
+    o)
+    h
+
+pub listed_deadline_goes : (pass generation : ℕ) (old new : ScanView) → HasListedDeadline pass generation old new → GoesOn old new
+listed_deadline_goes pass generation old new h =
+    ⊎_elim
+    (λ (l : IsListedDeadline pass generation old new).
+    let met = scanner_did l.before (ScannerStep.Met pass (open_at generation)) in
+    let learned = scanner_did met (ScannerStep.Learned 1 l.deadline) in
+    goes_by old learned new (ScannerStep.Listed pass clock_mark)
+    (goes_by old met learned (ScannerStep.Learned 1 l.deadline) (goes_by old l.before met (ScannerStep.Met pass (open_at generation)) l.came refl) refl) l.steps)
+    (λ (e : FoundElse pass generation old new). else_goes pass generation old new e)
+    h
+
+pub scanned_goes : (gauge : ℕ) (old new : ScanView) → HasScanned gauge old new → GoesOn old new
+scanned_goes gauge old new h =
+    let heard = scanner_did old (ScannerStep.Heard gauge h.heard) in
+    goes_far old (scan_begun old gauge h.heard) new
+    (goes_by old heard (scan_begun old gauge h.heard) (ScannerStep.Began gauge ((scanner_now old).began gauge)) (goes_by old old heard (ScannerStep.Heard gauge h.heard) (stays old) refl) refl)
+    h.went

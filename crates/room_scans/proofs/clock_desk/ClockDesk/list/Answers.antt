@@ -1,4 +1,4 @@
-use Rattle.std.proofs.Common.{◌≡◌, ◌∙◌, ap, subst, sym}
+use Rattle.std.proofs.Common.{◌≡◌, ◌∙◌, [], ap, subst, sym}
 use Rattle.room_core.specs.Gauges.{IsPass}
 use Rattle.room_core.specs.Scans.{HasNoDuty}
 use Rattle.room_table.specs.declared.part.ScannerStep.{ScannerStep}

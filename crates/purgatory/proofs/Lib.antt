@@ -1,0 +1,22 @@
+-- passes that go on
+pub mod Goes
+-- what a pass keeps beside its seat, after a step
+pub mod Owners
+-- a pass's own session word
+pub mod Words
+-- a pass that looks at the marks of its operation
+pub mod Marks
+-- a pass that writes its operation down
+pub mod Describing
+-- a pass that reads the gauges of its operation
+pub mod Reading
+-- a pass that leaves its operation, or wins it
+pub mod Leaving
+-- the room's locks, and what a pass has of them
+pub mod Doors
+-- how a room is made
+pub mod Made
+-- a gauge is raised
+pub mod Raises
+-- an operation from its opening to its end
+pub mod Runs

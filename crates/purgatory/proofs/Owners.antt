@@ -1,0 +1,160 @@
+-- What a pass keeps beside its seat, after a step.
+use Rattle.std.proofs.Common.{⊎_elim, ◌≡◌, ◌≢◌, ◌∙◌, ℕ, ◌<◌, ◌≤◌, List, [], length, get_or, set, cond, ap, refl, subst, sym, arith}
+use Rattle.std.specs.Prelude.{◌+◌, true, false, max, nat_le, replicate}
+use Rattle.std.proofs.lemmas.Bool.{cases_eq, cond-true, cond-false, le-leb, lt-leb}
+use Rattle.std.proofs.lemmas.List.{get_or-replicate, get_or-set_other, get_or-set_same, get_or_past, length-replicate, length-set}
+use Rattle.std.proofs.lemmas.Bool.{cases_lt}
+use Rattle.room_core.specs.declared.shape.Shape.{Shape}
+use Rattle.room_core.specs.Gauges.{IsPass}
+use Rattle.room_core.specs.Put.{put}
+use Rattle.room_core.proofs.Laws.{put_else, put_here}
+use Rattle.room_table.specs.declared.part.CallerStep.{CallerStep}
+use Rattle.room_table.specs.Parts.{caller_of}
+use Rattle.room_table.specs.Seats.{CallerView, caller_did, caller_now}
+use Rattle.purgatory.specs.Going.{KeepsOperation, OwesElse}
+use Rattle.purgatory.specs.Owned.{IsOwner}
+use Rattle.purgatory.specs.Paying.{Pays}
+use Rattle.purgatory.proofs.Goes.{kept_same, one_step, stays}
+
+-- nothing is owed by a pass that has made no step
+zeros : (n i : ℕ) → get_or (replicate n 0) i 0 ≡ 0
+zeros n i =
+    ⊎_elim
+    (λ (l : i < n). get_or-replicate n i 0 0 l)
+    (λ (m : n ≤ i). get_or_past (replicate n 0) i 0 (omega (arith, m, length-replicate n 0)))
+    (cases_lt i n)
+
+pub fresh_owner : (shape : Shape) (number : ℕ) (owed : List ℕ) (seat : CallerView) → shape ≡ seat.table.shape → number ≡ seat.pass → IsPass shape number
+    → owed ≡ replicate shape.gauges 0 → seat.steps ≡ [] → IsOwner number 0 owed seat
+fresh_owner shape number owed seat same is there all none = record {
+  number_is = is;
+  there = let size = ap (λ (s : Shape). s.passes) same in omega (arith, there, is, size);
+  generation_is = ap (λ steps. (caller_of seat.table.shape seat.pass steps).generation) (sym none);
+  size = ap (λ (l : List ℕ). length l) all ∙ length-replicate shape.gauges 0 ∙ ap (λ (s : Shape). s.gauges) same;
+  owes = λ gauge. ap (λ (l : List ℕ). get_or l gauge 0) all ∙ zeros shape.gauges gauge ∙ ap (λ steps. (caller_of seat.table.shape seat.pass steps).owed gauge) (sym none);
+}
+
+module _ (number generation : ℕ) (owed : List ℕ) (a b : CallerView) (step : CallerStep) (i : IsOwner number generation owed a) (e : b ≡ caller_did a step) where
+  there_still : IsPass b.table.shape b.pass
+  there_still =
+      let there = i.there in
+      let passes : b.table.shape.passes ≡ a.table.shape.passes = ap (λ (v : CallerView). v.table.shape.passes) e in
+      let pass : b.pass ≡ a.pass = ap (λ (v : CallerView). v.pass) e in
+      omega (arith, there, passes, pass)
+
+  -- a step that leaves what is owed
+  pub owner_after : (caller_now (caller_did a step)).generation ≡ (caller_now a).generation → (caller_now (caller_did a step)).owed ≡ (caller_now a).owed → IsOwner number generation owed b
+  owner_after same debts = record {
+    number_is = i.number_is ∙ sym (ap (λ (v : CallerView). v.pass) e);
+    there = there_still;
+    generation_is = i.generation_is ∙ sym same ∙ sym (ap (λ (v : CallerView). (caller_now v).generation) e);
+    size = i.size ∙ sym (ap (λ (v : CallerView). v.table.shape.gauges) e);
+    owes = λ gauge. i.owes gauge ∙ sym (ap (λ (f : ℕ → ℕ). f gauge) debts) ∙ sym (ap (λ (v : CallerView). (caller_now v).owed gauge) e);
+  }
+
+  -- a step of the next generation
+  pub owner_opens : (caller_now (caller_did a step)).generation ≡ (caller_now a).generation + 1 → (caller_now (caller_did a step)).owed ≡ (caller_now a).owed → IsOwner number (generation + 1) owed b
+  owner_opens next debts = record {
+    number_is = i.number_is ∙ sym (ap (λ (v : CallerView). v.pass) e);
+    there = there_still;
+    generation_is = ap (λ n. n + 1) i.generation_is ∙ sym next ∙ sym (ap (λ (v : CallerView). (caller_now v).generation) e);
+    size = i.size ∙ sym (ap (λ (v : CallerView). v.table.shape.gauges) e);
+    owes = λ gauge. i.owes gauge ∙ sym (ap (λ (f : ℕ → ℕ). f gauge) debts) ∙ sym (ap (λ (v : CallerView). (caller_now v).owed gauge) e);
+  }
+
+-- a list with a value given anew, beside the table
+set_put : (f : ℕ → ℕ) (xs : List ℕ) (at x : ℕ) → at < length xs → ((i : ℕ) → get_or xs i 0 ≡ f i) → (i : ℕ) → get_or (set xs at x) i 0 ≡ put f at x i
+set_put f xs at x less same i =
+    ⊎_elim
+    (λ (here : i ≡ at). ap (λ j. get_or (set xs at x) j 0) here ∙ get_or-set_same xs at x 0 less ∙ sym (ap (put f at x) here ∙ put_here f at x))
+    (λ (n : i ≢ at). get_or-set_other xs at i x 0 n ∙ same i ∙ sym (put_else f at x i n))
+    (cases_eq i at)
+
+-- a step that gives one debt anew
+pub owner_owes : (number generation : ℕ) (owed : List ℕ) (a b : CallerView) (step : CallerStep) (gauge debt : ℕ) → IsOwner number generation owed a → b ≡ caller_did a step
+    → (caller_now (caller_did a step)).generation ≡ (caller_now a).generation → (caller_now (caller_did a step)).owed ≡ put (caller_now a).owed gauge debt
+    → gauge < length owed → IsOwner number generation (set owed gauge debt) b
+owner_owes number generation owed a b step gauge debt i e same debts less = record {
+  number_is = i.number_is ∙ sym (ap (λ (v : CallerView). v.pass) e);
+  there = there_still number generation owed a b step i e;
+  generation_is = i.generation_is ∙ sym same ∙ sym (ap (λ (v : CallerView). (caller_now v).generation) e);
+  size = length-set owed gauge debt ∙ i.size ∙ sym (ap (λ (v : CallerView). v.table.shape.gauges) e);
+  owes = λ g. set_put (caller_now a).owed owed gauge debt less i.owes g ∙ sym (ap (λ (f : ℕ → ℕ). f g) debts) ∙ sym (ap (λ (v : CallerView). (caller_now v).owed g) e);
+}
+
+-- the pass asks for a scan up to a value
+pub owner_asks : (number generation : ℕ) (owed : List ℕ) (a b : CallerView) (gauge value : ℕ) → IsOwner number generation owed a → b ≡ caller_did a (CallerStep.Asked gauge value)
+    → gauge < length owed → IsOwner number generation (set owed gauge (max (get_or owed gauge 0) value)) b
+owner_asks number generation owed a b gauge value i e less =
+    owner_owes number generation owed a b (CallerStep.Asked gauge value) gauge (max (get_or owed gauge 0) value) i e refl
+    (ap (λ debt. put (caller_now a).owed gauge (max debt value)) (sym (i.owes gauge))) less
+
+put_same : (f : ℕ → ℕ) (at i : ℕ) → put f at (f at) i ≡ f i
+put_same f at i =
+    ⊎_elim
+    (λ (here : i ≡ at). ap (put f at (f at)) here ∙ put_here f at (f at) ∙ sym (ap f here))
+    (λ (n : i ≢ at). put_else f at (f at) i n)
+    (cases_eq i at)
+
+-- what the other gauges are owed stays where one debt is looked at
+pub relieves_others : (a b : CallerView) (gauge begun : ℕ) → b ≡ caller_did a (CallerStep.Relieved gauge begun) → OwesElse gauge (caller_now a) (caller_now b)
+relieves_others a b gauge begun e other n =
+    let debt = (caller_now a).owed gauge in
+    ap (λ (v : CallerView). (caller_now v).owed other) e ∙ put_else (caller_now a).owed gauge (cond (nat_le debt begun) 0 debt) other n
+
+pub relieves : (a b : CallerView) (gauge begun : ℕ) → b ≡ caller_did a (CallerStep.Relieved gauge begun) → Pays gauge a b
+relieves a b gauge begun e = record {
+  went = one_step a b (CallerStep.Relieved gauge begun) e;
+  kept = record {
+    generation = ap (λ (v : CallerView). (caller_now v).generation) e;
+    description = ap (λ (v : CallerView). (caller_now v).description) e;
+    stage = ap (λ (v : CallerView). (caller_now v).stage) e;
+    wins = ap (λ (v : CallerView). (caller_now v).wins) e;
+    taken = ap (λ (v : CallerView). (caller_now v).taken) e;
+  };
+  others = relieves_others a b gauge begun e;
+}
+
+pub pays_none : (a : CallerView) (gauge : ℕ) → Pays gauge a a
+pays_none a gauge = record { went = stays a; kept = kept_same (caller_now a); others = λ other n. refl }
+
+-- a debt that no scan has paid stays
+pub owner_still : (number generation : ℕ) (owed : List ℕ) (a b : CallerView) (gauge begun : ℕ) → IsOwner number generation owed a
+    → b ≡ caller_did a (CallerStep.Relieved gauge begun) → begun < get_or owed gauge 0 → IsOwner number generation owed b
+owner_still number generation owed a b gauge begun i e more =
+    let step = CallerStep.Relieved gauge begun in
+    let debt = (caller_now a).owed gauge in
+    let is = i.owes gauge in
+    let test : nat_le debt begun ≡ false = lt-leb debt begun (omega (arith, is, more)) in
+    record {
+      number_is = i.number_is ∙ sym (ap (λ (v : CallerView). v.pass) e);
+      there = there_still number generation owed a b step i e;
+      generation_is = i.generation_is ∙ sym (ap (λ (v : CallerView). (caller_now v).generation) e);
+      size = i.size ∙ sym (ap (λ (v : CallerView). v.table.shape.gauges) e);
+      owes = λ g.
+          i.owes g ∙ sym (put_same (caller_now a).owed gauge g)
+          ∙ ap (λ d. put (caller_now a).owed gauge d g) (sym (cond-false (nat_le debt begun) 0 debt test))
+          ∙ sym (ap (λ (v : CallerView). (caller_now v).owed g) e);
+    }
+
+-- a debt that a scan has paid is gone
+pub owner_paid : (number generation : ℕ) (owed : List ℕ) (a b : CallerView) (gauge begun : ℕ) → IsOwner number generation owed a
+    → b ≡ caller_did a (CallerStep.Relieved gauge begun) → get_or owed gauge 0 ≤ begun → gauge < length owed → IsOwner number generation (set owed gauge 0) b
+owner_paid number generation owed a b gauge begun i e paid less =
+    let debt = (caller_now a).owed gauge in
+    let is = i.owes gauge in
+    let test : nat_le debt begun ≡ true = le-leb debt begun (omega (arith, is, paid)) in
+    owner_owes number generation owed a b (CallerStep.Relieved gauge begun) gauge 0 i e refl
+    (ap (λ d. put (caller_now a).owed gauge d) (cond-true (nat_le debt begun) 0 debt test)) less
+
+pub relieves_paid : (number generation : ℕ) (owed : List ℕ) (a b : CallerView) (gauge begun : ℕ) → IsOwner number generation owed a
+    → b ≡ caller_did a (CallerStep.Relieved gauge begun) → get_or owed gauge 0 ≤ begun → (caller_now b).owed gauge ≡ 0
+relieves_paid number generation owed a b gauge begun i e paid =
+    let debt = (caller_now a).owed gauge in
+    let is = i.owes gauge in
+    let test : nat_le debt begun ≡ true = le-leb debt begun (omega (arith, is, paid)) in
+    ap (λ (v : CallerView). (caller_now v).owed gauge) e ∙ put_here (caller_now a).owed gauge (cond (nat_le debt begun) 0 debt) ∙ cond-true (nat_le debt begun) 0 debt test
+
+-- nothing is owed past the gauges
+pub owes_past : (number generation : ℕ) (owed : List ℕ) (a : CallerView) → IsOwner number generation owed a → (gauge : ℕ) → length owed ≤ gauge → (caller_now a).owed gauge ≡ 0
+owes_past number generation owed a i gauge past = sym (i.owes gauge) ∙ get_or_past owed gauge 0 past

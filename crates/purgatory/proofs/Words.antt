@@ -1,0 +1,68 @@
+-- A pass's own session word.
+use Rattle.std.proofs.Common.{◌≡◌, ◌≢◌, ◌∙◌, ℕ, ◌+◌, ◌*◌, ◌^◌, ◌<◌, [], ◌∷◌, ◌++◌, Option, Some, None, ap, refl, subst, sym, arith}
+use Rattle.room_core.specs.declared.event.How.{How}
+use Rattle.room_core.specs.declared.event.How.TheVariants.{Expired, Satisfied}
+use Rattle.room_core.specs.declared.parts.Phase.{Phase}
+use Rattle.room_core.specs.declared.parts.Phase.TheVariants.{Open, Won}
+use Rattle.room_core.specs.declared.parts.Session.{Session}
+use Rattle.room_core.specs.declared.parts.Stage.{Stage}
+use Rattle.room_core.specs.Packing.{packed, phase_number, unpacked, winner_number}
+use Rattle.room_core.specs.Passes.{IsOver, peeked, taken_of}
+use Rattle.room_core.specs.State.{Caller}
+use Rattle.room_table.specs.declared.part.CallerStep.{CallerStep}
+use Rattle.room_table.specs.Seats.{CallerView, caller_did, caller_now}
+use Rattle.room_table.specs.Tells.{IsOwnWord, IsSessionWord}
+use Rattle.room_scans.specs.Listing.{open_at}
+use Rattle.purgatory.specs.declared.outcome.Done.{Done}
+use Rattle.purgatory.specs.Polled.{HasPolled, HasTaken, found_open, item_of, took, won_at}
+
+phase_small : (phase : Phase) → phase_number phase < 4
+phase_small Phase.Idle = omega arith
+phase_small Open = omega arith
+phase_small (Won Satisfied by) = omega arith
+phase_small (Won Expired by) = omega arith
+
+-- a session word's number is small
+pub word_small : (word : ℕ) → IsSessionWord word → word < 2 ^ 42
+unfolding packed
+word_small word is =
+    let w = unpacked word in
+    let again : w.generation * 1024 + winner_number w.phase * 4 + phase_number w.phase ≡ word = is.again in
+    let phase = phase_small w.phase in
+    let few = is.generation in
+    let winner = is.winner in
+    omega (arith, again, phase, few, winner)
+
+-- a word that isn't idle and isn't won is open
+open_or : (w : Session) (generation : ℕ) (phase : Phase) → w.phase ≡ phase → w.generation ≡ generation → phase ≢ Phase.Idle → ((how : How) (by : ℕ) → phase ≢ Won how by) → w ≡ open_at generation
+open_or w generation Phase.Idle is own busy other = absurd (busy refl)
+open_or w generation Open is own busy other = λ i. record { generation = own i; phase = is i }
+open_or w generation (Won how by) is own busy other = absurd (other how by refl)
+
+pub word_open : (caller : Caller) (word : ℕ) → IsOwnWord caller word → ((how : How) (by : ℕ) → (unpacked word).phase ≢ Won how by) → unpacked word ≡ open_at caller.generation
+word_open caller word is other = open_or (unpacked word) caller.generation (unpacked word).phase refl is.own is.busy other
+
+pub word_won : (caller : Caller) (word : ℕ) (done : Done) → IsOwnWord caller word → (unpacked word).phase ≡ Won done.how done.by → unpacked word ≡ won_at caller.generation done
+word_won caller word done is won = λ i. record { generation = is.own i; phase = won i }
+
+-- a pass that finds its word open stays at its stage
+pub open_stage : (a b : CallerView) → b ≡ found_open a → (caller_now b).stage ≡ (caller_now a).stage
+unfolding peeked
+open_stage a b e = ap (λ (v : CallerView). (caller_now v).stage) e
+
+-- one that finds it won is over
+pub won_over : (a b : CallerView) (done : Done) → b ≡ caller_did a (CallerStep.Peeked (won_at (caller_now a).generation done)) → IsOver (caller_now b).stage
+unfolding peeked
+won_over a b done e = subst (λ (v : CallerView). IsOver (caller_now v).stage) (sym e) tt
+
+-- and takes that
+pub takes : (a b : CallerView) (done : Done) → b ≡ took a done → HasTaken (caller_now a).generation done (caller_now a) (caller_now b)
+unfolding peeked taken_of
+takes a b done e = record {
+  idle = ap (λ (v : CallerView). (caller_now v).stage) e;
+  generation = ap (λ (v : CallerView). (caller_now v).generation) e;
+  taken = ap (λ (v : CallerView). (caller_now v).taken) e;
+}
+
+pub took_owed : (a b : CallerView) (done : Done) → b ≡ took a done → (caller_now b).owed ≡ (caller_now a).owed
+took_owed a b done e = ap (λ (v : CallerView). (caller_now v).owed) e

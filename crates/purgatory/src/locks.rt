@@ -1,0 +1,267 @@
+//! The room's locks, one for each scanner, and what a pass has of them.
+ghost use Rattle.std.specs.Prelude.{◌≡◌, ◌≤◌, ◌<◌, ◌%◌, ℕ};
+ghost use Rattle.room_core.specs.Gauges.{IsGauge, IsGaugeOf, IsPass, clock_of};
+ghost use Rattle.room_core.specs.Numbers.{clock_scanner, most_needs};
+ghost use Rattle.room_scans.specs.Desks.{desk_name};
+ghost use Rattle.room_scans.specs.Listing.{HasListedDeadline, HasListedNeed};
+ghost use Rattle.room_scans.specs.Scanned.{HasScanned};
+ghost use Rattle.turn_lock.specs.Locks.{IsPassOf, IsReady, lock_name};
+ghost use Rattle.purgatory.specs.Rooms.{IsRoom};
+ghost use Rattle.purgatory.specs.Turning.{clock_name, shard_name};
+
+use room_core::Shape;
+use room_scans::{ClockDesk, ShardDesk};
+use room_table::RoomTable;
+use std::marker::Model;
+use std::sync::Wait;
+use turn_lock::{Turn, TurnLock, TurnPass};
+
+/// The shards' scanners have every sixteenth gauge each.
+pub(crate) const SHARDS: u32 = 16;
+
+/// A mark of an operation: whose and which it is, and the number of its need.
+#[derive(Clone, Copy)]
+pub(crate) struct Mark {
+    pub(crate) pass: u32,
+    pub(crate) generation: u32,
+    pub(crate) at: u32,
+}
+
+/// The locks of the shards, by their scanners' numbers, and the clock's.
+#[derive(Drop)]
+pub(crate) struct Locks {
+    pub(crate) shards: Vec<TurnLock<ShardDesk>>,
+    pub(crate) clock: TurnLock<ClockDesk>,
+}
+
+impl Model for Locks {
+    ghost use Rattle.std.specs.Prelude.{◌≡◌, List, length};
+    ghost use Rattle.purgatory.specs.Rooms.{LockView};
+    ghost use Rattle.purgatory.specs.Turning.{lock_views};
+
+    ghost Value = { List LockView };
+
+    ghost view = { λ l. lock_views l.shards.items l.clock };
+
+    ghost invariant = { λ l. length l.shards.items ≡ 16 };
+}
+
+/// A pass's turns: a pass of each lock, none of which has a turn out.
+#[derive(Drop)]
+pub(crate) struct Keys {
+    pub(crate) shards: Vec<TurnPass<ShardDesk>>,
+    pub(crate) clock: TurnPass<ClockDesk>,
+}
+
+impl Model for Keys {
+    ghost use Rattle.std.specs.Prelude.{List};
+    ghost use Rattle.purgatory.specs.Rooms.{LockView};
+    ghost use Rattle.purgatory.specs.Turning.{AreReady, key_views};
+
+    ghost Value = { List LockView };
+
+    ghost view = { λ k. key_views k.shards.items k.clock };
+
+    ghost invariant = { λ k. AreReady k.shards.items k.clock };
+}
+
+// The desk has scanned the gauge, in this turn.
+fn scanned(
+    rt: &impl Wait,
+    mut turn: Turn<ShardDesk>,
+    table: &RoomTable,
+    gauge: u32,
+) -> Turn<ShardDesk>
+    requires table { turn.value.seat.table ≡ table.now }
+    requires gauge { IsGaugeOf table.now.shape turn.value.seat.scanner gauge }
+    ensures turn { (result.from ≡ turn.from) × (result.ticket ≡ turn.ticket) }
+    ensures scanned { HasScanned gauge turn.value.seat result.value.seat }
+{
+    turn.value_mut().scan(rt, table, gauge);
+    turn
+}
+
+// The clock's desk has scanned the clock, in this turn.
+fn clock_scanned(
+    rt: &impl Wait,
+    mut turn: Turn<ClockDesk>,
+    table: &RoomTable,
+) -> Turn<ClockDesk>
+    requires { turn.value.seat.table ≡ table.now }
+    ensures turn { (result.from ≡ turn.from) × (result.ticket ≡ turn.ticket) }
+    ensures scanned { HasScanned (clock_of table.now.shape) turn.value.seat result.value.seat }
+{
+    turn.value_mut().scan(rt, table);
+    turn
+}
+
+// The desk has listed the open operation of the pass under a need's gauge, in this turn, or has seen that it can't.
+fn listed(
+    mut turn: Turn<ShardDesk>,
+    table: &RoomTable,
+    pass: u32,
+    generation: u32,
+    at: u32,
+) -> Turn<ShardDesk>
+    requires table { turn.value.seat.table ≡ table.now }
+    requires pass { IsPass table.now.shape pass }
+    requires generation { 1 ≤ generation }
+    requires need { at < most_needs }
+    ensures turn { (result.from ≡ turn.from) × (result.ticket ≡ turn.ticket) }
+    ensures listed { HasListedNeed pass generation at turn.value.seat result.value.seat }
+{
+    turn.value_mut().list(table, pass, generation, at);
+    turn
+}
+
+// The clock's desk has listed the open operation of the pass under its deadline, in this turn, or has seen that it can't.
+fn clock_listed(
+    mut turn: Turn<ClockDesk>,
+    table: &RoomTable,
+    pass: u32,
+    generation: u32,
+) -> Turn<ClockDesk>
+    requires table { turn.value.seat.table ≡ table.now }
+    requires pass { IsPass table.now.shape pass }
+    requires generation { 1 ≤ generation }
+    ensures turn { (result.from ≡ turn.from) × (result.ticket ≡ turn.ticket) }
+    ensures listed { HasListedDeadline pass generation turn.value.seat result.value.seat }
+{
+    turn.value_mut().list(table, pass, generation);
+    turn
+}
+
+// A turn of a shard's lock, in which a gauge is scanned.
+fn scan_shard(
+    rt: &impl Wait,
+    lock: &TurnLock<ShardDesk>,
+    key: &mut TurnPass<ShardDesk>,
+    table: &RoomTable,
+    gauge: u32,
+)
+    requires key { IsPassOf shard_name lock.now key.old × IsReady key.old }
+    requires name { lock_name shard_name lock.now ≡ desk_name table.now (gauge % 16) }
+    requires gauge { IsGaugeOf table.now.shape (gauge % 16) gauge }
+    ensures { IsPassOf shard_name lock.now key.new × IsReady key.new }
+{
+    let turn = lock.turn(rt, key);
+    let turn = scanned(rt, turn, table, gauge);
+    lock.end(key, turn);
+}
+
+// A turn of the clock's lock, in which the clock is scanned.
+fn scan_clock(
+    rt: &impl Wait,
+    lock: &TurnLock<ClockDesk>,
+    key: &mut TurnPass<ClockDesk>,
+    table: &RoomTable,
+)
+    requires key { IsPassOf clock_name lock.now key.old × IsReady key.old }
+    requires name { lock_name clock_name lock.now ≡ desk_name table.now clock_scanner }
+    ensures { IsPassOf clock_name lock.now key.new × IsReady key.new }
+{
+    let turn = lock.turn(rt, key);
+    let turn = clock_scanned(rt, turn, table);
+    lock.end(key, turn);
+}
+
+// A turn of a shard's lock, in which an operation is listed.
+fn list_shard(
+    rt: &impl Wait,
+    lock: &TurnLock<ShardDesk>,
+    key: &mut TurnPass<ShardDesk>,
+    table: &RoomTable,
+    mark: Mark,
+)
+    requires key { IsPassOf shard_name lock.now key.old × IsReady key.old }
+    requires name { (k : ℕ) × (lock_name shard_name lock.now ≡ desk_name table.now k) }
+    requires pass { IsPass table.now.shape mark.pass }
+    requires generation { 1 ≤ mark.generation }
+    requires need { mark.at < most_needs }
+    ensures { IsPassOf shard_name lock.now key.new × IsReady key.new }
+{
+    let turn = lock.turn(rt, key);
+    let turn = listed(turn, table, mark.pass, mark.generation, mark.at);
+    lock.end(key, turn);
+}
+
+// A turn of the clock's lock, in which an operation is listed.
+fn list_clock(
+    rt: &impl Wait,
+    lock: &TurnLock<ClockDesk>,
+    key: &mut TurnPass<ClockDesk>,
+    table: &RoomTable,
+    mark: Mark,
+)
+    requires key { IsPassOf clock_name lock.now key.old × IsReady key.old }
+    requires name { lock_name clock_name lock.now ≡ desk_name table.now clock_scanner }
+    requires pass { IsPass table.now.shape mark.pass }
+    requires generation { 1 ≤ mark.generation }
+    ensures { IsPassOf clock_name lock.now key.new × IsReady key.new }
+{
+    let turn = lock.turn(rt, key);
+    let turn = clock_listed(turn, table, mark.pass, mark.generation);
+    lock.end(key, turn);
+}
+
+impl Locks {
+    /// Scans a gauge, in a turn of its scanner's lock.
+    pub(crate) fn scan(
+        &self,
+        rt: &impl Wait,
+        keys: &mut Keys,
+        table: &RoomTable,
+        shape: Shape,
+        gauge: u32,
+    )
+        requires keys { keys.old ≡ self.now }
+        requires room { IsRoom table.now self.now }
+        requires shape { shape ≡ table.now.shape }
+        requires gauge { IsGauge table.now.shape gauge }
+        ensures { keys.new ≡ keys.old }
+    {
+        if gauge == shape.gauges - 1 {
+            scan_clock(rt, &self.clock, &mut keys.clock, table);
+            return;
+        }
+        let k = (gauge % SHARDS) as usize;
+        scan_shard(rt, &self.shards[k], &mut keys.shards[k], table, gauge);
+    }
+
+    /// Lists an operation under a need's gauge, in a turn of that gauge's lock.
+    pub(crate) fn list_need(
+        &self,
+        rt: &impl Wait,
+        keys: &mut Keys,
+        table: &RoomTable,
+        mark: Mark,
+        gauge: u32,
+    )
+        requires keys { keys.old ≡ self.now }
+        requires room { IsRoom table.now self.now }
+        requires pass { IsPass table.now.shape mark.pass }
+        requires generation { 1 ≤ mark.generation }
+        requires need { mark.at < most_needs }
+        ensures { keys.new ≡ keys.old }
+    {
+        let k = (gauge % SHARDS) as usize;
+        list_shard(rt, &self.shards[k], &mut keys.shards[k], table, mark);
+    }
+
+    /// Lists an operation under the clock, in a turn of the clock's lock.
+    pub(crate) fn list_deadline(
+        &self,
+        rt: &impl Wait,
+        keys: &mut Keys,
+        table: &RoomTable,
+        mark: Mark,
+    )
+        requires keys { keys.old ≡ self.now }
+        requires room { IsRoom table.now self.now }
+        requires pass { IsPass table.now.shape mark.pass }
+        requires generation { 1 ≤ mark.generation }
+        ensures { keys.new ≡ keys.old }
+    {
+        list_clock(rt, &self.clock, &mut keys.clock, table, mark);
+    }
+}

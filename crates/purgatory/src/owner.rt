@@ -1,0 +1,208 @@
+//! A pass as the owner of its operation: its seat, and what it keeps beside it.
+ghost use Rattle.std.specs.Prelude.{◌≡◌, ◌≢◌, ◌≤◌, ◌<◌, ◌-◌, ◌^◌, ◌↔◌, ℕ, [], IfOk, IsTrue};
+ghost use Rattle.room_core.specs.declared.event.How.{How as Way};
+ghost use Rattle.room_core.specs.declared.parts.Session.{Session as SessionWord};
+ghost use Rattle.room_core.specs.declared.parts.Stage.TheVariants.{Checking, Idle, Listing};
+ghost use Rattle.room_core.specs.Checks.{AreRead, IsRead, IsWon};
+ghost use Rattle.room_core.specs.Description.{IsMark, IsOperation};
+ghost use Rattle.room_core.specs.Gauges.{IsGauge, IsPass, clock_of};
+ghost use Rattle.room_core.specs.Numbers.{clock_mark, description_words};
+ghost use Rattle.room_table.specs.declared.part.CallerStep.TheVariants.{Asked, Described, Left, Opened, Read, SawMark, Won};
+ghost use Rattle.room_table.specs.Seats.{caller_did, caller_now};
+ghost use Rattle.purgatory.specs.Polled.{HasPolled};
+ghost use Rattle.purgatory.specs.Paying.{Pays};
+
+use crate::locks::Mark;
+use crate::outcome::Done;
+use kbytes::NoMemory;
+use room_core::{How, Phase, Session, Shape};
+use room_table::{CallerSeat, RoomTable};
+use std::alloc::Global;
+use std::marker::Model;
+use std::sync::Wait;
+use std::time::Duration;
+
+/// A pass's seat, its number, the generation of its operation, and by gauge up to which value it owes a scan, 0 for none.
+#[derive(Drop)]
+pub(crate) struct Owner {
+    seat: CallerSeat,
+    number: u32,
+    generation: u32,
+    owed: Vec<u64>,
+}
+
+impl Model for Owner {
+    ghost use Rattle.room_table.specs.Seats.{CallerView};
+    ghost use Rattle.purgatory.specs.Owned.{IsOwner};
+
+    ghost Value = { CallerView };
+
+    ghost view = { λ o. o.seat };
+
+    ghost invariant = { λ o. IsOwner o.number o.generation o.owed.items o.seat };
+}
+
+impl Owner {
+    pub(crate) fn make(
+        alloc: Global,
+        seat: CallerSeat,
+        shape: Shape,
+        number: u32,
+    ) -> Result<Owner, NoMemory>
+        requires shape { shape ≡ seat.table.shape }
+        requires number { (number ≡ seat.pass) × IsPass shape number }
+        requires fresh { seat.steps ≡ [] }
+        ensures { IfOk result (λ owner. owner ≡ seat) }
+    {
+        let owed = vec![in alloc; 0; shape.gauges as usize]?;
+        Ok(Owner {
+            seat,
+            number,
+            generation: 0,
+            owed,
+        })
+    }
+
+    pub(crate) fn number(&self) -> u32
+        ensures is { result ≡ self.now.pass }
+        ensures there { IsPass self.now.table.shape result }
+    {
+        self.number
+    }
+
+    /// A mark of its operation.
+    pub(crate) fn mark(&self, at: u32) -> Mark
+        ensures mark { result ≡ record { pass = self.now.pass; generation = (caller_now self.now).generation; at = at } }
+        ensures there { IsPass self.now.table.shape self.now.pass }
+    {
+        Mark {
+            pass: self.number,
+            generation: self.generation,
+            at,
+        }
+    }
+
+    /// How many gauges there are. It owes nothing of any other.
+    pub(crate) fn gauges(&self) -> u32
+        ensures is { result ≡ self.now.table.shape.gauges }
+        ensures none { (gauge : ℕ) → result ≤ gauge → (caller_now self.now).owed gauge ≡ 0 }
+    {
+        self.owed.len() as u32
+    }
+
+    /// Reads a gauge: no less than it has read of it, or owes.
+    pub(crate) fn read(&mut self, table: &RoomTable, gauge: u32) -> u64
+        requires table { self.old.table ≡ table.now }
+        requires gauge { IsGauge self.old.table.shape gauge }
+        ensures step { self.new ≡ caller_did self.old (Read gauge result) }
+        ensures least { (caller_now self.old).greatest gauge ≤ result }
+    {
+        table.read(&mut self.seat, gauge)
+    }
+
+    /// Reads a gauge, and asks that it be scanned up to that value.
+    pub(crate) fn ask(&mut self, table: &RoomTable, gauge: u32) -> u64
+        requires table { self.old.table ≡ table.now }
+        requires gauge { IsGauge self.old.table.shape gauge }
+        ensures { self.new ≡ caller_did (caller_did self.old (Read gauge result)) (Asked gauge result) }
+    {
+        let value = table.read(&mut self.seat, gauge);
+        table.ask(&mut self.seat, gauge, value);
+        let owed = self.owed[gauge as usize];
+        self.owed[gauge as usize] = owed.max(value);
+        value
+    }
+
+    /// Looks whether what it owes of a gauge was paid. True where it owes nothing of it.
+    pub(crate) fn relieve(&mut self, table: &RoomTable, gauge: u32) -> bool
+        requires table { self.old.table ≡ table.now }
+        requires gauge { IsGauge self.old.table.shape gauge }
+        ensures pays { Pays gauge self.old self.new }
+        ensures paid { IsTrue result → (caller_now self.new).owed gauge ≡ 0 }
+    {
+        let owed = self.owed[gauge as usize];
+        if owed == 0 {
+            return true;
+        }
+        if owed > table.relieve(&mut self.seat, gauge) {
+            return false;
+        }
+        self.owed[gauge as usize] = 0;
+        true
+    }
+
+    /// Writes a word of the description.
+    pub(crate) fn describe(&mut self, table: &RoomTable, at: u32, word: u64)
+        requires table { self.old.table ≡ table.now }
+        requires idle { (caller_now self.old).stage ≡ Idle }
+        requires at { at < description_words }
+        ensures { self.new ≡ caller_did self.old (Described at word) }
+    {
+        table.describe(&mut self.seat, at, word);
+    }
+
+    /// Opens the operation that is described.
+    pub(crate) fn open(&mut self, table: &RoomTable)
+        requires table { self.old.table ≡ table.now }
+        requires idle { (caller_now self.old).stage ≡ Idle }
+        requires operation { IsOperation table.now.shape (caller_now self.old).description }
+        requires next { (caller_now self.old).generation < 2 ^ 32 - 1 }
+        ensures { self.new ≡ caller_did self.old Opened }
+    {
+        table.open(&mut self.seat);
+        self.generation += 1;
+    }
+
+    /// Whether a mark of the operation is there: whether it was listed so.
+    pub(crate) fn sees_mark(&mut self, table: &RoomTable, at: u32) -> bool
+        requires table { self.old.table ≡ table.now }
+        requires listing { (caller_now self.old).stage ≡ Listing }
+        requires mark { (at ≤ clock_mark) × IsMark (caller_now self.old).description at }
+        ensures { (mark : ℕ) × (self.new ≡ caller_did self.old (SawMark at mark)) × (IsTrue result ↔ (mark ≡ (caller_now self.old).generation)) }
+    {
+        table.marked(&mut self.seat, at) == u64::from(self.generation)
+    }
+
+    /// Reads the last gauge of its check.
+    pub(crate) fn leave(&mut self, table: &RoomTable, gauge: u32) -> u64
+        requires table { self.old.table ≡ table.now }
+        requires gauge { IsGauge self.old.table.shape gauge }
+        requires checking { (caller_now self.old).stage ≡ Checking }
+        requires read { AreRead (caller_now self.old).readings gauge (caller_now self.old).description }
+        requires clock { IsRead (caller_now self.old).readings gauge (clock_of self.old.table.shape) }
+        ensures { self.new ≡ caller_did self.old (Left gauge result) }
+    {
+        table.leave(&mut self.seat, self.number, gauge)
+    }
+
+    /// Tries to win its own operation.
+    pub(crate) fn win(&mut self, table: &RoomTable, how: How)
+        requires table { self.old.table ≡ table.now }
+        requires checking { (caller_now self.old).stage ≡ Checking }
+        requires may { IsWon self.old.table.shape how (caller_now self.old).description (caller_now self.old).readings }
+        ensures { (found : SessionWord) × (self.new ≡ caller_did self.old (Won how found)) }
+    {
+        table.win(&mut self.seat, self.number, how);
+    }
+
+    /// Sleeps while its session word is open, for no longer than this.
+    pub(crate) fn sleep(&self, rt: &impl Wait, table: &RoomTable, most: Duration)
+        requires { self.now.table ≡ table.now }
+    {
+        table.sleep(rt, &self.seat, most);
+    }
+
+    /// Looks at its own session word. Where that is won, it takes the end of its operation, and is idle.
+    pub(crate) fn poll(&mut self, table: &RoomTable) -> Option<Done>
+        requires table { self.old.table ≡ table.now }
+        requires busy { (caller_now self.old).stage ≢ Idle }
+        ensures { HasPolled result self.old self.new }
+    {
+        let word = table.peek_own(&mut self.seat);
+        let Phase::Won { how, by } = Session::unpacked(word).phase else {
+            return None;
+        };
+        table.idle(&mut self.seat);
+        Some(Done { how, by })
+    }
+}

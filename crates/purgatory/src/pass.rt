@@ -1,0 +1,39 @@
+use crate::locks::Keys;
+use crate::owner::Owner;
+use std::marker::Model;
+
+/// The right to act in the room: to raise gauges, to register operations, one at a time, and to settle what that leaves to do. Between
+/// any two calls it has no operation, or one that waits.
+#[derive(Drop)]
+pub struct RoomPass {
+    pub(crate) owner: Owner,
+    pub(crate) keys: Keys,
+}
+
+impl Model for RoomPass {
+    ghost use Rattle.room_table.specs.Seats.{caller_now};
+    ghost use Rattle.purgatory.specs.Going.{IsAtRest};
+    ghost use Rattle.purgatory.specs.Rooms.{PassView};
+
+    ghost Value = { PassView };
+
+    ghost view = { λ p. record { seat = p.owner; locks = p.keys } };
+
+    ghost invariant = { λ p. IsAtRest (caller_now p.owner).stage };
+}
+
+impl RoomPass {
+    ghost use Rattle.std.specs.Prelude.{◌≡◌};
+    ghost use Rattle.room_core.specs.Gauges.{IsPass};
+    ghost use Rattle.room_table.specs.Seats.{caller_now};
+    ghost use Rattle.purgatory.specs.Going.{IsAtRest};
+
+    /// The pass's number, counted from 0.
+    pub fn number(&self) -> u32
+        ensures is { result ≡ self.now.seat.pass }
+        ensures there { IsPass self.now.seat.table.shape result }
+        ensures rests { IsAtRest (caller_now self.now.seat).stage }
+    {
+        self.owner.number()
+    }
+}

@@ -1,0 +1,46 @@
+//! What waits for nobody: a pass looks how its operation stands, or at a gauge, or sleeps until there is something to look at.
+ghost use Rattle.std.specs.Prelude.{◌≡◌, ◌≤◌, IfNone, IfSome};
+ghost use Rattle.room_core.specs.declared.parts.Stage.TheVariants.{Waiting};
+ghost use Rattle.room_core.specs.Gauges.{IsGauge};
+ghost use Rattle.room_table.specs.declared.part.CallerStep.TheVariants.{Read};
+ghost use Rattle.room_table.specs.Seats.{caller_did, caller_now};
+ghost use Rattle.purgatory.specs.Polled.{HasPolled, HasTaken};
+ghost use Rattle.purgatory.specs.Rooms.{IsOfRoom, with_locks};
+
+use crate::outcome::Done;
+use crate::pass::RoomPass;
+use crate::room::Room;
+use std::sync::Wait;
+use std::time::Duration;
+
+impl Room {
+    /// How the pass's operation ended, if it did: None exactly where the pass's session word is open. After Some the pass is idle.
+    pub fn poll(&self, pass: &mut RoomPass) -> Option<Done>
+        requires pass { IsOfRoom self.now pass.old }
+        requires waits { (caller_now pass.old.seat).stage ≡ Waiting }
+        ensures made { IsOfRoom self.now pass.new }
+        ensures step { HasPolled result pass.old.seat pass.new.seat }
+        ensures none { IfNone result ((caller_now pass.new.seat).stage ≡ Waiting) }
+        ensures some { IfSome result (λ done. HasTaken (caller_now pass.old.seat).generation done (caller_now pass.old.seat) (caller_now pass.new.seat)) }
+    {
+        pass.owner.poll(&self.table)
+    }
+
+    /// The value of a gauge, which is no less than any that the pass has read of it.
+    pub fn gauge(&self, pass: &mut RoomPass, gauge: u32) -> u64
+        requires pass { IsOfRoom self.now pass.old }
+        requires gauge { IsGauge self.now.table.shape gauge }
+        ensures step { pass.new ≡ with_locks pass.old.locks (caller_did pass.old.seat (Read gauge result)) }
+        ensures least { (caller_now pass.old.seat).greatest gauge ≤ result }
+    {
+        pass.owner.read(&self.table, gauge)
+    }
+
+    /// Sleeps while the pass's session word is open, for no longer than `most`. Who wins the operation wakes the sleeper. It may also
+    /// return for no reason, and returns at once where the word isn't open: `poll` tells.
+    pub fn wait(&self, rt: &impl Wait, pass: &RoomPass, most: Duration)
+        requires { IsOfRoom self.now pass.now }
+    {
+        pass.owner.sleep(rt, &self.table, most);
+    }
+}

@@ -1,0 +1,78 @@
+ghost use Rattle.std.specs.Prelude.{◌≡◌, ◌≤◌, IfOk};
+ghost use Rattle.room_table.specs.Handed.{fresh_sources};
+ghost use Rattle.purgatory.specs.Rooms.{fresh_passes, room_shape};
+
+use crate::locks::Locks;
+use crate::making::{behind_locks, quiet_sources, room_passes};
+use crate::pass::RoomPass;
+use crate::source::Source;
+use kbytes::{List, NoMemory};
+use room_core::{SCANNER_NUMBERS, Shape};
+use room_table::{RoomTable, TableParts};
+use std::alloc::Global;
+use std::marker::Model;
+
+/// The room. Threads share it, each with a pass of its own.
+#[derive(Drop)]
+pub struct Room {
+    pub(crate) table: RoomTable,
+    pub(crate) locks: Locks,
+    pub(crate) shape: Shape,
+}
+
+impl Model for Room {
+    ghost use Rattle.std.specs.Prelude.{◌≡◌};
+    ghost use Rattle.purgatory.specs.Rooms.{IsRoom, RoomView};
+
+    ghost Value = { RoomView };
+
+    ghost view = { λ r. record { table = r.table; locks = r.locks } };
+
+    ghost invariant = { λ r. (r.shape ≡ r.table.shape) × IsRoom r.table r.locks };
+}
+
+/// A room, as it is made.
+#[derive(Drop)]
+pub struct RoomParts {
+    pub room: Room,
+    /// By gauge. The last is the clock's.
+    pub sources: List<Source>,
+    /// By number.
+    pub passes: List<RoomPass>,
+}
+
+impl Room {
+    /// A room with so many gauges, the last of which is the clock, and so many passes: its gauges are at 0, and no pass has an operation.
+    /// It is refused where no memory is left; no other call takes memory.
+    pub fn make(alloc: Global, gauges: u32, passes: u32) -> Result<RoomParts, NoMemory>
+        requires gauges { (1 ≤ gauges) × (gauges ≤ 193) }
+        requires passes { (1 ≤ passes) × (passes ≤ 80) }
+        ensures shape { IfOk result (λ p. p.room.table.shape ≡ room_shape gauges passes) }
+        ensures sources { IfOk result (λ p. p.sources ≡ fresh_sources p.room.table) }
+        ensures passes { IfOk result (λ p. p.passes ≡ fresh_passes p.room) }
+    {
+        let shape = Shape {
+            gauges,
+            passes,
+            scanners: SCANNER_NUMBERS,
+        };
+        let TableParts {
+            table,
+            sources,
+            callers,
+            scanners,
+        } = RoomTable::make(alloc, shape)?;
+        let (locks, keys) = behind_locks(alloc, scanners, shape)?;
+        let sources = quiet_sources(alloc, sources)?;
+        let passes = room_passes(alloc, callers, keys, shape)?;
+        Ok(RoomParts {
+            room: Room {
+                table,
+                locks,
+                shape,
+            },
+            sources,
+            passes,
+        })
+    }
+}
