@@ -24,3 +24,7 @@ pub mod Making
 pub mod Raised
 -- an operation that a pass describes, opens, sees listed, and checks
 pub mod Listed
+-- ==== the words of the example and of the tests
+
+-- sources and passes between two calls
+pub mod Ready

@@ -63,3 +63,6 @@ pub use pass::RoomPass;
 pub use room::{Room, RoomParts};
 pub use room_core::How;
 pub use source::Source;
+
+#[cfg(test)]
+mod examples;
