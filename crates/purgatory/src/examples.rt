@@ -145,7 +145,7 @@ struct Shop {
     passes: (RoomPass, RoomPass, RoomPass),
 }
 
-fn shop(alloc: Global) -> Result<Shop, NoMemory>
+fn make_shop(alloc: Global) -> Result<Shop, NoMemory>
     ensures shape { IfOk result (λ s. s.room.table.shape ≡ room_shape 3 3) }
     ensures sources { IfOk result (λ s. IsUnraised s.room s.first × IsUnraised s.room s.second × IsUnraised s.room s.clock) }
     ensures passes { IfOk result (λ s. IsReady s.room 0 s.passes.0 × IsReady s.room 0 s.passes.1 × IsReady s.room 0 s.passes.2) }
@@ -178,7 +178,7 @@ fn run<R: Threads + Wait + Clock + Sync>(rt: &R, alloc: Global) -> Option<(Done,
         second,
         clock,
         passes,
-    } = shop(alloc).ok()?;
+    } = make_shop(alloc).ok()?;
     let (one, other, last) = passes;
     let (_, (_, ended)) = join(
         rt,
