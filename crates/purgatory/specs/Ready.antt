@@ -1,6 +1,7 @@
 -- What is so of the sources and passes of an example or a test, between two calls.
-use Rattle.std.specs.Prelude.{◌≡◌, ℕ, ◌≤◌, []}
+use Rattle.std.specs.Prelude.{◌≡◌, Bool, ℕ, ◌≤◌, true, false, List, [], All}
 use Rattle.room_core.specs.declared.parts.Stage.{Stage}
+use Rattle.room_core.specs.State.{Caller}
 use Rattle.room_table.specs.Seats.{SourceView, caller_now}
 use Rattle.purgatory.specs.Going.{OwesNothing}
 use Rattle.purgatory.specs.Rooms.{IsOfRoom, IsSourceOf, PassView, RoomView}
@@ -23,3 +24,26 @@ pub record IsParked (room : RoomView) (opened : ℕ) (pass : PassView) : Type 0 
   pub waits : (caller_now pass.seat).stage ≡ Stage.Waiting
   pub paid : OwesNothing (caller_now pass.seat)
   pub few : (caller_now pass.seat).generation ≤ opened
+
+-- a pass that owes nothing, whose operation waits or that has none, and that has opened no more than so many
+pub record IsInHand (waits : Bool) (opened : ℕ) (pass : PassView) : Type 0 where
+  pub paid : OwesNothing (caller_now pass.seat)
+  pub few : (caller_now pass.seat).generation ≤ opened
+  pub busy : waits ≡ true → (caller_now pass.seat).stage ≡ Stage.Waiting
+  pub free : waits ≡ false → (caller_now pass.seat).stage ≡ Stage.Idle
+
+-- passes and sources
+pub record CrewView : Type 0 where
+  pub passes : List PassView
+  pub sources : List SourceView
+
+-- which were made with the room
+pub record IsCrewOf (room : RoomView) (crew : CrewView) : Type 0 where
+  pub passes : All (IsOfRoom room) crew.passes
+  pub sources : All (IsSourceOf room) crew.sources
+
+-- a pass that has read gauges, and else is as it was
+pub record HasOnlyRead (old new : Caller) : Type 0 where
+  pub stage : new.stage ≡ old.stage
+  pub generation : new.generation ≡ old.generation
+  pub owed : new.owed ≡ old.owed

@@ -66,3 +66,6 @@ pub use source::Source;
 
 #[cfg(test)]
 mod examples;
+
+#[cfg(test)]
+mod tests;

@@ -1,0 +1,251 @@
+//! Passes and sources, each with what a test knows of it, so that a test can ask for any call at any time.
+ghost use Rattle.std.specs.Prelude.{◌≡◌, ◌<◌, ◌≤◌, All, IfOk, IsTrue};
+ghost use Rattle.room_core.specs.Gauges.{clock_of};
+ghost use Rattle.room_table.specs.Seats.{caller_now};
+ghost use Rattle.purgatory.specs.Ready.{HasOnlyRead, IsCrewOf, IsReady, IsUnraised};
+ghost use Rattle.purgatory.specs.Rooms.{IsOfRoom, IsSourceOf};
+
+use crate::outcome::{Done, Registered};
+use crate::pass::RoomPass;
+use crate::room::{Room, RoomParts};
+use crate::source::Source;
+use kbytes::{List, NoMemory};
+use opcond::{Op, is_overdue, is_satisfied};
+use std::alloc::Global;
+use std::marker::Model;
+use std::sync::Wait;
+
+// A pass, whether its operation waits, how many it opened at most, and its last one.
+#[derive(Drop)]
+pub(super) struct Hand {
+    pass: RoomPass,
+    waits: bool,
+    opened: u32,
+    op: Op,
+}
+
+impl Model for Hand {
+    ghost use Rattle.purgatory.specs.Ready.{IsInHand};
+    ghost use Rattle.purgatory.specs.Rooms.{PassView};
+
+    ghost Value = { PassView };
+
+    ghost view = { λ h. h.pass };
+
+    ghost invariant = { λ h. IsInHand h.waits h.opened h.pass };
+}
+
+// A source, and the value to which it was raised.
+#[derive(Drop)]
+pub(super) struct Tap {
+    source: Source,
+    stored: u64,
+}
+
+impl Model for Tap {
+    ghost use Rattle.std.specs.Prelude.{◌≤◌};
+    ghost use Rattle.room_table.specs.Seats.{SourceView, source_now};
+
+    ghost Value = { SourceView };
+
+    ghost view = { λ t. t.source };
+
+    ghost invariant = { λ t. (source_now t.source).stored ≤ t.stored };
+}
+
+// Whether an operation is satisfied, and whether it is overdue, by what the gauges are now.
+fn stands(room: &Room, pass: &mut RoomPass, op: &Op) -> (bool, bool)
+    requires made { IsOfRoom room.now pass.old }
+    ensures made { IsOfRoom room.now pass.new }
+    ensures kept { HasOnlyRead (caller_now pass.old.seat) (caller_now pass.new.seat) }
+{
+    let needs = op.needs();
+    let mut values = [0; 64];
+    for i in 0..needs.len() {
+        if needs[i].gauge < room.shape.gauges {
+            values[i] = room.gauge(pass, needs[i].gauge);
+        }
+    }
+    let moment = room.gauge(pass, room.shape.gauges - 1);
+    (
+        is_satisfied(op, &values[..needs.len()]),
+        is_overdue(op, moment),
+    )
+}
+
+// Whether all needs are of the room's gauges before the clock.
+fn fits(room: &Room, op: &Op) -> bool
+    ensures { IsTrue result → All (λ need. need.gauge < clock_of room.now.table.shape) op.now.needs }
+{
+    let clock = room.shape.gauges - 1;
+    op.needs().iter().all(|need| need.gauge < clock)
+}
+
+impl Hand {
+    // Raises a gauge to this value, if it isn't past it, and settles.
+    fn raise(&mut self, rt: &impl Wait, room: &Room, tap: &mut Tap, value: u64)
+        requires made { IsOfRoom room.now self.old × IsSourceOf room.now tap.old }
+        ensures made { IsOfRoom room.now self.new × IsSourceOf room.now tap.new }
+    {
+        let value = value.max(tap.stored);
+        tap.stored = value;
+        room.raise(rt, &mut tap.source, &mut self.pass, value);
+        room.settle(rt, &mut self.pass);
+    }
+
+    // Registers an operation, where the pass has none.
+    fn register(&mut self, rt: &impl Wait, room: &Room, op: Op) -> Option<Registered>
+        requires made { IsOfRoom room.now self.old }
+        ensures made { IsOfRoom room.now self.new }
+    {
+        if self.waits || self.opened == u32::MAX || !fits(room, &op) {
+            return None;
+        }
+        self.opened += 1;
+        let registered = room.register(rt, &mut self.pass, &op);
+        self.waits = matches!(registered, Registered::Parked);
+        self.op = op;
+        Some(registered)
+    }
+
+    // How the operation ended that waited.
+    fn poll(&mut self, room: &Room) -> Option<Done>
+        requires made { IsOfRoom room.now self.old }
+        ensures made { IsOfRoom room.now self.new }
+    {
+        if !self.waits {
+            return None;
+        }
+        let done = room.poll(&mut self.pass);
+        self.waits = done.is_none();
+        done
+    }
+
+    // Whether its last operation is satisfied, and whether it is overdue.
+    fn stands(&mut self, room: &Room) -> (bool, bool)
+        requires made { IsOfRoom room.now self.old }
+        ensures made { IsOfRoom room.now self.new }
+    {
+        stands(room, &mut self.pass, &self.op)
+    }
+
+    // The value of a gauge.
+    fn gauge(&mut self, room: &Room, gauge: u32) -> u64
+        requires made { IsOfRoom room.now self.old }
+        ensures made { IsOfRoom room.now self.new }
+    {
+        if gauge >= room.shape.gauges {
+            return 0;
+        }
+        room.gauge(&mut self.pass, gauge)
+    }
+}
+
+// Passes and sources of one room, by their places.
+#[derive(Drop)]
+pub(super) struct Crew {
+    hands: Vec<Hand>,
+    taps: Vec<Tap>,
+}
+
+impl Model for Crew {
+    ghost use Rattle.purgatory.specs.Ready.{CrewView};
+
+    ghost Value = { CrewView };
+
+    ghost view = { λ c. record { passes = c.hands.items; sources = c.taps.items } };
+}
+
+fn hands(alloc: Global, room: &Room, passes: List<RoomPass>) -> Result<Vec<Hand>, NoMemory>
+    requires { All (IsReady room.now 0) passes }
+    ensures { IfOk result (λ hands. All (IsOfRoom room.now) hands.items) }
+{
+    let mut hands = Vec::new(alloc);
+    for pass in passes.into_vec() {
+        hands.push(Hand {
+            pass,
+            waits: false,
+            opened: 0,
+            op: Op::new(alloc, 0, 0),
+        })?;
+    }
+    Ok(hands)
+}
+
+fn taps(alloc: Global, room: &Room, sources: List<Source>) -> Result<Vec<Tap>, NoMemory>
+    requires { All (IsUnraised room.now) sources }
+    ensures { IfOk result (λ taps. All (IsSourceOf room.now) taps.items) }
+{
+    let mut taps = Vec::new(alloc);
+    for source in sources.into_vec() {
+        taps.push(Tap { source, stored: 0 })?;
+    }
+    Ok(taps)
+}
+
+// A room, its passes and its sources.
+pub(super) fn start(alloc: Global, gauges: u32, passes: u32) -> Result<(Room, Crew), NoMemory>
+    requires gauges { (1 ≤ gauges) × (gauges ≤ 193) }
+    requires passes { (1 ≤ passes) × (passes ≤ 80) }
+    ensures { IfOk result (λ made. IsCrewOf made.0 made.1) }
+{
+    let RoomParts {
+        room,
+        sources,
+        passes,
+    } = Room::make(alloc, gauges, passes)?;
+    let hands = hands(alloc, &room, passes)?;
+    let taps = taps(alloc, &room, sources)?;
+    Ok((room, Crew { hands, taps }))
+}
+
+impl Crew {
+    // A pass raises a gauge to this value, if it isn't past it, and settles.
+    pub(super) fn raise(&mut self, rt: &impl Wait, room: &Room, hand: usize, tap: usize, value: u64)
+        requires { IsCrewOf room.now self.old }
+        ensures { IsCrewOf room.now self.new }
+    {
+        if hand < self.hands.len() && tap < self.taps.len() {
+            self.hands[hand].raise(rt, room, &mut self.taps[tap], value);
+        }
+    }
+
+    // A pass registers an operation. None where it has one that waits.
+    pub(super) fn register(
+        &mut self,
+        rt: &impl Wait,
+        room: &Room,
+        hand: usize,
+        op: Op,
+    ) -> Option<Registered>
+        requires { IsCrewOf room.now self.old }
+        ensures { IsCrewOf room.now self.new }
+    {
+        if hand >= self.hands.len() {
+            return None;
+        }
+        self.hands[hand].register(rt, room, op)
+    }
+
+    // How a pass's operation ended that waited.
+    pub(super) fn poll(&mut self, room: &Room, hand: usize) -> Option<Done>
+        requires { IsCrewOf room.now self.old }
+        ensures { IsCrewOf room.now self.new }
+    {
+        if hand >= self.hands.len() {
+            return None;
+        }
+        self.hands[hand].poll(room)
+    }
+
+    // The value of a gauge, as a pass reads it.
+    pub(super) fn gauge(&mut self, room: &Room, hand: usize, gauge: u32) -> u64
+        requires { IsCrewOf room.now self.old }
+        ensures { IsCrewOf room.now self.new }
+    {
+        if hand >= self.hands.len() {
+            return 0;
+        }
+        self.hands[hand].gauge(room, gauge)
+    }
+}
