@@ -1,5 +1,9 @@
 //! The room's calls on one thread, and what threads come to that share it.
 mod crew;
+mod held;
+mod many;
+mod race;
+mod shards;
 
 use super::*;
 use crew::{Crew, start};
@@ -9,18 +13,20 @@ use std::alloc::Global;
 use std::sync::Wait;
 use std::test::*;
 
-// An operation that is satisfied where so much of these gauges has come, and overdue at the deadline.
+// Adds a need, where the operation has room for it.
+fn add_need(op: &mut Op, gauge: u32, start: u64, cap: u64) -> Result<(), NoMemory> {
+    let needs = op.needs();
+    if needs.len() < 64 && cap < 1 << 31 && needs.iter().all(|need| need.gauge != gauge) {
+        op.add(Need { gauge, start, cap })?;
+    }
+    Ok(())
+}
+
+// An operation that is satisfied where so much of these gauges together has come, and overdue at the deadline.
 fn op_of(alloc: Global, gauges: &[u32], least: u64, deadline: u64) -> Result<Op, NoMemory> {
     let mut op = Op::new(alloc, least.min(1_000_000), deadline);
     for gauge in gauges {
-        if !(op.needs().len() < 64 && op.needs().iter().all(|need| need.gauge != *gauge)) {
-            continue;
-        }
-        op.add(Need {
-            gauge: *gauge,
-            start: 0,
-            cap: 1_000_000,
-        })?;
+        add_need(&mut op, *gauge, 0, 1_000_000)?;
     }
     Ok(op)
 }

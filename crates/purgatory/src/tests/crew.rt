@@ -11,6 +11,7 @@ use crate::room::{Room, RoomParts};
 use crate::source::Source;
 use kbytes::{List, NoMemory};
 use opcond::{Op, is_overdue, is_satisfied};
+use room_core::How;
 use std::alloc::Global;
 use std::marker::Model;
 use std::sync::Wait;
@@ -121,12 +122,16 @@ impl Hand {
         done
     }
 
-    // Whether its last operation is satisfied, and whether it is overdue.
-    fn stands(&mut self, room: &Room) -> (bool, bool)
+    // Whether its last operation may have ended so, by what the gauges are now.
+    fn may_end(&mut self, room: &Room, how: How) -> bool
         requires made { IsOfRoom room.now self.old }
         ensures made { IsOfRoom room.now self.new }
     {
-        stands(room, &mut self.pass, &self.op)
+        let (satisfied, overdue) = stands(room, &mut self.pass, &self.op);
+        match how {
+            How::Satisfied => satisfied,
+            How::Expired => overdue,
+        }
     }
 
     // The value of a gauge.
@@ -141,11 +146,30 @@ impl Hand {
     }
 }
 
+// What became of the operations of a crew.
+#[derive(Clone, Copy, Debug, PartialEq, Eq)]
+pub(super) struct Counts {
+    // those that waited, those that were won at once, and those that waited and ended
+    pub(super) parked: u32,
+    pub(super) won: u32,
+    pub(super) ended: u32,
+    // those that were satisfied too soon, or expired too early
+    pub(super) wrong: u32,
+}
+
+pub(super) const NOTHING: Counts = Counts {
+    parked: 0,
+    won: 0,
+    ended: 0,
+    wrong: 0,
+};
+
 // Passes and sources of one room, by their places.
 #[derive(Drop)]
 pub(super) struct Crew {
     hands: Vec<Hand>,
     taps: Vec<Tap>,
+    counts: Counts,
 }
 
 impl Model for Crew {
@@ -196,10 +220,95 @@ pub(super) fn start(alloc: Global, gauges: u32, passes: u32) -> Result<(Room, Cr
     } = Room::make(alloc, gauges, passes)?;
     let hands = hands(alloc, &room, passes)?;
     let taps = taps(alloc, &room, sources)?;
-    Ok((room, Crew { hands, taps }))
+    let counts = NOTHING;
+    Ok((room, Crew { hands, taps, counts }))
+}
+
+// Every second pass and source, and the others.
+pub(super) fn halves(
+    alloc: Global,
+    room: &Room,
+    crew: Crew,
+) -> Result<(Crew, Crew), NoMemory>
+    requires { IsCrewOf room.now crew }
+    ensures { IfOk result (λ both. IsCrewOf room.now both.0 × IsCrewOf room.now both.1) }
+{
+    let Crew {
+        hands,
+        taps,
+        counts: _,
+    } = crew;
+    let (some, others) = hand_halves(alloc, room, hands)?;
+    let (sources, rest) = tap_halves(alloc, room, taps)?;
+    let counts = NOTHING;
+    Ok((
+        Crew {
+            hands: some,
+            taps: sources,
+            counts,
+        },
+        Crew {
+            hands: others,
+            taps: rest,
+            counts,
+        },
+    ))
+}
+
+fn hand_halves(
+    alloc: Global,
+    room: &Room,
+    hands: Vec<Hand>,
+) -> Result<(Vec<Hand>, Vec<Hand>), NoMemory>
+    requires { All (IsOfRoom room.now) hands.items }
+    ensures { IfOk result (λ both. All (IsOfRoom room.now) both.0.items × All (IsOfRoom room.now) both.1.items) }
+{
+    let mut some = Vec::new(alloc);
+    let mut others = Vec::new(alloc);
+    for hand in hands {
+        if some.len() <= others.len() {
+            some.push(hand)?;
+        } else {
+            others.push(hand)?;
+        }
+    }
+    Ok((some, others))
+}
+
+fn tap_halves(
+    alloc: Global,
+    room: &Room,
+    taps: Vec<Tap>,
+) -> Result<(Vec<Tap>, Vec<Tap>), NoMemory>
+    requires { All (IsSourceOf room.now) taps.items }
+    ensures { IfOk result (λ both. All (IsSourceOf room.now) both.0.items × All (IsSourceOf room.now) both.1.items) }
+{
+    let mut some = Vec::new(alloc);
+    let mut others = Vec::new(alloc);
+    for tap in taps {
+        if some.len() <= others.len() {
+            some.push(tap)?;
+        } else {
+            others.push(tap)?;
+        }
+    }
+    Ok((some, others))
 }
 
 impl Crew {
+    // How many passes it has.
+    pub(super) fn size(&self) -> usize {
+        self.hands.len()
+    }
+
+    pub(super) fn counts(&self) -> Counts {
+        self.counts
+    }
+
+    pub(super) fn waits(&self, hand: usize) -> bool {
+        self.hands.get(hand).is_some_and(|hand| hand.waits)
+    }
+
     // A pass raises a gauge to this value, if it isn't past it, and settles.
     pub(super) fn raise(&mut self, rt: &impl Wait, room: &Room, hand: usize, tap: usize, value: u64)
         requires { IsCrewOf room.now self.old }
@@ -208,6 +317,19 @@ impl Crew {
         if hand < self.hands.len() && tap < self.taps.len() {
             self.hands[hand].raise(rt, room, &mut self.taps[tap], value);
         }
+    }
+
+    // A pass raises the gauge of one of so many sources by so much, and settles.
+    pub(super) fn raise_by(&mut self, rt: &impl Wait, room: &Room, hand: usize, tap: usize, more: u64)
+        requires { IsCrewOf room.now self.old }
+        ensures { IsCrewOf room.now self.new }
+    {
+        if self.taps.is_empty() {
+            return;
+        }
+        let tap = tap % self.taps.len();
+        let value = self.taps[tap].stored.saturating_add(more);
+        self.raise(rt, room, hand, tap, value);
     }
 
     // A pass registers an operation. None where it has one that waits.
@@ -247,5 +369,62 @@ impl Crew {
             return 0;
         }
         self.hands[hand].gauge(room, gauge)
+    }
+
+    // Whether a pass's operation may have ended so, by what the gauges are now.
+    fn may_end(&mut self, room: &Room, hand: usize, how: How) -> bool
+        requires { IsCrewOf room.now self.old }
+        ensures { IsCrewOf room.now self.new }
+    {
+        if hand >= self.hands.len() {
+            return false;
+        }
+        self.hands[hand].may_end(room, how)
+    }
+
+    // A pass registers an operation, and what becomes of it is counted.
+    pub(super) fn begin(&mut self, rt: &impl Wait, room: &Room, hand: usize, op: Op)
+        requires { IsCrewOf room.now self.old }
+        ensures { IsCrewOf room.now self.new }
+    {
+        match self.register(rt, room, hand, op) {
+            Some(Registered::Parked) => self.counts.parked = self.counts.parked.saturating_add(1),
+            Some(Registered::Won(done)) => {
+                self.counts.won = self.counts.won.saturating_add(1);
+                self.judge(room, hand, done.how);
+            }
+            None => {}
+        }
+    }
+
+    // A pass looks for the end of its operation, and it is counted.
+    pub(super) fn look(&mut self, room: &Room, hand: usize)
+        requires { IsCrewOf room.now self.old }
+        ensures { IsCrewOf room.now self.new }
+    {
+        if let Some(done) = self.poll(room, hand) {
+            self.counts.ended = self.counts.ended.saturating_add(1);
+            self.judge(room, hand, done.how);
+        }
+    }
+
+    // An end that could not be is counted: gauges only rise, so what was satisfied or overdue is so still.
+    fn judge(&mut self, room: &Room, hand: usize, how: How)
+        requires { IsCrewOf room.now self.old }
+        ensures { IsCrewOf room.now self.new }
+    {
+        if !self.may_end(room, hand, how) {
+            self.counts.wrong = self.counts.wrong.saturating_add(1);
+        }
+    }
+
+    // Whether a pass's operation waits though it is answerable.
+    pub(super) fn forgets(&mut self, room: &Room, hand: usize) -> bool
+        requires { IsCrewOf room.now self.old }
+        ensures { IsCrewOf room.now self.new }
+    {
+        let satisfied = self.may_end(room, hand, How::Satisfied);
+        let overdue = self.may_end(room, hand, How::Expired);
+        self.waits(hand) && (satisfied || overdue)
     }
 }
