@@ -72,7 +72,7 @@ fn let_time_pass(rt: &(impl Wait + Clock), room: &Room, mut clock: Source, mut p
 }
 
 // An order of so many goods from the first delivery on, of which no more than `most` may be those of warehouse 1.
-fn order(alloc: Global, goods: u64, most: u64, deadline: u64) -> Result<Op, NoMemory>
+pub(crate) fn order(alloc: Global, goods: u64, most: u64, deadline: u64) -> Result<Op, NoMemory>
     requires { (goods < 1_000) × (most < 1_000) }
     ensures { IfOk result (λ op. All (λ need. need.gauge < 2) op.needs) }
 {
@@ -137,15 +137,15 @@ fn place_both(
 
 // A room with its sources by gauge, and three passes.
 #[derive(Drop)]
-struct Shop {
-    room: Room,
-    first: Source,
-    second: Source,
-    clock: Source,
-    passes: (RoomPass, RoomPass, RoomPass),
+pub(crate) struct Shop {
+    pub(crate) room: Room,
+    pub(crate) first: Source,
+    pub(crate) second: Source,
+    pub(crate) clock: Source,
+    pub(crate) passes: (RoomPass, RoomPass, RoomPass),
 }
 
-fn make_shop(alloc: Global) -> Result<Shop, NoMemory>
+pub(crate) fn make_shop(alloc: Global) -> Result<Shop, NoMemory>
     ensures shape { IfOk result (λ s. s.room.table.shape ≡ room_shape 3 3) }
     ensures sources { IfOk result (λ s. IsUnraised s.room s.first × IsUnraised s.room s.second × IsUnraised s.room s.clock) }
     ensures passes { IfOk result (λ s. IsReady s.room 0 s.passes.0 × IsReady s.room 0 s.passes.1 × IsReady s.room 0 s.passes.2) }
