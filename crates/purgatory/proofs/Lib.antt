@@ -20,3 +20,5 @@ pub mod Made
 pub mod Raises
 -- an operation from its opening to its end
 pub mod Runs
+-- sources and passes of an example or a test, between two calls
+pub mod Ready
