@@ -1,5 +1,5 @@
 -- A pass that writes its operation down.
-use Rattle.std.proofs.Common.{⊎_elim, ◌≡◌, ◌≢◌, ◌∙◌, ℕ, zero, suc, ◌+◌, ◌-◌, ◌*◌, ◌^◌, ◌<◌, ◌≤◌, List, length, get_or, map, ap, refl, subst, sym, arith}
+use Rattle.std.proofs.Common.{⊎_elim, ◌≡◌, ◌≢◌, ◌∙◌, ℕ, ◌+◌, ◌*◌, ◌^◌, ◌<◌, ◌≤◌, List, length, get_or, map, ap, refl, subst, sym, arith}
 use Rattle.std.specs.Prelude.{All}
 use Rattle.std.specs.List.{range_with_len}
 use Rattle.std.proofs.lemmas.Bool.{cases_lt}
@@ -7,17 +7,15 @@ use Rattle.std.proofs.lemmas.List.{get_or_default, same_lists}
 use Rattle.std.proofs.lemmas.List.FromFn.{get_or-map-range_with_len, length-map-range_with_len}
 use Rattle.opcond.specs.declared.need.Need.{Need}
 use Rattle.opcond.specs.Operation.{IsValid, Operation}
-use Rattle.room_core.specs.declared.parts.Stage.{Stage}
 use Rattle.room_core.specs.declared.shape.Shape.{Shape}
 use Rattle.room_core.specs.Described.{operation_of}
-use Rattle.room_core.specs.Description.{IsOperation, gauge_of, need_of, needs_of}
+use Rattle.room_core.specs.Description.{IsOperation, need_of, needs_of}
 use Rattle.room_core.specs.Gauges.{clock_of}
 use Rattle.room_core.specs.Put.{put}
 use Rattle.room_core.specs.State.{Caller}
 use Rattle.room_core.proofs.Laws.{put_else, put_here}
 use Rattle.room_table.specs.declared.part.CallerStep.{CallerStep}
 use Rattle.room_table.specs.Seats.{CallerView, caller_did, caller_now}
-use Rattle.purgatory.specs.Going.{GoesOn}
 use Rattle.purgatory.specs.Listed.{AreDescribed, Describes, IsDescribed, need_described, with_words}
 use Rattle.purgatory.proofs.Goes.{goes_by, goes_far, one_step, stays}
 
@@ -100,9 +98,10 @@ need_before words n i need less =
     (else_where words at need (5 + 3 * i) (omega (arith, less)))
 
 -- the first needs of a list, and one more
-pub described_more : (needs : List Need) (a b : CallerView) (n : ℕ) (need : Need) → b ≡ need_described a (3 + 3 * n) need → n < length needs
-    → ((d : Need) → need ≡ get_or needs n d) → AreDescribed needs n (caller_now a).description → AreDescribed needs (n + 1) (caller_now b).description
-described_more needs a b n need e there is before i d less =
+pub described_more : (needs : List Need) (a b : CallerView) (n : ℕ) (last : Need) → b ≡ need_described a (3 + 3 * n) (get_or needs n last) → n < length needs
+    → AreDescribed needs n (caller_now a).description → AreDescribed needs (n + 1) (caller_now b).description
+described_more needs a b n last e there before i d less =
+    let need = get_or needs n last in
     let words = (caller_now a).description in
     let w = with_need words (3 + 3 * n) need in
     subst (λ (v : CallerView). need_of (caller_now v).description i ≡ get_or needs i d) (sym e)
@@ -110,7 +109,7 @@ described_more needs a b n need e there is before i d less =
     (λ (l : i < n). need_before words n i need l ∙ before i d l)
     (λ (m : n ≤ i).
     let same : i ≡ n = omega (arith, less, m) in
-    ap (need_of w) same ∙ need_here words n need ∙ is d ∙ ap (λ k. get_or needs k d) (sym same))
+    ap (need_of w) same ∙ need_here words n need ∙ get_or_default needs n last d there ∙ ap (λ k. get_or needs k d) (sym same))
     (cases_lt i n))
 
 -- the first words stay

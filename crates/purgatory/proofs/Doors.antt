@@ -1,12 +1,11 @@
 -- The room's locks, and what a pass has of them.
-use Rattle.std.proofs.Common.{◌≡◌, ◌≢◌, ◌∙◌, ℕ, ◌+◌, ◌<◌, ◌%◌, ◌-◌, List, [], ◌∷◌, ◌++◌, length, get_or, set, map, cond, ap, refl, subst, sym, arith}
-use Rattle.std.specs.Prelude.{All}
+use Rattle.std.proofs.Common.{◌≡◌, ◌≢◌, ◌∙◌, ℕ, ◌<◌, ◌%◌, ◌-◌, List, [], ◌∷◌, ◌++◌, length, get_or, set, map, cond, ap, sym, arith}
 use Rattle.std.proofs.lemmas.Bool.{ne_eqb}
 use Rattle.std.proofs.lemmas.List.{get_or-map, get_or_append_left, get_or_at, get_or_default, length-append, length-map, length-set, map-set, set-get_or}
 use Rattle.std.proofs.lemmas.List.Elements.{All-set}
 use Rattle.turn_lock.specs.declared.lock.TurnLock.{TurnLock}
 use Rattle.turn_lock.specs.declared.pass.TurnPass.{TurnPass}
-use Rattle.turn_lock.specs.Locks.{IsPassOf, IsReady, known, lock_id, lock_name}
+use Rattle.turn_lock.specs.Locks.{IsPassOf, IsReady, lock_name}
 use Rattle.room_core.specs.declared.shape.Shape.{Shape}
 use Rattle.room_core.specs.Gauges.{IsGaugeOf, clock_of, scanner_of}
 use Rattle.room_core.specs.Numbers.{clock_scanner}

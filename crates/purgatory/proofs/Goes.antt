@@ -1,10 +1,12 @@
 -- Passes that go on.
-use Rattle.std.proofs.Common.{◌≡◌, ◌∙◌, ap, refl, sym, [], ◌∷◌, ◌++◌, append_assoc}
+use Rattle.std.proofs.Common.{◌≡◌, ◌∙◌, ℕ, ap, refl, sym, [], ◌∷◌, ◌++◌, append_assoc}
 use Rattle.room_core.specs.State.{Caller}
 use Rattle.room_table.specs.declared.part.CallerStep.{CallerStep}
 use Rattle.room_table.specs.Seats.{CallerView, caller_did, caller_now}
 use Rattle.purgatory.specs.Going.{GoesOn, KeepsOperation}
-use Rattle.purgatory.specs.Listed.{Keeps, KeepsAccount}
+use Rattle.purgatory.specs.declared.outcome.Done.{Done}
+use Rattle.purgatory.specs.Listed.{Ends, Keeps, KeepsAccount}
+use Rattle.purgatory.specs.Paying.{Pays}
 
 pub stays : (a : CallerView) → GoesOn a a
 stays a = record { table = refl; pass = refl; newer = []; steps = refl }
@@ -71,4 +73,14 @@ keeps_by a b step k e = record {
     owed = ap (λ (v : CallerView). (caller_now v).owed) e ∙ k.owed;
     taken = ap (λ (v : CallerView). (caller_now v).taken) e ∙ k.taken;
   };
+}
+
+pub ends_after : (done : Done) (a b c : CallerView) → Keeps a b → Ends done b c → Ends done a c
+ends_after done a b c k h = record { before = h.before; keeps = keeps_far a b h.before k h.keeps; steps = h.steps }
+
+pub pays_far : (gauge : ℕ) (a b c : CallerView) → Pays gauge a b → Pays gauge b c → Pays gauge a c
+pays_far gauge a b c g h = record {
+  went = goes_far a b c g.went h.went;
+  kept = kept_far (caller_now a) (caller_now b) (caller_now c) g.kept h.kept;
+  others = λ other n. h.others other n ∙ g.others other n;
 }

@@ -1,23 +1,34 @@
 -- A pass whose check has all its readings: it leaves its operation, or wins it.
-use Rattle.std.proofs.Common.{⊎_elim, ◌≡◌, ◌≢◌, ◌∙◌, ℕ, zero, suc, ◌+◌, ◌<◌, ◌≤◌, List, [], ◌∷◌, Option, Some, None, Bool, true, false, ◌||◌, cond, length, get_or, take, ap, refl, subst, sym, arith}
-use Rattle.std.specs.Prelude.{All, IsSome, nat_le, unwrap_or}
+use Rattle.std.proofs.Common.{⊎_elim, ◌≡◌, ◌≢◌, ◌∙◌, ℕ, zero, suc, ◌+◌, ◌<◌, ◌≤◌, List, [], ◌∷◌, Option, Some, ◌||◌, length, get_or, take, ap, refl, subst, sym, arith}
+use Rattle.std.specs.Prelude.{All, IsSome, unwrap_or}
 use Rattle.std.proofs.lemmas.Bool.{cond-false, cond-true, le-leb, lt-leb, or_from, or_left, or_right, cases_lt}
 use Rattle.std.proofs.lemmas.List.{take_all}
 use Rattle.opcond.specs.declared.need.Need.{Need}
 use Rattle.opcond.specs.Operation.{Operation}
 use Rattle.opcond.specs.Tally as listed
 use Rattle.opcond.specs.Tally.{counted}
+use Rattle.room_core.specs.declared.event.How.{How}
 use Rattle.room_core.specs.declared.event.How.TheVariants.{Expired, Satisfied}
+use Rattle.room_core.specs.declared.parts.Phase.{Phase}
+use Rattle.room_core.specs.declared.parts.Session.{Session}
+use Rattle.room_core.specs.declared.parts.Stage.{Stage}
 use Rattle.room_core.specs.declared.parts.Stage.TheVariants.{Checking, Waiting}
 use Rattle.room_core.specs.declared.shape.Shape.{Shape}
-use Rattle.room_core.specs.Checks.{IsWon, caller_leaves, is_overdue, is_satisfied}
+use Rattle.room_core.specs.Checks.{IsWon, caller_leaves, exchanged, is_overdue, is_satisfied}
 use Rattle.room_core.specs.Description.{gauge_of, need_of, tally, tally_below}
 use Rattle.room_core.specs.Gauges.{clock_of}
+use Rattle.room_core.specs.Numbers.{scanner_numbers}
+use Rattle.room_core.specs.Passes.{peeked}
 use Rattle.room_core.specs.Put.{put}
 use Rattle.room_core.specs.Readings.{read_only}
 use Rattle.room_core.specs.State.{Caller}
 use Rattle.room_core.proofs.Laws.{put_else, put_here}
-use Rattle.purgatory.specs.Listed.{AreDescribed, AreTaken, IsDescribed}
+use Rattle.room_table.specs.declared.part.CallerStep.{CallerStep}
+use Rattle.room_table.specs.Seats.{CallerView, TableView, caller_did, caller_now}
+use Rattle.purgatory.specs.declared.outcome.Done.{Done}
+use Rattle.purgatory.specs.Listed.{AreDescribed, AreTaken, Ends, HasReadings, IsDescribed, IsEarned, Keeps, Leaves}
+use Rattle.purgatory.specs.Registered.{have_read}
+use Rattle.purgatory.proofs.Goes.{ends_after, keeps_by, keeps_far}
 
 not_le : (a b : ℕ) → (a ≤ b → ⊥) → b < a
 not_le a b n = ⊎_elim (λ (l : b < a). l) (λ (m : a ≤ b). absurd (n m)) (cases_lt b a)
@@ -108,3 +119,60 @@ module _ (shape : Shape) (op : Operation) (caller : Caller) (values : List ℕ) 
             (le-leb (caller.description 1) (read_only last (clock_of shape)) reached)),
         (subst (λ (o : Option ℕ). IsSome o) (sym (put_here caller.readings (clock_of shape) (Some moment))) refl, reached),
       )
+
+checking_busy : Checking ≢ Stage.Idle
+checking_busy e = cc
+
+-- what a check comes to that has read the gauges of the needs, and then the clock
+module _ (op : Operation) (values : List ℕ) (moment : ℕ) (old b : CallerView) (h : HasReadings op values moment old b) where
+  words : IsDescribed op (caller_now h.last).description
+  words = subst (IsDescribed op) (sym h.needs.keeps.account.description) h.described
+
+  left_keeps : Keeps old b
+  left_keeps =
+      let step = CallerStep.Left (clock_of h.last.table.shape) moment in
+      keeps_far old h.last b h.needs.keeps (keeps_by h.last b step (record { generation = refl; description = refl; owed = refl; taken = refl }) h.clock)
+
+  pub check_left : ¬ listed.IsSatisfied op values → moment < op.deadline → Leaves op old b
+  check_left n early = record {
+    values = values;
+    moment = moment;
+    keeps = left_keeps;
+    each = h.needs.each;
+    steps =
+        h.clock ∙ ap (λ (v : CallerView). caller_did v (CallerStep.Left (clock_of h.last.table.shape) moment)) h.needs.read
+        ∙ ap (λ (t : TableView). caller_did (have_read old op.needs values) (CallerStep.Left (clock_of t.shape) moment)) h.needs.keeps.went.table;
+    unsatisfied = n;
+    early = early;
+    waits = ap (λ (v : CallerView). (caller_now v).stage) h.clock ∙ leaves_waiting h.last.table.shape op (caller_now h.last) values moment words h.needs.each h.before_clock h.needs.taken n early;
+  }
+
+  earned : (how : How) → IsEarned how op values moment → ((caller_now b).stage ≡ Checking) × IsWon h.last.table.shape how (caller_now b).description (caller_now b).readings
+  earned Satisfied enough =
+      subst (λ (v : CallerView). ((caller_now v).stage ≡ Checking) × IsWon h.last.table.shape Satisfied (caller_now v).description (caller_now v).readings) (sym h.clock)
+      (satisfied_wins h.last.table.shape op (caller_now h.last) values moment words h.needs.each h.before_clock h.needs.taken enough)
+  earned Expired late =
+      subst (λ (v : CallerView). ((caller_now v).stage ≡ Checking) × IsWon h.last.table.shape Expired (caller_now v).description (caller_now v).readings) (sym h.clock)
+      (overdue_wins h.last.table.shape op (caller_now h.last) values moment words h.needs.each h.before_clock h.needs.taken late)
+
+  pub check_earned : (how : How) → IsEarned how op values moment → ((caller_now b).stage ≡ Checking) × IsWon b.table.shape how (caller_now b).description (caller_now b).readings
+  check_earned how so =
+      let w = earned how so in
+      (w.0, subst (λ (s : Shape). IsWon s how (caller_now b).description (caller_now b).readings) (sym (ap (λ (v : CallerView). v.table.shape) h.clock)) w.1)
+
+  -- then it tries to win
+  pub check_tried : (how : How) (found : Session) (c d : CallerView) (done : Done) → c ≡ caller_did b (CallerStep.Won how found) → Ends done c d → Ends done old d
+  check_tried how found c d done w ends =
+      ends_after done old c d (keeps_far old b c left_keeps (keeps_by b c (CallerStep.Won how found) (record { generation = refl; description = refl; owed = refl; taken = refl }) w)) ends
+
+busy_by : (stage : Stage) (phase : Phase) → stage ≢ Stage.Idle → peeked phase stage ≢ Stage.Idle
+unfolding peeked
+busy_by stage Phase.Idle n = n
+busy_by stage Phase.Open n = n
+busy_by stage (Phase.Won how by) n = λ e. cc
+
+-- who tried to win isn't idle
+pub tried_busy : (a b : CallerView) (how : How) (found : Session) → (caller_now a).stage ≡ Checking → b ≡ caller_did a (CallerStep.Won how found) → (caller_now b).stage ≢ Stage.Idle
+tried_busy a b how found checking e =
+    let n : (caller_now a).stage ≢ Stage.Idle = λ idle. checking_busy (sym checking ∙ idle) in
+    subst (λ (v : CallerView). (caller_now v).stage ≢ Stage.Idle) (sym e) (busy_by (caller_now a).stage (exchanged found (caller_now a).generation how (scanner_numbers + a.pass)).phase n)

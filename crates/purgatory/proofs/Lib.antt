@@ -22,3 +22,5 @@ pub mod Raises
 pub mod Runs
 -- sources and passes of an example or a test, between two calls
 pub mod Ready
+-- the passes of the locks, as they are dealt out
+pub mod Rings

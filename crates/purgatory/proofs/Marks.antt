@@ -1,21 +1,19 @@
 -- A pass that looks at the marks of its operation.
-use Rattle.std.proofs.Common.{⊎_elim, ◌≡◌, ◌≢◌, ◌∙◌, ℕ, zero, suc, ◌+◌, ◌<◌, ◌≤◌, Bool, true, false, ◌&&◌, cond, ap, refl, subst, sym, arith}
+use Rattle.std.proofs.Common.{⊎_elim, ◌≡◌, ◌≢◌, ◌∙◌, ℕ, zero, suc, ◌<◌, Bool, true, false, cond, ap, refl, sym, arith}
 use Rattle.std.specs.Prelude.{◌==◌}
 use Rattle.std.proofs.lemmas.Bool.{and_from, and_right, cases_eq, cond-false, cond-true, eq-eqb, ne_eqb}
-use Rattle.room_core.specs.declared.parts.Stage.{Stage}
 use Rattle.room_core.specs.declared.parts.Stage.TheVariants.{Checking, Listing}
 use Rattle.room_core.specs.Description.{needs_of}
 use Rattle.room_core.specs.Numbers.{clock_mark}
-use Rattle.room_core.specs.Passes.{all_below, all_seen, caller_sees_mark, seen_with}
-use Rattle.room_core.specs.Put.{put}
+use Rattle.room_core.specs.Passes.{all_below, all_seen, seen_with}
 use Rattle.room_core.specs.State.{Caller}
 use Rattle.room_core.proofs.Laws.{put_else, put_here}
 use Rattle.room_table.specs.declared.part.CallerStep.{CallerStep}
 use Rattle.room_table.specs.Seats.{CallerView, caller_did, caller_now}
 use Rattle.room_scans.specs.Listing.{open_at}
-use Rattle.purgatory.specs.Listed.{BeginsCheck, GoesListing, HasSeen, HasSeenBelow, Keeps}
+use Rattle.purgatory.specs.Listed.{BeginsCheck, GoesListing, HasSeenBelow}
 use Rattle.purgatory.specs.Polled.{found_open}
-use Rattle.purgatory.proofs.Goes.{account_same, keeps_by, keeps_far, keeps_same}
+use Rattle.purgatory.proofs.Goes.{keeps_by, keeps_far, keeps_same}
 use Rattle.purgatory.proofs.Words.{open_stage}
 
 -- the value of a mark that is looked at
@@ -62,7 +60,7 @@ all_of f (suc n) each = and_from (all_below f n) (f n) (all_of f n (λ i less. e
 -- a look at a mark after which the clock's isn't seen
 marks_on : (a b : CallerView) (at mark : ℕ) → b ≡ caller_did a (CallerStep.SawMark at mark) → seen_with (caller_now a) at mark clock_mark ≡ false → GoesListing a b
 marks_on a b at mark e unseen = record {
-  keeps = keeps_by a b (CallerStep.SawMark at mark) (account_same (caller_now a)) e;
+  keeps = keeps_by a b (CallerStep.SawMark at mark) (record { generation = refl; description = refl; owed = refl; taken = refl }) e;
   listing = ap (λ (v : CallerView). (caller_now v).stage) e ∙ lists_on (caller_now a).description (seen_with (caller_now a) at mark) unseen;
   clock = ap (λ (v : CallerView). (caller_now v).seen clock_mark) e ∙ unseen;
   marks = λ i seen. ap (λ (v : CallerView). (caller_now v).seen i) e ∙ still_seen (caller_now a) at mark i seen;
@@ -87,7 +85,7 @@ clock_marked a b mark e is each =
     let c = caller_now a in
     let seen = seen_with c clock_mark mark in
     record {
-      keeps = keeps_by a b (CallerStep.SawMark clock_mark mark) (account_same c) e;
+      keeps = keeps_by a b (CallerStep.SawMark clock_mark mark) (record { generation = refl; description = refl; owed = refl; taken = refl }) e;
       checking =
           ap (λ (v : CallerView). (caller_now v).stage) e
           ∙ cond-true (all_seen c.description seen) Checking Listing
@@ -111,7 +109,7 @@ listing_far a b c g h = record {
 -- its word is open still
 pub listing_open : (a b : CallerView) → b ≡ found_open a → (caller_now a).stage ≡ Listing → (caller_now a).seen clock_mark ≡ false → GoesListing a b
 listing_open a b e listing clock = record {
-  keeps = keeps_by a b (CallerStep.Peeked (open_at (caller_now a).generation)) (account_same (caller_now a)) e;
+  keeps = keeps_by a b (CallerStep.Peeked (open_at (caller_now a).generation)) (record { generation = refl; description = refl; owed = refl; taken = refl }) e;
   listing = open_stage a b e ∙ listing;
   clock = ap (λ (v : CallerView). (caller_now v).seen clock_mark) e ∙ clock;
   marks = λ i seen. ap (λ (v : CallerView). (caller_now v).seen i) e ∙ seen;

@@ -1,38 +1,17 @@
 -- What a pass keeps beside its seat, after a step.
-use Rattle.std.proofs.Common.{⊎_elim, ◌≡◌, ◌≢◌, ◌∙◌, ℕ, ◌<◌, ◌≤◌, List, [], length, get_or, set, cond, ap, refl, subst, sym, arith}
-use Rattle.std.specs.Prelude.{◌+◌, true, false, max, nat_le, replicate}
+use Rattle.std.proofs.Common.{⊎_elim, ◌≡◌, ◌≢◌, ◌∙◌, ℕ, ◌<◌, ◌≤◌, List, length, get_or, set, cond, ap, refl, sym, arith}
+use Rattle.std.specs.Prelude.{true, false, max, nat_le}
 use Rattle.std.proofs.lemmas.Bool.{cases_eq, cond-true, cond-false, le-leb, lt-leb}
-use Rattle.std.proofs.lemmas.List.{get_or-replicate, get_or-set_other, get_or-set_same, get_or_past, length-replicate, length-set}
-use Rattle.std.proofs.lemmas.Bool.{cases_lt}
-use Rattle.room_core.specs.declared.shape.Shape.{Shape}
+use Rattle.std.proofs.lemmas.List.{get_or-set_other, get_or-set_same, get_or_past, length-set}
 use Rattle.room_core.specs.Gauges.{IsPass}
 use Rattle.room_core.specs.Put.{put}
 use Rattle.room_core.proofs.Laws.{put_else, put_here}
 use Rattle.room_table.specs.declared.part.CallerStep.{CallerStep}
-use Rattle.room_table.specs.Parts.{caller_of}
 use Rattle.room_table.specs.Seats.{CallerView, caller_did, caller_now}
-use Rattle.purgatory.specs.Going.{KeepsOperation, OwesElse}
+use Rattle.purgatory.specs.Going.{OwesElse}
 use Rattle.purgatory.specs.Owned.{IsOwner}
 use Rattle.purgatory.specs.Paying.{Pays}
 use Rattle.purgatory.proofs.Goes.{kept_same, one_step, stays}
-
--- nothing is owed by a pass that has made no step
-zeros : (n i : ℕ) → get_or (replicate n 0) i 0 ≡ 0
-zeros n i =
-    ⊎_elim
-    (λ (l : i < n). get_or-replicate n i 0 0 l)
-    (λ (m : n ≤ i). get_or_past (replicate n 0) i 0 (omega (arith, m, length-replicate n 0)))
-    (cases_lt i n)
-
-pub fresh_owner : (shape : Shape) (number : ℕ) (owed : List ℕ) (seat : CallerView) → shape ≡ seat.table.shape → number ≡ seat.pass → IsPass shape number
-    → owed ≡ replicate shape.gauges 0 → seat.steps ≡ [] → IsOwner number 0 owed seat
-fresh_owner shape number owed seat same is there all none = record {
-  number_is = is;
-  there = let size = ap (λ (s : Shape). s.passes) same in omega (arith, there, is, size);
-  generation_is = ap (λ steps. (caller_of seat.table.shape seat.pass steps).generation) (sym none);
-  size = ap (λ (l : List ℕ). length l) all ∙ length-replicate shape.gauges 0 ∙ ap (λ (s : Shape). s.gauges) same;
-  owes = λ gauge. ap (λ (l : List ℕ). get_or l gauge 0) all ∙ zeros shape.gauges gauge ∙ ap (λ steps. (caller_of seat.table.shape seat.pass steps).owed gauge) (sym none);
-}
 
 module _ (number generation : ℕ) (owed : List ℕ) (a b : CallerView) (step : CallerStep) (i : IsOwner number generation owed a) (e : b ≡ caller_did a step) where
   there_still : IsPass b.table.shape b.pass
@@ -42,25 +21,11 @@ module _ (number generation : ℕ) (owed : List ℕ) (a b : CallerView) (step : 
       let pass : b.pass ≡ a.pass = ap (λ (v : CallerView). v.pass) e in
       omega (arith, there, passes, pass)
 
-  -- a step that leaves what is owed
-  pub owner_after : (caller_now (caller_did a step)).generation ≡ (caller_now a).generation → (caller_now (caller_did a step)).owed ≡ (caller_now a).owed → IsOwner number generation owed b
-  owner_after same debts = record {
-    number_is = i.number_is ∙ sym (ap (λ (v : CallerView). v.pass) e);
-    there = there_still;
-    generation_is = i.generation_is ∙ sym same ∙ sym (ap (λ (v : CallerView). (caller_now v).generation) e);
-    size = i.size ∙ sym (ap (λ (v : CallerView). v.table.shape.gauges) e);
-    owes = λ gauge. i.owes gauge ∙ sym (ap (λ (f : ℕ → ℕ). f gauge) debts) ∙ sym (ap (λ (v : CallerView). (caller_now v).owed gauge) e);
-  }
-
-  -- a step of the next generation
-  pub owner_opens : (caller_now (caller_did a step)).generation ≡ (caller_now a).generation + 1 → (caller_now (caller_did a step)).owed ≡ (caller_now a).owed → IsOwner number (generation + 1) owed b
-  owner_opens next debts = record {
-    number_is = i.number_is ∙ sym (ap (λ (v : CallerView). v.pass) e);
-    there = there_still;
-    generation_is = ap (λ n. n + 1) i.generation_is ∙ sym next ∙ sym (ap (λ (v : CallerView). (caller_now v).generation) e);
-    size = i.size ∙ sym (ap (λ (v : CallerView). v.table.shape.gauges) e);
-    owes = λ gauge. i.owes gauge ∙ sym (ap (λ (f : ℕ → ℕ). f gauge) debts) ∙ sym (ap (λ (v : CallerView). (caller_now v).owed gauge) e);
-  }
+  few_still : b.table.shape.gauges < 194
+  few_still =
+      let few = i.few in
+      let same : b.table.shape.gauges ≡ a.table.shape.gauges = ap (λ (v : CallerView). v.table.shape.gauges) e in
+      omega (arith, few, same)
 
 -- a list with a value given anew, beside the table
 set_put : (f : ℕ → ℕ) (xs : List ℕ) (at x : ℕ) → at < length xs → ((i : ℕ) → get_or xs i 0 ≡ f i) → (i : ℕ) → get_or (set xs at x) i 0 ≡ put f at x i
@@ -78,16 +43,17 @@ owner_owes number generation owed a b step gauge debt i e same debts less = reco
   number_is = i.number_is ∙ sym (ap (λ (v : CallerView). v.pass) e);
   there = there_still number generation owed a b step i e;
   generation_is = i.generation_is ∙ sym same ∙ sym (ap (λ (v : CallerView). (caller_now v).generation) e);
+  few = few_still number generation owed a b step i e;
   size = length-set owed gauge debt ∙ i.size ∙ sym (ap (λ (v : CallerView). v.table.shape.gauges) e);
   owes = λ g. set_put (caller_now a).owed owed gauge debt less i.owes g ∙ sym (ap (λ (f : ℕ → ℕ). f g) debts) ∙ sym (ap (λ (v : CallerView). (caller_now v).owed g) e);
 }
 
 -- the pass asks for a scan up to a value
-pub owner_asks : (number generation : ℕ) (owed : List ℕ) (a b : CallerView) (gauge value : ℕ) → IsOwner number generation owed a → b ≡ caller_did a (CallerStep.Asked gauge value)
-    → gauge < length owed → IsOwner number generation (set owed gauge (max (get_or owed gauge 0) value)) b
-owner_asks number generation owed a b gauge value i e less =
-    owner_owes number generation owed a b (CallerStep.Asked gauge value) gauge (max (get_or owed gauge 0) value) i e refl
-    (ap (λ debt. put (caller_now a).owed gauge (max debt value)) (sym (i.owes gauge))) less
+pub owner_asks : (number generation : ℕ) (owed : List ℕ) (a b : CallerView) (gauge value debt : ℕ) → IsOwner number generation owed a → b ≡ caller_did a (CallerStep.Asked gauge value)
+    → debt ≡ max (get_or owed gauge 0) value → gauge < length owed → IsOwner number generation (set owed gauge debt) b
+owner_asks number generation owed a b gauge value debt i e is less =
+    owner_owes number generation owed a b (CallerStep.Asked gauge value) gauge debt i e refl
+    (ap (λ n. put (caller_now a).owed gauge (max n value)) (sym (i.owes gauge)) ∙ ap (put (caller_now a).owed gauge) (sym is)) less
 
 put_same : (f : ℕ → ℕ) (at i : ℕ) → put f at (f at) i ≡ f i
 put_same f at i =
@@ -130,6 +96,7 @@ owner_still number generation owed a b gauge begun i e more =
       number_is = i.number_is ∙ sym (ap (λ (v : CallerView). v.pass) e);
       there = there_still number generation owed a b step i e;
       generation_is = i.generation_is ∙ sym (ap (λ (v : CallerView). (caller_now v).generation) e);
+      few = few_still number generation owed a b step i e;
       size = i.size ∙ sym (ap (λ (v : CallerView). v.table.shape.gauges) e);
       owes = λ g.
           i.owes g ∙ sym (put_same (caller_now a).owed gauge g)
@@ -158,3 +125,25 @@ relieves_paid number generation owed a b gauge begun i e paid =
 -- nothing is owed past the gauges
 pub owes_past : (number generation : ℕ) (owed : List ℕ) (a : CallerView) → IsOwner number generation owed a → (gauge : ℕ) → length owed ≤ gauge → (caller_now a).owed gauge ≡ 0
 owes_past number generation owed a i gauge past = sym (i.owes gauge) ∙ get_or_past owed gauge 0 past
+
+-- a value that was read may be asked for
+pub may_ask : (a b : CallerView) (gauge value : ℕ) → b ≡ caller_did a (CallerStep.Read gauge value)
+    → value ≤ (caller_now b).greatest gauge
+may_ask a b gauge value e =
+    let greatest = (caller_now a).greatest in
+    let is : (caller_now b).greatest gauge ≡ max (greatest gauge) value =
+    ap (λ (v : CallerView). (caller_now v).greatest gauge) e ∙ put_here greatest gauge (max (greatest gauge) value) in
+    omega (arith, is)
+
+-- a value that is read leaves what is owed
+pub owner_reads : (number generation : ℕ) (owed : List ℕ) (a b : CallerView) (gauge value : ℕ) → IsOwner number generation owed a → b ≡ caller_did a (CallerStep.Read gauge value) → IsOwner number generation owed b
+owner_reads number generation owed a b gauge value i e =
+    let step = CallerStep.Read gauge value in
+    record {
+      number_is = i.number_is ∙ sym (ap (λ (v : CallerView). v.pass) e);
+      there = there_still number generation owed a b step i e;
+      generation_is = i.generation_is ∙ sym (ap (λ (v : CallerView). (caller_now v).generation) e);
+      few = few_still number generation owed a b step i e;
+      size = i.size ∙ sym (ap (λ (v : CallerView). v.table.shape.gauges) e);
+      owes = λ g. i.owes g ∙ sym (ap (λ (v : CallerView). (caller_now v).owed g) e);
+    }

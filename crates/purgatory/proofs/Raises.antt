@@ -1,5 +1,5 @@
 -- A gauge is raised: its source stores, and a pass asks.
-use Rattle.std.proofs.Common.{◌≡◌, ◌≢◌, ◌∙◌, ℕ, ◌≤◌, false, cond, ap, refl, sym, arith}
+use Rattle.std.proofs.Common.{◌≡◌, ◌∙◌, ℕ, ◌≤◌, false, ap, refl, arith}
 use Rattle.std.specs.Prelude.{max, nat_le}
 use Rattle.std.proofs.lemmas.Bool.{cond-true, le-leb}
 use Rattle.room_core.proofs.Laws.{put_else, put_here}

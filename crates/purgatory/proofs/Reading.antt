@@ -16,7 +16,7 @@ use Rattle.room_table.specs.declared.part.CallerStep.{CallerStep}
 use Rattle.room_table.specs.Seats.{CallerView, caller_did, caller_now}
 use Rattle.purgatory.specs.Listed.{AreTaken, HasReadAll, IsDescribed, Keeps}
 use Rattle.purgatory.specs.Registered.{have_read}
-use Rattle.purgatory.proofs.Goes.{account_same, keeps_by}
+use Rattle.purgatory.proofs.Goes.{keeps_by}
 
 reads_more : (seat : CallerView) (needs : List Need) (values : List ℕ) (need : Need) (value : ℕ) → length needs ≡ length values
     → have_read seat (needs ++ need ∷ []) (values ++ value ∷ []) ≡ caller_did (have_read seat needs values) (CallerStep.Read need.gauge value)
@@ -26,15 +26,15 @@ reads_more seat (n ∷ ns) [] need value e = absurd (omega (arith, e))
 reads_more seat (n ∷ ns) (v ∷ vs) need value e = reads_more (caller_did seat (CallerStep.Read n.gauge v)) ns vs need value (omega (arith, e))
 
 -- one need more
-pub has_read_more : (old a b : CallerView) (needs : List Need) (values : List ℕ) (n value : ℕ) (need : Need) → n < length needs → n < length values
-    → need ≡ get_or needs n need → a ≡ have_read old (take n needs) (take n values) → b ≡ caller_did a (CallerStep.Read need.gauge value)
+pub has_read_more : (old a b : CallerView) (needs : List Need) (values : List ℕ) (n value : ℕ) (d : Need) → n < length needs → n < length values
+    → a ≡ have_read old (take n needs) (take n values) → b ≡ caller_did a (CallerStep.Read (get_or needs n d).gauge value)
     → b ≡ have_read old (take (n + 1) needs) (take (n + 1) (set values n value))
-has_read_more old a b needs values n value need less few is before e =
+has_read_more old a b needs values n value d less few before e =
+    let need = get_or needs n d in
     let same : length (take n needs) ≡ length (take n values) = length-take-le n needs (omega (arith, less)) ∙ sym (length-take-le n values (omega (arith, few))) in
-    let more : take (n + 1) needs ≡ take n needs ++ need ∷ [] = take_more needs n need less ∙ ap (λ (x : Need). take n needs ++ x ∷ []) (sym is) in
     e ∙ ap (λ (v : CallerView). caller_did v (CallerStep.Read need.gauge value)) before
     ∙ sym (reads_more old (take n needs) (take n values) need value same)
-    ∙ ap (λ xs. have_read old xs (take n values ++ value ∷ [])) (sym more)
+    ∙ ap (λ xs. have_read old xs (take n values ++ value ∷ [])) (sym (take_more needs n d less))
     ∙ ap (have_read old (take (n + 1) needs)) (sym (take_more_set values n value few))
 
 -- in a check a value that is read is a reading
@@ -46,30 +46,31 @@ reading_taken a b gauge value e checking =
     ∙ ap (λ (s : Stage). cond (is_checking s) (put readings gauge (Some value)) readings) checking
 
 pub reads_keep : (a b : CallerView) (gauge value : ℕ) → b ≡ caller_did a (CallerStep.Read gauge value) → Keeps a b
-reads_keep a b gauge value e = keeps_by a b (CallerStep.Read gauge value) (account_same (caller_now a)) e
+reads_keep a b gauge value e = keeps_by a b (CallerStep.Read gauge value) (record { generation = refl; description = refl; owed = refl; taken = refl }) e
 
 pub reads_stage : (a b : CallerView) (gauge value : ℕ) → b ≡ caller_did a (CallerStep.Read gauge value) → (caller_now b).stage ≡ (caller_now a).stage
 reads_stage a b gauge value e = ap (λ (v : CallerView). (caller_now v).stage) e
 
 -- the readings of the first needs, and one more
-pub taken_more : (a b : CallerView) (needs : List Need) (values : List ℕ) (n value : ℕ) (need : Need) → AllPairs (λ (x y : Need). x.gauge ≢ y.gauge) needs
-    → n < length needs → n < length values → need ≡ get_or needs n need → b ≡ caller_did a (CallerStep.Read need.gauge value) → (caller_now a).stage ≡ Checking
+pub taken_more : (a b : CallerView) (needs : List Need) (values : List ℕ) (n value : ℕ) (last : Need) → AllPairs (λ (x y : Need). x.gauge ≢ y.gauge) needs
+    → n < length needs → n < length values → b ≡ caller_did a (CallerStep.Read (get_or needs n last).gauge value) → (caller_now a).stage ≡ Checking
     → AreTaken needs values n (caller_now a) → AreTaken needs (set values n value) (n + 1) (caller_now b)
-taken_more a b needs values n value need distinct less few is e checking before i d v l =
+taken_more a b needs values n value last distinct less few e checking before i d v l =
+    let need = get_or needs n last in
     let readings = (caller_now a).readings in
     let now = reading_taken a b need.gauge value e checking in
     ⊎_elim
     (λ (lower : i < n).
-    let other : (get_or needs i need).gauge ≢ need.gauge = λ same. distinct i n need lower less (same ∙ ap (λ (x : Need). x.gauge) is) in
-    let here : get_or needs i d ≡ get_or needs i need = sym (get_or_default needs i need d (omega (arith, lower, less))) in
+    let other : (get_or needs i last).gauge ≢ need.gauge = distinct i n last lower less in
+    let here : get_or needs i d ≡ get_or needs i last = get_or_default needs i d last (omega (arith, lower, less)) in
     ap (λ (x : Need). (caller_now b).readings x.gauge) here
-    ∙ ap (λ (f : ℕ → Option ℕ). f (get_or needs i need).gauge) now
-    ∙ put_else readings need.gauge (Some value) (get_or needs i need).gauge other
-    ∙ before i need v lower
+    ∙ ap (λ (f : ℕ → Option ℕ). f (get_or needs i last).gauge) now
+    ∙ put_else readings need.gauge (Some value) (get_or needs i last).gauge other
+    ∙ before i last v lower
     ∙ ap (λ x. Some x) (sym (get_or-set_other values n i value v (λ same. omega (arith, same, lower)))))
     (λ (m : n ≤ i).
     let same : i ≡ n = omega (arith, l, m) in
-    let here : get_or needs i d ≡ need = ap (λ k. get_or needs k d) same ∙ sym (get_or_default needs n need d less) ∙ sym is in
+    let here : get_or needs i d ≡ need = ap (λ k. get_or needs k d) same ∙ get_or_default needs n d last less in
     ap (λ (x : Need). (caller_now b).readings x.gauge) here
     ∙ ap (λ (f : ℕ → Option ℕ). f need.gauge) now
     ∙ put_here readings need.gauge (Some value)

@@ -1,5 +1,5 @@
 -- An operation from its opening to its end, or until it waits.
-use Rattle.std.proofs.Common.{◌≡◌, ◌∙◌, ℕ, ◌+◌, List, [], ◌∷◌, ◌++◌, ap, refl, subst, sym}
+use Rattle.std.proofs.Common.{◌≡◌, ◌∙◌, ◌+◌, List, [], ◌∷◌, ◌++◌, ap, refl, subst, sym}
 use Rattle.opcond.specs.Operation.{Operation}
 use Rattle.room_core.specs.declared.parts.Stage.{Stage}
 use Rattle.room_core.specs.declared.parts.Taken.{Taken}
@@ -11,10 +11,10 @@ use Rattle.purgatory.specs.declared.outcome.Done.{Done}
 use Rattle.purgatory.specs.declared.outcome.Registered.{Registered}
 use Rattle.purgatory.specs.Going.{GoesOn}
 use Rattle.purgatory.specs.Listed.{Describes, Ends, HasChecked, IsDescribed, IsOpened, Keeps, Leaves}
-use Rattle.purgatory.specs.Polled.{HasTaken, item_of, took, won_at}
-use Rattle.purgatory.specs.Registered.{HasEnded, HasParked, HasRegistered, have_read}
+use Rattle.purgatory.specs.Polled.{item_of, won_at}
+use Rattle.purgatory.specs.Registered.{HasRegistered, have_read}
 use Rattle.purgatory.proofs.Describing.{operation_is}
-use Rattle.purgatory.proofs.Goes.{goes_by, goes_far, keeps_far}
+use Rattle.purgatory.proofs.Goes.{goes_by, goes_far}
 use Rattle.purgatory.proofs.Words.{takes, took_owed}
 
 pub opened : (op : Operation) (old a b : CallerView) → Describes old a → IsDescribed op (caller_now a).description → b ≡ caller_did a CallerStep.Opened → IsOpened op old b

@@ -1,5 +1,6 @@
 -- A pass's own session word.
-use Rattle.std.proofs.Common.{◌≡◌, ◌≢◌, ◌∙◌, ℕ, ◌+◌, ◌*◌, ◌^◌, ◌<◌, [], ◌∷◌, ◌++◌, Option, Some, None, ap, refl, subst, sym, arith}
+use Rattle.std.proofs.Common.{inl, inr, ◌≡◌, ◌≢◌, ◌∙◌, ℕ, ◌+◌, ◌*◌, ◌^◌, ◌<◌, Option, Some, None, ap, refl, subst, sym, arith}
+use Rattle.std.specs.Prelude.{IfNone, IfSome}
 use Rattle.room_core.specs.declared.event.How.{How}
 use Rattle.room_core.specs.declared.event.How.TheVariants.{Expired, Satisfied}
 use Rattle.room_core.specs.declared.parts.Phase.{Phase}
@@ -14,7 +15,10 @@ use Rattle.room_table.specs.Seats.{CallerView, caller_did, caller_now}
 use Rattle.room_table.specs.Tells.{IsOwnWord, IsSessionWord}
 use Rattle.room_scans.specs.Listing.{open_at}
 use Rattle.purgatory.specs.declared.outcome.Done.{Done}
-use Rattle.purgatory.specs.Polled.{HasPolled, HasTaken, found_open, item_of, took, won_at}
+use Rattle.purgatory.specs.Going.{IsAtRest}
+use Rattle.purgatory.specs.Listed.{Keeps}
+use Rattle.purgatory.specs.Polled.{HasPolled, HasTaken, found_open, took, won_at}
+use Rattle.purgatory.proofs.Goes.{keeps_by}
 
 phase_small : (phase : Phase) → phase_number phase < 4
 phase_small Phase.Idle = omega arith
@@ -50,10 +54,16 @@ pub open_stage : (a b : CallerView) → b ≡ found_open a → (caller_now b).st
 unfolding peeked
 open_stage a b e = ap (λ (v : CallerView). (caller_now v).stage) e
 
--- one that finds it won is over
-pub won_over : (a b : CallerView) (done : Done) → b ≡ caller_did a (CallerStep.Peeked (won_at (caller_now a).generation done)) → IsOver (caller_now b).stage
+pub stays_open : (a b : CallerView) → b ≡ found_open a → Keeps a b
+stays_open a b e = keeps_by a b (CallerStep.Peeked (open_at (caller_now a).generation)) (record { generation = refl; description = refl; owed = refl; taken = refl }) e
+
+over_by : (stage : Stage) (phase : Phase) (how : How) (by : ℕ) → phase ≡ Won how by → IsOver (peeked phase stage)
 unfolding peeked
-won_over a b done e = subst (λ (v : CallerView). IsOver (caller_now v).stage) (sym e) tt
+over_by stage phase how by e = subst (λ (p : Phase). IsOver (peeked p stage)) (sym e) tt
+
+-- one that finds it won is over
+pub won_over : (a b : CallerView) (found : Session) (how : How) (by : ℕ) → b ≡ caller_did a (CallerStep.Peeked found) → found.phase ≡ Won how by → IsOver (caller_now b).stage
+won_over a b found how by e won = subst (λ (v : CallerView). IsOver (caller_now v).stage) (sym e) (over_by (caller_now a).stage found.phase how by won)
 
 -- and takes that
 pub takes : (a b : CallerView) (done : Done) → b ≡ took a done → HasTaken (caller_now a).generation done (caller_now a) (caller_now b)
@@ -66,3 +76,16 @@ takes a b done e = record {
 
 pub took_owed : (a b : CallerView) (done : Done) → b ≡ took a done → (caller_now b).owed ≡ (caller_now a).owed
 took_owed a b done e = ap (λ (v : CallerView). (caller_now v).owed) e
+
+-- after a look at its operation a pass is at rest
+pub rests : (result : Option Done) (a b : CallerView) → HasPolled result a b → (caller_now a).stage ≡ Stage.Waiting → IsAtRest (caller_now b).stage
+rests None a b h waits = inr (open_stage a b h ∙ waits)
+rests (Some done) a b h waits = inl (takes a b done h).idle
+
+pub waits_still : (result : Option Done) (a b : CallerView) → HasPolled result a b → (caller_now a).stage ≡ Stage.Waiting → IfNone result ((caller_now b).stage ≡ Stage.Waiting)
+waits_still None a b h waits = open_stage a b h ∙ waits
+waits_still (Some done) a b h waits = tt
+
+pub has_taken : (result : Option Done) (a b : CallerView) → HasPolled result a b → IfSome result (λ (done : Done). HasTaken (caller_now a).generation done (caller_now a) (caller_now b))
+has_taken None a b h = tt
+has_taken (Some done) a b h = takes a b done h

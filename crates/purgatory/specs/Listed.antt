@@ -1,8 +1,10 @@
 -- An operation that a pass describes, opens, sees listed, and checks.
-use Rattle.std.specs.Prelude.{◌≡◌, ℕ, ◌+◌, ◌<◌, true, false, List, Some, length, slice_index_or}
+use Rattle.std.specs.Prelude.{◌≡◌, ℕ, ◌+◌, ◌<◌, true, false, List, Some, All, length, slice_index_or}
 use Rattle.opcond.specs.declared.need.Need.{Need}
 use Rattle.opcond.specs.Operation.{Operation}
-use Rattle.opcond.specs.Tally.{IsSatisfied}
+use Rattle.opcond.specs.Tally.{IsOverdue, IsSatisfied}
+use Rattle.room_core.specs.declared.event.How.{How}
+use Rattle.room_core.specs.declared.event.How.TheVariants.{Expired, Satisfied}
 use Rattle.room_core.specs.declared.parts.Stage.{Stage}
 use Rattle.room_core.specs.Description.{need_of}
 use Rattle.room_core.specs.Gauges.{clock_of}
@@ -92,6 +94,19 @@ pub record HasReadAll (needs : List Need) (values : List ℕ) (old new : CallerV
   pub read : new ≡ have_read old needs values
   pub each : length values ≡ length needs
   pub taken : AreTaken needs values (length needs) (caller_now new)
+
+-- it has read them and then the clock, at this moment
+pub record HasReadings (op : Operation) (values : List ℕ) (moment : ℕ) (old new : CallerView) : Type 0 where
+  pub last : CallerView
+  pub described : IsDescribed op (caller_now old).description
+  pub before_clock : All (λ (need : Need). need.gauge < clock_of last.table.shape) op.needs
+  pub needs : HasReadAll op.needs values old last
+  pub clock : new ≡ caller_did last (CallerStep.Left (clock_of last.table.shape) moment)
+
+-- how an operation can be answered at these values and this moment
+abbrev pub IsEarned : How → Operation → List ℕ → ℕ → Type 0
+IsEarned Satisfied op values moment = IsSatisfied op values
+IsEarned Expired op values moment = IsOverdue op moment
 
 -- it has read them and the clock, and left the operation, which isn't answerable
 pub record Leaves (op : Operation) (old new : CallerView) : Type 0 where

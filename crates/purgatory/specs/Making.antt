@@ -1,7 +1,7 @@
 -- The seats with which a room is made.
 use Rattle.std.specs.Prelude.{◌≡◌, ℕ, ◌+◌, ◌<◌, List, [], ◌∷◌, map, ⊤}
 use Rattle.room_core.specs.declared.shape.Shape.{Shape}
-use Rattle.room_core.specs.Gauges.{IsGauge, IsPass}
+use Rattle.room_core.specs.Gauges.{IsGauge, IsPass, IsShape}
 use Rattle.room_table.specs.Seats.{CallerView, ScanView, SourceView}
 use Rattle.room_scans.specs.Desks.{desk_name}
 
@@ -20,8 +20,8 @@ pub record IsFreshSource (gauge : ℕ) (seat : SourceView) : Type 0 where
 pub record IsFreshCaller (shape : Shape) (pass : ℕ) (seat : CallerView) : Type 0 where
   pub number : seat.pass ≡ pass
   pub shape_is : shape ≡ seat.table.shape
+  pub is_shape : IsShape shape
   pub there : IsPass shape pass
-  pub few : shape.passes < 81
   pub fresh : seat.steps ≡ []
 
 pub record IsFreshScanner (shape : Shape) (k : ℕ) (seat : ScanView) : Type 0 where

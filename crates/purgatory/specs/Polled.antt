@@ -31,7 +31,7 @@ abbrev pub item_of : ℕ → Done → Taken
 item_of generation done = record { generation = generation; how = done.how; by = done.by }
 
 -- The pass is idle, and has taken one item more: how its operation of this generation ended, and by whom.
-pub record HasTaken (generation : ℕ) (done : Done) (old new : Caller) : Type 0 where
+pub record HasTaken (at : ℕ) (done : Done) (old new : Caller) : Type 0 where
   pub idle : new.stage ≡ Stage.Idle
-  pub generation : new.generation ≡ generation
-  pub taken : new.taken ≡ old.taken ++ item_of generation done ∷ []
+  pub generation : new.generation ≡ at
+  pub taken : new.taken ≡ old.taken ++ item_of at done ∷ []

@@ -82,11 +82,7 @@ fn scanned(
 }
 
 // The clock's desk has scanned the clock, in this turn.
-fn clock_scanned(
-    rt: &impl Wait,
-    mut turn: Turn<ClockDesk>,
-    table: &RoomTable,
-) -> Turn<ClockDesk>
+fn clock_scanned(rt: &impl Wait, mut turn: Turn<ClockDesk>, table: &RoomTable) -> Turn<ClockDesk>
     requires { turn.value.seat.table ≡ table.now }
     ensures turn { (result.from ≡ turn.from) × (result.ticket ≡ turn.ticket) }
     ensures scanned { HasScanned (clock_of table.now.shape) turn.value.seat result.value.seat }

@@ -5,7 +5,7 @@ ghost use Rattle.room_core.specs.declared.parts.Session.{Session as SessionWord}
 ghost use Rattle.room_core.specs.declared.parts.Stage.TheVariants.{Checking, Idle, Listing};
 ghost use Rattle.room_core.specs.Checks.{AreRead, IsRead, IsWon};
 ghost use Rattle.room_core.specs.Description.{IsMark, IsOperation};
-ghost use Rattle.room_core.specs.Gauges.{IsGauge, IsPass, clock_of};
+ghost use Rattle.room_core.specs.Gauges.{IsGauge, IsPass, IsShape, clock_of};
 ghost use Rattle.room_core.specs.Numbers.{clock_mark, description_words};
 ghost use Rattle.room_table.specs.declared.part.CallerStep.TheVariants.{Asked, Described, Left, Opened, Read, SawMark, Won};
 ghost use Rattle.room_table.specs.Seats.{caller_did, caller_now};
@@ -49,7 +49,7 @@ impl Owner {
         shape: Shape,
         number: u32,
     ) -> Result<Owner, NoMemory>
-        requires shape { shape ≡ seat.table.shape }
+        requires shape { (shape ≡ seat.table.shape) × IsShape shape }
         requires number { (number ≡ seat.pass) × IsPass shape number }
         requires fresh { seat.steps ≡ [] }
         ensures { IfOk result (λ owner. owner ≡ seat) }

@@ -1,12 +1,14 @@
 //! An operation is registered: described, opened, listed under each of its gauges and under the clock, and checked once more.
 ghost use Rattle.std.specs.Prelude.{◌≡◌, ◌-◌, ◌*◌, ◌+◌, ◌^◌, ◌<◌, ◌≤◌, ◌≢◌, false, All, AllPairs, IfNone, IfSome, length, take};
+ghost use Rattle.opcond.specs.Operation.{IsValid};
+ghost use Rattle.opcond.specs.Tally.{IsSatisfied};
 ghost use Rattle.room_core.specs.declared.parts.Stage.TheVariants.{Checking, Idle, Listing};
 ghost use Rattle.room_core.specs.Description.{IsOperation, needs_of};
 ghost use Rattle.room_core.specs.Gauges.{IsGauge, clock_of};
 ghost use Rattle.room_core.specs.Numbers.{clock_mark, most_needs};
 ghost use Rattle.room_table.specs.Seats.{caller_now};
 ghost use Rattle.purgatory.specs.Going.{GoesOn, OwesNothing};
-ghost use Rattle.purgatory.specs.Listed.{BeginsCheck, Describes, Ends, GoesListing, HasChecked, HasReadAll, HasSeen, HasSeenBelow, IsDescribed, need_described};
+ghost use Rattle.purgatory.specs.Listed.{BeginsCheck, Describes, Ends, GoesListing, HasChecked, HasReadAll, HasReadings, HasSeen, HasSeenBelow, IsDescribed, IsEarned, need_described};
 ghost use Rattle.purgatory.specs.Registered.{HasRegistered};
 ghost use Rattle.purgatory.specs.Rooms.{IsOfRoom};
 
@@ -16,8 +18,23 @@ use crate::owner::Owner;
 use crate::pass::RoomPass;
 use crate::room::Room;
 use opcond::{Need, Op, is_overdue, is_satisfied};
-use room_core::{CLOCK_MARK, How};
+use room_core::{CLOCK_MARK, How, MOST_NEEDS};
 use std::sync::Wait;
+
+// How an operation can be answered at these values and this moment, if it can.
+fn answerable(op: &Op, values: &[u64], moment: u64) -> Option<How>
+    requires { length values.now ≡ length op.now.needs }
+    ensures none { IfNone result ((¬ IsSatisfied op.now values.now) × (moment < op.now.deadline)) }
+    ensures some { IfSome result (λ how. IsEarned how op.now values.now moment) }
+{
+    if is_satisfied(op, values) {
+        return Some(How::Satisfied);
+    }
+    if is_overdue(op, moment) {
+        return Some(How::Expired);
+    }
+    None
+}
 
 impl Room {
     // Writes a need down.
@@ -39,6 +56,7 @@ impl Room {
         requires idle { (caller_now owner.old).stage ≡ Idle }
         ensures describes { Describes owner.old owner.new }
         ensures words { IsDescribed op.now (caller_now owner.new).description }
+        ensures valid { IsValid op.now }
     {
         let needs = op.needs();
         owner.describe(&self.table, 0, op.min());
@@ -69,8 +87,7 @@ impl Room {
     {
         let mark = owner.mark(at);
         for _ in rt.forever() {
-            self.locks
-                .list_need(rt, keys, &self.table, mark, gauge);
+            self.locks.list_need(rt, keys, &self.table, mark, gauge);
             if owner.sees_mark(&self.table, at) {
                 return None;
             }
@@ -82,12 +99,7 @@ impl Room {
     }
 
     // The same under the clock.
-    fn list_deadline(
-        &self,
-        rt: &impl Wait,
-        owner: &mut Owner,
-        keys: &mut Keys,
-    ) -> Option<Done>
+    fn list_deadline(&self, rt: &impl Wait, owner: &mut Owner, keys: &mut Keys) -> Option<Done>
         requires table { owner.old.table ≡ self.now.table }
         requires keys { keys.old ≡ self.now.locks }
         requires generation { 1 ≤ (caller_now owner.old).generation }
@@ -164,6 +176,19 @@ impl Room {
         unreachable!()
     }
 
+    // Reads every gauge, and the clock last, whose value it gives.
+    fn read_all(&self, owner: &mut Owner, op: &Op, values: &mut [u64]) -> u64
+        requires table { owner.old.table ≡ self.now.table }
+        requires checking { (caller_now owner.old).stage ≡ Checking }
+        requires words { IsDescribed op.now (caller_now owner.old).description }
+        requires gauges { All (λ need. need.gauge < clock_of self.now.table.shape) op.now.needs }
+        requires room { length op.now.needs ≤ length values.old }
+        ensures { HasReadings op.now (take (length op.now.needs) values.new) result owner.old owner.new }
+    {
+        self.read_needs(owner, op.needs(), values);
+        owner.leave(&self.table, self.shape.gauges - 1)
+    }
+
     // Reads every gauge and the clock, and leaves the operation where it isn't answerable, or wins it.
     fn check(&self, rt: &impl Wait, owner: &mut Owner, op: &Op) -> Registered
         requires table { owner.old.table ≡ self.now.table }
@@ -172,18 +197,11 @@ impl Room {
         requires gauges { All (λ need. need.gauge < clock_of self.now.table.shape) op.now.needs }
         ensures { HasChecked op.now result owner.old owner.new }
     {
-        let needs = op.needs();
-        let mut values = [0; 64];
-        self.read_needs(owner, needs, &mut values);
-        let moment = owner.leave(&self.table, self.shape.gauges - 1);
-        let satisfied = is_satisfied(op, &values[..needs.len()]);
-        if !satisfied && !is_overdue(op, moment) {
+        let count = op.needs().len();
+        let mut values = [0; MOST_NEEDS as usize];
+        let moment = self.read_all(owner, op, &mut values);
+        let Some(how) = answerable(op, &values[..count], moment) else {
             return Registered::Parked;
-        }
-        let how = if satisfied {
-            How::Satisfied
-        } else {
-            How::Expired
         };
         owner.win(&self.table, how);
         Registered::Won(self.take_end(rt, owner))

@@ -5,6 +5,6 @@ use Rattle.purgatory.proofs.making.empty_rows.Given as goal
 
 abbrev pub invariant-loop : goal.invariant-loop
 invariant-loop l = record {
-  count : length l.rows ≡ l.index;
+  count : length l.rows ≡ l.counter;
   each : All (IsKeyring []) l.rows;
 }
