@@ -25,12 +25,16 @@ pub record IsParked (room : RoomView) (opened : ℕ) (pass : PassView) : Type 0 
   pub paid : OwesNothing (caller_now pass.seat)
   pub few : (caller_now pass.seat).generation ≤ opened
 
--- a pass that owes nothing, whose operation waits or that has none, and that has opened no more than so many
+-- whether its operation waits, or it has none
+abbrev pub stage_if : Bool → Stage
+stage_if true = Stage.Waiting
+stage_if false = Stage.Idle
+
+-- a pass that owes nothing and is at that stage, and that has opened no more than so many
 pub record IsInHand (waits : Bool) (opened : ℕ) (pass : PassView) : Type 0 where
   pub paid : OwesNothing (caller_now pass.seat)
   pub few : (caller_now pass.seat).generation ≤ opened
-  pub busy : waits ≡ true → (caller_now pass.seat).stage ≡ Stage.Waiting
-  pub free : waits ≡ false → (caller_now pass.seat).stage ≡ Stage.Idle
+  pub stage : (caller_now pass.seat).stage ≡ stage_if waits
 
 -- passes and sources
 pub record CrewView : Type 0 where

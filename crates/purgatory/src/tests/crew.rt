@@ -54,6 +54,18 @@ impl Model for Tap {
     ghost invariant = { λ t. (source_now t.source).stored ≤ t.stored };
 }
 
+// The value of a gauge, and 0 of one that isn't there.
+fn read(room: &Room, pass: &mut RoomPass, gauge: u32) -> u64
+    requires made { IsOfRoom room.now pass.old }
+    ensures made { IsOfRoom room.now pass.new }
+    ensures kept { HasOnlyRead (caller_now pass.old.seat) (caller_now pass.new.seat) }
+{
+    if gauge >= room.shape.gauges {
+        return 0;
+    }
+    room.gauge(pass, gauge)
+}
+
 // Whether an operation is satisfied, and whether it is overdue, by what the gauges are now.
 fn stands(room: &Room, pass: &mut RoomPass, op: &Op) -> (bool, bool)
     requires made { IsOfRoom room.now pass.old }
@@ -63,15 +75,11 @@ fn stands(room: &Room, pass: &mut RoomPass, op: &Op) -> (bool, bool)
     let needs = op.needs();
     let mut values = [0; 64];
     for i in 0..needs.len() {
-        if needs[i].gauge < room.shape.gauges {
-            values[i] = room.gauge(pass, needs[i].gauge);
-        }
+        values[i] = read(room, pass, needs[i].gauge);
     }
-    let moment = room.gauge(pass, room.shape.gauges - 1);
-    (
-        is_satisfied(op, &values[..needs.len()]),
-        is_overdue(op, moment),
-    )
+    let moment = read(room, pass, room.shape.gauges - 1);
+    let satisfied = is_satisfied(op, &values[..needs.len()]);
+    (satisfied, is_overdue(op, moment))
 }
 
 // Whether all needs are of the room's gauges before the clock.
@@ -103,10 +111,12 @@ impl Hand {
             return None;
         }
         self.opened += 1;
-        let registered = room.register(rt, &mut self.pass, &op);
-        self.waits = matches!(registered, Registered::Parked);
         self.op = op;
-        Some(registered)
+        let Registered::Won(done) = room.register(rt, &mut self.pass, &self.op) else {
+            self.waits = true;
+            return Some(Registered::Parked);
+        };
+        Some(Registered::Won(done))
     }
 
     // How the operation ended that waited.
@@ -117,9 +127,9 @@ impl Hand {
         if !self.waits {
             return None;
         }
-        let done = room.poll(&mut self.pass);
-        self.waits = done.is_none();
-        done
+        let done = room.poll(&mut self.pass)?;
+        self.waits = false;
+        Some(done)
     }
 
     // Whether its last operation may have ended so, by what the gauges are now.
@@ -139,10 +149,7 @@ impl Hand {
         requires made { IsOfRoom room.now self.old }
         ensures made { IsOfRoom room.now self.new }
     {
-        if gauge >= room.shape.gauges {
-            return 0;
-        }
-        room.gauge(&mut self.pass, gauge)
+        read(room, &mut self.pass, gauge)
     }
 }
 
@@ -258,19 +265,19 @@ pub(super) fn halves(
 fn hand_halves(
     alloc: Global,
     room: &Room,
-    hands: Vec<Hand>,
+    mut hands: Vec<Hand>,
 ) -> Result<(Vec<Hand>, Vec<Hand>), NoMemory>
     requires { All (IsOfRoom room.now) hands.items }
     ensures { IfOk result (λ both. All (IsOfRoom room.now) both.0.items × All (IsOfRoom room.now) both.1.items) }
 {
     let mut some = Vec::new(alloc);
     let mut others = Vec::new(alloc);
-    for hand in hands {
-        if some.len() <= others.len() {
-            some.push(hand)?;
-        } else {
-            others.push(hand)?;
-        }
+    while let Some(hand) = hands.pop() {
+        some.push(hand)?;
+        let Some(hand) = hands.pop() else {
+            break;
+        };
+        others.push(hand)?;
     }
     Ok((some, others))
 }
@@ -278,19 +285,19 @@ fn hand_halves(
 fn tap_halves(
     alloc: Global,
     room: &Room,
-    taps: Vec<Tap>,
+    mut taps: Vec<Tap>,
 ) -> Result<(Vec<Tap>, Vec<Tap>), NoMemory>
     requires { All (IsSourceOf room.now) taps.items }
     ensures { IfOk result (λ both. All (IsSourceOf room.now) both.0.items × All (IsSourceOf room.now) both.1.items) }
 {
     let mut some = Vec::new(alloc);
     let mut others = Vec::new(alloc);
-    for tap in taps {
-        if some.len() <= others.len() {
-            some.push(tap)?;
-        } else {
-            others.push(tap)?;
-        }
+    while let Some(tap) = taps.pop() {
+        some.push(tap)?;
+        let Some(tap) = taps.pop() else {
+            break;
+        };
+        others.push(tap)?;
     }
     Ok((some, others))
 }

@@ -90,7 +90,7 @@ fn runs(rt: &(impl Wait + Clock), alloc: Global, room: &Room, mut crew: Crew) ->
         return crew;
     };
     let mut draws = Draws {
-        state: 88_172_645_463_325_252 + crew.size() as u64,
+        state: 88_172_645_463_325_252 ^ (crew.size() as u64),
     };
     for _ in 0..MOST_ROUNDS {
         if !start.elapsed(rt).is_ok_and(|time| time < Duration::from_secs(2)) {

@@ -76,7 +76,7 @@ fn registers(
 // What became of the operations, and whether one was forgotten.
 fn race<R: Threads + Wait + Clock + Sync>(rt: &R, alloc: Global) -> Result<(Counts, bool), NoMemory> {
     let (room, crew) = start(alloc, 2, 2)?;
-    let (one, mut other) = halves(alloc, &room, crew)?;
+    let (mut other, one) = halves(alloc, &room, crew)?;
     let done = AtomicBool::new(false);
     let ((), mut other) = join(
         rt,
