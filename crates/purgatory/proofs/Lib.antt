@@ -24,3 +24,5 @@ pub mod Runs
 pub mod Ready
 -- the passes of the locks, as they are dealt out
 pub mod Rings
+-- passes and sources of a test by their places
+pub mod Crews

@@ -1,8 +1,8 @@
 -- Sources and passes of an example or a test, between two calls.
-use Rattle.std.proofs.Common.{◌≡◌, ◌∙◌, ℕ, ◌+◌, ◌≤◌, List, [], ◌∷◌, ◌++◌, Option, Some, map, ap, refl, sym, subst, arith}
+use Rattle.std.proofs.Common.{◌≡◌, ◌∙◌, ℕ, ◌+◌, ◌≤◌, List, ◌++◌, Option, get_or, map, ap, refl, sym, subst, arith}
 use Rattle.std.specs.Prelude.{All, Bool, IfSome, option_to_list, true, false}
 use Rattle.std.specs.List.{range_with_len}
-use Rattle.std.proofs.lemmas.List.Elements.{All-pop}
+use Rattle.std.proofs.lemmas.List.Elements.{All-map, All-pop}
 use Rattle.opcond.specs.Operation.{Operation}
 use Rattle.room_core.specs.Passes.{peeked}
 use Rattle.room_core.specs.State.{Caller}
@@ -20,24 +20,22 @@ use Rattle.purgatory.specs.Rooms.{IsOfRoom, PassView, RoomView, fresh_passes, wi
 use Rattle.purgatory.proofs.Words.{open_stage, took_owed}
 
 -- what a room is made with
-unraised : (room : RoomView) (gauges : List ℕ) → All (IsUnraised room) (map (fresh_source room.table) gauges)
-unraised room [] = tt
-unraised room (gauge ∷ gauges) = (record { made = refl; fresh = refl }, unraised room gauges)
-
 pub sources_unraised : (room : RoomView) → All (IsUnraised room) (fresh_sources room.table)
-sources_unraised room = unraised room (range_with_len 0 room.table.shape.gauges)
+sources_unraised room = All-map (IsUnraised room) (fresh_source room.table) (range_with_len 0 room.table.shape.gauges) (λ k d less. record { made = refl; fresh = refl })
 
-ready : (room : RoomView) (passes : List ℕ) → All (IsReady room 0) (map (with_locks room.locks) (map (fresh_caller room.table) passes))
-ready room [] = tt
-ready room (pass ∷ passes) = (record {
+is_ready : (room : RoomView) (pass : ℕ) → IsReady room 0 (with_locks room.locks (fresh_caller room.table pass))
+is_ready room pass = record {
   made = record { table = refl; locks = refl };
   idle = refl;
   paid = λ gauge. refl;
   few = omega arith;
-}, ready room passes)
+}
 
 pub passes_ready : (room : RoomView) → All (IsReady room 0) (fresh_passes room)
-passes_ready room = ready room (range_with_len 0 room.table.shape.passes)
+passes_ready room =
+    let numbers = range_with_len 0 room.table.shape.passes in
+    All-map (IsReady room 0) (with_locks room.locks) (map (fresh_caller room.table) numbers)
+    (All-map (λ (seat : CallerView). IsReady room 0 (with_locks room.locks seat)) (fresh_caller room.table) numbers (λ k d less. is_ready room (get_or numbers k d)))
 
 open_generation : (a b : CallerView) → b ≡ found_open a → (caller_now b).generation ≡ (caller_now a).generation
 unfolding peeked
@@ -67,8 +65,8 @@ took_end room n a b done p made e taken = record {
 }
 
 -- a source that nobody raised has stored nothing
-pub at_zero : (room : RoomView) (source : SourceView) → IsUnraised room source → (source_now source).stored ≡ 0
-at_zero room source u = ap (λ (steps : List SourceStep). (source_of steps).stored) u.fresh
+pub at_zero : (source : SourceView) → source.steps ≡ [] → (source_now source).stored ≡ 0
+at_zero source fresh = ap (λ (steps : List SourceStep). (source_of steps).stored) fresh
 
 -- a pass that registers
 pub parks : (room : RoomView) (n : ℕ) (op : Operation) (a b : PassView) → (caller_now a.seat).generation ≤ n → IsOfRoom room b → OwesNothing (caller_now b.seat) → HasParked op a.seat b.seat → IsParked room (n + 1) b

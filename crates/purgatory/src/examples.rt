@@ -40,6 +40,7 @@ const LOOKS: u32 = 2_000;
 //
 // `raise` stores the new number. The pass then owes a look at who waits for it, and `settle` pays that: when it returns, each order that
 // is satisfied so is won. What was raised in a row can be settled together.
+#[tactic(auto, using(crate::proofs::Ready::at_zero))]
 fn deliver(
     rt: &(impl Wait + Clock),
     room: &Room,
@@ -60,6 +61,7 @@ fn deliver(
 
 // Lets time pass. The clock is raised as any other gauge, and in whatever unit the deadlines are. Nothing expires by itself: an order
 // does when somebody has raised the clock to its deadline, and settles.
+#[tactic(auto, using(crate::proofs::Ready::at_zero))]
 fn let_time_pass(rt: &(impl Wait + Clock), room: &Room, mut clock: Source, mut pass: RoomPass)
     requires clock { IsUnraised room.now clock }
     requires pass { IsReady room.now 0 pass }
@@ -170,6 +172,30 @@ pub(crate) fn make_shop(alloc: Global) -> Result<Shop, NoMemory>
     })
 }
 
+// Two of the threads.
+fn order_while_time_passes<R: Threads + Wait + Clock + Sync>(
+    rt: &R,
+    alloc: Global,
+    room: &Room,
+    clock: Source,
+    one: RoomPass,
+    other: RoomPass,
+) -> Option<(Done, Done)>
+    requires shape { room.now.table.shape ≡ room_shape 3 3 }
+    requires clock { IsUnraised room.now clock }
+    requires passes { IsReady room.now 0 one × IsReady room.now 0 other }
+{
+    let ((), ended) = join(
+        rt,
+        || requires { IsSync R.row × IsUnraised room.now clock × IsReady room.now 0 one }
+        { let_time_pass(rt, room, clock, one) },
+        || -> Option<(Done, Done)>
+            requires { IsSync R.row × (room.now.table.shape ≡ room_shape 3 3) × IsReady room.now 0 other }
+        { place_both(rt, alloc, room, other) },
+    );
+    ended
+}
+
 // The three threads. They share the room, and each has a pass of its own.
 fn run<R: Threads + Wait + Clock + Sync>(rt: &R, alloc: Global) -> Option<(Done, Done)> {
     let Shop {
@@ -180,14 +206,13 @@ fn run<R: Threads + Wait + Clock + Sync>(rt: &R, alloc: Global) -> Option<(Done,
         passes,
     } = make_shop(alloc).ok()?;
     let (one, other, last) = passes;
-    let (_, (_, ended)) = join(
+    let ((), ended) = join(
         rt,
-        || { deliver(rt, &room, first, second, one) },
-        || join(
-            rt,
-            || { let_time_pass(rt, &room, clock, other) },
-            || -> Option<(Done, Done)> { place_both(rt, alloc, &room, last) },
-        ),
+        || requires { IsSync R.row × IsUnraised room first × IsUnraised room second × IsReady room 0 one }
+        { deliver(rt, &room, first, second, one) },
+        || -> Option<(Done, Done)>
+            requires { IsSync R.row × (room.table.shape ≡ room_shape 3 3) × IsUnraised room clock × IsReady room 0 other × IsReady room 0 last }
+        { order_while_time_passes(rt, alloc, &room, clock, other, last) },
     );
     ended
 }

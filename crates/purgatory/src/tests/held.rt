@@ -68,11 +68,12 @@ fn looks(rt: &impl Clock, room: &Room, pass: &mut RoomPass) -> u32
     let mut looks = 0;
     for _ in 0..TRIES {
         let value = room.gauge(pass, 0);
-        if room.poll(pass).is_some() || looks == 20 {
+        let None = room.poll(pass) else {
             return looks;
-        }
-        if value == 1 {
-            looks += 1;
+        };
+        looks = looks.saturating_add(u32::from(value == 1));
+        if looks == 20 {
+            return looks;
         }
         thread::sleep(rt, Duration::from_millis(1));
     }
@@ -141,8 +142,11 @@ fn hold_and_look<R: Threads + Wait + Clock + Sync>(rt: &R, alloc: Global) -> Opt
     };
     let ((), seen) = join(
         rt,
-        || { settles(rt, &room, first, settler, &flags) },
-        || -> Seen { holds(rt, &room, keys, looker, &flags) },
+        || requires { IsSync R.row × IsUnraised room first × IsReady room 0 settler }
+        { settles(rt, &room, first, settler, &flags) },
+        || -> Seen
+            requires { IsSync R.row × (keys ≡ room.locks) × IsParked room 1 looker }
+        { holds(rt, &room, keys, looker, &flags) },
     );
     if !flags.ended.load(Ordering::SeqCst) {
         return None;

@@ -51,12 +51,7 @@ fn registers_one(rt: &impl Wait, alloc: Global, room: &Room, crew: &mut Crew) ->
 }
 
 // It goes on for so many rounds, or so long.
-fn registers(
-    rt: &(impl Wait + Clock),
-    alloc: Global,
-    room: &Room,
-    crew: &mut Crew,
-)
+fn go_on(rt: &(impl Wait + Clock), alloc: Global, room: &Room, crew: &mut Crew)
     requires { IsCrewOf room.now crew.old }
     ensures { IsCrewOf room.now crew.new }
 {
@@ -67,26 +62,46 @@ fn registers(
         let Ok(true) = registers_one(rt, alloc, room, crew) else {
             return;
         };
-        if !start.elapsed(rt).is_ok_and(|time| time < Duration::from_secs(5)) {
+        if !start
+            .elapsed(rt)
+            .is_ok_and(|time| time < Duration::from_secs(5))
+        {
             return;
         }
     }
 }
 
+fn registers(
+    rt: &(impl Wait + Clock),
+    alloc: Global,
+    room: &Room,
+    mut crew: Crew,
+    done: &AtomicBool,
+) -> Crew
+    requires { IsCrewOf room.now crew }
+    ensures { IsCrewOf room.now result }
+{
+    go_on(rt, alloc, room, &mut crew);
+    done.store(true, Ordering::SeqCst);
+    crew
+}
+
 // What became of the operations, and whether one was forgotten.
-fn race<R: Threads + Wait + Clock + Sync>(rt: &R, alloc: Global) -> Result<(Counts, bool), NoMemory> {
+fn race<R: Threads + Wait + Clock + Sync>(
+    rt: &R,
+    alloc: Global,
+) -> Result<(Counts, bool), NoMemory> {
     let (room, crew) = start(alloc, 2, 2)?;
-    let (mut other, one) = halves(alloc, &room, crew)?;
+    let (other, one) = halves(alloc, &room, crew)?;
     let done = AtomicBool::new(false);
     let ((), mut other) = join(
         rt,
-        || { raises(rt, &room, one, &done) },
+        || requires { IsSync R.row × IsCrewOf room one }
+        { raises(rt, &room, one, &done) },
         || -> Crew
-        {
-            registers(rt, alloc, &room, &mut other);
-            done.store(true, Ordering::SeqCst);
-            other
-        },
+            requires { IsSync R.row × IsCrewOf room other }
+            ensures { IsCrewOf room result }
+        { registers(rt, alloc, &room, other, &done) },
     );
     other.look(&room, 0);
     let forgotten = other.forgets(&room, 0);
