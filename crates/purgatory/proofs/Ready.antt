@@ -1,5 +1,5 @@
 -- Sources and passes of an example or a test, between two calls.
-use Rattle.std.proofs.Common.{◌≡◌, ◌∙◌, ℕ, ◌+◌, ◌≤◌, List, ◌++◌, Option, get_or, map, ap, refl, sym, subst, arith}
+use Rattle.std.proofs.Common.{◌≡◌, ◌∙◌, ℕ, ◌+◌, ◌≤◌, List, [], ◌++◌, Option, Some, get_or, map, ap, refl, sym, subst, arith}
 use Rattle.std.specs.Prelude.{All, Bool, IfSome, option_to_list, true, false}
 use Rattle.std.specs.List.{range_with_len}
 use Rattle.std.proofs.lemmas.List.Elements.{All-map, All-pop}

@@ -231,75 +231,33 @@ pub(super) fn start(alloc: Global, gauges: u32, passes: u32) -> Result<(Room, Cr
     Ok((room, Crew { hands, taps, counts }))
 }
 
-// Every second pass and source, and the others.
-pub(super) fn halves(
-    alloc: Global,
-    room: &Room,
-    crew: Crew,
-) -> Result<(Crew, Crew), NoMemory>
+// The first half of the passes and sources, and the others.
+pub(super) fn halves(room: &Room, crew: Crew) -> Result<(Crew, Crew), NoMemory>
     requires { IsCrewOf room.now crew }
     ensures { IfOk result (λ both. IsCrewOf room.now both.0 × IsCrewOf room.now both.1) }
 {
     let Crew {
-        hands,
-        taps,
-        counts: _,
+        mut hands,
+        mut taps,
+        counts,
     } = crew;
-    let (some, others) = hand_halves(alloc, room, hands)?;
-    let (sources, rest) = tap_halves(alloc, room, taps)?;
-    let counts = NOTHING;
+    let half = hands.len() / 2;
+    let others = hands.split_off(half)?;
+    let middle = taps.len() / 2;
+    let rest = taps.split_off(middle)?;
+    let other = Crew {
+        hands: others,
+        taps: rest,
+        counts: NOTHING,
+    };
     Ok((
         Crew {
-            hands: some,
-            taps: sources,
+            hands,
+            taps,
             counts,
         },
-        Crew {
-            hands: others,
-            taps: rest,
-            counts,
-        },
+        other,
     ))
-}
-
-fn hand_halves(
-    alloc: Global,
-    room: &Room,
-    mut hands: Vec<Hand>,
-) -> Result<(Vec<Hand>, Vec<Hand>), NoMemory>
-    requires { All (IsOfRoom room.now) hands.items }
-    ensures { IfOk result (λ both. All (IsOfRoom room.now) both.0.items × All (IsOfRoom room.now) both.1.items) }
-{
-    let mut some = Vec::new(alloc);
-    let mut others = Vec::new(alloc);
-    while let Some(hand) = hands.pop() {
-        some.push(hand)?;
-        let Some(hand) = hands.pop() else {
-            break;
-        };
-        others.push(hand)?;
-    }
-    Ok((some, others))
-}
-
-fn tap_halves(
-    alloc: Global,
-    room: &Room,
-    mut taps: Vec<Tap>,
-) -> Result<(Vec<Tap>, Vec<Tap>), NoMemory>
-    requires { All (IsSourceOf room.now) taps.items }
-    ensures { IfOk result (λ both. All (IsSourceOf room.now) both.0.items × All (IsSourceOf room.now) both.1.items) }
-{
-    let mut some = Vec::new(alloc);
-    let mut others = Vec::new(alloc);
-    while let Some(tap) = taps.pop() {
-        some.push(tap)?;
-        let Some(tap) = taps.pop() else {
-            break;
-        };
-        others.push(tap)?;
-    }
-    Ok((some, others))
 }
 
 impl Crew {
@@ -321,9 +279,10 @@ impl Crew {
         requires { IsCrewOf room.now self.old }
         ensures { IsCrewOf room.now self.new }
     {
-        if hand < self.hands.len() && tap < self.taps.len() {
-            self.hands[hand].raise(rt, room, &mut self.taps[tap], value);
+        if hand >= self.hands.len() || tap >= self.taps.len() {
+            return;
         }
+        self.hands[hand].raise(rt, room, &mut self.taps[tap], value);
     }
 
     // A pass raises the gauge of one of so many sources by so much, and settles.

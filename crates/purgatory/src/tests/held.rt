@@ -1,12 +1,13 @@
 //! Who waits for nobody: a pass looks while another is held inside `settle`, since the lock that it needs is taken.
-ghost use Rattle.std.specs.Prelude.{◌≡◌, IfOk, IfSome};
+ghost use Rattle.std.specs.Prelude.{◌≡◌, IfSome};
 ghost use Rattle.std.specs.Thread.{IsSync};
 ghost use Rattle.turn_lock.specs.Locks.{IsPassOf, IsReady as HasNoTurn};
 ghost use Rattle.purgatory.specs.Ready.{IsParked, IsReady, IsUnraised};
+ghost use Rattle.purgatory.specs.Rooms.{room_shape};
 ghost use Rattle.purgatory.specs.Turning.{shard_name};
 
 use crate::examples::{Shop, make_shop, order};
-use crate::locks::Keys;
+use crate::locks::{Keys, Locks};
 use crate::outcome::Registered;
 use crate::pass::RoomPass;
 use crate::room::Room;
@@ -63,7 +64,8 @@ fn settles(
 
 // Reads the gauge and polls, until it has done so twenty times with the new value.
 fn looks(rt: &impl Clock, room: &Room, pass: &mut RoomPass) -> u32
-    requires { IsParked room.now 1 pass.old }
+    requires shape { room.now.table.shape ≡ room_shape 3 3 }
+    requires pass { IsParked room.now 1 pass.old }
 {
     let mut looks = 0;
     for _ in 0..TRIES {
@@ -90,6 +92,7 @@ fn looks_in_turn(
     flags: &Flags,
 ) -> Seen
     requires key { IsPassOf shard_name lock.now key.old × HasNoTurn key.old }
+    requires shape { room.now.table.shape ≡ room_shape 3 3 }
     requires pass { IsParked room.now 1 pass.old }
     ensures { IsPassOf shard_name lock.now key.new × HasNoTurn key.new }
 {
@@ -102,51 +105,68 @@ fn looks_in_turn(
 }
 
 // The lock is that of the first warehouse's gauge.
-fn holds(
+fn holds_first(
     rt: &(impl Wait + Clock),
     room: &Room,
+    locks: &Locks,
     mut keys: Keys,
-    mut pass: RoomPass,
+    pass: &mut RoomPass,
     flags: &Flags,
 ) -> Seen
-    requires keys { keys ≡ room.now.locks }
-    requires pass { IsParked room.now 1 pass }
+    requires keys { keys ≡ locks.now }
+    requires shape { room.now.table.shape ≡ room_shape 3 3 }
+    requires pass { IsParked room.now 1 pass.old }
 {
     looks_in_turn(
         rt,
         room,
-        &room.locks.shards[0],
+        &locks.shards[0],
         &mut keys.shards[0],
-        &mut pass,
+        pass,
         flags,
     )
 }
 
-fn hold_and_look<R: Threads + Wait + Clock + Sync>(rt: &R, alloc: Global) -> Option<Seen> {
-    let Shop {
-        room,
-        first,
-        second: _,
-        clock: _,
-        passes,
-    } = make_shop(alloc).ok()?;
-    let (holder, settler, mut looker) = passes;
-    let op = order(alloc, 8, 8, 1_000_000).ok()?;
-    let Registered::Parked = room.register(rt, &mut looker, &op) else {
-        return None;
-    };
-    let RoomPass { owner: _, keys } = holder;
+fn holds(
+    rt: &(impl Wait + Clock),
+    room: &Room,
+    keys: Keys,
+    mut pass: RoomPass,
+    flags: &Flags,
+) -> Seen
+    requires keys { keys ≡ room.now.locks }
+    requires shape { room.now.table.shape ≡ room_shape 3 3 }
+    requires pass { IsParked room.now 1 pass }
+{
+    holds_first(rt, room, &room.locks, keys, &mut pass, flags)
+}
+
+// Both threads.
+fn hold_and_look<R: Threads + Wait + Clock + Sync>(
+    rt: &R,
+    room: &Room,
+    source: Source,
+    settler: RoomPass,
+    keys: Keys,
+    looker: RoomPass,
+) -> Option<Seen>
+    requires shape { room.now.table.shape ≡ room_shape 3 3 }
+    requires source { IsUnraised room.now source }
+    requires settler { IsReady room.now 0 settler }
+    requires keys { keys ≡ room.now.locks }
+    requires looker { IsParked room.now 1 looker }
+{
     let flags = Flags {
         held: AtomicBool::new(false),
         ended: AtomicBool::new(false),
     };
     let ((), seen) = join(
         rt,
-        || requires { IsSync R.row × IsUnraised room first × IsReady room 0 settler }
-        { settles(rt, &room, first, settler, &flags) },
+        || requires { IsSync R.row × IsUnraised room.now source × IsReady room.now 0 settler }
+        { settles(rt, room, source, settler, &flags) },
         || -> Seen
-            requires { IsSync R.row × (keys ≡ room.locks) × IsParked room 1 looker }
-        { holds(rt, &room, keys, looker, &flags) },
+            requires { IsSync R.row × (keys ≡ room.now.locks) × (room.now.table.shape ≡ room_shape 3 3) × IsParked room.now 1 looker }
+        { holds(rt, room, keys, looker, &flags) },
     );
     if !flags.ended.load(Ordering::SeqCst) {
         return None;
@@ -154,9 +174,45 @@ fn hold_and_look<R: Threads + Wait + Clock + Sync>(rt: &R, alloc: Global) -> Opt
     Some(seen)
 }
 
+// The pass has an order that waits, for more than comes.
+fn parks(rt: &impl Wait, alloc: Global, room: &Room, mut pass: RoomPass) -> Option<RoomPass>
+    requires shape { room.now.table.shape ≡ room_shape 3 3 }
+    requires pass { IsReady room.now 0 pass }
+    ensures { IfSome result (λ pass. IsParked room.now 1 pass) }
+{
+    let op = order(alloc, 8, 8, 1_000_000).ok()?;
+    let Registered::Parked = room.register(rt, &mut pass, &op) else {
+        return None;
+    };
+    Some(pass)
+}
+
+// The locks' passes of a pass.
+fn keys_of(room: &Room, pass: RoomPass) -> Keys
+    requires { IsReady room.now 0 pass }
+    ensures { result ≡ room.now.locks }
+{
+    let RoomPass { owner: _, keys } = pass;
+    keys
+}
+
+fn see<R: Threads + Wait + Clock + Sync>(rt: &R, alloc: Global) -> Option<Seen> {
+    let Shop {
+        room,
+        first,
+        second: _,
+        clock: _,
+        passes,
+    } = make_shop(alloc).ok()?;
+    let (holder, settler, looker) = passes;
+    let looker = parks(rt, alloc, &room, looker)?;
+    let keys = keys_of(&room, holder);
+    hold_and_look(rt, &room, first, settler, keys, looker)
+}
+
 #[test]
 fn poll_and_gauge_wait_for_nobody(rt: HostRuntime) -> Result<(), Fail> {
-    let seen = hold_and_look(&rt, rt.alloc()).ok_or("memory, and both ended")?;
+    let seen = see(&rt, rt.alloc()).ok_or("memory, and both ended")?;
     assert_eq!(rt; seen.looks, 20);
     assert!(rt; seen.inside);
     Ok(())

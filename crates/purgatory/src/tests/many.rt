@@ -1,5 +1,5 @@
 //! Eight threads with sixty passes on one room.
-ghost use Rattle.std.specs.Prelude.{◌≡◌, All, IfOk};
+ghost use Rattle.std.specs.Prelude.{◌≡◌, ◌<◌, All, IfOk};
 ghost use Rattle.std.specs.Thread.{IsSync};
 ghost use Rattle.purgatory.specs.Ready.{IsCrewOf};
 
@@ -110,7 +110,7 @@ fn halved(alloc: Global, room: &Room, crews: Vec<Crew>) -> Result<Vec<Crew>, NoM
 {
     let mut more = Vec::new(alloc);
     for crew in crews {
-        let (one, other) = halves(alloc, room, crew)?;
+        let (one, other) = halves(room, crew)?;
         more.push(one)?;
         more.push(other)?;
     }

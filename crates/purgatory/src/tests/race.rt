@@ -92,7 +92,7 @@ fn race<R: Threads + Wait + Clock + Sync>(
     alloc: Global,
 ) -> Result<(Counts, bool), NoMemory> {
     let (room, crew) = start(alloc, 2, 2)?;
-    let (other, one) = halves(alloc, &room, crew)?;
+    let (one, other) = halves(&room, crew)?;
     let done = AtomicBool::new(false);
     let ((), mut other) = join(
         rt,

@@ -65,13 +65,27 @@ fn a_full_shard_loses_no_open_operation(rt: HostRuntime) -> Result<(), Fail> {
 // So many milliseconds, each far past the one before.
 const DEADLINES: [u64; 6] = [1, 70, 5_000, 300_000, 20_000_000, 1 << 40];
 
+// A pass has an operation without needs for each deadline.
+fn register_each(
+    rt: &impl Wait,
+    alloc: Global,
+    room: &Room,
+    crew: &mut Crew,
+) -> Result<(), NoMemory>
+    requires { IsCrewOf room.now crew.old }
+    ensures { IsCrewOf room.now crew.new }
+{
+    for hand in 0..DEADLINES.len() {
+        let op = op_of(alloc, &[], 1, DEADLINES[hand])?;
+        crew.begin(rt, room, hand, op);
+    }
+    Ok(())
+}
+
 #[test]
 fn the_clock_jumps_far(rt: HostRuntime) -> Result<(), Fail> {
     let (room, mut crew) = start(rt.alloc(), 1, 7)?;
-    for hand in 0..6 {
-        let op = op_of(rt.alloc(), &[], 1, DEADLINES[hand])?;
-        crew.begin(&rt, &room, hand, op);
-    }
+    register_each(&rt, rt.alloc(), &room, &mut crew)?;
     assert_eq!(rt; crew.counts().parked, 6);
     crew.raise(&rt, &room, 6, 0, 299_999);
     look_at_all(&room, &mut crew);
