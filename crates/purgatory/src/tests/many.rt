@@ -104,12 +104,12 @@ fn runs(rt: &(impl Wait + Clock), alloc: Global, room: &Room, mut crew: Crew) ->
 }
 
 // Two crews of each.
-fn halved(alloc: Global, room: &Room, crews: Vec<Crew>) -> Result<Vec<Crew>, NoMemory>
+fn halved(alloc: Global, room: &Room, mut crews: Vec<Crew>) -> Result<Vec<Crew>, NoMemory>
     requires { All (IsCrewOf room.now) crews.items }
     ensures { IfOk result (λ more. All (IsCrewOf room.now) more.items) }
 {
     let mut more = Vec::new(alloc);
-    for crew in crews {
+    while let Some(crew) = crews.pop() {
         let (one, other) = halves(room, crew)?;
         more.push(one)?;
         more.push(other)?;
@@ -144,12 +144,12 @@ fn both(one: Counts, other: Counts) -> Counts {
     }
 }
 
-fn all_ended(room: &Room, crews: Vec<Crew>) -> Option<(Counts, u32)>
+fn all_ended(room: &Room, mut crews: Vec<Crew>) -> Option<(Counts, u32)>
     requires { All (IsCrewOf room.now) crews.items }
 {
     let mut counts = NOTHING;
     let mut waiting = 0u32;
-    for mut crew in crews {
+    while let Some(mut crew) = crews.pop() {
         let (of_crew, still) = ended(room, &mut crew)?;
         counts = both(counts, of_crew);
         waiting = waiting.saturating_add(still);
@@ -157,28 +157,52 @@ fn all_ended(room: &Room, crews: Vec<Crew>) -> Option<(Counts, u32)>
     Some((counts, waiting))
 }
 
-fn run_in_threads<R: Threads + Wait + Clock + Sync>(rt: &R, alloc: Global) -> Option<(Counts, u32)> {
-    let (room, crew) = start(alloc, GAUGES, PASSES).ok()?;
+// Eight crews.
+fn dealt(alloc: Global, room: &Room, crew: Crew) -> Result<Vec<Crew>, NoMemory>
+    requires { IsCrewOf room.now crew }
+    ensures { IfOk result (λ crews. All (IsCrewOf room.now) crews.items) }
+{
     let mut crews = Vec::new(alloc);
-    crews.push(crew).ok()?;
-    let two = halved(alloc, &room, crews).ok()?;
-    let four = halved(alloc, &room, two).ok()?;
-    let eight = halved(alloc, &room, four).ok()?;
+    crews.push(crew)?;
+    let two = halved(alloc, room, crews)?;
+    let four = halved(alloc, room, two)?;
+    halved(alloc, room, four)
+}
+
+// A thread for each.
+fn run_all<R: Threads + Wait + Clock + Sync>(
+    rt: &R,
+    alloc: Global,
+    room: &Room,
+    crews: Vec<Crew>,
+) -> Result<Vec<Crew>, NoMemory>
+    requires { All (IsCrewOf room.now) crews.items }
+    ensures { IfOk result (λ done. All (IsCrewOf room.now) done.items) }
+{
     let done = map_vec(
         rt,
-        eight,
+        crews,
         &|crew: Crew| -> Crew
-            requires { IsSync R.row × IsCrewOf room crew }
-            ensures { IsCrewOf room result }
-        { runs(rt, alloc, &room, crew) },
-    )
-    .ok()?;
-    all_ended(&room, done)
+            requires { IsSync R.row × IsCrewOf room.now crew }
+            ensures { IsCrewOf room.now result }
+        { runs(rt, alloc, room, crew) },
+    )?;
+    Ok(done)
+}
+
+fn run_in_threads<R: Threads + Wait + Clock + Sync>(
+    rt: &R,
+    alloc: Global,
+) -> Result<Option<(Counts, u32)>, NoMemory> {
+    let (room, crew) = start(alloc, GAUGES, PASSES)?;
+    let crews = dealt(alloc, &room, crew)?;
+    let done = run_all(rt, alloc, &room, crews)?;
+    Ok(all_ended(&room, done))
 }
 
 #[test]
 fn eight_threads_with_sixty_passes(rt: HostRuntime) -> Result<(), Fail> {
-    let (counts, waiting) = run_in_threads(&rt, rt.alloc()).ok_or("none forgotten, and memory")?;
+    let (counts, waiting) = run_in_threads(&rt, rt.alloc())?.ok_or("nobody forgotten")?;
     assert!(rt; counts.parked > 0 && counts.won > 0);
     assert_eq!(rt; counts.parked, counts.ended.saturating_add(waiting));
     assert_eq!(rt; counts.wrong, 0);

@@ -1,11 +1,10 @@
-use Rattle.std.proofs.Common.{◌≡◌, length}
+use Rattle.std.proofs.Common.{length}
 use Rattle.std.specs.Prelude.{All}
-use Rattle.std.specs.Vec.Iter.{into_iter_items, into_iter_len}
 use Rattle.purgatory.specs.Ready.{IsCrewOf}
 use Rattle.purgatory.proofs.tests.many.all_ended.Given as goal
 
 abbrev pub invariant-loop-crew : goal.invariant-loop-crew
-invariant-loop-crew l = record {
-  left : All (IsCrewOf l.room) (into_iter_items l.crew-iterator);
-  len : into_iter_len l.crew-iterator ≡ length (into_iter_items l.crew-iterator);
-}
+invariant-loop-crew l = All (IsCrewOf l.room) l.crews.items
+
+abbrev pub decreases-loop-crew : goal.decreases-loop-crew
+decreases-loop-crew l = length l.crews.items
