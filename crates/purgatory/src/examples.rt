@@ -187,7 +187,8 @@ fn order_while_time_passes<R: Threads + Wait + Clock + Sync>(
 {
     let ((), ended) = join(
         rt,
-        || requires { IsSync R.row × IsUnraised room.now clock × IsReady room.now 0 one }
+        ||
+            requires { IsSync R.row × IsUnraised room.now clock × IsReady room.now 0 one }
         { let_time_pass(rt, room, clock, one) },
         || -> Option<(Done, Done)>
             requires { IsSync R.row × (room.now.table.shape ≡ room_shape 3 3) × IsReady room.now 0 other }
@@ -208,7 +209,8 @@ fn run<R: Threads + Wait + Clock + Sync>(rt: &R, alloc: Global) -> Option<(Done,
     let (one, other, last) = passes;
     let ((), ended) = join(
         rt,
-        || requires { IsSync R.row × IsUnraised room first × IsUnraised room second × IsReady room 0 one }
+        ||
+            requires { IsSync R.row × IsUnraised room first × IsUnraised room second × IsReady room 0 one }
         { deliver(rt, &room, first, second, one) },
         || -> Option<(Done, Done)>
             requires { IsSync R.row × (room.table.shape ≡ room_shape 3 3) × IsUnraised room clock × IsReady room 0 other × IsReady room 0 last }

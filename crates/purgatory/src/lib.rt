@@ -66,6 +66,5 @@ pub use source::Source;
 
 #[cfg(test)]
 mod examples;
-
 #[cfg(test)]
 mod tests;

@@ -228,7 +228,14 @@ pub(super) fn start(alloc: Global, gauges: u32, passes: u32) -> Result<(Room, Cr
     let hands = hands(alloc, &room, passes)?;
     let taps = taps(alloc, &room, sources)?;
     let counts = NOTHING;
-    Ok((room, Crew { hands, taps, counts }))
+    Ok((
+        room,
+        Crew {
+            hands,
+            taps,
+            counts,
+        },
+    ))
 }
 
 // The first half of the passes and sources, and the others.
@@ -286,7 +293,14 @@ impl Crew {
     }
 
     // A pass raises the gauge of one of so many sources by so much, and settles.
-    pub(super) fn raise_by(&mut self, rt: &impl Wait, room: &Room, hand: usize, tap: usize, more: u64)
+    pub(super) fn raise_by(
+        &mut self,
+        rt: &impl Wait,
+        room: &Room,
+        hand: usize,
+        tap: usize,
+        more: u64,
+    )
         requires { IsCrewOf room.now self.old }
         ensures { IsCrewOf room.now self.new }
     {

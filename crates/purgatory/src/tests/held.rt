@@ -117,14 +117,7 @@ fn holds_first(
     requires shape { room.now.table.shape ≡ room_shape 3 3 }
     requires pass { IsParked room.now 1 pass.old }
 {
-    looks_in_turn(
-        rt,
-        room,
-        &locks.shards[0],
-        &mut keys.shards[0],
-        pass,
-        flags,
-    )
+    looks_in_turn(rt, room, &locks.shards[0], &mut keys.shards[0], pass, flags)
 }
 
 fn holds(
@@ -162,7 +155,8 @@ fn hold_and_look<R: Threads + Wait + Clock + Sync>(
     };
     let ((), seen) = join(
         rt,
-        || requires { IsSync R.row × IsUnraised room.now source × IsReady room.now 0 settler }
+        ||
+            requires { IsSync R.row × IsUnraised room.now source × IsReady room.now 0 settler }
         { settles(rt, room, source, settler, &flags) },
         || -> Seen
             requires { IsSync R.row × (keys ≡ room.now.locks) × (room.now.table.shape ≡ room_shape 3 3) × IsParked room.now 1 looker }

@@ -62,7 +62,13 @@ fn random_op(
 }
 
 // One of the passes looks, or registers an operation, and raises one of the gauges.
-fn acts(rt: &impl Wait, alloc: Global, room: &Room, crew: &mut Crew, draws: &mut Draws) -> Result<(), NoMemory>
+fn acts(
+    rt: &impl Wait,
+    alloc: Global,
+    room: &Room,
+    crew: &mut Crew,
+    draws: &mut Draws,
+) -> Result<(), NoMemory>
     requires { IsCrewOf room.now crew.old }
     ensures { IsCrewOf room.now crew.new }
 {
@@ -93,7 +99,10 @@ fn runs(rt: &(impl Wait + Clock), alloc: Global, room: &Room, mut crew: Crew) ->
         state: 88_172_645_463_325_252 ^ (crew.size() as u64),
     };
     for _ in 0..MOST_ROUNDS {
-        if !start.elapsed(rt).is_ok_and(|time| time < Duration::from_secs(2)) {
+        if !start
+            .elapsed(rt)
+            .is_ok_and(|time| time < Duration::from_secs(2))
+        {
             return crew;
         }
         if acts(rt, alloc, room, &mut crew, &mut draws).is_err() {
@@ -169,25 +178,24 @@ fn dealt(alloc: Global, room: &Room, crew: Crew) -> Result<Vec<Crew>, NoMemory>
     halved(alloc, room, four)
 }
 
-// A thread for each.
+// A thread for each, and then the end of each.
 fn run_all<R: Threads + Wait + Clock + Sync>(
     rt: &R,
     alloc: Global,
-    room: &Room,
+    room: Room,
     crews: Vec<Crew>,
-) -> Result<Vec<Crew>, NoMemory>
-    requires { All (IsCrewOf room.now) crews.items }
-    ensures { IfOk result (λ done. All (IsCrewOf room.now) done.items) }
+) -> Result<Option<(Counts, u32)>, NoMemory>
+    requires { All (IsCrewOf room) crews.items }
 {
     let done = map_vec(
         rt,
         crews,
         &|crew: Crew| -> Crew
-            requires { IsSync R.row × IsCrewOf room.now crew }
-            ensures { IsCrewOf room.now result }
-        { runs(rt, alloc, room, crew) },
+            requires { IsSync R.row × IsCrewOf room crew }
+            ensures { IsCrewOf room result }
+        { runs(rt, alloc, &room, crew) },
     )?;
-    Ok(done)
+    Ok(all_ended(&room, done))
 }
 
 fn run_in_threads<R: Threads + Wait + Clock + Sync>(
@@ -196,8 +204,7 @@ fn run_in_threads<R: Threads + Wait + Clock + Sync>(
 ) -> Result<Option<(Counts, u32)>, NoMemory> {
     let (room, crew) = start(alloc, GAUGES, PASSES)?;
     let crews = dealt(alloc, &room, crew)?;
-    let done = run_all(rt, alloc, &room, crews)?;
-    Ok(all_ended(&room, done))
+    run_all(rt, alloc, room, crews)
 }
 
 #[test]

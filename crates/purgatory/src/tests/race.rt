@@ -34,7 +34,12 @@ fn raises(rt: &impl Wait, room: &Room, mut crew: Crew, done: &AtomicBool)
 }
 
 // The other registers what needs the next value, and looks for its end.
-fn registers_one(rt: &impl Wait, alloc: Global, room: &Room, crew: &mut Crew) -> Result<bool, NoMemory>
+fn registers_one(
+    rt: &impl Wait,
+    alloc: Global,
+    room: &Room,
+    crew: &mut Crew,
+) -> Result<bool, NoMemory>
     requires { IsCrewOf room.now crew.old }
     ensures { IsCrewOf room.now crew.new }
 {
@@ -96,7 +101,8 @@ fn race<R: Threads + Wait + Clock + Sync>(
     let done = AtomicBool::new(false);
     let ((), mut other) = join(
         rt,
-        || requires { IsSync R.row × IsCrewOf room one }
+        ||
+            requires { IsSync R.row × IsCrewOf room one }
         { raises(rt, &room, one, &done) },
         || -> Crew
             requires { IsSync R.row × IsCrewOf room other }
