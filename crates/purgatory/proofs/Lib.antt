@@ -38,5 +38,9 @@ pub mod Returns
 pub mod Standing
 -- a room in which nothing happened
 pub mod NewRooms
+-- sources and passes of an example or a test, between two calls
+pub mod Ready
 -- the passes of the locks, as they are dealt out
 pub mod Rings
+-- passes and sources of a test by their places
+pub mod Crews

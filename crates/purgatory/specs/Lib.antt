@@ -38,3 +38,7 @@ pub mod Holding
 pub mod Written
 -- what a still room keeps
 pub mod StillKeeps
+-- ==== the words of the example and of the tests
+
+-- sources and passes between two calls
+pub mod Ready

@@ -72,3 +72,8 @@ pub use still::{RoomEnd, StillRoom};
 
 #[cfg(test)]
 mod still_tests;
+
+#[cfg(test)]
+mod examples;
+#[cfg(test)]
+mod tests;

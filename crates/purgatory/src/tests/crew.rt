@@ -1,0 +1,410 @@
+//! Passes and sources, each with what a test knows of it, so that a test can ask for any call at any time.
+ghost use Rattle.std.specs.Prelude.{◌≡◌, ◌<◌, ◌≤◌, All, IfOk, IsTrue};
+ghost use Rattle.room_core.specs.Gauges.{clock_of};
+ghost use Rattle.room_table.specs.Seats.{caller_now};
+ghost use Rattle.purgatory.specs.Ready.{HasOnlyRead, IsCrewOf, IsReady, IsUnraised};
+ghost use Rattle.purgatory.specs.Rooms.{IsOfRoom, IsSourceOf};
+
+use crate::outcome::{Done, Registered};
+use crate::pass::RoomPass;
+use crate::room::{Room, RoomParts};
+use crate::source::Source;
+use kbytes::{List, NoMemory};
+use opcond::{Op, is_overdue, is_satisfied};
+use room_core::How;
+use std::alloc::Global;
+use std::marker::Model;
+use std::sync::Wait;
+
+// A pass, whether its operation waits, how many it opened at most, and its last one.
+#[derive(Drop)]
+pub(super) struct Hand {
+    pass: RoomPass,
+    waits: bool,
+    opened: u32,
+    op: Op,
+}
+
+impl Model for Hand {
+    ghost use Rattle.purgatory.specs.Ready.{IsInHand};
+    ghost use Rattle.purgatory.specs.Rooms.{PassView};
+
+    ghost Value = { PassView };
+
+    ghost view = { λ h. h.pass };
+
+    ghost invariant = { λ h. IsInHand h.waits h.opened h.pass };
+}
+
+// A source, and the value to which it was raised.
+#[derive(Drop)]
+pub(super) struct Tap {
+    source: Source,
+    stored: u64,
+}
+
+impl Model for Tap {
+    ghost use Rattle.std.specs.Prelude.{◌≤◌};
+    ghost use Rattle.room_table.specs.Seats.{SourceView, source_now};
+
+    ghost Value = { SourceView };
+
+    ghost view = { λ t. t.source };
+
+    ghost invariant = { λ t. (source_now t.source).stored ≤ t.stored };
+}
+
+// The value of a gauge, and 0 of one that isn't there.
+fn read(room: &Room, pass: &mut RoomPass, gauge: u32) -> u64
+    requires made { IsOfRoom room.now pass.old }
+    ensures made { IsOfRoom room.now pass.new }
+    ensures kept { HasOnlyRead (caller_now pass.old.seat) (caller_now pass.new.seat) }
+{
+    if gauge >= room.shape.gauges {
+        return 0;
+    }
+    room.gauge(pass, gauge)
+}
+
+// Whether an operation is satisfied, and whether it is overdue, by what the gauges are now.
+fn stands(room: &Room, pass: &mut RoomPass, op: &Op) -> (bool, bool)
+    requires made { IsOfRoom room.now pass.old }
+    ensures made { IsOfRoom room.now pass.new }
+    ensures kept { HasOnlyRead (caller_now pass.old.seat) (caller_now pass.new.seat) }
+{
+    let needs = op.needs();
+    let mut values = [0; 64];
+    for i in 0..needs.len() {
+        values[i] = read(room, pass, needs[i].gauge);
+    }
+    let moment = read(room, pass, room.shape.gauges - 1);
+    let satisfied = is_satisfied(op, &values[..needs.len()]);
+    (satisfied, is_overdue(op, moment))
+}
+
+// Whether all needs are of the room's gauges before the clock.
+fn fits(room: &Room, op: &Op) -> bool
+    ensures { IsTrue result → All (λ need. need.gauge < clock_of room.now.table.shape) op.now.needs }
+{
+    let clock = room.shape.gauges - 1;
+    op.needs().iter().all(|need| need.gauge < clock)
+}
+
+impl Hand {
+    // Raises a gauge to this value, if it isn't past it, and settles.
+    fn raise(&mut self, rt: &impl Wait, room: &Room, tap: &mut Tap, value: u64)
+        requires made { IsOfRoom room.now self.old × IsSourceOf room.now tap.old }
+        ensures made { IsOfRoom room.now self.new × IsSourceOf room.now tap.new }
+    {
+        let value = value.max(tap.stored);
+        tap.stored = value;
+        room.raise(rt, &mut tap.source, &mut self.pass, value);
+        room.settle(rt, &mut self.pass);
+    }
+
+    // Registers an operation, where the pass has none.
+    fn register(&mut self, rt: &impl Wait, room: &Room, op: Op) -> Option<Registered>
+        requires made { IsOfRoom room.now self.old }
+        ensures made { IsOfRoom room.now self.new }
+    {
+        if self.waits || self.opened == u32::MAX || !fits(room, &op) {
+            return None;
+        }
+        self.opened += 1;
+        self.op = op;
+        let Registered::Won(done) = room.register(rt, &mut self.pass, &self.op) else {
+            self.waits = true;
+            return Some(Registered::Parked);
+        };
+        Some(Registered::Won(done))
+    }
+
+    // How the operation ended that waited.
+    fn poll(&mut self, room: &Room) -> Option<Done>
+        requires made { IsOfRoom room.now self.old }
+        ensures made { IsOfRoom room.now self.new }
+    {
+        if !self.waits {
+            return None;
+        }
+        let done = room.poll(&mut self.pass)?;
+        self.waits = false;
+        Some(done)
+    }
+
+    // Whether its last operation may have ended so, by what the gauges are now.
+    fn may_end(&mut self, room: &Room, how: How) -> bool
+        requires made { IsOfRoom room.now self.old }
+        ensures made { IsOfRoom room.now self.new }
+    {
+        let (satisfied, overdue) = stands(room, &mut self.pass, &self.op);
+        match how {
+            How::Satisfied => satisfied,
+            How::Expired => overdue,
+        }
+    }
+
+    // The value of a gauge.
+    fn gauge(&mut self, room: &Room, gauge: u32) -> u64
+        requires made { IsOfRoom room.now self.old }
+        ensures made { IsOfRoom room.now self.new }
+    {
+        read(room, &mut self.pass, gauge)
+    }
+}
+
+// What became of the operations of a crew.
+#[derive(Clone, Copy, Debug, PartialEq, Eq)]
+pub(super) struct Counts {
+    // those that waited, those that were won at once, and those that waited and ended
+    pub(super) parked: u32,
+    pub(super) won: u32,
+    pub(super) ended: u32,
+    // those that were satisfied too soon, or expired too early
+    pub(super) wrong: u32,
+}
+
+pub(super) const NOTHING: Counts = Counts {
+    parked: 0,
+    won: 0,
+    ended: 0,
+    wrong: 0,
+};
+
+// Passes and sources of one room, by their places.
+#[derive(Drop)]
+pub(super) struct Crew {
+    hands: Vec<Hand>,
+    taps: Vec<Tap>,
+    counts: Counts,
+}
+
+impl Model for Crew {
+    ghost use Rattle.purgatory.specs.Ready.{CrewView};
+
+    ghost Value = { CrewView };
+
+    ghost view = { λ c. record { passes = c.hands.items; sources = c.taps.items } };
+}
+
+fn hands(alloc: Global, room: &Room, passes: List<RoomPass>) -> Result<Vec<Hand>, NoMemory>
+    requires { All (IsReady room.now 0) passes }
+    ensures { IfOk result (λ hands. All (IsOfRoom room.now) hands.items) }
+{
+    let mut hands = Vec::new(alloc);
+    for pass in passes.into_vec() {
+        hands.push(Hand {
+            pass,
+            waits: false,
+            opened: 0,
+            op: Op::new(alloc, 0, 0),
+        })?;
+    }
+    Ok(hands)
+}
+
+fn taps(alloc: Global, room: &Room, sources: List<Source>) -> Result<Vec<Tap>, NoMemory>
+    requires { All (IsUnraised room.now) sources }
+    ensures { IfOk result (λ taps. All (IsSourceOf room.now) taps.items) }
+{
+    let mut taps = Vec::new(alloc);
+    for source in sources.into_vec() {
+        taps.push(Tap { source, stored: 0 })?;
+    }
+    Ok(taps)
+}
+
+// A room, its passes and its sources.
+pub(super) fn start(alloc: Global, gauges: u32, passes: u32) -> Result<(Room, Crew), NoMemory>
+    requires gauges { (1 ≤ gauges) × (gauges ≤ 193) }
+    requires passes { (1 ≤ passes) × (passes ≤ 80) }
+    ensures { IfOk result (λ made. IsCrewOf made.0 made.1) }
+{
+    let RoomParts {
+        room,
+        sources,
+        passes,
+    } = Room::make(alloc, gauges, passes)?;
+    let hands = hands(alloc, &room, passes)?;
+    let taps = taps(alloc, &room, sources)?;
+    let counts = NOTHING;
+    Ok((
+        room,
+        Crew {
+            hands,
+            taps,
+            counts,
+        },
+    ))
+}
+
+// The first half of the passes and sources, and the others.
+pub(super) fn halves(room: &Room, crew: Crew) -> Result<(Crew, Crew), NoMemory>
+    requires { IsCrewOf room.now crew }
+    ensures { IfOk result (λ both. IsCrewOf room.now both.0 × IsCrewOf room.now both.1) }
+{
+    let Crew {
+        mut hands,
+        mut taps,
+        counts,
+    } = crew;
+    let half = hands.len() / 2;
+    let others = hands.split_off(half)?;
+    let middle = taps.len() / 2;
+    let rest = taps.split_off(middle)?;
+    let other = Crew {
+        hands: others,
+        taps: rest,
+        counts: NOTHING,
+    };
+    Ok((
+        Crew {
+            hands,
+            taps,
+            counts,
+        },
+        other,
+    ))
+}
+
+impl Crew {
+    // How many passes it has.
+    pub(super) fn size(&self) -> usize {
+        self.hands.len()
+    }
+
+    pub(super) fn counts(&self) -> Counts {
+        self.counts
+    }
+
+    pub(super) fn waits(&self, hand: usize) -> bool {
+        self.hands.get(hand).is_some_and(|hand| hand.waits)
+    }
+
+    // A pass raises a gauge to this value, if it isn't past it, and settles.
+    pub(super) fn raise(&mut self, rt: &impl Wait, room: &Room, hand: usize, tap: usize, value: u64)
+        requires { IsCrewOf room.now self.old }
+        ensures { IsCrewOf room.now self.new }
+    {
+        if hand >= self.hands.len() || tap >= self.taps.len() {
+            return;
+        }
+        self.hands[hand].raise(rt, room, &mut self.taps[tap], value);
+    }
+
+    // A pass raises the gauge of one of so many sources by so much, and settles.
+    pub(super) fn raise_by(
+        &mut self,
+        rt: &impl Wait,
+        room: &Room,
+        hand: usize,
+        tap: usize,
+        more: u64,
+    )
+        requires { IsCrewOf room.now self.old }
+        ensures { IsCrewOf room.now self.new }
+    {
+        if self.taps.is_empty() {
+            return;
+        }
+        let tap = tap % self.taps.len();
+        let value = self.taps[tap].stored.saturating_add(more);
+        self.raise(rt, room, hand, tap, value);
+    }
+
+    // A pass registers an operation. None where it has one that waits.
+    pub(super) fn register(
+        &mut self,
+        rt: &impl Wait,
+        room: &Room,
+        hand: usize,
+        op: Op,
+    ) -> Option<Registered>
+        requires { IsCrewOf room.now self.old }
+        ensures { IsCrewOf room.now self.new }
+    {
+        if hand >= self.hands.len() {
+            return None;
+        }
+        self.hands[hand].register(rt, room, op)
+    }
+
+    // How a pass's operation ended that waited.
+    pub(super) fn poll(&mut self, room: &Room, hand: usize) -> Option<Done>
+        requires { IsCrewOf room.now self.old }
+        ensures { IsCrewOf room.now self.new }
+    {
+        if hand >= self.hands.len() {
+            return None;
+        }
+        self.hands[hand].poll(room)
+    }
+
+    // The value of a gauge, as a pass reads it.
+    pub(super) fn gauge(&mut self, room: &Room, hand: usize, gauge: u32) -> u64
+        requires { IsCrewOf room.now self.old }
+        ensures { IsCrewOf room.now self.new }
+    {
+        if hand >= self.hands.len() {
+            return 0;
+        }
+        self.hands[hand].gauge(room, gauge)
+    }
+
+    // Whether a pass's operation may have ended so, by what the gauges are now.
+    fn may_end(&mut self, room: &Room, hand: usize, how: How) -> bool
+        requires { IsCrewOf room.now self.old }
+        ensures { IsCrewOf room.now self.new }
+    {
+        if hand >= self.hands.len() {
+            return false;
+        }
+        self.hands[hand].may_end(room, how)
+    }
+
+    // A pass registers an operation, and what becomes of it is counted.
+    pub(super) fn begin(&mut self, rt: &impl Wait, room: &Room, hand: usize, op: Op)
+        requires { IsCrewOf room.now self.old }
+        ensures { IsCrewOf room.now self.new }
+    {
+        match self.register(rt, room, hand, op) {
+            Some(Registered::Parked) => self.counts.parked = self.counts.parked.saturating_add(1),
+            Some(Registered::Won(done)) => {
+                self.counts.won = self.counts.won.saturating_add(1);
+                self.judge(room, hand, done.how);
+            }
+            None => {}
+        }
+    }
+
+    // A pass looks for the end of its operation, and it is counted.
+    pub(super) fn look(&mut self, room: &Room, hand: usize)
+        requires { IsCrewOf room.now self.old }
+        ensures { IsCrewOf room.now self.new }
+    {
+        if let Some(done) = self.poll(room, hand) {
+            self.counts.ended = self.counts.ended.saturating_add(1);
+            self.judge(room, hand, done.how);
+        }
+    }
+
+    // An end that could not be is counted: gauges only rise, so what was satisfied or overdue is so still.
+    fn judge(&mut self, room: &Room, hand: usize, how: How)
+        requires { IsCrewOf room.now self.old }
+        ensures { IsCrewOf room.now self.new }
+    {
+        if !self.may_end(room, hand, how) {
+            self.counts.wrong = self.counts.wrong.saturating_add(1);
+        }
+    }
+
+    // Whether a pass's operation waits though it is answerable.
+    pub(super) fn forgets(&mut self, room: &Room, hand: usize) -> bool
+        requires { IsCrewOf room.now self.old }
+        ensures { IsCrewOf room.now self.new }
+    {
+        let satisfied = self.may_end(room, hand, How::Satisfied);
+        let overdue = self.may_end(room, hand, How::Expired);
+        self.waits(hand) && (satisfied || overdue)
+    }
+}
