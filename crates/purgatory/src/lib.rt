@@ -71,9 +71,8 @@ pub use source::Source;
 pub use still::{RoomEnd, StillRoom};
 
 #[cfg(test)]
-mod still_tests;
-
-#[cfg(test)]
 mod examples;
+#[cfg(test)]
+mod still_tests;
 #[cfg(test)]
 mod tests;
