@@ -1,3 +1,5 @@
+-- what the crates above may cite
+pub mod Laws
 -- passes that go on
 pub mod Goes
 -- what a pass keeps beside its seat, after a step

@@ -54,6 +54,7 @@ ended op old a b done o ends =
       registered = record {
         before = before;
         came = now.went;
+        operation = operation_is op (caller_now before).description now.described;
         steps = ends.steps;
         taken = record {
           idle = t.idle;
@@ -83,6 +84,7 @@ parked op old a b o checking l =
         waits = l.waits;
         generation = now.generation;
         operation = operation_is op (caller_now b).description now.described;
+        taken = now.taken;
       };
     }
 

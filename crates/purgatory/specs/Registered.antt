@@ -34,14 +34,16 @@ pub record HasParked (op : Operation) (old new : CallerView) : Type 0 where
   pub waits : (caller_now new).stage ≡ Stage.Waiting
   pub generation : (caller_now new).generation ≡ (caller_now old).generation + 1
   pub operation : operation_of (caller_now new).description ≡ op
+  pub taken : (caller_now new).taken ≡ (caller_now old).taken
 
 -- The operation was opened at the next generation, and the pass found it won, and took that.
-pub record HasEnded (done : Done) (old new : CallerView) : Type 0 where
+pub record HasEnded (op : Operation) (done : Done) (old new : CallerView) : Type 0 where
   pub before : CallerView
   pub came : GoesOn old before
+  pub operation : operation_of (caller_now before).description ≡ op
   pub steps : new ≡ took before done
   pub taken : HasTaken ((caller_now old).generation + 1) done (caller_now old) (caller_now new)
 
 abbrev pub HasRegistered : Operation → Registered → CallerView → CallerView → Type 0
 HasRegistered op Registered.Parked old new = HasParked op old new
-HasRegistered op (Registered.Won done) old new = HasEnded done old new
+HasRegistered op (Registered.Won done) old new = HasEnded op done old new

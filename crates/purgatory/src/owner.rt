@@ -96,6 +96,7 @@ impl Owner {
         requires gauge { IsGauge self.old.table.shape gauge }
         ensures step { self.new ≡ caller_did self.old (Read gauge result) }
         ensures least { (caller_now self.old).greatest gauge ≤ result }
+        ensures owed { (caller_now self.old).owed gauge ≤ result }
     {
         table.read(&mut self.seat, gauge)
     }

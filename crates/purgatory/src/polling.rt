@@ -26,12 +26,13 @@ impl Room {
         pass.owner.poll(&self.table)
     }
 
-    /// The value of a gauge, which is no less than any that the pass has read of it.
+    /// The value of a gauge, which is no less than any that the pass has read of it or owes.
     pub fn gauge(&self, pass: &mut RoomPass, gauge: u32) -> u64
         requires pass { IsOfRoom self.now pass.old }
         requires gauge { IsGauge self.now.table.shape gauge }
         ensures step { pass.new ≡ with_locks pass.old.locks (caller_did pass.old.seat (Read gauge result)) }
         ensures least { (caller_now pass.old.seat).greatest gauge ≤ result }
+        ensures owed { (caller_now pass.old.seat).owed gauge ≤ result }
     {
         pass.owner.read(&self.table, gauge)
     }
