@@ -9,7 +9,6 @@ use Rattle.room_table.specs.Handed.{fresh_caller, fresh_source, fresh_sources}
 use Rattle.room_table.specs.Parts.{source_of}
 use Rattle.room_table.specs.Seats.{CallerView, SourceView, caller_now, source_now}
 use Rattle.purgatory.specs.declared.outcome.Done.{Done}
-use Rattle.purgatory.specs.Going.{OwesNothing}
 use Rattle.purgatory.specs.Polled.{HasTaken, found_open, took}
 use Rattle.purgatory.specs.Ready.{IsParked, IsReady, IsUnraised}
 use Rattle.purgatory.specs.Rooms.{IsOfRoom, PassView, RoomView, fresh_passes, with_locks}
