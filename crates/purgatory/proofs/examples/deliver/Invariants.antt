@@ -1,4 +1,4 @@
-use Rattle.std.proofs.Common.{◌≡◌, ◌*◌, ◌<◌}
+use Rattle.std.proofs.Common.{◌*◌, ◌<◌}
 use Rattle.room_table.specs.Seats.{source_now}
 use Rattle.purgatory.specs.Rooms.{IsOfRoom, IsSourceOf}
 use Rattle.purgatory.proofs.examples.deliver.Given as goal

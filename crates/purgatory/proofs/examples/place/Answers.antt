@@ -3,7 +3,6 @@ use Rattle.std.specs.Prelude.{All}
 use Rattle.room_core.specs.declared.shape.Shape.{Shape}
 use Rattle.room_core.specs.Gauges.{clock_of}
 use Rattle.opcond.specs.declared.need.Need.{Need}
-use Rattle.purgatory.proofs.Ready.{ends, parks}
 use Rattle.purgatory.proofs.examples.place.Goals as goal
 
 pub register-requires-clause-gauges : goal.register-requires-clause-gauges

@@ -5,7 +5,6 @@ use Rattle.std.proofs.lemmas.List.Elements.{All-push}
 use Rattle.purgatory.specs.Ready.{IsReady}
 use Rattle.purgatory.specs.Rooms.{IsOfRoom, PassView}
 use Rattle.purgatory.proofs.Crews.{first_of, rest_of}
-use Rattle.purgatory.proofs.Ready.{in_hand}
 use Rattle.purgatory.proofs.tests.crew.hands.Goals as goal
 
 pub loop-pass-preserved : goal.loop-pass-preserved
