@@ -71,8 +71,6 @@ pub use source::Source;
 pub use still::{RoomEnd, StillRoom};
 
 #[cfg(test)]
-mod examples;
-#[cfg(test)]
 mod still_tests;
 #[cfg(test)]
 mod tests;
