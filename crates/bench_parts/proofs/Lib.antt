@@ -12,3 +12,7 @@ pub mod Checks
 pub mod Openings
 -- the seats of a new table
 pub mod Seats
+-- passes and sources of a room, as they are made
+pub mod Rooms
+-- what is taken of a list
+pub mod Fronts

@@ -4,3 +4,5 @@
 pub mod Lanes
 -- how far a scanner and a pass are with an operation
 pub mod Steps
+-- what a thread acts by in the room
+pub mod RoomLanes

@@ -6,7 +6,7 @@ use std::{fmt, io};
 #[derive(Debug, Drop)]
 pub enum Fault {
     NoMemory,
-    /// A thread found another word on the table than it had left there.
+    /// A thread found another word on the table than it had left there, or an operation in a room didn't wait.
     Stopped,
     /// The clock can't be read, or the figures can't be written.
     Io(io::Error),
@@ -34,7 +34,7 @@ impl fmt::Display for Fault {
     fn fmt<W: fmt::Write>(&self, f: &mut fmt::Formatter<W>) -> fmt::Result {
         match self {
             Fault::NoMemory => f.write_str("no memory is left"),
-            Fault::Stopped => f.write_str("a thread found another word than it had left"),
+            Fault::Stopped => f.write_str("a thread found another state than it had left"),
             Fault::Io(error) => write!(f, "{error}"),
         }
     }

@@ -14,14 +14,18 @@ pub struct Figure {
     pub came_to: u64,
 }
 
-/// Picoseconds for each of so many steps.
-pub fn for_each(spent: Duration, steps: u64) -> u64 {
-    let nanoseconds = spent
+/// Nanoseconds. What is longer than a million seconds counts as that.
+pub fn nanoseconds(spent: Duration) -> u64 {
+    spent
         .as_secs()
         .min(1_000_000)
         .saturating_mul(1_000_000_000)
-        .saturating_add(u64::from(spent.subsec_nanos()));
-    nanoseconds.saturating_mul(1_000) / steps.max(1)
+        .saturating_add(u64::from(spent.subsec_nanos()))
+}
+
+/// Picoseconds for each of so many steps.
+pub fn for_each(spent: Duration, steps: u64) -> u64 {
+    nanoseconds(spent).saturating_mul(1_000) / steps.max(1)
 }
 
 /// A number of thousandths, with two digits behind the point.

@@ -10,7 +10,7 @@ use room_table::{CallerSeat, RoomTable, ScanSeat, SourceSeat, TableParts};
 use std::alloc::Global;
 
 /// A room of 64 partitions with three gauges each, and the clock.
-const LARGEST: Shape = Shape {
+pub const LARGEST: Shape = Shape {
     gauges: 193,
     passes: 80,
     scanners: 17,
@@ -18,7 +18,7 @@ const LARGEST: Shape = Shape {
 
 /// The gauges of two lanes are so many apart: they have different scanners, and their words lie in different lines of the
 /// cache.
-const APART: u32 = 17;
+pub const APART: u32 = 17;
 
 /// The words of that table, eight bytes each. What its seats know exists in proofs alone, and takes none.
 const BYTES: u32 = 8 * (3 * LARGEST.gauges + 261 * LARGEST.passes);
@@ -49,7 +49,7 @@ pub fn bytes() -> u32
 }
 
 // The item at this place. Those after it are dropped.
-fn take_at<T: Drop>(list: &mut List<T>, at: u32) -> Option<T>
+pub fn take_at<T: Drop>(list: &mut List<T>, at: u32) -> Option<T>
     ensures item { IfSome result (λ item. slice_get list.old at ≡ Some item) }
     ensures rest { list.new ≡ take at list.old }
 {

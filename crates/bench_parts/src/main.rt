@@ -10,6 +10,12 @@ mod fault;
 mod figure;
 mod lane;
 mod operation;
+mod plain_room;
+mod room_lane;
+mod room_rounds;
+mod room_settle;
+mod room_wake;
+mod signals;
 mod size;
 mod table;
 mod ticket;
@@ -65,6 +71,24 @@ fn run_table<R: Threads + Clock + Sync>(
     Ok(())
 }
 
+fn run_room<R: Threads + Wait + Clock + Sync>(
+    rt: &R,
+    alloc: Global,
+    size: Size,
+    figures: &mut List<Figure>,
+) -> Result<(), Fault> {
+    for threads in [1, 2, 4] {
+        figures.push(room_rounds::operations(rt, alloc, size, threads)?)?;
+    }
+    let wakes = room_wake::wake_often(rt, alloc, size)?;
+    figures.push(wakes.figure(alloc, "median", 50)?)?;
+    figures.push(wakes.figure(alloc, "99th in a hundred", 99)?)?;
+    for crowd in room_settle::CROWDS {
+        figures.push(room_settle::settles(rt, alloc, size, crowd)?)?;
+    }
+    Ok(())
+}
+
 fn run<R: Threads + Wait + Clock + Sync>(
     rt: &R,
     alloc: Global,
@@ -86,6 +110,7 @@ fn run<R: Threads + Wait + Clock + Sync>(
     figures.push(watchers::steps(rt, alloc, size)?)?;
     figures.push(checksum::megabyte(rt, alloc, size)?)?;
     run_table(rt, alloc, size, &mut figures)?;
+    run_room(rt, alloc, size, &mut figures)?;
     Ok(figures)
 }
 

@@ -1,6 +1,14 @@
--- Items of a list, one after the other.
-use Rattle.std.proofs.Common.{suc, List, ◌∷◌, arith}
+-- Passes and sources of a test by their places.
+use Rattle.std.proofs.Common.{◌≡◌, ℕ, suc, List, ◌∷◌, drop, take, subst, sym, arith}
 use Rattle.std.specs.Prelude.{All}
+use Rattle.std.proofs.lemmas.List.Elements.{All-drop, All-take}
+use Rattle.room_table.specs.Seats.{SourceView}
+use Rattle.purgatory.specs.Ready.{CrewView, IsCrewOf}
+use Rattle.purgatory.specs.Rooms.{IsOfRoom, IsSourceOf, PassView, RoomView}
+
+-- passes and sources as a crew shows them
+abbrev pub crew_of : List PassView → List SourceView → CrewView
+crew_of hands taps = record { passes = hands; sources = taps }
 
 -- the first item, and the others
 pub first_of : {A : Type 0} (P : A → Type 0) (x : A) (xs : List A) → All P (x ∷ xs) → P x
@@ -8,3 +16,21 @@ first_of P x xs all = all 0 x (omega arith)
 
 pub rest_of : {A : Type 0} (P : A → Type 0) (x : A) (xs : List A) → All P (x ∷ xs) → All P xs
 rest_of P x xs all k d less = all (suc k) d (omega (arith, less))
+
+-- a crew that was cut in two
+module _ (room : RoomView) (hands : List PassView) (taps : List SourceView) (crew : CrewView) (shown : crew_of hands taps ≡ crew) (all : IsCrewOf room crew) (n m : ℕ) where
+  pub front : (some : List PassView) (sources : List SourceView) → some ≡ take n hands → sources ≡ take m taps → IsCrewOf room (crew_of some sources)
+  front some sources first second =
+      let whole = subst (IsCrewOf room) (sym shown) all in
+      record {
+        passes = subst (All (IsOfRoom room)) (sym first) (All-take (IsOfRoom room) n hands whole.passes);
+        sources = subst (All (IsSourceOf room)) (sym second) (All-take (IsSourceOf room) m taps whole.sources);
+      }
+
+  pub back : (some : List PassView) (sources : List SourceView) → some ≡ drop n hands → sources ≡ drop m taps → IsCrewOf room (crew_of some sources)
+  back some sources first second =
+      let whole = subst (IsCrewOf room) (sym shown) all in
+      record {
+        passes = subst (All (IsOfRoom room)) (sym first) (All-drop (IsOfRoom room) n hands whole.passes);
+        sources = subst (All (IsSourceOf room)) (sym second) (All-drop (IsSourceOf room) m taps whole.sources);
+      }

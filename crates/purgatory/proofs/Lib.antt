@@ -22,22 +22,6 @@ pub mod Made
 pub mod Raises
 -- an operation from its opening to its end
 pub mod Runs
--- what a pass has won and taken, step by step
-pub mod OwnCounts
--- lists whose items have numbers
-pub mod Numbered
--- no more exchanges than operations taken
-pub mod Exchanges
--- the seats of a still room, and what they show
-pub mod Endings
--- turns that are held
-pub mod Holds
--- seats that come back
-pub mod Returns
--- what a room comes to
-pub mod Standing
--- a room in which nothing happened
-pub mod NewRooms
 -- sources and passes of an example or a test, between two calls
 pub mod Ready
 -- the passes of the locks, as they are dealt out

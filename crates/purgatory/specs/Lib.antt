@@ -8,10 +8,6 @@ pub mod Going
 pub mod Polled
 -- what becomes of an operation that a pass registers, and why
 pub mod Registered
--- a room that is still, and what it comes to
-pub mod Still
--- how a room ends
-pub mod RoomEnds
 -- ==== the words of private functions
 
 -- locks and their passes, as views show them
@@ -28,16 +24,6 @@ pub mod Making
 pub mod Raised
 -- an operation that a pass describes, opens, sees listed, and checks
 pub mod Listed
--- how many operations a pass won and has taken
-pub mod Counted
--- what a room needs at its end
-pub mod Reserves
--- the turns of all locks, held together
-pub mod Holding
--- the numbers of exchanges, by winner
-pub mod Written
--- what a still room keeps
-pub mod StillKeeps
 -- ==== the words of the example and of the tests
 
 -- sources and passes between two calls

@@ -46,9 +46,6 @@
 //! `Keeps`, `GoesListing`, `HasReadAll` and their like (`specs/Listed.antt`), each of which says which steps the seat made.
 #![tactic(auto)]
 
-mod closing;
-mod counting;
-mod holding;
 mod locks;
 mod making;
 mod outcome;
@@ -57,20 +54,17 @@ mod pass;
 mod polling;
 mod raising;
 mod registering;
-mod reserve;
 mod room;
 mod settling;
 mod source;
-mod still;
 
 pub use outcome::{Done, Registered};
 pub use pass::RoomPass;
 pub use room::{Room, RoomParts};
 pub use room_core::How;
 pub use source::Source;
-pub use still::{RoomEnd, StillRoom};
 
 #[cfg(test)]
-mod still_tests;
+mod examples;
 #[cfg(test)]
 mod tests;

@@ -1,5 +1,5 @@
 //! How a room is made: its scanners are put behind locks, and its seats are handed out with passes of these.
-ghost use Rattle.std.specs.Prelude.{◌≡◌, ◌+◌, ◌-◌, ◌<◌, ℕ, List as Items, [], ◌∷◌, ◌++◌, All, IfOk, length, map};
+ghost use Rattle.std.specs.Prelude.{◌≡◌, ◌-◌, ◌<◌, ℕ, List as Items, [], ◌∷◌, ◌++◌, All, IfOk, length, map};
 ghost use Rattle.room_core.specs.declared.shape.Shape.{Shape as Size};
 ghost use Rattle.room_core.specs.Gauges.{IsShape};
 ghost use Rattle.room_core.specs.Numbers.{scanner_numbers};
@@ -59,7 +59,7 @@ pub(crate) fn room_passes(
     Ok(passes)
 }
 
-/// The locks of the scanners, and of each lock's passes one for each pass of the room, and one for the room's own turns.
+/// The locks of the scanners, and of each lock's passes one for each pass of the room.
 pub(crate) fn behind_locks(
     alloc: Global,
     mut scanners: List<ScanSeat>,
@@ -68,19 +68,19 @@ pub(crate) fn behind_locks(
     requires shape { IsShape shape × (shape.scanners ≡ scanner_numbers) }
     requires scanners { (length scanners ≡ scanner_numbers) × AreFrom (IsFreshScanner shape) 0 scanners }
     ensures names { IfOk result (λ made. map (λ lock. lock.name) made.0 ≡ names_of scanners) }
-    ensures keys { IfOk result (λ made. (length made.1 ≡ shape.passes + 1) × All (λ ring. ring ≡ made.0) made.1) }
+    ensures keys { IfOk result (λ made. (length made.1 ≡ shape.passes) × All (λ ring. ring ≡ made.0) made.1) }
 {
     let Some(last) = scanners.pop() else {
         unreachable!()
     };
     let (shards, rows) = shard_locks(alloc, scanners, shape)?;
     let desk = ClockDesk::make(alloc, last, shape)?;
-    let (clock, passes) = TurnLock::make(alloc, desk, shape.passes + 1)?;
+    let (clock, passes) = TurnLock::make(alloc, desk, shape.passes)?;
     let keys = key_rings(alloc, rows, passes)?;
     Ok((Locks { shards, clock }, keys))
 }
 
-// So many rows of no passes.
+// A row of no passes, for each pass of the room.
 fn empty_rows(alloc: Global, passes: u32) -> Result<List<List<TurnPass<ShardDesk>>>, NoMemory>
     ensures { IfOk result (λ rows. (length rows ≡ passes) × All (IsKeyring []) rows) }
 {
@@ -100,14 +100,14 @@ fn shard_locks(
     requires shape { IsShape shape × (shape.scanners ≡ scanner_numbers) }
     requires scanners { (length scanners ≡ 16) × AreFrom (IsFreshScanner shape) 0 scanners }
     ensures names { IfOk result (λ made. map (λ lock. (lock_view shard_name lock).name) made.0.items ≡ names_of scanners) }
-    ensures rows { IfOk result (λ made. (length made.1 ≡ shape.passes + 1) × All (IsKeyring (map (lock_view shard_name) made.0.items)) made.1) }
+    ensures rows { IfOk result (λ made. (length made.1 ≡ shape.passes) × All (IsKeyring (map (lock_view shard_name) made.0.items)) made.1) }
 {
-    let mut rows = empty_rows(alloc, shape.passes + 1)?;
+    let mut rows = empty_rows(alloc, shape.passes)?;
     let mut locks = Vec::new(alloc);
     for seat in scanners.into_vec() {
         let number = locks.len() as u32;
         let desk = ShardDesk::make(alloc, seat, shape, number)?;
-        let (lock, passes) = TurnLock::make(alloc, desk, shape.passes + 1)?;
+        let (lock, passes) = TurnLock::make(alloc, desk, shape.passes)?;
         rows = longer_rows(alloc, rows, passes)?;
         locks.push(lock)?;
     }

@@ -1,5 +1,5 @@
 //! A pass as the owner of its operation: its seat, and what it keeps beside it.
-ghost use Rattle.std.specs.Prelude.{◌≡◌, ◌≢◌, ◌≤◌, ◌<◌, ◌-◌, ◌^◌, ◌↔◌, ℕ, [], IfOk, IsTrue, length};
+ghost use Rattle.std.specs.Prelude.{◌≡◌, ◌≢◌, ◌≤◌, ◌<◌, ◌-◌, ◌^◌, ◌↔◌, ℕ, [], IfOk, IsTrue};
 ghost use Rattle.room_core.specs.declared.event.How.{How as Way};
 ghost use Rattle.room_core.specs.declared.parts.Session.{Session as SessionWord};
 ghost use Rattle.room_core.specs.declared.parts.Stage.TheVariants.{Checking, Idle, Listing};
@@ -29,21 +29,17 @@ pub(crate) struct Owner {
     number: u32,
     generation: u32,
     owed: Vec<u64>,
-    // the operations that it won itself, and those that it has taken
-    won: u32,
-    taken: u32,
 }
 
 impl Model for Owner {
-    ghost use Rattle.room_table.specs.Seats.{CallerView, caller_now};
-    ghost use Rattle.purgatory.specs.Counted.{IsCounted};
+    ghost use Rattle.room_table.specs.Seats.{CallerView};
     ghost use Rattle.purgatory.specs.Owned.{IsOwner};
 
     ghost Value = { CallerView };
 
     ghost view = { λ o. o.seat };
 
-    ghost invariant = { λ o. IsOwner o.number o.generation o.owed.items o.seat × IsCounted o.won o.taken (caller_now o.seat) };
+    ghost invariant = { λ o. IsOwner o.number o.generation o.owed.items o.seat };
 }
 
 impl Owner {
@@ -64,8 +60,6 @@ impl Owner {
             number,
             generation: 0,
             owed,
-            won: 0,
-            taken: 0,
         })
     }
 
@@ -86,35 +80,6 @@ impl Owner {
             generation: self.generation,
             at,
         }
-    }
-
-    /// How many operations it won itself.
-    pub(crate) fn won(&self) -> u32
-        ensures { result ≡ length (caller_now self.now).wins }
-    {
-        self.won
-    }
-
-    /// How many it has taken.
-    pub(crate) fn taken(&self) -> u32
-        ensures { result ≡ length (caller_now self.now).taken }
-    {
-        self.taken
-    }
-
-    /// Its seat, for the close of the table.
-    pub(crate) fn into_seat(self) -> CallerSeat
-        ensures { result ≡ self }
-    {
-        let Owner {
-            seat,
-            number: _,
-            generation: _,
-            owed: _,
-            won: _,
-            taken: _,
-        } = self;
-        seat
     }
 
     /// How many gauges there are. It owes nothing of any other.
@@ -218,9 +183,7 @@ impl Owner {
         requires may { IsWon self.old.table.shape how (caller_now self.old).description (caller_now self.old).readings }
         ensures { (found : SessionWord) × (self.new ≡ caller_did self.old (Won how found)) }
     {
-        if table.win(&mut self.seat, self.number, how) {
-            self.won += 1;
-        }
+        table.win(&mut self.seat, self.number, how);
     }
 
     /// Sleeps while its session word is open, for no longer than this.
@@ -241,7 +204,6 @@ impl Owner {
             return None;
         };
         table.idle(&mut self.seat);
-        self.taken += 1;
         Some(Done { how, by })
     }
 }

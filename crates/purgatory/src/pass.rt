@@ -1,6 +1,5 @@
 use crate::locks::Keys;
 use crate::owner::Owner;
-use room_table::CallerSeat;
 use std::marker::Model;
 
 /// The right to act in the room: to raise gauges, to register operations, one at a time, and to settle what that leaves to do. Between
@@ -24,7 +23,7 @@ impl Model for RoomPass {
 }
 
 impl RoomPass {
-    ghost use Rattle.std.specs.Prelude.{◌≡◌, length};
+    ghost use Rattle.std.specs.Prelude.{◌≡◌};
     ghost use Rattle.room_core.specs.Gauges.{IsPass};
     ghost use Rattle.room_table.specs.Seats.{caller_now};
     ghost use Rattle.purgatory.specs.Going.{IsAtRest};
@@ -36,28 +35,5 @@ impl RoomPass {
         ensures rests { IsAtRest (caller_now self.now.seat).stage }
     {
         self.owner.number()
-    }
-
-    /// How many operations the pass won itself.
-    pub(crate) fn won(&self) -> u32
-        ensures is { result ≡ length (caller_now self.now.seat).wins }
-        ensures rests { IsAtRest (caller_now self.now.seat).stage }
-    {
-        self.owner.won()
-    }
-
-    /// How many operations it has taken.
-    pub(crate) fn taken(&self) -> u32
-        ensures { result ≡ length (caller_now self.now.seat).taken }
-    {
-        self.owner.taken()
-    }
-
-    /// Its seat, for the close of the table.
-    pub(crate) fn into_seat(self) -> CallerSeat
-        ensures { result ≡ self.seat }
-    {
-        let RoomPass { owner, keys: _ } = self;
-        owner.into_seat()
     }
 }

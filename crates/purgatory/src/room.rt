@@ -5,7 +5,6 @@ ghost use Rattle.purgatory.specs.Rooms.{fresh_passes, room_shape};
 use crate::locks::Locks;
 use crate::making::{behind_locks, quiet_sources, room_passes};
 use crate::pass::RoomPass;
-use crate::reserve::Reserve;
 use crate::source::Source;
 use kbytes::{List, NoMemory};
 use room_core::{SCANNER_NUMBERS, Shape};
@@ -19,19 +18,17 @@ pub struct Room {
     pub(crate) table: RoomTable,
     pub(crate) locks: Locks,
     pub(crate) shape: Shape,
-    pub(crate) reserve: Reserve,
 }
 
 impl Model for Room {
-    ghost use Rattle.std.specs.Prelude.{◌≡◌, ◌+◌};
-    ghost use Rattle.room_core.specs.Numbers.{scanner_numbers};
+    ghost use Rattle.std.specs.Prelude.{◌≡◌};
     ghost use Rattle.purgatory.specs.Rooms.{IsRoom, RoomView};
 
     ghost Value = { RoomView };
 
     ghost view = { λ r. record { table = r.table; locks = r.locks } };
 
-    ghost invariant = { λ r. (r.shape ≡ r.table.shape) × IsRoom r.table r.locks × (r.reserve.locks ≡ r.locks) × (r.reserve.winners ≡ scanner_numbers + r.table.shape.passes) };
+    ghost invariant = { λ r. (r.shape ≡ r.table.shape) × IsRoom r.table r.locks };
 }
 
 /// A room, as it is made.
@@ -65,11 +62,7 @@ impl Room {
             callers,
             scanners,
         } = RoomTable::make(alloc, shape)?;
-        let (locks, mut keys) = behind_locks(alloc, scanners, shape)?;
-        let Some(own) = keys.pop() else {
-            unreachable!()
-        };
-        let reserve = Reserve::make(alloc, own, passes)?;
+        let (locks, keys) = behind_locks(alloc, scanners, shape)?;
         let sources = quiet_sources(alloc, sources)?;
         let passes = room_passes(alloc, callers, keys, shape)?;
         Ok(RoomParts {
@@ -77,7 +70,6 @@ impl Room {
                 table,
                 locks,
                 shape,
-                reserve,
             },
             sources,
             passes,

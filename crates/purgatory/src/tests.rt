@@ -1,5 +1,8 @@
 //! The room's calls on one thread, and what threads come to that share it.
 mod crew;
+mod held;
+mod many;
+mod race;
 mod shards;
 
 use super::*;

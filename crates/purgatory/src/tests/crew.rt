@@ -238,6 +238,35 @@ pub(super) fn start(alloc: Global, gauges: u32, passes: u32) -> Result<(Room, Cr
     ))
 }
 
+// The first half of the passes and sources, and the others.
+pub(super) fn halves(room: &Room, crew: Crew) -> Result<(Crew, Crew), NoMemory>
+    requires { IsCrewOf room.now crew }
+    ensures { IfOk result (λ both. IsCrewOf room.now both.0 × IsCrewOf room.now both.1) }
+{
+    let Crew {
+        mut hands,
+        mut taps,
+        counts,
+    } = crew;
+    let half = hands.len() / 2;
+    let others = hands.split_off(half)?;
+    let middle = taps.len() / 2;
+    let rest = taps.split_off(middle)?;
+    let other = Crew {
+        hands: others,
+        taps: rest,
+        counts: NOTHING,
+    };
+    Ok((
+        Crew {
+            hands,
+            taps,
+            counts,
+        },
+        other,
+    ))
+}
+
 impl Crew {
     // How many passes it has.
     pub(super) fn size(&self) -> usize {
@@ -261,6 +290,26 @@ impl Crew {
             return;
         }
         self.hands[hand].raise(rt, room, &mut self.taps[tap], value);
+    }
+
+    // A pass raises the gauge of one of so many sources by so much, and settles.
+    pub(super) fn raise_by(
+        &mut self,
+        rt: &impl Wait,
+        room: &Room,
+        hand: usize,
+        tap: usize,
+        more: u64,
+    )
+        requires { IsCrewOf room.now self.old }
+        ensures { IsCrewOf room.now self.new }
+    {
+        if self.taps.is_empty() {
+            return;
+        }
+        let tap = tap % self.taps.len();
+        let value = self.taps[tap].stored.saturating_add(more);
+        self.raise(rt, room, hand, tap, value);
     }
 
     // A pass registers an operation. None where it has one that waits.
@@ -347,5 +396,15 @@ impl Crew {
         if !self.may_end(room, hand, how) {
             self.counts.wrong = self.counts.wrong.saturating_add(1);
         }
+    }
+
+    // Whether a pass's operation waits though it is answerable.
+    pub(super) fn forgets(&mut self, room: &Room, hand: usize) -> bool
+        requires { IsCrewOf room.now self.old }
+        ensures { IsCrewOf room.now self.new }
+    {
+        let satisfied = self.may_end(room, hand, How::Satisfied);
+        let overdue = self.may_end(room, hand, How::Expired);
+        self.waits(hand) && (satisfied || overdue)
     }
 }

@@ -11,6 +11,6 @@ invariant-loop-seat l = record {
   len : into_iter_len l.seat-iterator ≡ length (into_iter_items l.seat-iterator);
   size : length l.locks.items + length (into_iter_items l.seat-iterator) ≡ 16;
   names : map (λ lock. (lock_view shard_name lock).name) l.locks.items ++ names_of (into_iter_items l.seat-iterator) ≡ names_of (into_iter_items l.initial.seat-iterator);
-  count : length l.rows ≡ l.shape.passes + 1;
+  count : length l.rows ≡ l.shape.passes;
   rows : All (IsKeyring (map (lock_view shard_name) l.locks.items)) l.rows;
 }

@@ -1,17 +1,14 @@
-use Rattle.std.proofs.Common.{◌∙◌, ap, arith, refl}
+use Rattle.std.proofs.Common.{◌∙◌, ap, arith}
 use Rattle.std.specs.Prelude.{max}
 use Rattle.std.proofs.lemmas.List.{get_or_default}
-use Rattle.room_table.specs.declared.part.CallerStep.{CallerStep}
-use Rattle.room_table.specs.Seats.{CallerView, TableView, caller_now}
-use Rattle.purgatory.specs.Counted.{IsCounted}
-use Rattle.purgatory.proofs.OwnCounts.{step_same}
+use Rattle.room_table.specs.Seats.{CallerView, TableView}
 use Rattle.purgatory.proofs.Owners.{may_ask, owner_asks, owner_reads}
 use Rattle.purgatory.proofs.owner.Owner.ask.Goals as goal
 
 pub ask-requires-clause-may : goal.ask-requires-clause-may
 ask-requires-clause-may c =
     let i = c.self.inside in
-    let there = c.self.invariant.0.there in
+    let there = c.self.invariant.there in
     let step = c.read-value.ensures.step in
     let passes = ap (λ (v : CallerView). v.table.shape.passes) c.self.view_is ∙ ap (λ (t : TableView). t.shape.passes) c.requires.table in
     let pass = ap (λ (v : CallerView). v.pass) step in
@@ -22,14 +19,10 @@ ask-requires-clause-may c =
 pub invariant_of-self : goal.invariant_of-self
 invariant_of-self c =
     let i = c.self.inside in
-    let size = c.self.invariant.0.size in
+    let size = c.self.invariant.size in
     let gauge = c.requires.gauge in
     let gauges = ap (λ (v : CallerView). v.table.shape.gauges) c.self.view_is in
     let owed = c.index-owed.ensures ∙ get_or_default i.owed.items c.args.gauge _ 0 (omega (arith, size, gauge, gauges)) in
-    let read : IsCounted i.won i.taken (caller_now c.read-value.new.who) =
-    step_same i.won i.taken i.seat c.read-value.new.who (CallerStep.Read c.args.gauge c.read-value.result) c.read-value.ensures.step refl refl refl refl c.self.invariant.1 in (
-      owner_asks i.number i.generation i.owed.items c.read-value.new.who c.ask.new.caller c.args.gauge c.read-value.result c.max.result
-          (owner_reads i.number i.generation i.owed.items i.seat c.read-value.new.who c.args.gauge c.read-value.result c.self.invariant.0 c.read-value.ensures.step)
-          c.ask.ensures (c.max.ensures ∙ ap (λ n. max n c.read-value.result) owed) (omega (arith, size, gauge, gauges)),
-      step_same i.won i.taken c.read-value.new.who c.ask.new.caller (CallerStep.Asked c.args.gauge c.read-value.result) c.ask.ensures refl refl refl refl read,
-    )
+    owner_asks i.number i.generation i.owed.items c.read-value.new.who c.ask.new.caller c.args.gauge c.read-value.result c.max.result
+    (owner_reads i.number i.generation i.owed.items i.seat c.read-value.new.who c.args.gauge c.read-value.result c.self.invariant c.read-value.ensures.step)
+    c.ask.ensures (c.max.ensures ∙ ap (λ n. max n c.read-value.result) owed) (omega (arith, size, gauge, gauges))

@@ -1,22 +1,19 @@
-use Rattle.std.proofs.Common.{◌∙◌, ap, arith, refl}
+use Rattle.std.proofs.Common.{◌∙◌, ap, arith}
 use Rattle.std.proofs.lemmas.List.{get_or_default}
 use Rattle.room_table.specs.declared.part.CallerStep.{CallerStep}
 use Rattle.room_table.specs.Seats.{CallerView, caller_did}
-use Rattle.purgatory.proofs.OwnCounts.{step_same}
 use Rattle.purgatory.proofs.Owners.{owner_paid, owner_still, relieves, relieves_paid}
 use Rattle.purgatory.proofs.owner.Owner.relieve.Goals as goal
 
 pub invariant_of-self : goal.invariant_of-self
 invariant_of-self c =
     let i = c.self.inside in
-    let size = c.self.invariant.0.size in
+    let size = c.self.invariant.size in
     let gauge = c.requires.gauge in
     let gauges = ap (λ (v : CallerView). v.table.shape.gauges) c.self.view_is in
     let owed = c.index-owed.ensures ∙ get_or_default i.owed.items c.args.gauge _ 0 (omega (arith, size, gauge, gauges)) in
-    let more = c.if-owed-relieve.true in (
-      owner_still i.number i.generation i.owed.items i.seat c.relieve.new.caller c.args.gauge c.relieve.result c.self.invariant.0 c.relieve.ensures (omega (arith, owed, more)),
-      step_same i.won i.taken i.seat c.relieve.new.caller (CallerStep.Relieved c.args.gauge c.relieve.result) c.relieve.ensures refl refl refl refl c.self.invariant.1,
-    )
+    let more = c.if-owed-relieve.true in
+    owner_still i.number i.generation i.owed.items i.seat c.relieve.new.caller c.args.gauge c.relieve.result c.self.invariant c.relieve.ensures (omega (arith, owed, more))
 
 pub returns-then-owed-relieve-clause-pays : goal.returns-then-owed-relieve-clause-pays
 returns-then-owed-relieve-clause-pays c =
@@ -25,14 +22,12 @@ returns-then-owed-relieve-clause-pays c =
 pub invariant_of-self-2 : goal.invariant_of-self-2
 invariant_of-self-2 c =
     let i = c.self.inside in
-    let size = c.self.invariant.0.size in
+    let size = c.self.invariant.size in
     let gauge = c.requires.gauge in
     let gauges = ap (λ (v : CallerView). v.table.shape.gauges) c.self.view_is in
     let owed = c.index-owed.ensures ∙ get_or_default i.owed.items c.args.gauge _ 0 (omega (arith, size, gauge, gauges)) in
-    let paid = c.if-owed-relieve.false in (
-      owner_paid i.number i.generation i.owed.items i.seat c.relieve.new.caller c.args.gauge c.relieve.result c.self.invariant.0 c.relieve.ensures (omega (arith, owed, paid)) (omega (arith, size, gauge, gauges)),
-      step_same i.won i.taken i.seat c.relieve.new.caller (CallerStep.Relieved c.args.gauge c.relieve.result) c.relieve.ensures refl refl refl refl c.self.invariant.1,
-    )
+    let paid = c.if-owed-relieve.false in
+    owner_paid i.number i.generation i.owed.items i.seat c.relieve.new.caller c.args.gauge c.relieve.result c.self.invariant c.relieve.ensures (omega (arith, owed, paid)) (omega (arith, size, gauge, gauges))
 
 pub returns-clause-pays : goal.returns-clause-pays
 returns-clause-pays c =
@@ -41,9 +36,9 @@ returns-clause-pays c =
 pub returns-clause-paid : goal.returns-clause-paid
 returns-clause-paid c _ =
     let i = c.self.inside in
-    let size = c.self.invariant.0.size in
+    let size = c.self.invariant.size in
     let gauge = c.requires.gauge in
     let gauges = ap (λ (v : CallerView). v.table.shape.gauges) c.self.view_is in
     let owed = c.index-owed.ensures ∙ get_or_default i.owed.items c.args.gauge _ 0 (omega (arith, size, gauge, gauges)) in
     let paid = c.if-owed-relieve.false in
-    relieves_paid i.number i.generation i.owed.items i.seat c.relieve.new.caller c.args.gauge c.relieve.result c.self.invariant.0 c.relieve.ensures (omega (arith, owed, paid))
+    relieves_paid i.number i.generation i.owed.items i.seat c.relieve.new.caller c.args.gauge c.relieve.result c.self.invariant c.relieve.ensures (omega (arith, owed, paid))

@@ -1,10 +1,9 @@
-use Rattle.std.proofs.Common.{◌≡◌, ◌∙◌, ◌+◌, List, [], ◌∷◌, Some, ap, arith, length, length-append, map, refl, subst, sym}
-use Rattle.std.proofs.lemmas.List.Elements.{All-pop}
+use Rattle.std.proofs.Common.{◌∙◌, List, ap, length, refl, subst, sym}
 use Rattle.room_core.specs.declared.shape.Shape.{Shape}
 use Rattle.room_core.specs.Gauges.{IsShape}
 use Rattle.room_table.specs.Seats.{CallerView, ScanView}
 use Rattle.purgatory.specs.Making.{AreFrom, IsFreshCaller, IsFreshScanner, IsFreshSource, names_of}
-use Rattle.purgatory.specs.Rooms.{LockView, room_shape, with_locks}
+use Rattle.purgatory.specs.Rooms.{room_shape}
 use Rattle.purgatory.proofs.Made.{callers_count, fresh_callers_from, fresh_scanners_from, fresh_sources_from, is_shape, named_so, scanners_count}
 use Rattle.purgatory.proofs.room.Room.make.Goals as goal
 
@@ -33,29 +32,18 @@ room_passes-requires-clause-callers c =
 
 pub room_passes-requires-clause-keys : goal.room_passes-requires-clause-keys
 room_passes-requires-clause-keys c =
-    let size = c.in_ok-locks.ensures.keys.0 in
-    let items = ap (λ (l : List (List LockView)). length l) c.in-Some.ensures.items in
-    let passes : length c.in_ok-table.field-0.callers ≡ c.args.passes =
-    ap (λ (l : List CallerView). length l) c.in_ok-table.ensures.callers ∙ (callers_count c.in_ok-table.field-0.table ∙ ap (λ (s : Shape). s.passes) c.in_ok-table.ensures.shape) in
-    omega (arith, size, items, passes, length-append c.pop.new.self (c.in-Some.own ∷ []))
+    c.in_ok-locks.ensures.keys.0
+    ∙ sym (ap (λ (l : List CallerView). length l) c.in_ok-table.ensures.callers ∙ callers_count c.in_ok-table.field-0.table ∙ ap (λ (s : Shape). s.passes) c.in_ok-table.ensures.shape)
 
 pub invariant_of-result : goal.invariant_of-result
 invariant_of-result c =
     let parts = c.in_ok-table.field-0 in
     let shape = is_shape c.args.gauges c.args.passes c.requires.gauges.0 c.requires.gauges.1 c.requires.passes.0 c.requires.passes.1 in
-    let all = ap (λ (s : Shape). s.scanners) c.in_ok-table.ensures.shape in
-    let rings = All-pop (λ (ring : List LockView). ring ≡ c.in_ok-locks.locks) c.in_ok-locks.keys c.pop.new.self (Some c.in-Some.own) c.in-Some.ensures.items c.in_ok-locks.ensures.keys.1 in (
+    let all = ap (λ (s : Shape). s.scanners) c.in_ok-table.ensures.shape in (
       sym c.in_ok-table.ensures.shape,
       record {
         shape = subst IsShape (sym c.in_ok-table.ensures.shape) shape;
         scanners = all;
         named = named_so parts.table all c.in_ok-locks.locks (c.in_ok-locks.ensures.names ∙ ap names_of c.in_ok-table.ensures.scanners);
       },
-      c.in_ok-reserve.ensures.locks ∙ rings.1,
-      c.in_ok-reserve.ensures.winners ∙ ap (λ (s : Shape). 17 + s.passes) (sym c.in_ok-table.ensures.shape),
     )
-
-pub returns-clause-passes : goal.returns-clause-passes
-returns-clause-passes c =
-    let rings = All-pop (λ (ring : List LockView). ring ≡ c.in_ok-locks.locks) c.in_ok-locks.keys c.pop.new.self (Some c.in-Some.own) c.in-Some.ensures.items c.in_ok-locks.ensures.keys.1 in
-    c.in_ok-passes.ensures c.in_ok-locks.locks rings.0 ∙ ap (map (with_locks c.in_ok-locks.locks)) c.in_ok-table.ensures.callers

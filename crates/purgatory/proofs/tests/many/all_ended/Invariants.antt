@@ -1,0 +1,10 @@
+use Rattle.std.proofs.Common.{length}
+use Rattle.std.specs.Prelude.{All}
+use Rattle.purgatory.specs.Ready.{IsCrewOf}
+use Rattle.purgatory.proofs.tests.many.all_ended.Given as goal
+
+abbrev pub invariant-loop-crew : goal.invariant-loop-crew
+invariant-loop-crew l = All (IsCrewOf l.room) l.crews.items
+
+abbrev pub decreases-loop-crew : goal.decreases-loop-crew
+decreases-loop-crew l = length l.crews.items
