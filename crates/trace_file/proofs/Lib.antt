@@ -1,6 +1,6 @@
 -- what the crates above may cite
 pub mod Laws
--- hex digits that are put out, pair by pair
+-- hex digits that are put out, part by part
 pub mod Digits
 -- decimal digits and their number
 pub mod Numbers

@@ -1,22 +1,36 @@
 //! The printed line of a reply.
 
-ghost use Rattle.std.specs.Prelude.{◌≡◌, ◌∷◌, ◌++◌, [], codes, length, take, OnOk, OnErr};
+ghost use Rattle.std.specs.Prelude.{◌≡◌, ◌≤◌, ◌∷◌, ◌++◌, [], codes, length, take, OnOk, OnErr};
 ghost use Rattle.std.specs.Fmt.{decimal};
 ghost use Rattle.hex.specs.Hex.{encode_lower};
 ghost use Rattle.trace_file.specs.PrintedLine.{line_of};
+ghost use Rattle.trace_file.specs.declared.reply_line.TheConstants.{AT_A_TIME};
 
 use itoa::Buffer;
 use kbytes::{Bytes, NoMemory};
+
+// So many bytes are written at a time, as twice as many digits.
+const AT_A_TIME: usize = 128;
+
+// Puts the digits of a few bytes at the end, or none of them.
+fn put_part(out: &mut Bytes, part: &[u8]) -> Result<(), NoMemory>
+    requires { length part.now ≤ AT_A_TIME }
+    ensures ok { OnOk result (out.new ≡ out.old ++ encode_lower part.now) }
+    ensures err { OnErr result (out.new ≡ out.old) }
+{
+    let mut room = [0; 2 * AT_A_TIME];
+    let digits = &mut room[..2 * part.len()];
+    let _ = hex::encode_to_slice(part, &mut *digits);
+    out.extend(digits)
+}
 
 /// Puts the digits of the bytes at the end. After want of memory some of them may stand there.
 pub fn put_hex(out: &mut Bytes, bytes: &[u8]) -> Result<(), NoMemory>
     ensures ok { OnOk result (out.new ≡ out.old ++ encode_lower bytes.now) }
     ensures front { OnErr result (take (length out.old) out.new ≡ out.old) }
 {
-    for byte in bytes {
-        let mut pair = [0; 2];
-        let _ = hex::encode_to_slice([*byte].as_slice(), &mut pair);
-        out.extend(pair.as_slice())?;
+    for part in bytes.chunks(AT_A_TIME) {
+        put_part(out, part)?;
     }
     Ok(())
 }

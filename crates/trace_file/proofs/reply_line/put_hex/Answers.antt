@@ -1,28 +1,31 @@
-use Rattle.std.proofs.Common.{◌≡◌, ℕ, List, [], ◌∷◌, ◌++◌, Result, Ok, Err, get_or, take, sym, ap, ◌∙◌, rules}
-use Rattle.std.specs.Prelude.{IsOk, OnOk}
-use Rattle.std.proofs.lemmas.List.{append-nil, append_assoc}
+use Rattle.std.proofs.Common.{◌≡◌, ℕ, List, [], ◌++◌, sym, ap, ◌∙◌, rules, append_assoc, append-nil}
+use Rattle.std.proofs.lemmas.List.{nil_from_length}
 use Rattle.hex.specs.Hex.{encode_with, encode_lower, lower_digits}
-use Rattle.trace_file.proofs.Digits.{encode_with-more}
+use Rattle.trace_file.proofs.Digits.{encode_with-append}
 use Rattle.trace_file.proofs.reply_line.put_hex.Goals as goal
 
-on_ok : {A E P : Type 0} (r : Result A E) → OnOk r P → IsOk r → P
-on_ok (Ok x) h is = h
-on_ok (Err e) h is = absurd cc
-
-pub loop-byte-init : goal.loop-byte-init
+pub loop-part-init : goal.loop-part-init
 unfolding encode_with
-loop-byte-init c = sym (append-nil c.args.out.now)
+loop-part-init c = (search rules, tt, search rules, [], sym (append-nil c.args.out.now), search rules)
 
-pub loop-byte-preserved : goal.loop-byte-preserved
-loop-byte-preserved c =
-    let bytes = c.args.bytes.now in
-    let i = c.loop-byte.byte-index in
-    let digits = encode_lower (get_or bytes i 0 ∷ []) in
-    let pushed : c.extend.new.self ≡ c.loop-byte.out ++ c.as_slice-in-loop-byte.result.now = search rules in
-    let fits : IsOk c.encode_to_slice.result = c.encode_to_slice.ensures.fits.1 (search rules) in
-    let written : c.encode_to_slice.new.output ≡ encode_lower c.as_slice.result.now = on_ok c.encode_to_slice.result c.encode_to_slice.ensures.written fits in
-    pushed
-    ∙ ap (λ (ds : List ℕ). c.loop-byte.out ++ ds) (c.as_slice-in-loop-byte.ensures ∙ written ∙ ap encode_lower c.as_slice.ensures)
-    ∙ ap (λ (front : List ℕ). front ++ digits) c.loop-byte.invariant
-    ∙ append_assoc c.args.out.now (encode_lower (take i bytes)) digits
-    ∙ ap (λ (ds : List ℕ). c.args.out.now ++ ds) (sym (encode_with-more lower_digits bytes i c.loop-byte-test.true))
+pub loop-part-preserved : goal.loop-part-preserved
+loop-part-preserved c =
+    let part = c.in-Some.part.now in
+    let steps = c.in-Some.ensures.steps in
+    let done = c.loop-part.invariant.3 in (
+      search rules,
+      tt,
+      steps.0 ∙ c.loop-part.invariant.2,
+      done ++ part,
+      c.in_ok-put_part.ensures.ok
+          ∙ ap (λ (front : List ℕ). front ++ encode_lower part) c.loop-part.invariant.4
+          ∙ append_assoc c.args.out.now (encode_lower done) (encode_lower part)
+          ∙ ap (λ (digits : List ℕ). c.args.out.now ++ digits) (sym (encode_with-append lower_digits done part)),
+      append_assoc done part _ ∙ ap (λ (rest : List ℕ). done ++ rest) (sym steps.1.0) ∙ c.loop-part.invariant.5,
+    )
+
+pub returns-clause-ok : goal.returns-clause-ok
+returns-clause-ok c =
+    let none = nil_from_length _ c.in-None.ensures.steps.1.0 in
+    let all : c.loop-part.invariant.3 ≡ c.args.bytes.now = rw (none, append-nil) at c.loop-part.invariant.5 in
+    rw all at c.loop-part.invariant.4
