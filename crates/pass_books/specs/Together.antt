@@ -24,6 +24,10 @@ use Rattle.pass_books.specs.Told.{told}
 abbrev pub all_calls_in : List Book → List Call
 all_calls_in books = flat_map (λ book. calls_in book.transcripts) books
 
+-- how many of a book's calls this winner completed
+abbrev pub won_by : ℕ → Book → ℕ
+won_by winner book = count_by (is_won_by winner) (calls_in book.transcripts)
+
 -- what became of each named partition, with its state at the end of these histories
 abbrev pub shown_in : List History → List Step → List Shown
 shown_in parts steps = map (λ step. record { result = step.result; state = present parts (part_in step.result) }) steps
@@ -35,7 +39,7 @@ IsAnswerableIn parts clock w = IsAnswerable w.operation (values_of w.request.ask
 -- the k-th book is that of pass k, and goes with these final histories
 pub record GoesWith (config : Configuration) (finals : List History) (clock : List ClockEvent) (k : ℕ) (book : Book) (waits : Option Waiting) : Type 0 where
   pub number : book.number ≡ k
-  pub config : book.config ≡ config
+  pub same : book.config ≡ config
   -- they go on from what the pass saw, and it added nothing behind that
   pub grown : HaveGrown book.parts book.clock finals clock
   pub within : OwnWithin k book.parts book.clock finals clock
@@ -48,7 +52,7 @@ pub record AreTogether (config : Configuration) (books : List Book) (waits : ℕ
   -- every entry names a pass that there is
   pub known : (part place by seq : ℕ) → slice_get (owners_at finals clock part) place ≡ Some (the_owner by seq) → by < length books
   -- each winner's number is that of the calls that it completed
-  pub wins : (winner : ℕ) → unwrap_or (slice_get wins winner) 0 ≡ count_by (is_won_by winner) (all_calls_in books)
+  pub counts : (winner : ℕ) → unwrap_or (slice_get wins winner) 0 ≡ count_by (is_won_by winner) (all_calls_in books)
 
 abbrev pub account_of : Configuration → List Book → List History → List ClockEvent → List ℕ → Account
 account_of config books finals clock wins = record {
