@@ -42,7 +42,7 @@ use Rattle.pass_books.specs.Finishing.{IsDelayed}
 use Rattle.pass_books.proofs.Growing.{as_many}
 use Rattle.pass_books.proofs.Lists.{all_get, zip_append}
 use Rattle.pass_books.proofs.Owning.{own_carried, own_look}
-use Rattle.pass_books.proofs.Underways.{amid_book, called, is_seq, others_underway, underway_on}
+use Rattle.pass_books.proofs.Underways.{amid_book, called, is_seq, others_underway, underway_as, underway_on}
 
 -- ---- lists
 
@@ -101,6 +101,20 @@ others_accepting u request decisions reached noted later behind grown within his
   points = h.points;
   unfinished = h.unfinished;
   within = subst (λ (n : ℕ). AllBelow n (operation_parts (steps_of noted))) (sym (as_many u.config u.parts later u.clock behind h.underway.histories histories)) h.within;
+}
+
+-- with its end told otherwise
+pub accepting_as : (u : Underway) (request : Request) (decisions : List Decision) (reached : ℕ) (noted : List Noted) (how : CallHow) → IsAccepting u request decisions reached noted
+    → IsAccepting (record u { call = record u.call { how = how } }) request decisions reached noted
+accepting_as u request decisions reached noted how h = record {
+  underway = underway_as u how h.underway;
+  asked = h.asked;
+  decided = h.decided;
+  each = h.each;
+  shown = h.shown;
+  points = h.points;
+  unfinished = h.unfinished;
+  within = h.within;
 }
 
 -- ---- a call is written down

@@ -101,25 +101,30 @@ module _ (config : Configuration) (books : List Book) (waits : ℕ → Option Wa
   same_owners : (part : ℕ) → owners_of account part ≡ owners_at finals clock part
   same_owners part = owners_same finals account refl part
 
+  -- the book of a pass that left an entry
+  book_of : (part place by seq : ℕ) → slice_get (owners_at finals clock part) place ≡ Some (the_owner by seq) → (book : Book) × (slice_get books by ≡ Some book)
+  book_of part place by seq there =
+      let nobody : Book = record { config = config; number = 0; parts = []; clock = []; transcripts = [] } in
+      (unwrap_or (slice_get books by) nobody, get_there books by nobody (together.known part place by seq there))
+
+  own_of : (k : ℕ) (book : Book) → slice_get books k ≡ Some book → AreOwn (owners_at book.parts book.clock) k (map points_of (calls_in book.transcripts))
+  own_of k book e = subst (λ (n : ℕ). AreOwn (owners_at book.parts book.clock) n (map points_of (calls_in book.transcripts))) (together.each k book e).number (each k book e).own
+
+  -- an entry that the pass itself saw
+  left_in : (book : Book) (part place by seq : ℕ) → slice_get books by ≡ Some book → slice_get (owners_at finals clock part) place ≡ Some (the_owner by seq)
+      → (call : Call) × (call_of account by seq ≡ Some call) × (count_by (is_point part place) (points_of call) ≡ 1)
+  left_in book part place by seq at there =
+      let with_it = together.each by book at in
+      let found = (own_of by book at).left part place seq (owner_seen book.parts finals book.clock clock with_it.grown part place (the_owner by seq) (with_it.within part place seq there) there) in
+      let call = get_map points_of (calls_in book.transcripts) seq found.0 found.1 in
+      (call.0, ap (λ (calls : List Call). slice_get calls seq) (calls_at by book at) ∙ call.1, ap (count_by (is_point part place)) call.2 ∙ found.2)
+
   entry_left : (part place by seq : ℕ) → slice_get (owners_of account part) place ≡ Some (the_owner by seq)
       → (call : Call) × (call_of account by seq ≡ Some call) × (count_by (is_point part place) (points_of call) ≡ 1)
   entry_left part place by seq e =
       let there : slice_get (owners_at finals clock part) place ≡ Some (the_owner by seq) = sym (ap (λ (os : List (Option Owner)). slice_get os place) (same_owners part)) ∙ e in
-      let nobody : Book = record { config = config; number = 0; parts = []; clock = []; transcripts = [] } in
-      let book : Book = unwrap_or (slice_get books by) nobody in
-      let at : slice_get books by ≡ Some book = get_there books by nobody (together.known part place by seq there) in
-      let with_it = together.each by book at in
-      let seen : slice_get (owners_at book.parts book.clock part) place ≡ Some (the_owner by seq) =
-      owner_seen book.parts finals book.clock clock with_it.grown part place (the_owner by seq) (with_it.within part place seq there) there in
-      let own : AreOwn (owners_at book.parts book.clock) by (map points_of (calls_in book.transcripts)) =
-      subst (λ (n : ℕ). AreOwn (owners_at book.parts book.clock) n (map points_of (calls_in book.transcripts))) with_it.number (each by book at).own in
-      let found = own.left part place seq seen in
-      let call = get_map points_of (calls_in book.transcripts) seq found.0 found.1 in
-      (
-        call.0,
-        ◌∙◌ {c = Some call.0} (ap (λ (calls : List Call). slice_get calls seq) (calls_at by book at)) call.1,
-        ◌∙◌ {c = 1} (ap (count_by (is_point part place)) call.2) found.2,
-      )
+      let book = book_of part place by seq there in
+      left_in book.0 part place by seq book.1 there
 
   points_owned : (pass seq : ℕ) (call : Call) → call_of account pass seq ≡ Some call
       → AllByRecursion (λ point. slice_get (owners_of account point.part) point.place ≡ Some (the_owner pass seq)) (points_of call)
@@ -127,13 +132,11 @@ module _ (config : Configuration) (books : List Book) (waits : ℕ → Option Wa
       let found = book_with pass seq call e in
       let book = found.0 in
       let with_it = together.each pass book found.1 in
-      let own : AreOwn (owners_at book.parts book.clock) pass (map points_of (calls_in book.transcripts)) =
-      subst (λ (n : ℕ). AreOwn (owners_at book.parts book.clock) n (map points_of (calls_in book.transcripts))) with_it.number (each pass book found.1).own in
       all_on (λ (point : Point). slice_get (owners_at book.parts book.clock point.part) point.place ≡ Some (the_owner pass seq))
       (λ (point : Point). slice_get (owners_of account point.part) point.place ≡ Some (the_owner pass seq))
       (λ point is. ap (λ (os : List (Option Owner)). slice_get os point.place) (same_owners point.part)
       ∙ owner_stands book.parts finals book.clock clock with_it.grown point.part point.place (the_owner pass seq) is)
-      (points_of call) (own.points seq (points_of call) (map_get points_of (calls_in book.transcripts) seq call found.2))
+      (points_of call) ((own_of pass book found.1).points seq (points_of call) (map_get points_of (calls_in book.transcripts) seq call found.2))
 
   nothing_rises : (part : ℕ) → IsStrictlyIncreasing (places_in part (flat_map points_of []))
   nothing_rises part k lt = absurd (omega (arith, lt))

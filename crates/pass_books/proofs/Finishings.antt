@@ -39,7 +39,7 @@ use Rattle.pass_books.proofs.Asking.{delayed_asks}
 use Rattle.pass_books.proofs.Growing.{account_goes_on, as_many}
 use Rattle.pass_books.proofs.Lists.{all_get, zip_append}
 use Rattle.pass_books.proofs.Owning.{own_carried, own_look}
-use Rattle.pass_books.proofs.Underways.{amid_book, amid_waits, is_seq, others_underway, underway_on, waits_call, waits_underway}
+use Rattle.pass_books.proofs.Underways.{amid_book, amid_waits, is_seq, others_underway, underway_as, underway_on, waits_call, waits_underway}
 
 -- ---- delayed
 
@@ -67,15 +67,7 @@ waits_delayed u w h =
 -- with its end told otherwise
 pub delayed_as : (u : Underway) (w : Waiting) (how : CallHow) → IsDelayed u w → IsDelayed (record u { call = record u.call { how = how } }) w
 delayed_as u w how h = record {
-  underway = record {
-    histories = h.underway.histories;
-    own = h.underway.own;
-    earlier = h.underway.earlier;
-    past = h.underway.past;
-    follow = h.underway.follow;
-    first = h.underway.first;
-    going = h.underway.going;
-  };
+  underway = underway_as u how h.underway;
   delayed = λ account on. let d = h.delayed account on in record { accepted = d.accepted; looks = d.looks; entries = d.entries; delayed = d.delayed; operation = d.operation };
   within = h.within;
   own = h.own;

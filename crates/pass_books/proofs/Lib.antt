@@ -18,3 +18,5 @@ mod Asking
 mod Finishings
 -- how many of a book's calls each winner completed
 mod Winning
+-- what comes between two turns of a pass
+mod Coming

@@ -8,6 +8,7 @@ use Rattle.partlog.specs.declared.clock_event.ClockEvent.{ClockEvent}
 use Rattle.partlog.specs.declared.clock_event.ClockEvent.TheVariants as clocks
 use Rattle.partlog.specs.History.{History}
 use Rattle.audit.specs.declared.account.Call.{Call}
+use Rattle.audit.specs.declared.account.CallHow.{CallHow}
 use Rattle.audit.specs.declared.account.CallHow.TheVariants.{Parked, Cut}
 use Rattle.audit.specs.declared.account.Point.{Point}
 use Rattle.audit.specs.declared.account.SessionEnd.{SessionEnd}
@@ -162,6 +163,10 @@ pub others_underway : (u : Underway) (later : List History) (behind : List Clock
     → AreHistories u.config later behind → IsUnderway u → IsUnderway (record u { parts = later; clock = behind })
 others_underway u later behind grown within histories h =
     underway_on u later behind u.call h grown histories (own_others u.number (map points_of (earlier_calls u) ++ points_of u.call ∷ []) u.parts later u.clock behind grown within h.own)
+
+-- with its end told otherwise
+pub underway_as : (u : Underway) (how : CallHow) → IsUnderway u → IsUnderway (record u { call = record u.call { how = how } })
+underway_as u how h = record { histories = h.histories; own = h.own; earlier = h.earlier; past = h.past; follow = h.follow; first = h.first; going = h.going }
 
 -- the call's number is that of its rows
 pub is_seq : (u : Underway) → seq_of u ≡ length (map points_of (earlier_calls u))
