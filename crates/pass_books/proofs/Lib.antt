@@ -26,3 +26,5 @@ mod Finishings
 mod Replying
 -- how many of a book's calls each winner completed
 mod Winning
+-- the worked books
+mod WorkedBooks
