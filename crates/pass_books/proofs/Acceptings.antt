@@ -36,7 +36,7 @@ use Rattle.pass_books.specs.Book.{Book}
 use Rattle.pass_books.specs.IsBook.{IsBook, IsFinished}
 use Rattle.pass_books.specs.Owned.{AreOwn, OwnWithin}
 use Rattle.pass_books.specs.Told.{last_is_cut}
-use Rattle.pass_books.specs.Underway.{Underway, IsUnderway, book_amid, earlier_calls, seq_of}
+use Rattle.pass_books.specs.Underway.{Underway, IsUnderway, begun_amid, book_amid, earlier_calls, seq_of, with_end}
 use Rattle.pass_books.specs.Accepting.{IsAccepting, carried_out, clock_seen, left_waiting, noted_next}
 use Rattle.pass_books.specs.Finishing.{IsDelayed}
 use Rattle.pass_books.proofs.Growing.{as_many}
@@ -105,7 +105,7 @@ others_accepting u request decisions reached noted later behind grown within his
 
 -- with its end told otherwise
 pub accepting_as : (u : Underway) (request : Request) (decisions : List Decision) (reached : ℕ) (noted : List Noted) (how : CallHow) → IsAccepting u request decisions reached noted
-    → IsAccepting (record u { call = record u.call { how = how } }) request decisions reached noted
+    → IsAccepting (with_end u how) request decisions reached noted
 accepting_as u request decisions reached noted how h = record {
   underway = underway_as u how h.underway;
   asked = h.asked;
@@ -120,15 +120,7 @@ accepting_as u request decisions reached noted how h = record {
 -- ---- a call is written down
 
 pub called_accepting : (book : Book) (front : List Transcript) (transcript : Transcript) (frame : List ℕ) (request : Request) (decisions : List Decision) → transcript.end ≡ None → last_is_cut transcript.calls ≡ false
-    → IsRequest frame request → Decides book.config request.ask decisions → IsBook (record book { transcripts = front ++ transcript ∷ [] }) None → IsAccepting (record {
-      config = book.config;
-      number = book.number;
-      parts = book.parts;
-      clock = book.clock;
-      front = front;
-      transcript = transcript;
-      call = record { frame = frame; accept = []; finish = []; how = Cut None };
-    }) request decisions 0 []
+    → IsRequest frame request → Decides book.config request.ask decisions → IsBook (record book { transcripts = front ++ transcript ∷ [] }) None → IsAccepting (begun_amid book front transcript frame) request decisions 0 []
 called_accepting book front transcript frame request decisions going uncut asked decided h = record {
   underway = called book front transcript frame going uncut h;
   asked = asked;

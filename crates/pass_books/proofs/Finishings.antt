@@ -32,7 +32,7 @@ use Rattle.plain_broker.specs.Sound.{AllBelow, AreHistories, IsDelayedAs, IsWait
 use Rattle.plain_broker.proofs.Laws.{IsFair, accepted_longer, accepted_shows, all_longer_self, carried_on, clock_looked, clock_moment, clock_point, goes_back, grown_clock, grown_parts, looked_moment, looked_state}
 use Rattle.pass_books.specs.IsBook.{IsBook, IsFinished}
 use Rattle.pass_books.specs.Owned.{AreOwn, OwnWithin}
-use Rattle.pass_books.specs.Underway.{Underway, IsUnderway, book_amid, earlier_calls, seq_of}
+use Rattle.pass_books.specs.Underway.{Underway, IsUnderway, book_amid, earlier_calls, seq_of, with_end}
 use Rattle.pass_books.specs.Finishing.{IsDelayed, IsDue, IsFinishing, late_seen, part_seen, shown_with}
 use Rattle.pass_books.proofs.Acceptings.{histories_carried, histories_looked, take_next}
 use Rattle.pass_books.proofs.Asking.{delayed_asks}
@@ -65,7 +65,7 @@ waits_delayed u w h =
     (record { underway = waits_underway u w h; delayed = waits.delayed; within = waits.within; own = h.calls.own }, waits.unfinished, waits.how)
 
 -- with its end told otherwise
-pub delayed_as : (u : Underway) (w : Waiting) (how : CallHow) → IsDelayed u w → IsDelayed (record u { call = record u.call { how = how } }) w
+pub delayed_as : (u : Underway) (w : Waiting) (how : CallHow) → IsDelayed u w → IsDelayed (with_end u how) w
 delayed_as u w how h = record {
   underway = underway_as u how h.underway;
   delayed = λ account on. let d = h.delayed account on in record { accepted = d.accepted; looks = d.looks; entries = d.entries; delayed = d.delayed; operation = d.operation };
@@ -119,7 +119,7 @@ finishing_won u w h unfinished = record {
 }
 
 -- with its end told otherwise
-pub finishing_as : (u : Underway) (w : Waiting) (late : Option Point) (states : List State) (how : CallHow) → IsFinishing u w late states → IsFinishing (record u { call = record u.call { how = how } }) w late states
+pub finishing_as : (u : Underway) (w : Waiting) (late : Option Point) (states : List State) (how : CallHow) → IsFinishing u w late states → IsFinishing (with_end u how) w late states
 finishing_as u w late states how h = record {
   delayed = delayed_as u w how h.delayed;
   looks = h.looks;
@@ -129,7 +129,7 @@ finishing_as u w late states how h = record {
   due = by_cause late h.due;
 }
   where
-    by_cause : (o : Option Point) → IsDue u w o states → IsDue (record u { call = record u.call { how = how } }) w o states
+    by_cause : (o : Option Point) → IsDue u w o states → IsDue (with_end u how) w o states
     by_cause None due = due
     by_cause (Some point) due = due
 

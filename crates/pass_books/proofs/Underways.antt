@@ -28,7 +28,7 @@ use Rattle.pass_books.specs.Book.{Book}
 use Rattle.pass_books.specs.IsBook.{AreFinished, IsBook, IsFinished, Stand, WaitsLast, with_call}
 use Rattle.pass_books.specs.Owned.{AreOwn, OwnWithin}
 use Rattle.pass_books.specs.Told.{last_is_cut, told, told_end}
-use Rattle.pass_books.specs.Underway.{Underway, IsUnderway, book_amid, earlier_calls, seq_of}
+use Rattle.pass_books.specs.Underway.{Underway, IsUnderway, begun_amid, book_amid, earlier_calls, seq_of, with_end}
 use Rattle.pass_books.proofs.Closing.{calls_with}
 use Rattle.pass_books.proofs.Ending.{all_past, ended_well, follow_call, follow_last, last_follows, past_before}
 use Rattle.pass_books.proofs.Growing.{as_many}
@@ -122,15 +122,7 @@ ended book front last end going cut h =
 -- ---- a call is written down
 
 pub called : (book : Book) (front : List Transcript) (transcript : Transcript) (frame : List ℕ) → transcript.end ≡ None → last_is_cut transcript.calls ≡ false
-    → IsBook (record book { transcripts = front ++ transcript ∷ [] }) None → IsUnderway (record {
-      config = book.config;
-      number = book.number;
-      parts = book.parts;
-      clock = book.clock;
-      front = front;
-      transcript = transcript;
-      call = record { frame = frame; accept = []; finish = []; how = Cut None };
-    })
+    → IsBook (record book { transcripts = front ++ transcript ∷ [] }) None → IsUnderway (begun_amid book front transcript frame)
 called book front transcript frame going uncut h =
     let follows = last_follows front transcript h.ends in
     let calls = calls_behind front transcript in
@@ -165,7 +157,7 @@ others_underway u later behind grown within histories h =
     underway_on u later behind u.call h grown histories (own_others u.number (map points_of (earlier_calls u) ++ points_of u.call ∷ []) u.parts later u.clock behind grown within h.own)
 
 -- with its end told otherwise
-pub underway_as : (u : Underway) (how : CallHow) → IsUnderway u → IsUnderway (record u { call = record u.call { how = how } })
+pub underway_as : (u : Underway) (how : CallHow) → IsUnderway u → IsUnderway (with_end u how)
 underway_as u how h = record { histories = h.histories; own = h.own; earlier = h.earlier; past = h.past; follow = h.follow; first = h.first; going = h.going }
 
 -- the call's number is that of its rows

@@ -35,7 +35,7 @@ use Rattle.pass_books.specs.Book.{Book, opening_book}
 use Rattle.pass_books.specs.IsBook.{IsBook}
 use Rattle.pass_books.specs.Owned.{NotOf, OthersAlone, OwnWithin}
 use Rattle.pass_books.specs.Together.{AreTogether, GoesWith, IsAnswerableIn, account_of, all_calls_in}
-use Rattle.pass_books.specs.Underway.{Underway, book_amid}
+use Rattle.pass_books.specs.Underway.{Underway, begun_amid, book_amid, with_end}
 use Rattle.pass_books.specs.Accepting.{IsAccepting, carried_out, clock_seen, noted_next}
 use Rattle.pass_books.specs.Finishing.{IsDelayed, part_seen}
 use Rattle.pass_books.specs.Worked.{books_before, clock_looked, fetched, first_waits, follower, looked, none_waits, one_put, producer, satisfied_books, waiting_books}
@@ -72,15 +72,7 @@ module _ (all : List ℕ) (one : Record) (is_batch : IsBatch batch (one ∷ []))
   transcript = record { number = 7; first = 0; calls = []; end = None }
 
   abbrev at_first : Underway
-  at_first = record {
-    config = followed;
-    number = 0;
-    parts = empty_history 1 ∷ [];
-    clock = [];
-    front = [];
-    transcript = transcript;
-    call = record { frame = all; accept = []; finish = []; how = Cut None };
-  }
+  at_first = begun_amid (opening_book followed 0) [] transcript all
 
   decided : Decides followed produce.ask (asked ∷ [])
   decided = (inr (one ∷ [], is_batch, refl), tt)
@@ -96,7 +88,7 @@ module _ (all : List ℕ) (one : Record) (is_batch : IsBatch batch (one ∷ []))
   put = clock_seen (carried_out at_first asked)
 
   abbrev parked : Underway
-  parked = record put { call = record put.call { how = Parked } }
+  parked = with_end put Parked
 
   put_delayed : IsDelayed put (waits_for_all 0 batch)
   put_delayed = accepting_delayed (carried_out at_first asked) produce (asked ∷ []) (noted_next at_first asked) accepted refl
@@ -127,7 +119,7 @@ module _ (all : List ℕ) (one : Record) (is_batch : IsBatch batch (one ∷ []))
   waiting = record parked { parts = one_put fetched ∷ [] }
 
   abbrev satisfied : Underway
-  satisfied = record (part_seen waiting 0) { call = record (part_seen waiting 0).call { how = Satisfied 1 } }
+  satisfied = with_end (part_seen waiting 0) (Satisfied 1)
 
   pub producer_satisfied : IsBook (producer all looked (at 0 2 ∷ []) (Satisfied 1)) None
   producer_satisfied =
@@ -145,15 +137,7 @@ module _ (frame : List ℕ) (is_request : IsRequest frame follow) where
   fetch = AskLog 0 (fetch_outcome 1 (pos 1) (record { index = pos 0; offset = pos 1; most = pos 1000 }) 0)
 
   abbrev fetching : Underway
-  fetching = record {
-    config = followed;
-    number = 1;
-    parts = one_put [] ∷ [];
-    clock = [];
-    front = [];
-    transcript = record { number = 9; first = 0; calls = []; end = None };
-    call = record { frame = frame; accept = []; finish = []; how = Cut None };
-  }
+  fetching = begun_amid (record (opening_book followed 1) { parts = one_put [] ∷ [] }) [] (record { number = 9; first = 0; calls = []; end = None }) frame
 
   -- the producer's batch was put
   producer_came : OthersAlone 1 (empty_history 1 ∷ []) [] (one_put [] ∷ []) []
@@ -175,7 +159,7 @@ module _ (frame : List ℕ) (is_request : IsRequest frame follow) where
       (called_accepting (record (opening_book followed 1) { parts = one_put [] ∷ [] }) [] fetching.transcript frame follow (fetch ∷ []) refl refl is_request refl begun_behind) fetch refl
 
   abbrev answered : Underway
-  answered = record (carried_out fetching fetch) { call = record (carried_out fetching fetch).call { how = AtOnce } }
+  answered = with_end (carried_out fetching fetch) AtOnce
 
   pub follower_answered : IsBook (follower frame) None
   follower_answered =
