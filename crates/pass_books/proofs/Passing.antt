@@ -1,5 +1,5 @@
 -- What others do changes nothing that a pass knows, between its calls and amid one.
-use Rattle.std.proofs.Common.{◌≡◌, ℕ, List, Option, length}
+use Rattle.std.proofs.Common.{ℕ, List, Option}
 use Rattle.partlog.specs.declared.clock_event.ClockEvent.{ClockEvent}
 use Rattle.partlog.specs.History.{History}
 use Rattle.partlog.specs.State.{PartState as State}
@@ -9,7 +9,6 @@ use Rattle.kwire.specs.Configuration.{Configuration}
 use Rattle.kwire.specs.declared.request.Request.{Request}
 use Rattle.plain_broker.specs.Board.{Waiting}
 use Rattle.plain_broker.specs.Entering.{Noted}
-use Rattle.plain_broker.specs.GoesOn.{HaveGrown}
 use Rattle.plain_broker.specs.Sound.{AreHistories}
 use Rattle.pass_books.specs.Accepting.{IsAccepting}
 use Rattle.pass_books.specs.Book.{Book}

@@ -1,19 +1,15 @@
 -- The worked books: each comes of the moves of its pass, and the two go together.
-use Rattle.std.proofs.Common.{◌≡◌, ◌≢◌, ℕ, zero, suc, ◌+◌, ◌≤◌, ◌<◌, pos, Bool, true, false, cond, eqb, List, [], ◌∷◌, ◌++◌, length, map, Option, Some, None, unwrap_or, refl, sym, ap, subst, ◌∙◌, arith, inl, inr}
+use Rattle.std.proofs.Common.{◌≡◌, ◌≢◌, ℕ, zero, suc, ◌≤◌, ◌<◌, pos, Bool, true, false, cond, eqb, List, [], ◌∷◌, length, map, Option, Some, None, unwrap_or, refl, sym, ap, subst, arith, inl, inr}
 use Rattle.std.proofs.lemmas.Bool.{ne_eqb}
 use Rattle.std.proofs.lemmas.Option.{slice_get_within}
 use Rattle.std.specs.Prelude.{slice_get, count_by}
 use Rattle.std.specs.List.{AllByRecursion}
-use Rattle.partlog.specs.declared.clock_event.ClockEvent.{ClockEvent}
-use Rattle.partlog.specs.declared.clock_event.ClockEvent.TheVariants as clocks
-use Rattle.partlog.specs.declared.event.PartEvent.{PartEvent}
-use Rattle.partlog.specs.declared.event.PartEvent.TheVariants.{Append, Follow, Look}
+use Rattle.partlog.specs.declared.event.PartEvent.TheVariants.{Append, Look}
 use Rattle.partlog.specs.History.{History}
 use Rattle.partlog.specs.State.{state_of}
 use Rattle.kbatch.specs.Batch.{IsBatch}
 use Rattle.kbatch.specs.Stamp.{stamped}
 use Rattle.kbatch.specs.declared.record.Record.{Record}
-use Rattle.audit.specs.declared.account.CallHow.{CallHow}
 use Rattle.audit.specs.declared.account.CallHow.TheVariants.{AtOnce, Satisfied, Parked, Cut}
 use Rattle.audit.specs.declared.account.SessionEnd.TheVariants.{Closed}
 use Rattle.audit.specs.declared.account.Transcript.{Transcript}
@@ -25,15 +21,15 @@ use Rattle.kanswer.specs.Decisions.{AskLog, Decision, Decides, append_outcome, f
 use Rattle.kwire.specs.Configuration.{Configuration}
 use Rattle.kwire.specs.IsRequest.{IsRequest}
 use Rattle.plain_broker.specs.Board.{Waiting, empty_history}
-use Rattle.plain_broker.specs.GoesOn.{HaveGrown, Longer, the_owner}
-use Rattle.plain_broker.specs.Kept.{owners_here, owners_at}
+use Rattle.plain_broker.specs.GoesOn.{Longer, the_owner}
+use Rattle.plain_broker.specs.Kept.{owners_at}
 use Rattle.plain_broker.specs.Sound.{AreHistories}
 use Rattle.plain_broker.specs.Worked.{waits_for_all}
 use Rattle.plain_broker.specs.WorkedPlay.{batch, follow, produce}
 use Rattle.plain_broker.proofs.Laws.{grown_self}
 use Rattle.pass_books.specs.Book.{Book, opening_book}
 use Rattle.pass_books.specs.IsBook.{IsBook}
-use Rattle.pass_books.specs.Owned.{NotOf, OthersAlone, OwnWithin}
+use Rattle.pass_books.specs.Owned.{NotOf, OthersAlone}
 use Rattle.pass_books.specs.Together.{AreTogether, GoesWith, IsAnswerableIn, account_of, all_calls_in}
 use Rattle.pass_books.specs.Underway.{Underway, begun_amid, book_amid, with_end}
 use Rattle.pass_books.specs.Accepting.{IsAccepting, carried_out, clock_seen, noted_next}

@@ -48,7 +48,12 @@ follower frame = record {
   number = 1;
   parts = one_put fetched ∷ [];
   clock = [];
-  transcripts = record { number = 9; first = 0; calls = record { frame = frame; accept = at 0 1 ∷ []; finish = []; how = AtOnce } ∷ []; end = Some Closed } ∷ [];
+  transcripts = record {
+    number = 9;
+    first = 0;
+    calls = record { frame = frame; accept = at 0 1 ∷ []; finish = []; how = AtOnce } ∷ [];
+    end = Some Closed;
+  } ∷ [];
 }
 
 -- the produce waits, and nothing else; or nothing does

@@ -14,7 +14,6 @@ ghost use Rattle.audit.specs.declared.account.SessionEnd.{SessionEnd};
 ghost use Rattle.audit.specs.declared.account.SessionEnd.TheVariants.{NoMemory};
 ghost use Rattle.audit.specs.declared.account.Transcript.{Transcript};
 ghost use Rattle.audit.specs.Fits.{IsReplyOf};
-ghost use Rattle.audit.specs.Histories.{calls_in};
 ghost use Rattle.audit.specs.IsLawful.{IsLawful};
 ghost use Rattle.audit.specs.LawfulCall.{operation_parts};
 ghost use Rattle.audit.specs.Worked.{at, followed};
@@ -34,32 +33,34 @@ ghost use Rattle.plain_broker.specs.Turns.{how_at_once};
 ghost use Rattle.plain_broker.specs.Worked.{waits_for_all};
 ghost use Rattle.plain_broker.specs.WorkedPlay.{batch, follow, produce};
 ghost use Rattle.pass_books.specs.Accepting.{carried_out, clock_seen, IsAccepting, left_waiting, noted_next};
-ghost use Rattle.pass_books.specs.Book.{Book, opening_book};
+ghost use Rattle.pass_books.specs.Book.{begun_behind, Book, opening_book};
 ghost use Rattle.pass_books.specs.Finishing.{IsDelayed, IsFinishing, late_seen, part_seen, shown_with};
 ghost use Rattle.pass_books.specs.IsBook.{IsBook};
 ghost use Rattle.pass_books.specs.Owned.{OthersAlone};
 ghost use Rattle.pass_books.specs.Together.{account_of, AreTogether};
 ghost use Rattle.pass_books.specs.Told.{last_is_cut};
-ghost use Rattle.pass_books.specs.Underway.{book_amid, begun_amid, Underway, with_end};
+ghost use Rattle.pass_books.specs.Underway.{begun_amid, book_amid, Underway, with_end};
 ghost use Rattle.pass_books.specs.Worked.{books_before, clock_looked, fetched, first_waits, follower, looked, none_waits, one_put, producer, satisfied_books, waiting_books};
 
 /// Law: the books of all passes come to a lawful account, in whatever order the passes acted. Each pass knows only the fronts that
 /// it saw; the final histories go on from these, and nothing that waits is answerable by them.
 pub fn books_are_lawful()
-    ensures { (config : Configuration) (books : List Book) (waits : ℕ → Option Waiting) (finals : List History) (clock : List ClockEvent) (wins : List ℕ)
-        → AreTogether config books waits finals clock wins → ((k : ℕ) (book : Book) → slice_get books k ≡ Some book → IsBook book (waits k))
+    ensures { (config : Configuration) (books : List Book) (waits : ℕ → Option Waiting) (finals : List History) (clock : List ClockEvent)
+        (wins : List ℕ) → AreTogether config books waits finals clock wins
+        → ((k : ℕ) (book : Book) → slice_get books k ≡ Some book → IsBook book (waits k))
         → IsLawful (account_of config books finals clock wins) }
 {}
 
 /// Law: a book between two calls. A pass that has done nothing has one; it stays one whatever others do, and as a transcript is begun
 /// or ended, which is for want of memory where its last call was cut off.
 pub fn books_go_on()
-    ensures opened { (config : Configuration) (number : ℕ) → partitions_of config.topics ≤ MOST_PARTITIONS → IsBook (opening_book config number) None }
+    ensures opened { (config : Configuration) (number : ℕ) → partitions_of config.topics ≤ MOST_PARTITIONS
+        → IsBook (opening_book config number) None }
     ensures others { (book : Book) (waits : Option Waiting) (later : List History) (behind : List ClockEvent)
         → OthersAlone book.number book.parts book.clock later behind → AreHistories book.config later behind → IsBook book waits
         → IsBook (record book { parts = later; clock = behind }) waits }
     ensures begun { (book : Book) (number : ℕ) → IsBook book None
-        → IsBook (record book { transcripts = book.transcripts ++ record { number = number; first = length (calls_in book.transcripts); calls = []; end = None } ∷ [] }) None }
+        → IsBook (record book { transcripts = book.transcripts ++ begun_behind book.transcripts number ∷ [] }) None }
     ensures ended { (book : Book) (front : List Transcript) (last : Transcript) (end : SessionEnd) → last.end ≡ None
         → (last_is_cut last.calls ≡ true → end ≡ NoMemory) → IsBook (record book { transcripts = front ++ last ∷ [] }) None
         → IsBook (record book { transcripts = front ++ record last { end = Some end } ∷ [] }) None }
@@ -68,15 +69,17 @@ pub fn books_go_on()
 /// Law: a call is accepted. It is written down as cut off, and what was decided of it is carried out, one partition after the other,
 /// while others act too. Wherever it stops, its book is one; at last it is answered at once, or it looks at the clock and is delayed.
 pub fn calls_are_accepted()
-    ensures called { (book : Book) (front : List Transcript) (transcript : Transcript) (frame : List ℕ) (request : Request) (decisions : List Decision)
-        → transcript.end ≡ None → last_is_cut transcript.calls ≡ false → IsRequest frame request → Decides book.config request.ask decisions
+    ensures called { (book : Book) (front : List Transcript) (transcript : Transcript) (frame : List ℕ) (request : Request)
+        (decisions : List Decision) → transcript.end ≡ None → last_is_cut transcript.calls ≡ false → IsRequest frame request
+        → Decides book.config request.ask decisions
         → IsBook (record book { transcripts = front ++ transcript ∷ [] }) None
         → IsAccepting (begun_amid book front transcript frame) request decisions 0 [] }
-    ensures others { (u : Underway) (request : Request) (decisions : List Decision) (reached : ℕ) (noted : List Noted) (later : List History)
-        (behind : List ClockEvent) → OthersAlone u.number u.parts u.clock later behind → AreHistories u.config later behind
-        → IsAccepting u request decisions reached noted → IsAccepting (record u { parts = later; clock = behind }) request decisions reached noted }
-    ensures entered { (u : Underway) (request : Request) (decisions : List Decision) (reached : ℕ) (noted : List Noted) (decision : Decision)
-        → IsAccepting u request decisions reached noted → slice_get decisions reached ≡ Some decision
+    ensures others { (u : Underway) (request : Request) (decisions : List Decision) (reached : ℕ) (noted : List Noted)
+        (later : List History) (behind : List ClockEvent) → OthersAlone u.number u.parts u.clock later behind
+        → AreHistories u.config later behind → IsAccepting u request decisions reached noted
+        → IsAccepting (record u { parts = later; clock = behind }) request decisions reached noted }
+    ensures entered { (u : Underway) (request : Request) (decisions : List Decision) (reached : ℕ) (noted : List Noted)
+        (decision : Decision) → IsAccepting u request decisions reached noted → slice_get decisions reached ≡ Some decision
         → IsAccepting (carried_out u decision) request decisions (reached + 1) (noted ++ noted_next u decision) }
     ensures cut { (u : Underway) (request : Request) (decisions : List Decision) (reached : ℕ) (noted : List Noted)
         → IsAccepting u request decisions reached noted → IsBook (book_amid (with_end u (Cut None))) None }
@@ -93,12 +96,13 @@ pub fn calls_are_accepted()
 pub fn calls_are_completed()
     ensures parked { (u : Underway) (w : Waiting) → IsDelayed u w → u.call.finish ≡ [] → IsBook (book_amid (with_end u Parked)) (Some w) }
     ensures unwon { (u : Underway) (w : Waiting) → IsDelayed u w → u.call.finish ≡ [] → IsBook (book_amid (with_end u (Cut None))) None }
-    ensures waits { (u : Underway) (w : Waiting) → IsBook (book_amid u) (Some w) → IsDelayed u w × (u.call.finish ≡ []) × (u.call.how ≡ Parked) }
+    ensures waits { (u : Underway) (w : Waiting) → IsBook (book_amid u) (Some w)
+        → IsDelayed u w × (u.call.finish ≡ []) × (u.call.how ≡ Parked) }
     ensures won { (u : Underway) (w : Waiting) → IsDelayed u w → u.call.finish ≡ [] → IsFinishing u w None [] }
     ensures late { (u : Underway) (w : Waiting) → IsDelayed u w → u.call.finish ≡ [] → w.operation.deadline ≤ moment_of u.clock
         → (late : Point) × IsFinishing (late_seen u) w (Some late) [] }
-    ensures others { (u : Underway) (w : Waiting) (late : Option Point) (states : List PartState) (later : List History) (behind : List ClockEvent)
-        → OthersAlone u.number u.parts u.clock later behind → AreHistories u.config later behind
+    ensures others { (u : Underway) (w : Waiting) (late : Option Point) (states : List PartState) (later : List History)
+        (behind : List ClockEvent) → OthersAlone u.number u.parts u.clock later behind → AreHistories u.config later behind
         → IsFinishing u w late states → IsFinishing (record u { parts = later; clock = behind }) w late states }
     ensures looked { (u : Underway) (w : Waiting) (late : Option Point) (states : List PartState) (part : ℕ) → IsFinishing u w late states
         → slice_get (operation_parts w.steps) (length states) ≡ Some part
@@ -116,9 +120,11 @@ pub fn calls_are_completed()
 /// Law: a reply stays. What a pass answers is the reply of its call in every account that goes on from what it saw.
 pub fn replies_stay()
     ensures answered { (u : Underway) (request : Request) (decisions : List Decision) (noted : List Noted)
-        → IsAccepting u request decisions (length decisions) noted → becomes_delayed request.ask (shown_of noted) ≡ false → u.call.how ≡ AtOnce
+        → IsAccepting u request decisions (length decisions) noted → becomes_delayed request.ask (shown_of noted) ≡ false
+        → u.call.how ≡ AtOnce
         → Carried u.config u.parts u.clock (λ account. IsReplyOf account u.call (answer u.config request (shown_of noted))) }
-    ensures satisfied { (u : Underway) (w : Waiting) (states : List PartState) (by : ℕ) → IsFinishing u w None states → u.call.how ≡ Satisfied by
+    ensures satisfied { (u : Underway) (w : Waiting) (states : List PartState) (by : ℕ) → IsFinishing u w None states
+        → u.call.how ≡ Satisfied by
         → Carried u.config u.parts u.clock (λ account. IsReplyOf account u.call (answer u.config w.request (shown_with w.steps states))) }
     ensures expired { (u : Underway) (w : Waiting) (late : Point) (states : List PartState) (by : ℕ) → IsFinishing u w (Some late) states
         → u.call.how ≡ Expired by

@@ -21,7 +21,8 @@ returns-clause-cut c u request decisions reached noted h =
 
 pub returns-clause-answered : goal.returns-clause-answered
 returns-clause-answered c u request decisions noted h at_once =
-    answered_book (with_end u (how_at_once request.ask)) request decisions noted (accepting_as u request decisions (length decisions) noted (how_at_once request.ask) h) at_once refl
+    answered_book (with_end u (how_at_once request.ask)) request decisions noted
+    (accepting_as u request decisions (length decisions) noted (how_at_once request.ask) h) at_once refl
 
 pub returns-clause-delayed : goal.returns-clause-delayed
 returns-clause-delayed c u request decisions noted h delayed = accepting_delayed u request decisions noted h delayed

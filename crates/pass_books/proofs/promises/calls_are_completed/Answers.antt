@@ -28,7 +28,8 @@ pub returns-clause-looked : goal.returns-clause-looked
 returns-clause-looked c u w late states part h next enough = finishing_on u w late states h part next enough
 
 pub returns-clause-cut : goal.returns-clause-cut
-returns-clause-cut c u w late states by h = finishing_cut (with_end u (Cut (Some by))) w states by late (finishing_as u w late states (Cut (Some by)) h) refl
+returns-clause-cut c u w late states by h =
+    finishing_cut (with_end u (Cut (Some by))) w states by late (finishing_as u w late states (Cut (Some by)) h) refl
 
 pub returns-clause-satisfied : goal.returns-clause-satisfied
 returns-clause-satisfied c u w states by h all =
