@@ -19,10 +19,14 @@ pub use Rattle.pass_books.proofs.Acceptings.{accepting_as, accepting_cut, accept
 -- it waits, is won, looks at the clock and the partitions, and is satisfied or expires, or is cut off
 pub use Rattle.pass_books.proofs.Finishings.{delayed_as, delayed_cut, delayed_parked, others_delayed, waits_delayed}
 pub use Rattle.pass_books.proofs.Finishings.{finishing_as, finishing_cut, finishing_expired, finishing_late, finishing_on, finishing_satisfied, finishing_won, others_finishing, shown_completed}
+-- each entry in the turn of its partition
+pub use Rattle.pass_books.proofs.Turning.{accepting_turn, finishing_turn}
 -- its reply
 pub use Rattle.pass_books.proofs.Replying.{answered_reply, expired_reply, satisfied_reply}
 -- how many calls each winner completed
-pub use Rattle.pass_books.proofs.Winning.{won_amid, won_begun, won_ended}
+pub use Rattle.pass_books.proofs.Winning.{won_all, won_amid, won_begun, won_ended}
 -- ---- all books
 
+-- one goes with final histories that others alone left behind what it saw, and every entry is of a pass that there is
+pub use Rattle.pass_books.proofs.Passing.{all_known, goes_with}
 pub use Rattle.pass_books.proofs.Closing.{books_lawful, calls_with}

@@ -24,6 +24,8 @@ mod Asking
 mod Finishings
 -- what others do changes nothing that a pass knows
 mod Passing
+-- a pass takes the turn of one partition
+mod Turning
 -- the reply of a call
 mod Replying
 -- how many of a book's calls each winner completed

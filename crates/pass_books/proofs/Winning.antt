@@ -1,15 +1,15 @@
 -- How many of a book's calls each winner completed, as the book goes on.
-use Rattle.std.proofs.Common.{◌≡◌, ℕ, ◌+◌, cond, List, [], ◌∷◌, ◌++◌, Some, sym, ap, ◌∙◌, append-nil}
+use Rattle.std.proofs.Common.{◌≡◌, ℕ, ◌+◌, cond, List, [], ◌∷◌, ◌++◌, Some, refl, sym, ap, ◌∙◌, append-nil}
 use Rattle.std.proofs.lemmas.Grind.{flat_map-append}
-use Rattle.std.proofs.lemmas.List.Sums.{sum_by_push}
-use Rattle.std.specs.Prelude.{count_by}
+use Rattle.std.proofs.lemmas.List.Sums.{sum_by-append, sum_by-cons, sum_by_push}
+use Rattle.std.specs.Prelude.{count_by, sum_by}
 use Rattle.audit.specs.declared.account.Call.{Call}
 use Rattle.audit.specs.declared.account.SessionEnd.{SessionEnd}
 use Rattle.audit.specs.declared.account.Transcript.{Transcript}
 use Rattle.audit.specs.Histories.{calls_in}
 use Rattle.audit.specs.IsLawful.{is_won_as, is_won_by}
 use Rattle.pass_books.specs.Book.{Book, begun_behind}
-use Rattle.pass_books.specs.Together.{won_by}
+use Rattle.pass_books.specs.Together.{all_calls_in, won_by}
 use Rattle.pass_books.specs.Underway.{Underway, book_amid, earlier_calls}
 use Rattle.pass_books.proofs.Closing.{calls_with}
 
@@ -30,3 +30,10 @@ pub won_ended : (book : Book) (front : List Transcript) (last : Transcript) (end
 won_ended book front last end winner =
     let closed : Transcript = record last { end = Some end } in
     ap (count_by (is_won_by winner)) (flat_map-append (λ (t : Transcript). t.calls) front (closed ∷ []) ∙ sym (flat_map-append (λ (t : Transcript). t.calls) front (last ∷ [])))
+
+-- over all books it is the sum of theirs
+pub won_all : (books : List Book) (winner : ℕ) → count_by (is_won_by winner) (all_calls_in books) ≡ sum_by (won_by winner) books
+won_all [] winner = refl
+won_all (book ∷ books) winner =
+    sum_by-append (λ (call : Call). cond (is_won_by winner call) 1 0) (calls_in book.transcripts) (all_calls_in books)
+    ∙ ap (λ (n : ℕ). won_by winner book + n) (won_all books winner) ∙ sym (sum_by-cons (won_by winner) book books)

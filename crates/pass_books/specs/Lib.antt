@@ -20,3 +20,5 @@ pub mod Underway
 pub mod Accepting
 -- a delayed call comes to its end
 pub mod Finishing
+-- a pass takes the turn of one partition
+pub mod Turns

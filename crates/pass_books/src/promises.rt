@@ -1,6 +1,6 @@
 //! Laws of the books. They do nothing.
 
-ghost use Rattle.std.specs.Prelude.{◌≡◌, ◌≤◌, ◌+◌, ◌∷◌, ◌++◌, [], ℕ, length, false, true, List, None, Option, Some, slice_get};
+ghost use Rattle.std.specs.Prelude.{◌≡◌, ◌≤◌, ◌+◌, ◌∷◌, ◌++◌, [], ℕ, count_by, if◌then◌else◌, length, sum_by, false, true, List, None, Option, Some, slice_get};
 ghost use Rattle.kbatch.specs.Batch.{IsBatch};
 ghost use Rattle.kbatch.specs.declared.record.Record.{Record};
 ghost use Rattle.partlog.specs.declared.clock_event.ClockEvent.{ClockEvent};
@@ -14,11 +14,11 @@ ghost use Rattle.audit.specs.declared.account.SessionEnd.{SessionEnd};
 ghost use Rattle.audit.specs.declared.account.SessionEnd.TheVariants.{NoMemory};
 ghost use Rattle.audit.specs.declared.account.Transcript.{Transcript};
 ghost use Rattle.audit.specs.Fits.{IsReplyOf};
-ghost use Rattle.audit.specs.IsLawful.{IsLawful};
+ghost use Rattle.audit.specs.IsLawful.{is_won_as, is_won_by, IsLawful};
 ghost use Rattle.audit.specs.LawfulCall.{operation_parts};
 ghost use Rattle.audit.specs.Worked.{at, followed};
 ghost use Rattle.kanswer.specs.Answer.{answer};
-ghost use Rattle.kanswer.specs.Decisions.{Decides, Decision};
+ghost use Rattle.kanswer.specs.Decisions.{AskLog, Decides, Decision, Outcome};
 ghost use Rattle.kanswer.specs.Waiting.{becomes_delayed, values_of};
 ghost use Rattle.kwire.specs.Configuration.{Configuration, partitions_of};
 ghost use Rattle.kwire.specs.IsRequest.{IsRequest};
@@ -37,9 +37,10 @@ ghost use Rattle.pass_books.specs.Book.{begun_behind, Book, opening_book};
 ghost use Rattle.pass_books.specs.Finishing.{IsDelayed, IsFinishing, late_seen, part_seen, shown_with};
 ghost use Rattle.pass_books.specs.IsBook.{IsBook};
 ghost use Rattle.pass_books.specs.Owned.{OthersAlone};
-ghost use Rattle.pass_books.specs.Together.{account_of, AreTogether};
+ghost use Rattle.pass_books.specs.Together.{account_of, all_calls_in, AreTogether, won_by};
 ghost use Rattle.pass_books.specs.Told.{last_is_cut};
-ghost use Rattle.pass_books.specs.Underway.{begun_amid, book_amid, Underway, with_end};
+ghost use Rattle.pass_books.specs.Turns.{accepted_there, Finds, looked_there, noted_there};
+ghost use Rattle.pass_books.specs.Underway.{begun_amid, book_amid, earlier_calls, Underway, with_end};
 ghost use Rattle.pass_books.specs.Worked.{books_before, clock_looked, fetched, first_waits, follower, looked, none_waits, one_put, producer, satisfied_books, waiting_books};
 
 /// Law: the books of all passes come to a lawful account, in whatever order the passes acted. Each pass knows only the fronts that
@@ -67,7 +68,7 @@ pub fn books_go_on()
 {}
 
 /// Law: a call is accepted. It is written down as cut off, and what was decided of it is carried out, one partition after the other,
-/// while others act too. Wherever it stops, its book is one; at last it is answered at once, or it looks at the clock and is delayed.
+/// while others act too, each in a turn of its partition. Wherever it stops, its book is one; at last it is answered at once, or it looks at the clock and is delayed.
 pub fn calls_are_accepted()
     ensures called { (book : Book) (front : List Transcript) (transcript : Transcript) (frame : List ℕ) (request : Request)
         (decisions : List Decision) → transcript.end ≡ None → last_is_cut transcript.calls ≡ false → IsRequest frame request
@@ -81,6 +82,11 @@ pub fn calls_are_accepted()
     ensures entered { (u : Underway) (request : Request) (decisions : List Decision) (reached : ℕ) (noted : List Noted)
         (decision : Decision) → IsAccepting u request decisions reached noted → slice_get decisions reached ≡ Some decision
         → IsAccepting (carried_out u decision) request decisions (reached + 1) (noted ++ noted_next u decision) }
+    ensures turn { (u : Underway) (part : ℕ) (found : History) (request : Request) (decisions : List Decision) (reached : ℕ)
+        (noted : List Noted) (outcome : PartState → Outcome) → Finds u part found → IsAccepting u request decisions reached noted
+        → slice_get decisions reached ≡ Some (AskLog part outcome)
+        → IsAccepting (accepted_there u part found (outcome (state_of found))) request decisions (reached + 1)
+        (noted ++ noted_there u part found (outcome (state_of found)) ∷ []) }
     ensures cut { (u : Underway) (request : Request) (decisions : List Decision) (reached : ℕ) (noted : List Noted)
         → IsAccepting u request decisions reached noted → IsBook (book_amid (with_end u (Cut None))) None }
     ensures answered { (u : Underway) (request : Request) (decisions : List Decision) (noted : List Noted)
@@ -109,6 +115,11 @@ pub fn calls_are_completed()
         → (late ≡ None → length (states ++ state_of (history_at u.parts part) ∷ []) ≡ length (operation_parts w.steps)
         → IsSatisfied w.operation (values_of w.request.ask (shown_with w.steps (states ++ state_of (history_at u.parts part) ∷ []))))
         → IsFinishing (part_seen u part) w late (states ++ state_of (history_at u.parts part) ∷ []) }
+    ensures turn { (u : Underway) (part : ℕ) (found : History) (w : Waiting) (late : Option Point) (states : List PartState) → Finds u part found
+        → IsFinishing u w late states → slice_get (operation_parts w.steps) (length states) ≡ Some part
+        → (late ≡ None → length (states ++ state_of found ∷ []) ≡ length (operation_parts w.steps)
+        → IsSatisfied w.operation (values_of w.request.ask (shown_with w.steps (states ++ state_of found ∷ []))))
+        → IsFinishing (looked_there u part found) w late (states ++ state_of found ∷ []) }
     ensures cut { (u : Underway) (w : Waiting) (late : Option Point) (states : List PartState) (by : ℕ) → IsFinishing u w late states
         → IsBook (book_amid (with_end u (Cut (Some by)))) None }
     ensures satisfied { (u : Underway) (w : Waiting) (states : List PartState) (by : ℕ) → IsFinishing u w None states
@@ -129,6 +140,19 @@ pub fn replies_stay()
     ensures expired { (u : Underway) (w : Waiting) (late : Point) (states : List PartState) (by : ℕ) → IsFinishing u w (Some late) states
         → u.call.how ≡ Expired by
         → Carried u.config u.parts u.clock (λ account. IsReplyOf account u.call (answer u.config w.request (shown_with w.steps states))) }
+{}
+
+/// Law: how many calls of a book a winner completed. Amid a call it is one more where the call itself names the winner; a transcript
+/// that is begun or ended changes nothing, nor do others, and over all books the numbers are summed.
+pub fn winners_are_counted()
+    ensures amid { (u : Underway) (winner : ℕ)
+        → won_by winner (book_amid u) ≡ count_by (is_won_by winner) (earlier_calls u) + (if is_won_as winner u.call.how then 1 else 0) }
+    ensures begun { (book : Book) (number winner : ℕ)
+        → won_by winner (record book { transcripts = book.transcripts ++ begun_behind book.transcripts number ∷ [] }) ≡ won_by winner book }
+    ensures ended { (book : Book) (front : List Transcript) (last : Transcript) (end : SessionEnd) (winner : ℕ)
+        → won_by winner (record book { transcripts = front ++ record last { end = Some end } ∷ [] })
+        ≡ won_by winner (record book { transcripts = front ++ last ∷ [] }) }
+    ensures all { (books : List Book) (winner : ℕ) → count_by (is_won_by winner) (all_calls_in books) ≡ sum_by (won_by winner) books }
 {}
 
 /// Law: worked books. A produce waits for its follower, whose fetch another pass brings; it is won, and looks at its partition. The two

@@ -1,5 +1,6 @@
 use Rattle.pass_books.proofs.Acceptings.{accepting_as, accepting_cut, accepting_delayed, accepting_on, answered_book, called_accepting}
 use Rattle.pass_books.proofs.Passing.{others_amid_accepting}
+use Rattle.pass_books.proofs.Turning.{accepting_turn}
 use Rattle.pass_books.proofs.promises.calls_are_accepted.Goals as goal
 use Rattle.std.proofs.Common.{length, refl, None}
 use Rattle.audit.specs.declared.account.CallHow.TheVariants.{Cut}
@@ -26,3 +27,6 @@ returns-clause-answered c u request decisions noted h at_once =
 
 pub returns-clause-delayed : goal.returns-clause-delayed
 returns-clause-delayed c u request decisions noted h delayed = accepting_delayed u request decisions noted h delayed
+
+pub returns-clause-turn : goal.returns-clause-turn
+returns-clause-turn c u part found request decisions reached noted outcome finds h next = accepting_turn u part found finds request decisions reached noted outcome h next

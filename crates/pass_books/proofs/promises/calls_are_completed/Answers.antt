@@ -4,6 +4,7 @@ use Rattle.plain_broker.proofs.Laws.{clock_point}
 use Rattle.pass_books.specs.Underway.{with_end}
 use Rattle.pass_books.proofs.Finishings.{delayed_as, delayed_cut, delayed_parked, finishing_as, finishing_cut, finishing_expired, finishing_late, finishing_on, finishing_satisfied, finishing_won, waits_delayed}
 use Rattle.pass_books.proofs.Passing.{others_amid_finishing}
+use Rattle.pass_books.proofs.Turning.{finishing_turn}
 use Rattle.pass_books.proofs.promises.calls_are_completed.Goals as goal
 
 pub returns-clause-parked : goal.returns-clause-parked
@@ -38,3 +39,6 @@ returns-clause-satisfied c u w states by h all =
 pub returns-clause-expired : goal.returns-clause-expired
 returns-clause-expired c u w late states by h all =
     finishing_expired (with_end u (Expired by)) w states by late (finishing_as u w (Some late) states (Expired by) h) all refl
+
+pub returns-clause-turn : goal.returns-clause-turn
+returns-clause-turn c u part found w late states finds h next enough = finishing_turn u part found finds w late states h next enough
