@@ -32,3 +32,5 @@ mod Replying
 mod Winning
 -- the worked books
 mod WorkedBooks
+-- the books of three passes that waited
+mod WorkedWaits

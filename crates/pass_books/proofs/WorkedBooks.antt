@@ -44,7 +44,7 @@ use Rattle.pass_books.proofs.Underways.{begun, ended, others_came}
 
 -- ---- others' entries
 
-another : (number by seq : ℕ) → by ≢ number → NotOf number (the_owner by seq)
+pub another : (number by seq : ℕ) → by ≢ number → NotOf number (the_owner by seq)
 another number by seq other s e =
     let o : ◌≡◌ {A = Owner} (record { by = by; seq = seq }) (record { by = number; seq = s }) = some_is (record { by = by; seq = seq }) (record { by = number; seq = s }) e in
     other (ap (λ (x : Owner). x.by) o)
@@ -169,7 +169,7 @@ abbrev finals : List History
 finals = one_put looked ∷ []
 
 -- the entries of the worked histories are those of the two passes
-owner_below : (a b by seq n : ℕ) → a < n → Some (the_owner a b) ≡ Some (the_owner by seq) → by < n
+pub owner_below : (a b by seq n : ℕ) → a < n → Some (the_owner a b) ≡ Some (the_owner by seq) → by < n
 owner_below a b by seq n lt e =
     let o : ◌≡◌ {A = Owner} (record { by = a; seq = b }) (record { by = by; seq = seq }) = some_is (record { by = a; seq = b }) (record { by = by; seq = seq }) (some_is (the_owner a b) (the_owner by seq) e) in
     omega (arith, lt, ap (λ (x : Owner). x.by) o)

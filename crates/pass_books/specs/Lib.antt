@@ -12,6 +12,8 @@ pub mod IsBook
 pub mod Together
 -- two passes, written out
 pub mod Worked
+-- three passes that waited, written out
+pub mod WorkedWaits
 -- ==== the words of lemmas that the crates above may cite
 
 -- a pass amid a call

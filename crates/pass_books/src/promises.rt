@@ -16,7 +16,7 @@ ghost use Rattle.audit.specs.declared.account.Transcript.{Transcript};
 ghost use Rattle.audit.specs.Fits.{IsReplyOf};
 ghost use Rattle.audit.specs.IsLawful.{is_won_as, is_won_by, IsLawful};
 ghost use Rattle.audit.specs.LawfulCall.{operation_parts};
-ghost use Rattle.audit.specs.Worked.{at, followed};
+ghost use Rattle.audit.specs.Worked.{at, fetch_both, fetch_one, followed, three_waits, two_parts};
 ghost use Rattle.kanswer.specs.Answer.{answer};
 ghost use Rattle.kanswer.specs.Decisions.{AskLog, Decides, Decision, Outcome};
 ghost use Rattle.kanswer.specs.Waiting.{becomes_delayed, values_of};
@@ -42,6 +42,7 @@ ghost use Rattle.pass_books.specs.Told.{last_is_cut};
 ghost use Rattle.pass_books.specs.Turns.{accepted_there, Finds, looked_there, noted_there};
 ghost use Rattle.pass_books.specs.Underway.{begun_amid, book_amid, earlier_calls, Underway, with_end};
 ghost use Rattle.pass_books.specs.Worked.{books_before, clock_looked, fetched, first_waits, follower, looked, none_waits, one_put, producer, satisfied_books, waiting_books};
+ghost use Rattle.pass_books.specs.WorkedWaits.{cut_book, expired_book, fetch_waits, last_clock, last_parts, parked_book, second_waits, three_books};
 
 /// Law: the books of all passes come to a lawful account, in whatever order the passes acted. Each pass knows only the fronts that
 /// it saw; the final histories go on from these, and nothing that waits is answerable by them.
@@ -68,7 +69,8 @@ pub fn books_go_on()
 {}
 
 /// Law: a call is accepted. It is written down as cut off, and what was decided of it is carried out, one partition after the other,
-/// while others act too, each in a turn of its partition. Wherever it stops, its book is one; at last it is answered at once, or it looks at the clock and is delayed.
+/// each in a turn of its partition, while others act too. Wherever it stops, its book is one; at last it is answered at once, or it
+/// looks at the clock and is delayed.
 pub fn calls_are_accepted()
     ensures called { (book : Book) (front : List Transcript) (transcript : Transcript) (frame : List ℕ) (request : Request)
         (decisions : List Decision) → transcript.end ≡ None → last_is_cut transcript.calls ≡ false → IsRequest frame request
@@ -115,8 +117,8 @@ pub fn calls_are_completed()
         → (late ≡ None → length (states ++ state_of (history_at u.parts part) ∷ []) ≡ length (operation_parts w.steps)
         → IsSatisfied w.operation (values_of w.request.ask (shown_with w.steps (states ++ state_of (history_at u.parts part) ∷ []))))
         → IsFinishing (part_seen u part) w late (states ++ state_of (history_at u.parts part) ∷ []) }
-    ensures turn { (u : Underway) (part : ℕ) (found : History) (w : Waiting) (late : Option Point) (states : List PartState) → Finds u part found
-        → IsFinishing u w late states → slice_get (operation_parts w.steps) (length states) ≡ Some part
+    ensures turn { (u : Underway) (part : ℕ) (found : History) (w : Waiting) (late : Option Point) (states : List PartState)
+        → Finds u part found → IsFinishing u w late states → slice_get (operation_parts w.steps) (length states) ≡ Some part
         → (late ≡ None → length (states ++ state_of found ∷ []) ≡ length (operation_parts w.steps)
         → IsSatisfied w.operation (values_of w.request.ask (shown_with w.steps (states ++ state_of found ∷ []))))
         → IsFinishing (looked_there u part found) w late (states ++ state_of found ∷ []) }
@@ -179,4 +181,17 @@ pub fn worked_books()
         → AreTogether followed (waiting_books all frame) first_waits (one_put fetched ∷ []) clock_looked wins → ⊥ }
     ensures miscounted { (all frame : List ℕ) (waits : ℕ → Option Waiting)
         → AreTogether followed (satisfied_books all frame) waits (one_put looked ∷ []) clock_looked (1 ∷ []) → ⊥ }
+{}
+
+/// Law: worked books of three passes that waited. A fetch expired, one waits still, and one was won and cut off behind the first of its
+/// looks. Each pass saw another front of the histories, turn by turn; the books go together, and come to an account that is written
+/// out elsewhere, in which the transcript of the third ends for want of memory.
+pub fn worked_waits()
+    ensures expired { (one : List ℕ) → IsRequest one fetch_one → IsBook (expired_book one) None }
+    ensures parked { (one : List ℕ) → IsRequest one fetch_one → IsBook (parked_book one) (Some fetch_waits) }
+    ensures cut { (both : List ℕ) → IsRequest both fetch_both → IsBook (cut_book both) None }
+    ensures together { (one both : List ℕ) → IsRequest one fetch_one → IsRequest both fetch_both
+        → AreTogether two_parts (three_books one both) second_waits last_parts last_clock (2 ∷ []) }
+    ensures same { (one both : List ℕ) → account_of two_parts (three_books one both) last_parts last_clock (2 ∷ []) ≡ three_waits one both }
+    ensures lawful { (one both : List ℕ) → IsRequest one fetch_one → IsRequest both fetch_both → IsLawful (three_waits one both) }
 {}

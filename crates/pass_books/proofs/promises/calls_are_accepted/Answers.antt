@@ -29,4 +29,5 @@ pub returns-clause-delayed : goal.returns-clause-delayed
 returns-clause-delayed c u request decisions noted h delayed = accepting_delayed u request decisions noted h delayed
 
 pub returns-clause-turn : goal.returns-clause-turn
-returns-clause-turn c u part found request decisions reached noted outcome finds h next = accepting_turn u part found finds request decisions reached noted outcome h next
+returns-clause-turn c u part found request decisions reached noted outcome finds h next =
+    accepting_turn u part found finds request decisions reached noted outcome h next
