@@ -53,7 +53,7 @@ nobodys_here [] p = refl
 nobodys_here (n ∷ followers) zero = refl
 nobodys_here (n ∷ followers) (suc p) = nobodys_here followers p
 
-nobodys : (followers : List ℕ) (p : ℕ) → owners_at (map empty_history followers) [] p ≡ []
+pub nobodys : (followers : List ℕ) (p : ℕ) → owners_at (map empty_history followers) [] p ≡ []
 nobodys followers p = either_way (λ (os : List (Option Owner)). os ≡ []) (eqb p 64) [] (owners_here (slice_get (map empty_history followers) p)) refl (nobodys_here followers p)
 
 none_kept : (followers : List ℕ) → IsKept (owners_at (map empty_history followers) []) (ledger_of new_transcript)
