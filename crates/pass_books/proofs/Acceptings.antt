@@ -1,36 +1,35 @@
 -- A call is accepted, one decision after the other: what holds of it holds on, and it is a book at each of these points.
-use Rattle.std.proofs.Common.{◌≡◌, ℕ, zero, suc, ◌+◌, ◌≤◌, ◌<◌, Bool, true, false, cond, List, [], ◌∷◌, ◌++◌, length, map, take, Some, None, refl, sym, ap, subst, ◌∙◌, arith, inl, inr, append-nil}
+use Rattle.std.proofs.Common.{◌≡◌, ℕ, zero, suc, ◌+◌, ◌≤◌, ◌<◌, Bool, true, false, cond, List, [], ◌∷◌, ◌++◌, length, map, take, Some, None, refl, sym, ap, subst, ◌∙◌, arith, inl, inr, append-nil, ℤ}
 use Rattle.std.proofs.Math.Seq.{take-length}
 use Rattle.std.proofs.lemmas.List.{map-append}
 use Rattle.std.proofs.lemmas.List.Elements.{filter_map-append}
 use Rattle.std.specs.Prelude.{slice_get}
 use Rattle.std.specs.List.{AllByRecursion, AllZip}
-use Rattle.std.specs.List.Sorted.{IsStrictlyIncreasing}
 use Rattle.partlog.specs.declared.clock_event.ClockEvent.{ClockEvent}
 use Rattle.partlog.specs.declared.clock_event.ClockEvent.TheVariants as clocks
 use Rattle.partlog.specs.History.{History}
-use Rattle.partlog.specs.State.{state_of}
 use Rattle.audit.specs.declared.account.Account.{Account}
 use Rattle.audit.specs.declared.account.Call.{Call}
 use Rattle.audit.specs.declared.account.CallHow.{CallHow}
 use Rattle.audit.specs.declared.account.CallHow.TheVariants.{Quiet, AtOnce, Parked, Cut}
 use Rattle.audit.specs.declared.account.Point.{Point}
 use Rattle.audit.specs.declared.account.Transcript.{Transcript}
-use Rattle.audit.specs.Histories.{moment_at, points_of, ticks_of}
+use Rattle.audit.specs.Histories.{moment_at, no_state, points_of}
 use Rattle.audit.specs.LawfulCall.{Step, Completes, IsAcceptance, IsAccepted, IsStep, LooksAtClock, is_delayed, operation_parts, part_in, shown_as_accepted, shown_at, step_points}
-use Rattle.audit.proofs.Laws.{all_append, get_there}
-use Rattle.kanswer.specs.Decisions.{Decision, Refuse, AskLog, Decides}
+use Rattle.audit.proofs.Laws.{all_append}
+use Rattle.kanswer.specs.declared.accepted.Accepted.TheVariants.{Refused}
+use Rattle.kanswer.specs.Decisions.{Decision, Refuse, Decides}
 use Rattle.kanswer.specs.Waiting.{Shown, becomes_delayed, is_quiet, operation_of, results_of}
 use Rattle.kwire.specs.Configuration.{Configuration}
 use Rattle.kwire.specs.IsRequest.{IsRequest}
 use Rattle.kwire.specs.declared.request.Request.{Request}
-use Rattle.plain_broker.specs.Board.{Waiting, empty_history, history_at}
-use Rattle.plain_broker.specs.Entering.{Noted, accept_all, entered, shown_of, steps_of}
-use Rattle.plain_broker.specs.GoesOn.{AllWhole, GoesOn, HaveGrown}
+use Rattle.plain_broker.specs.Board.{Waiting}
+use Rattle.plain_broker.specs.Entering.{Noted, accept_all, shown_of, steps_of}
+use Rattle.plain_broker.specs.GoesOn.{GoesOn, HaveGrown}
 use Rattle.plain_broker.specs.Kept.{owners_at}
 use Rattle.plain_broker.specs.Sound.{AllBelow, AreHistories, IsDelayedAs}
 use Rattle.plain_broker.specs.Turns.{how_at_once}
-use Rattle.plain_broker.proofs.Laws.{IsFair, ShowsAccepted, accepted_followers, accepted_longer, accepted_shows, accepted_size, accepted_within, all_longer_self, carried_on, clock_looked, clock_moment, clock_point, decides_fair, entered_whole, goes_back, grown_clock, grown_parts, parts_size, set_whole}
+use Rattle.plain_broker.proofs.Laws.{IsFair, ShowsAccepted, accepted_longer, accepted_shows, accepted_size, accepted_within, all_get, all_longer_self, carried_on, clock_looked, clock_moment, clock_point, completes, decides_fair, goes_back, grown_clock, grown_parts, histories_on, parts_size, ticks_looked}
 use Rattle.pass_books.specs.Book.{Book}
 use Rattle.pass_books.specs.IsBook.{IsBook}
 use Rattle.pass_books.specs.Owned.{AreOwn, OwnWithin}
@@ -39,7 +38,7 @@ use Rattle.pass_books.specs.Underway.{Underway, begun_amid, book_amid, earlier_c
 use Rattle.pass_books.specs.Accepting.{IsAccepting, carried_out, clock_seen, left_waiting, noted_next}
 use Rattle.pass_books.specs.Finishing.{IsDelayed}
 use Rattle.pass_books.proofs.Growing.{as_many}
-use Rattle.pass_books.proofs.Lists.{all_get, zip_append}
+use Rattle.pass_books.proofs.Lists.{zip_append}
 use Rattle.pass_books.proofs.Owning.{own_carried, own_look}
 use Rattle.pass_books.proofs.Underways.{amid_book, called, is_seq, others_underway, underway_as, underway_on}
 
@@ -58,34 +57,12 @@ parts_append xs ys = filter_map-append (λ (step : Step). part_in step.result) x
 
 -- ---- histories
 
-pub ticks_looked : (clock : List ClockEvent) (by seq : ℕ) → ticks_of (clock ++ clocks.Look by seq ∷ []) ≡ ticks_of clock
-ticks_looked [] by seq = refl
-ticks_looked (clocks.Tick t ∷ clock) by seq = ap (λ (ts : List ℕ). t ∷ ts) (ticks_looked clock by seq)
-ticks_looked (clocks.Look b q ∷ clock) by seq = ticks_looked clock by seq
-
 pub histories_looked : (config : Configuration) (parts : List History) (clock : List ClockEvent) (by seq : ℕ) → AreHistories config parts clock → AreHistories config parts (clock ++ clocks.Look by seq ∷ [])
-histories_looked config parts clock by seq h = record {
-  whole = h.whole;
-  few = h.few;
-  followers = h.followers;
-  ticks = subst (λ (ts : List ℕ). IsStrictlyIncreasing (0 ∷ ts)) (sym (ticks_looked clock by seq)) h.ticks;
-}
-
-one_whole : (by seq : ℕ) (decision : Decision) (parts : List History) → AllWhole parts → IsFair (length parts) decision → AllWhole (accept_all by seq (decision ∷ []) parts).1
-one_whole by seq (Refuse code) parts whole fair = whole
-one_whole by seq (AskLog part outcome) parts whole fair =
-    let found = history_at parts part in
-    let entry = (outcome (state_of found)).entry in
-    set_whole parts part (entered found by seq entry) whole fair.0 (entered_whole found by seq entry (whole part found (get_there parts part (empty_history 0) fair.0)) (fair.1 (state_of found)).0)
+histories_looked config parts clock by seq h = histories_on config parts clock (clock ++ clocks.Look by seq ∷ []) by seq [] h tt (ticks_looked clock by seq)
 
 pub histories_carried : (config : Configuration) (parts : List History) (clock : List ClockEvent) (by seq : ℕ) (decision : Decision) → AreHistories config parts clock → IsFair (length parts) decision
     → AreHistories config (accept_all by seq (decision ∷ []) parts).1 clock
-histories_carried config parts clock by seq decision h fair = record {
-  whole = one_whole by seq decision parts h.whole fair;
-  few = omega (arith, h.few, accepted_size by seq (length parts) (decision ∷ []) parts);
-  followers = accepted_followers by seq (length parts) (decision ∷ []) parts refl (fair, tt) ∙ h.followers;
-  ticks = h.ticks;
-}
+histories_carried config parts clock by seq decision h fair = histories_on config parts clock clock by seq (decision ∷ []) h (fair, tt) refl
 
 -- ---- others' entries came
 
@@ -217,6 +194,13 @@ module _ (u : Underway) (request : Request) (decisions : List Decision) (reached
       within = still_within;
     }
 
+  -- a partition that is refused leaves no entry and no point
+  pub accepting_refused : (code : ℤ) → slice_get decisions reached ≡ Some (Refuse code)
+      → IsAccepting u request decisions (reached + 1) (noted ++ record { step = record { result = Refused code; point = None }; state = no_state } ∷ [])
+  accepting_refused code next =
+      subst (λ (points : List Point). IsAccepting (record u { call = record u.call { accept = points } }) request decisions (reached + 1) (noted ++ noted_next u (Refuse code))) (append-nil u.call.accept)
+      (accepting_on (Refuse code) next)
+
   -- ---- it is cut off
 
   pub accepting_cut : u.call.how ≡ Cut None → IsBook (book_amid u) None
@@ -237,11 +221,6 @@ module _ (u : Underway) (request : Request) (decisions : List Decision) (reached
   })
 
 -- ---- all decisions are carried out
-
-completes : (account : Account) (request : Request) (steps : List Step) (b : Bool) → is_quiet request.ask ≡ b → is_delayed account request steps ≡ false
-    → Completes account request steps [] [] (cond b Quiet AtOnce)
-completes account request steps true quiet undelayed = (quiet, refl)
-completes account request steps false quiet undelayed = (quiet, undelayed, refl)
 
 never_parked : (b : Bool) → cond b Quiet AtOnce ≡ Parked → ⊥
 never_parked true e = absurd cc

@@ -7,13 +7,13 @@ use Rattle.std.specs.List.Sorted.{IsStrictlyIncreasing}
 use Rattle.partlog.specs.declared.clock_event.ClockEvent.{ClockEvent}
 use Rattle.partlog.specs.History.{History}
 use Rattle.partlog.specs.Moment.{moment_of}
-use Rattle.partlog.specs.State.{PartState, state_of}
+use Rattle.partlog.specs.State.{PartState}
 use Rattle.audit.specs.declared.account.Account.{Account}
 use Rattle.audit.specs.declared.account.Call.{Call}
 use Rattle.audit.specs.declared.account.CallHow.{CallHow}
 use Rattle.audit.specs.declared.account.Point.{Point}
 use Rattle.audit.specs.declared.account.Transcript.{Transcript}
-use Rattle.audit.specs.Histories.{Owner, owners_of, points_of, calls_in, calls_of, call_of, final_in}
+use Rattle.audit.specs.Histories.{Owner, owners_of, points_of, calls_in, calls_of, call_of}
 use Rattle.audit.specs.IsLawful.{IsLawful, FollowOn, is_point, is_won_by, places_in}
 use Rattle.audit.specs.LawfulCall.{Step, IsLawfulCall, Completes, final_of, operation_in, part_in, shown_at_last}
 use Rattle.audit.proofs.Laws.{get_there}
@@ -21,26 +21,21 @@ use Rattle.kanswer.specs.Waiting.{Shown, values_of}
 use Rattle.kwire.specs.Configuration.{Configuration}
 use Rattle.opcond.specs.Operation.{Operation}
 use Rattle.opcond.specs.Tally.{IsAnswerable}
-use Rattle.plain_broker.specs.Board.{Waiting, history_at, part_account}
+use Rattle.plain_broker.specs.Board.{Waiting}
 use Rattle.plain_broker.specs.Completing.{present}
 use Rattle.plain_broker.specs.GoesOn.{GoesOn, the_owner}
 use Rattle.plain_broker.specs.Kept.{owners_at}
 use Rattle.plain_broker.specs.Sound.{IsWaiting}
-use Rattle.plain_broker.proofs.Laws.{goes_back}
+use Rattle.plain_broker.proofs.Laws.{all_from_get, all_get, all_on, flat_points, followers_map, get_map, goes_back, last_state, map_get, push_get, whole_logs}
 use Rattle.pass_books.specs.Book.{Book}
 use Rattle.pass_books.specs.IsBook.{IsBook, IsFinished, Stand, with_call}
 use Rattle.pass_books.specs.Owned.{AreOwn}
 use Rattle.pass_books.specs.Together.{AreTogether, IsAnswerableIn, account_of, all_calls_in, shown_in}
 use Rattle.pass_books.specs.Told.{told}
 use Rattle.pass_books.proofs.Ending.{told_calls}
-use Rattle.pass_books.proofs.Growing.{account_goes_on, followers_map, owner_seen, owner_stands, owners_same, whole_logs}
-use Rattle.pass_books.proofs.Lists.{all_from_get, all_get, all_on, get_map, map_get, push_get}
+use Rattle.pass_books.proofs.Growing.{account_goes_on, owner_seen, owner_stands, owners_same}
 
 -- ---- the calls of a pass, as they are told
-
-pub flat_points : (calls : List Call) → flat_map (λ (points : List Point). points) (map points_of calls) ≡ flat_map points_of calls
-flat_points [] = refl
-flat_points (call ∷ calls) = ap (λ (points : List Point). points_of call ++ points) (flat_points calls)
 
 told_all : (books : List Book) → flat_map calls_in (map (λ book. map told book.transcripts) books) ≡ all_calls_in books
 told_all [] = refl
@@ -57,11 +52,6 @@ calls_with front transcript call =
     ∙ sym (append_assoc (calls_in front) transcript.calls (call ∷ []))
 
 -- ---- the last states
-
-last_state : (parts : List History) (p : ℕ) → final_in (slice_get (map part_account parts) p) ≡ state_of (history_at parts p)
-last_state [] p = refl
-last_state (k ∷ parts) zero = refl
-last_state (k ∷ parts) (suc p) = last_state parts p
 
 module _ (config : Configuration) (books : List Book) (waits : ℕ → Option Waiting) (finals : List History) (clock : List ClockEvent) (wins : List ℕ) (together : AreTogether config books waits finals clock wins) (each : (k : ℕ) (book : Book) → slice_get books k ≡ Some book → IsBook book (waits k)) where
   abbrev account : Account

@@ -8,6 +8,9 @@ use Rattle.std.specs.Prelude.{slice_get}
 use Rattle.std.specs.List.{AllByRecursion}
 use Rattle.std.specs.List.Sorted.{IsStrictlyIncreasing}
 use Rattle.partlog.specs.declared.clock_event.ClockEvent.{ClockEvent}
+use Rattle.partlog.specs.declared.clock_event.ClockEvent.TheVariants as clocks
+use Rattle.partlog.specs.declared.event.PartEvent.{PartEvent}
+use Rattle.partlog.specs.declared.event.PartEvent.TheVariants.{Append, Follow, Look}
 use Rattle.partlog.specs.History.{History}
 use Rattle.audit.specs.Histories.{Owner, owner_of, clock_owner_of, ticks_of}
 use Rattle.audit.proofs.Laws.{same_or_not, get_behind, get_set_same, get_set_other, some_is}
@@ -15,9 +18,8 @@ use Rattle.kwire.specs.Configuration.{Configuration}
 use Rattle.plain_broker.specs.GoesOn.{HaveGrown, IsWhole, Longer, the_owner}
 use Rattle.plain_broker.specs.Kept.{owners_here}
 use Rattle.plain_broker.specs.Sound.{AreHistories}
-use Rattle.plain_broker.proofs.Laws.{set_same, set_whole}
-use Rattle.pass_books.specs.Owned.{NotOf, OthersAlone, OwnWithin}
-use Rattle.pass_books.proofs.Lists.{all_get}
+use Rattle.plain_broker.proofs.Laws.{all_get, all_on, set_same, set_whole}
+use Rattle.pass_books.specs.Owned.{NotOf, OthersAlone, OwnWithin, pass_of}
 
 -- ---- entries of others
 
@@ -39,6 +41,28 @@ others_behind {E = E} by number seen more same =
             → (filter (λ x. eqb (by x) number) es ≡ [] → AllByRecursion (λ x. by x ≢ number) es) → (by e ≢ number) × AllByRecursion (λ x. by x ≢ number) es
         by_test true is f on = absurd cc
         by_test false is f on = (λ same_pass. let yes : eqb (by e) number ≡ true = eq-eqb (by e) number same_pass in absurd (cc (yes, is)), on f)
+
+same_pass : (by seq number s : ℕ) → the_owner by seq ≡ the_owner number s → by ≡ number
+same_pass by seq number s e = ap (λ (x : Owner). x.by) (some_is (record { by = by; seq = seq }) (record { by = number; seq = s }) e)
+
+not_of : (number : ℕ) (event : PartEvent) → pass_of event ≢ number → NotOf number (owner_of event)
+not_of number (Append by seq count len) other s e = other (same_pass by seq number s e)
+not_of number (Follow by seq replica offset) other s e = other (same_pass by seq number s e)
+not_of number (Look by seq) other s e = other (same_pass by seq number s e)
+
+-- entries that name other passes are others'
+pub events_of_others : (number : ℕ) (events : List PartEvent) → AllByRecursion (λ event. pass_of event ≢ number) events → AllByRecursion (λ event. NotOf number (owner_of event)) events
+events_of_others number events others = all_on (λ (event : PartEvent). pass_of event ≢ number) (λ (event : PartEvent). NotOf number (owner_of event)) (λ event other. not_of number event other) events others
+
+-- a tick is nobody's
+not_of_clock : (number : ℕ) (event : ClockEvent) → ((by seq : ℕ) → event ≡ clocks.Look by seq → by ≢ number) → NotOf number (clock_owner_of event)
+not_of_clock number (clocks.Tick t) other s e = absurd cc
+not_of_clock number (clocks.Look by seq) other s e = other by seq refl (same_pass by seq number s e)
+
+pub ticks_of_others : (number : ℕ) (events : List ClockEvent) → AllByRecursion (λ event. (by seq : ℕ) → event ≡ clocks.Look by seq → by ≢ number) events
+    → AllByRecursion (λ event. NotOf number (clock_owner_of event)) events
+ticks_of_others number events others =
+    all_on (λ (event : ClockEvent). (by seq : ℕ) → event ≡ clocks.Look by seq → by ≢ number) (λ (event : ClockEvent). NotOf number (clock_owner_of event)) (λ event other. not_of_clock number event other) events others
 
 -- entries behind those that were seen: where none is the pass's, its entries lie within what it saw
 within_front : (number : ℕ) (seen more : List (Option Owner)) → AllByRecursion (NotOf number) more → (place seq : ℕ) → slice_get (seen ++ more) place ≡ Some (the_owner number seq) → place < length seen

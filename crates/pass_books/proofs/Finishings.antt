@@ -27,7 +27,7 @@ use Rattle.plain_broker.specs.Entering.{entered}
 use Rattle.plain_broker.specs.GoesOn.{GoesOn, HaveGrown}
 use Rattle.plain_broker.specs.Kept.{owners_at}
 use Rattle.plain_broker.specs.Sound.{AllBelow, AreHistories, IsDelayedAs}
-use Rattle.plain_broker.proofs.Laws.{IsFair, accepted_longer, accepted_shows, all_longer_self, carried_on, clock_looked, clock_moment, clock_point, goes_back, grown_clock, grown_parts, looked_moment, looked_state}
+use Rattle.plain_broker.proofs.Laws.{IsFair, accepted_longer, accepted_shows, all_get, all_longer_self, carried_on, clock_looked, clock_moment, clock_point, goes_back, grown_clock, grown_parts, looked_moment, looked_state}
 use Rattle.pass_books.specs.IsBook.{IsBook, IsFinished}
 use Rattle.pass_books.specs.Owned.{AreOwn, OwnWithin}
 use Rattle.pass_books.specs.Underway.{Underway, book_amid, earlier_calls, seq_of, with_end}
@@ -35,7 +35,7 @@ use Rattle.pass_books.specs.Finishing.{IsDelayed, IsDue, IsFinishing, late_seen,
 use Rattle.pass_books.proofs.Acceptings.{histories_carried, histories_looked, take_next}
 use Rattle.pass_books.proofs.Asking.{delayed_asks}
 use Rattle.pass_books.proofs.Growing.{account_goes_on, as_many}
-use Rattle.pass_books.proofs.Lists.{all_get, zip_append}
+use Rattle.pass_books.proofs.Lists.{zip_append}
 use Rattle.pass_books.proofs.Owning.{own_carried, own_look}
 use Rattle.pass_books.proofs.Underways.{amid_book, amid_waits, is_seq, others_underway, underway_as, underway_on, waits_call, waits_underway}
 

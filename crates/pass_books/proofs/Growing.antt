@@ -1,22 +1,19 @@
 -- Histories that go on keep the owners of their entries, and the account that is read off histories goes on from them.
-use Rattle.std.proofs.Common.{◌≡◌, ℕ, zero, suc, ◌<◌, Bool, true, false, cond, eqb, List, [], ◌∷◌, ◌++◌, length, map, Option, Some, None, refl, sym, ap, ◌∙◌, append-nil}
+use Rattle.std.proofs.Common.{◌≡◌, ℕ, ◌<◌, Bool, true, false, cond, eqb, List, [], ◌++◌, length, map, Option, Some, None, refl, sym, ap, ◌∙◌, append-nil}
 use Rattle.std.proofs.lemmas.List.{length-map, map-append}
 use Rattle.std.specs.Prelude.{slice_get}
-use Rattle.std.specs.List.{AllByRecursion}
 use Rattle.partlog.specs.declared.clock_event.ClockEvent.{ClockEvent}
 use Rattle.partlog.specs.History.{History}
 use Rattle.audit.specs.declared.account.Account.{Account}
 use Rattle.audit.specs.declared.account.PartAccount.{PartAccount}
 use Rattle.audit.specs.Histories.{Owner, owner_of, clock_owner_of, owners_of, owners_in}
-use Rattle.audit.specs.IsLawful.{IsWholeLog}
 use Rattle.audit.proofs.Laws.{get_front, get_within}
 use Rattle.kwire.specs.Configuration.{Configuration}
 use Rattle.plain_broker.specs.Board.{part_account}
-use Rattle.plain_broker.specs.GoesOn.{AllWhole, GoesOn, HaveGrown}
+use Rattle.plain_broker.specs.GoesOn.{GoesOn, HaveGrown}
 use Rattle.plain_broker.specs.Kept.{owners_here, owners_at}
 use Rattle.plain_broker.specs.Sound.{AreHistories}
-use Rattle.plain_broker.proofs.Laws.{longer_self}
-use Rattle.pass_books.proofs.Lists.{map_get}
+use Rattle.plain_broker.proofs.Laws.{longer_self, map_get, owned_here}
 
 -- ---- who left the entries
 
@@ -64,20 +61,7 @@ account_goes_on config parts clock account same is at = record {
   events = at ∙ sym (append-nil clock);
 }
 
-owned_here : (parts : List History) (p : ℕ) → owners_in (slice_get (map part_account parts) p) ≡ owners_here (slice_get parts p)
-owned_here [] p = refl
-owned_here (k ∷ parts) zero = refl
-owned_here (k ∷ parts) (suc p) = owned_here parts p
-
 pub owners_same : (parts : List History) (account : Account) → account.parts ≡ map part_account parts → (p : ℕ) → owners_of account p ≡ owners_at parts account.clock p
 owners_same parts account is p =
     ap (λ (ps : List PartAccount). cond (eqb p 64) (map clock_owner_of account.clock) (owners_in (slice_get ps p))) is
     ∙ ap (λ (xs : List (Option Owner)). cond (eqb p 64) (map clock_owner_of account.clock) xs) (owned_here parts p)
-
-pub followers_map : (parts : List History) → map (λ (part : PartAccount). part.followers) (map part_account parts) ≡ map (λ (k : History). k.followers) parts
-followers_map [] = refl
-followers_map (k ∷ parts) = ap (λ (ns : List ℕ). k.followers ∷ ns) (followers_map parts)
-
-pub whole_logs : (parts : List History) → AllWhole parts → AllByRecursion IsWholeLog (map part_account parts)
-whole_logs [] whole = tt
-whole_logs (k ∷ parts) whole = (sym (whole 0 k refl), whole_logs parts (λ p x e. whole (suc p) x e))

@@ -1,6 +1,6 @@
 -- Which entries are a pass's own, as others' entries come, as a call begins, and as its last call leaves one entry more.
 use Rattle.std.proofs.Common.{◌≡◌, ◌≢◌, ℕ, ◌≤◌, ◌<◌, Bool, true, false, cond, eqb, List, [], ◌∷◌, ◌++◌, length, map, set, Option, Some, None, refl, sym, ap, subst, ◌∙◌, arith, inl, inr, append-nil, eq-eqb}
-use Rattle.std.proofs.lemmas.Bool.{ne_eqb, eqb-true}
+use Rattle.std.proofs.lemmas.Bool.{eqb-true}
 use Rattle.std.proofs.lemmas.Grind.{flat_map-append}
 use Rattle.std.proofs.lemmas.List.{length-map, map-append}
 use Rattle.std.specs.Prelude.{slice_get}
@@ -21,10 +21,9 @@ use Rattle.plain_broker.specs.Board.{history_at, empty_history}
 use Rattle.plain_broker.specs.Entering.{accept_all, entered, steps_of}
 use Rattle.plain_broker.specs.GoesOn.{HaveGrown, the_owner}
 use Rattle.plain_broker.specs.Kept.{IsKept, owners_here, owners_at}
-use Rattle.plain_broker.proofs.Laws.{IsFair, clock_point, entered_events, event_of, event_owner, kept_entry, put, put_other, put_same}
+use Rattle.plain_broker.proofs.Laws.{IsFair, all_on, clock_point, entered_events, event_of, event_owner, get_map, kept_entry, map_get, owners_clock, owners_part, push_get, put, put_other, put_same}
 use Rattle.pass_books.specs.Owned.{AreOwn, OwnWithin}
 use Rattle.pass_books.proofs.Growing.{owner_seen, owner_stands}
-use Rattle.pass_books.proofs.Lists.{all_on, get_map, map_get, push_get}
 
 abbrev IsOf : (ℕ → List (Option Owner)) → ℕ → ℕ → Point → Type 0
 IsOf owners number seq point = slice_get (owners point.part) point.place ≡ Some (the_owner number seq)
@@ -64,8 +63,8 @@ only number (Some owner) = cond (eqb owner.by number) (Some owner) None
 abbrev alone : ℕ → (ℕ → List (Option Owner)) → ℕ → List (Option Owner)
 alone number owners part = map (only number) (owners part)
 
-abbrev nobodys : ℕ → List (List Point)
-nobodys by = []
+abbrev no_rows : ℕ → List (List Point)
+no_rows by = []
 
 only_own : (number seq : ℕ) → only number (the_owner number seq) ≡ the_owner number seq
 only_own number seq = ap (λ (b : Bool). cond b (the_owner number seq) None) (eq-eqb number number refl)
@@ -91,36 +90,36 @@ own_from number by seq owners part place e =
     let is = only_is number by seq found.0 found.2 in
     (found.1 ∙ ap Some is.0, is.1)
 
-to_kept : (owners : ℕ → List (Option Owner)) (number : ℕ) (rows : List (List Point)) → AreOwn owners number rows → IsKept (alone number owners) (put nobodys number rows)
+to_kept : (owners : ℕ → List (Option Owner)) (number : ℕ) (rows : List (List Point)) → AreOwn owners number rows → IsKept (alone number owners) (put no_rows number rows)
 to_kept owners number rows own = record {
   left = λ part place by seq e.
       let from = own_from number by seq owners part place e in
       let found = own.left part place seq (from.0 ∙ ap (λ (n : ℕ). Some (the_owner n seq)) from.1) in
-      (found.0, ap (λ (xs : List (List Point)). slice_get xs seq) (put_same nobodys number rows by from.1) ∙ found.1, found.2);
+      (found.0, ap (λ (xs : List (List Point)). slice_get xs seq) (put_same no_rows number rows by from.1) ∙ found.1, found.2);
   points = λ by seq points e. elim (same_or_not by number) [
     | inl same ↦
-        let row : slice_get rows seq ≡ Some points = sym (ap (λ (xs : List (List Point)). slice_get xs seq) (put_same nobodys number rows by same)) ∙ e in
+        let row : slice_get rows seq ≡ Some points = sym (ap (λ (xs : List (List Point)). slice_get xs seq) (put_same no_rows number rows by same)) ∙ e in
         subst (λ (n : ℕ). AllByRecursion (IsOf (alone number owners) n seq) points) (sym same)
         (all_on (IsOf owners number seq) (IsOf (alone number owners) number seq) (λ point is. own_there number seq owners point.part point.place is) points (own.points seq points row))
     | inr other ↦
-        let none : slice_get [] seq ≡ Some points = sym (ap (λ (xs : List (List Point)). slice_get xs seq) (put_other nobodys number rows by other)) ∙ e in
+        let none : slice_get [] seq ≡ Some points = sym (ap (λ (xs : List (List Point)). slice_get xs seq) (put_other no_rows number rows by other)) ∙ e in
         absurd cc
   ];
   order = λ by part. elim (same_or_not by number) [
-    | inl same ↦ subst (λ (xs : List (List Point)). IsStrictlyIncreasing (places_in part (in_rows xs))) (sym (put_same nobodys number rows by same)) (own.order part)
-    | inr other ↦ subst (λ (xs : List (List Point)). IsStrictlyIncreasing (places_in part (in_rows xs))) (sym (put_other nobodys number rows by other)) (λ k lt. absurd (omega (arith, lt)))
+    | inl same ↦ subst (λ (xs : List (List Point)). IsStrictlyIncreasing (places_in part (in_rows xs))) (sym (put_same no_rows number rows by same)) (own.order part)
+    | inr other ↦ subst (λ (xs : List (List Point)). IsStrictlyIncreasing (places_in part (in_rows xs))) (sym (put_other no_rows number rows by other)) (λ k lt. absurd (omega (arith, lt)))
   ];
 }
 
-from_kept : (owners : ℕ → List (Option Owner)) (number : ℕ) (rows : List (List Point)) → IsKept (alone number owners) (put nobodys number rows) → AreOwn owners number rows
+from_kept : (owners : ℕ → List (Option Owner)) (number : ℕ) (rows : List (List Point)) → IsKept (alone number owners) (put no_rows number rows) → AreOwn owners number rows
 from_kept owners number rows kept = record {
   left = λ part place seq e.
       let found = kept.left part place number seq (own_there number seq owners part place e) in
-      (found.0, sym (ap (λ (xs : List (List Point)). slice_get xs seq) (put_same nobodys number rows number refl)) ∙ found.1, found.2);
+      (found.0, sym (ap (λ (xs : List (List Point)). slice_get xs seq) (put_same no_rows number rows number refl)) ∙ found.1, found.2);
   points = λ seq points e.
-      let row : slice_get (put nobodys number rows number) seq ≡ Some points = ap (λ (xs : List (List Point)). slice_get xs seq) (put_same nobodys number rows number refl) ∙ e in
+      let row : slice_get (put no_rows number rows number) seq ≡ Some points = ap (λ (xs : List (List Point)). slice_get xs seq) (put_same no_rows number rows number refl) ∙ e in
       all_on (IsOf (alone number owners) number seq) (IsOf owners number seq) (λ point is. (own_from number number seq owners point.part point.place is).0) points (kept.points number seq points row);
-  order = λ part. subst (λ (xs : List (List Point)). IsStrictlyIncreasing (places_in part (in_rows xs))) (put_same nobodys number rows number refl) (kept.order number part);
+  order = λ part. subst (λ (xs : List (List Point)). IsStrictlyIncreasing (places_in part (in_rows xs))) (put_same no_rows number rows number refl) (kept.order number part);
 }
 
 -- ---- one entry more, of the last call
@@ -132,19 +131,8 @@ own_entry owners owners1 number p place before points here entry elsewhere own =
     ap (map (only number)) entry ∙ map-append (only number) (owners p) (the_owner number (length before) ∷ [])
     ∙ ap (λ (o : Option Owner). alone number owners p ++ o ∷ []) (only_own number (length before)) in
     from_kept owners1 number (before ++ (points ++ record { part = p; place = place } ∷ []) ∷ [])
-    (kept_entry (alone number owners) (alone number owners1) nobodys number p place before points (here ∙ sym (length-map (owners p) (only number))) one
+    (kept_entry (alone number owners) (alone number owners1) no_rows number p place before points (here ∙ sym (length-map (owners p) (only number))) one
     (λ q other. ap (map (only number)) (elsewhere q other)) (to_kept owners number (before ++ points ∷ []) own))
-
-owners_part : (parts : List History) (clock : List ClockEvent) (p : ℕ) (h : History) → p < 64 → slice_get parts p ≡ Some h → owners_at parts clock p ≡ map owner_of h.events
-owners_part parts clock p h lt e =
-    let no : eqb p 64 ≡ false = ne_eqb p 64 (λ is. omega (arith, lt, is)) in
-    ap (λ (b : Bool). cond b (map clock_owner_of clock) (owners_here (slice_get parts p))) no ∙ ap owners_here e
-
-owners_clock : (parts : List History) (clock later : List ClockEvent) (q : ℕ) → q ≢ 64 → owners_at parts later q ≡ owners_at parts clock q
-owners_clock parts clock later q other =
-    let no : eqb q 64 ≡ false = ne_eqb q 64 other in
-    ap (λ (b : Bool). cond b (map clock_owner_of later) (owners_here (slice_get parts q))) no
-    ∙ sym (ap (λ (b : Bool). cond b (map clock_owner_of clock) (owners_here (slice_get parts q))) no)
 
 own_part : (parts : List History) (clock : List ClockEvent) (number p : ℕ) (found left : History) (event : PartEvent) (before : List (List Point)) (points : List Point)
     → p < length parts → length parts ≤ 64 → slice_get parts p ≡ Some found → left.events ≡ found.events ++ event ∷ [] → owner_of event ≡ the_owner number (length before)

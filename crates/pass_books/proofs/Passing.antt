@@ -15,6 +15,7 @@ use Rattle.plain_broker.specs.Entering.{Noted}
 use Rattle.plain_broker.specs.GoesOn.{the_owner}
 use Rattle.plain_broker.specs.Kept.{owners_here, owners_at}
 use Rattle.plain_broker.specs.Sound.{AreHistories}
+use Rattle.plain_broker.proofs.Laws.{all_get, get_map}
 use Rattle.pass_books.specs.Accepting.{IsAccepting}
 use Rattle.pass_books.specs.Book.{Book}
 use Rattle.pass_books.specs.Finishing.{IsDelayed, IsFinishing}
@@ -26,7 +27,6 @@ use Rattle.pass_books.proofs.Acceptings.{others_accepting}
 use Rattle.pass_books.proofs.Coming.{others_grown, others_within}
 use Rattle.pass_books.proofs.Finishings.{others_delayed, others_finishing}
 use Rattle.pass_books.proofs.Growing.{as_many}
-use Rattle.pass_books.proofs.Lists.{all_get, get_map}
 use Rattle.pass_books.proofs.Underways.{others_came}
 
 within : (config : Configuration) (number : ℕ) (parts later : List History) (clock behind : List ClockEvent) → OthersAlone number parts clock later behind → AreHistories config parts clock → AreHistories config later behind

@@ -14,14 +14,14 @@ use Rattle.audit.specs.declared.account.SessionEnd.TheVariants.{NoMemory}
 use Rattle.audit.specs.declared.account.Transcript.{Transcript}
 use Rattle.audit.specs.Histories.{calls_in, points_of}
 use Rattle.audit.specs.IsLawful.{EndWell}
-use Rattle.audit.specs.LawfulCall.{IsLawfulCall, operation_parts}
+use Rattle.audit.specs.LawfulCall.{IsLawfulCall}
 use Rattle.audit.proofs.Laws.{all_append}
 use Rattle.kwire.specs.Configuration.{Configuration}
 use Rattle.plain_broker.specs.Board.{Waiting}
 use Rattle.plain_broker.specs.GoesOn.{HaveGrown}
 use Rattle.plain_broker.specs.Kept.{owners_at}
-use Rattle.plain_broker.specs.Sound.{AllBelow, AreHistories, IsDelayedAs, IsWaiting}
-use Rattle.plain_broker.proofs.Laws.{carried_on}
+use Rattle.plain_broker.specs.Sound.{AreHistories, IsWaiting}
+use Rattle.plain_broker.proofs.Laws.{all_on, carried_on, waiting_on}
 use Rattle.pass_books.specs.Book.{Book, begun_behind}
 use Rattle.pass_books.specs.IsBook.{AreFinished, IsBook, IsFinished, Stand}
 use Rattle.pass_books.specs.Owned.{AreOwn, OwnWithin}
@@ -30,7 +30,7 @@ use Rattle.pass_books.specs.Underway.{Underway, IsUnderway, begun_amid, book_ami
 use Rattle.pass_books.proofs.Closing.{calls_with}
 use Rattle.pass_books.proofs.Ending.{all_past, ended_well, follow_call, follow_last, last_follows, past_before}
 use Rattle.pass_books.proofs.Growing.{as_many}
-use Rattle.pass_books.proofs.Lists.{all_behind, all_on, push_same}
+use Rattle.pass_books.proofs.Lists.{all_behind, push_same}
 use Rattle.pass_books.proofs.Owning.{own_begun, own_others}
 
 -- ---- what holds of calls holds on
@@ -41,14 +41,6 @@ module _ (config : Configuration) (parts later : List History) (clock behind : L
 
   pub all_finished_on : (calls : List Call) → AreFinished config parts clock calls → AreFinished config later behind calls
   all_finished_on calls finished = all_on (IsFinished config parts clock) (IsFinished config later behind) finished_on calls finished
-
-  waiting_on : (w : Waiting) (call : Call) → length later ≡ length parts → IsWaiting config parts clock w call → IsWaiting config later behind w call
-  waiting_on w call size waits = record {
-    delayed = carried_on config parts later clock behind (IsDelayedAs w call) grown waits.delayed;
-    unfinished = waits.unfinished;
-    how = waits.how;
-    within = subst (λ (n : ℕ). AllBelow n (operation_parts w.steps)) (sym size) waits.within;
-  }
 
 -- ---- others' entries came
 
@@ -62,7 +54,7 @@ stand_on book later behind (Some w) grown size stand = record {
   transcripts = stand.transcripts;
   going = stand.going;
   earlier = all_finished_on book.config book.parts later book.clock behind grown (calls_in stand.front ++ stand.transcript.calls) stand.earlier;
-  waits = waiting_on book.config book.parts later book.clock behind grown w stand.call size stand.waits;
+  waits = waiting_on book.config book.parts later book.clock behind grown (omega (arith, size)) w stand.call stand.waits;
   own = stand.own;
 }
 

@@ -4,6 +4,8 @@ use Rattle.std.specs.Prelude.{ℕ, ◌≡◌, ◌<◌, List, ◌++◌, length, c
 use Rattle.std.specs.List.{AllByRecursion, flat_map}
 use Rattle.std.specs.List.Sorted.{IsStrictlyIncreasing}
 use Rattle.partlog.specs.declared.clock_event.ClockEvent.{ClockEvent}
+use Rattle.partlog.specs.declared.event.PartEvent.{PartEvent}
+use Rattle.partlog.specs.declared.event.PartEvent.TheVariants.{Append, Follow, Look}
 use Rattle.partlog.specs.History.{History}
 use Rattle.audit.specs.declared.account.Point.{Point}
 use Rattle.audit.specs.Histories.{Owner, owner_of, clock_owner_of}
@@ -24,6 +26,12 @@ abbrev pub OwnWithin : ℕ → List History → List ClockEvent → List History
 OwnWithin number parts clock later behind =
     (part place seq : ℕ) → slice_get (owners_at later behind part) place ≡ Some (the_owner number seq)
     → place < length (owners_at parts clock part)
+
+-- the pass that an entry names
+abbrev pub pass_of : PartEvent → ℕ
+pass_of (Append by seq count len) = by
+pass_of (Follow by seq replica offset) = by
+pass_of (Look by seq) = by
 
 -- it isn't this pass's
 abbrev pub NotOf : ℕ → Option Owner → Type 0

@@ -1,6 +1,6 @@
 //! Laws of the books. They do nothing.
 
-ghost use Rattle.std.specs.Prelude.{◌≡◌, ◌≤◌, ◌+◌, ◌∷◌, ◌++◌, [], ℕ, count_by, if◌then◌else◌, length, sum_by, false, true, List, None, Option, Some, slice_get};
+ghost use Rattle.std.specs.Prelude.{◌≡◌, ◌≤◌, ◌+◌, ◌∷◌, ◌++◌, [], ℕ, ℤ, count_by, if◌then◌else◌, length, sum_by, false, true, List, None, Option, Some, slice_get};
 ghost use Rattle.kbatch.specs.Batch.{IsBatch};
 ghost use Rattle.kbatch.specs.declared.record.Record.{Record};
 ghost use Rattle.partlog.specs.declared.clock_event.ClockEvent.{ClockEvent};
@@ -14,11 +14,13 @@ ghost use Rattle.audit.specs.declared.account.SessionEnd.{SessionEnd};
 ghost use Rattle.audit.specs.declared.account.SessionEnd.TheVariants.{NoMemory};
 ghost use Rattle.audit.specs.declared.account.Transcript.{Transcript};
 ghost use Rattle.audit.specs.Fits.{IsReplyOf};
+ghost use Rattle.audit.specs.Histories.{no_state};
 ghost use Rattle.audit.specs.IsLawful.{is_won_as, is_won_by, IsLawful};
 ghost use Rattle.audit.specs.LawfulCall.{operation_parts};
 ghost use Rattle.audit.specs.Worked.{at, fetch_both, fetch_one, followed, three_waits, two_parts};
 ghost use Rattle.kanswer.specs.Answer.{answer};
-ghost use Rattle.kanswer.specs.Decisions.{AskLog, Decides, Decision, Outcome};
+ghost use Rattle.kanswer.specs.declared.accepted.Accepted.TheVariants.{Refused};
+ghost use Rattle.kanswer.specs.Decisions.{AskLog, Decides, Decision, Outcome, Refuse};
 ghost use Rattle.kanswer.specs.Waiting.{becomes_delayed, values_of};
 ghost use Rattle.kwire.specs.Configuration.{Configuration, partitions_of};
 ghost use Rattle.kwire.specs.IsRequest.{IsRequest};
@@ -84,6 +86,10 @@ pub fn calls_are_accepted()
     ensures entered { (u : Underway) (request : Request) (decisions : List Decision) (reached : ℕ) (noted : List Noted)
         (decision : Decision) → IsAccepting u request decisions reached noted → slice_get decisions reached ≡ Some decision
         → IsAccepting (carried_out u decision) request decisions (reached + 1) (noted ++ noted_next u decision) }
+    ensures refused { (u : Underway) (request : Request) (decisions : List Decision) (reached : ℕ) (noted : List Noted) (code : ℤ)
+        → IsAccepting u request decisions reached noted → slice_get decisions reached ≡ Some (Refuse code)
+        → IsAccepting u request decisions (reached + 1)
+        (noted ++ record { step = record { result = Refused code; point = None }; state = no_state } ∷ []) }
     ensures turn { (u : Underway) (part : ℕ) (found : History) (request : Request) (decisions : List Decision) (reached : ℕ)
         (noted : List Noted) (outcome : PartState → Outcome) → Finds u part found → IsAccepting u request decisions reached noted
         → slice_get decisions reached ≡ Some (AskLog part outcome)

@@ -1,4 +1,4 @@
-use Rattle.pass_books.proofs.Acceptings.{accepting_as, accepting_cut, accepting_delayed, accepting_on, answered_book, called_accepting}
+use Rattle.pass_books.proofs.Acceptings.{accepting_as, accepting_cut, accepting_delayed, accepting_on, accepting_refused, answered_book, called_accepting}
 use Rattle.pass_books.proofs.Passing.{others_amid_accepting}
 use Rattle.pass_books.proofs.Turning.{accepting_turn}
 use Rattle.pass_books.proofs.promises.calls_are_accepted.Goals as goal
@@ -31,3 +31,6 @@ returns-clause-delayed c u request decisions noted h delayed = accepting_delayed
 pub returns-clause-turn : goal.returns-clause-turn
 returns-clause-turn c u part found request decisions reached noted outcome finds h next =
     accepting_turn u part found finds request decisions reached noted outcome h next
+
+pub returns-clause-refused : goal.returns-clause-refused
+returns-clause-refused c u request decisions reached noted code h next = accepting_refused u request decisions reached noted h code next
