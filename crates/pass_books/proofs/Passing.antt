@@ -1,9 +1,11 @@
 -- What others do changes nothing that a pass knows, between its calls and amid one.
-use Rattle.std.proofs.Common.{◌≡◌, ℕ, ◌<◌, Bool, true, false, cond, eqb, List, map, Option, Some, None, refl, subst}
+use Rattle.std.proofs.Common.{◌≡◌, ℕ, ◌<◌, Bool, true, false, cond, eqb, List, map, Option, Some, None, refl, subst, [], ◌∷◌, ◌++◌}
 use Rattle.std.specs.Prelude.{slice_get}
 use Rattle.std.specs.List.{AllByRecursion}
 use Rattle.partlog.specs.declared.clock_event.ClockEvent.{ClockEvent}
+use Rattle.partlog.specs.declared.clock_event.ClockEvent.TheVariants as clocks
 use Rattle.partlog.specs.History.{History}
+use Rattle.partlog.specs.Moment.{moment_of}
 use Rattle.partlog.specs.State.{PartState as State}
 use Rattle.audit.specs.declared.account.Point.{Point}
 use Rattle.audit.specs.Histories.{Owner, owner_of, clock_owner_of}
@@ -15,16 +17,16 @@ use Rattle.plain_broker.specs.Entering.{Noted}
 use Rattle.plain_broker.specs.GoesOn.{the_owner}
 use Rattle.plain_broker.specs.Kept.{owners_here, owners_at}
 use Rattle.plain_broker.specs.Sound.{AreHistories}
-use Rattle.plain_broker.proofs.Laws.{all_get, get_map}
+use Rattle.plain_broker.proofs.Laws.{all_get, get_map, ticks_rise}
 use Rattle.pass_books.specs.Accepting.{IsAccepting}
 use Rattle.pass_books.specs.Book.{Book}
 use Rattle.pass_books.specs.Finishing.{IsDelayed, IsFinishing}
 use Rattle.pass_books.specs.IsBook.{IsBook}
-use Rattle.pass_books.specs.Owned.{OthersAlone, OwnWithin}
+use Rattle.pass_books.specs.Owned.{NotOf, OthersAlone, OwnWithin}
 use Rattle.pass_books.specs.Together.{GoesWith, IsAnswerableIn}
 use Rattle.pass_books.specs.Underway.{Underway}
 use Rattle.pass_books.proofs.Acceptings.{others_accepting}
-use Rattle.pass_books.proofs.Coming.{others_grown, others_within}
+use Rattle.pass_books.proofs.Coming.{clock_came, clock_histories, others_grown, others_within}
 use Rattle.pass_books.proofs.Finishings.{others_delayed, others_finishing}
 use Rattle.pass_books.proofs.Growing.{as_many}
 use Rattle.pass_books.proofs.Underways.{others_came}
@@ -37,6 +39,15 @@ pub others_between : (book : Book) (waits : Option Waiting) (later : List Histor
     → IsBook (record book { parts = later; clock = behind }) waits
 others_between book waits later behind came histories h =
     others_came book waits later behind (others_grown book.number book.parts later book.clock behind came) (within book.config book.number book.parts later book.clock behind came h.histories histories) histories h
+
+-- the pass tells the clock a later moment; a tick is nobody's
+pub ticked : (book : Book) (waits : Option Waiting) (t : ℕ) → moment_of book.clock < t → IsBook book waits → IsBook (record book { clock = book.clock ++ clocks.Tick t ∷ [] }) waits
+ticked book waits t later h =
+    others_between book waits book.parts (book.clock ++ clocks.Tick t ∷ []) (clock_came book.number book.parts book.clock (clocks.Tick t ∷ []) (nobodys_tick, tt))
+    (clock_histories book.config book.parts book.clock (book.clock ++ clocks.Tick t ∷ []) (ticks_rise book.clock t h.histories.ticks later) h.histories) h
+  where
+    nobodys_tick : NotOf book.number (clock_owner_of (clocks.Tick t))
+    nobodys_tick seq e = absurd cc
 
 pub others_amid_accepting : (u : Underway) (request : Request) (decisions : List Decision) (reached : ℕ) (noted : List Noted) (later : List History) (behind : List ClockEvent) → OthersAlone u.number u.parts u.clock later behind
     → AreHistories u.config later behind → IsAccepting u request decisions reached noted → IsAccepting (record u { parts = later; clock = behind }) request decisions reached noted

@@ -1,9 +1,10 @@
 //! Laws of the books. They do nothing.
 
-ghost use Rattle.std.specs.Prelude.{◌≡◌, ◌≤◌, ◌+◌, ◌∷◌, ◌++◌, [], ℕ, ℤ, count_by, if◌then◌else◌, length, sum_by, false, true, List, None, Option, Some, slice_get};
+ghost use Rattle.std.specs.Prelude.{◌≡◌, ◌<◌, ◌≤◌, ◌+◌, ◌∷◌, ◌++◌, [], ℕ, ℤ, count_by, if◌then◌else◌, length, sum_by, false, true, List, None, Option, Some, slice_get};
 ghost use Rattle.kbatch.specs.Batch.{IsBatch};
 ghost use Rattle.kbatch.specs.declared.record.Record.{Record};
 ghost use Rattle.partlog.specs.declared.clock_event.ClockEvent.{ClockEvent};
+ghost use Rattle.partlog.specs.declared.clock_event.ClockEvent.TheVariants.{Tick};
 ghost use Rattle.partlog.specs.History.{History};
 ghost use Rattle.partlog.specs.Moment.{moment_of};
 ghost use Rattle.partlog.specs.State.{PartState, state_of};
@@ -55,14 +56,16 @@ pub fn books_are_lawful()
         → IsLawful (account_of config books finals clock wins) }
 {}
 
-/// Law: a book between two calls. A pass that has done nothing has one; it stays one whatever others do, and as a transcript is begun
-/// or ended, which is for want of memory where its last call was cut off.
+/// Law: a book between two calls. A pass that has done nothing has one. It stays one whatever others do, as the pass tells the clock a
+/// later moment, and as a transcript is begun or ended, which is for want of memory where its last call was cut off.
 pub fn books_go_on()
     ensures opened { (config : Configuration) (number : ℕ) → partitions_of config.topics ≤ MOST_PARTITIONS
         → IsBook (opening_book config number) None }
     ensures others { (book : Book) (waits : Option Waiting) (later : List History) (behind : List ClockEvent)
         → OthersAlone book.number book.parts book.clock later behind → AreHistories book.config later behind → IsBook book waits
         → IsBook (record book { parts = later; clock = behind }) waits }
+    ensures ticked { (book : Book) (waits : Option Waiting) (t : ℕ) → moment_of book.clock < t → IsBook book waits
+        → IsBook (record book { clock = book.clock ++ Tick t ∷ [] }) waits }
     ensures begun { (book : Book) (number : ℕ) → IsBook book None
         → IsBook (record book { transcripts = book.transcripts ++ begun_behind book.transcripts number ∷ [] }) None }
     ensures ended { (book : Book) (front : List Transcript) (last : Transcript) (end : SessionEnd) → last.end ≡ None

@@ -21,6 +21,7 @@ pub use Rattle.plain_broker.proofs.Fair.{parts_size, followers_size, part_within
 pub use Rattle.plain_broker.proofs.Going.{AllLonger, HaveGrown, GoesOn, Carried, all_longer_self, all_longer_on, set_longer, grown_self, grown_parts, grown_clock, goes_back, carried_on, clock_point, clock_looked, clock_moment}
 -- the histories of the configuration, as decisions are carried out and the clock is looked at
 pub use Rattle.plain_broker.proofs.Acts.{histories_on, ticks_looked}
+pub use Rattle.plain_broker.proofs.Playing.{ticks_rise}
 -- what an account shows of histories that its parts are read off
 pub use Rattle.plain_broker.proofs.Lawful.{flat_points, followers_map, last_state, owned_here, whole_logs}
 -- who left the entries, as one more comes, or all of a request

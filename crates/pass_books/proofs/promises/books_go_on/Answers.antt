@@ -1,4 +1,4 @@
-use Rattle.pass_books.proofs.Passing.{others_between}
+use Rattle.pass_books.proofs.Passing.{others_between, ticked}
 use Rattle.pass_books.proofs.Opening.{opened}
 use Rattle.pass_books.proofs.Underways.{begun, ended}
 use Rattle.pass_books.proofs.promises.books_go_on.Goals as goal
@@ -14,3 +14,6 @@ returns-clause-begun c = begun
 
 pub returns-clause-ended : goal.returns-clause-ended
 returns-clause-ended c = ended
+
+pub returns-clause-ticked : goal.returns-clause-ticked
+returns-clause-ticked c = ticked
