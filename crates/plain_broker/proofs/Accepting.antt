@@ -31,12 +31,12 @@ use Rattle.plain_broker.proofs.Ledger.{put, kept_entry, kept_nobodys}
 
 -- ---- who left the entries
 
-owners_part : (parts : List History) (clock : List ClockEvent) (p : ℕ) (h : History) → p < 64 → slice_get parts p ≡ Some h → owners_at parts clock p ≡ map owner_of h.events
+pub owners_part : (parts : List History) (clock : List ClockEvent) (p : ℕ) (h : History) → p < 64 → slice_get parts p ≡ Some h → owners_at parts clock p ≡ map owner_of h.events
 owners_part parts clock p h lt e =
     let no : eqb p 64 ≡ false = ne_eqb p 64 (λ is. omega (arith, lt, is)) in
     ap (λ (b : Bool). cond b (map clock_owner_of clock) (owners_here (slice_get parts p))) no ∙ ap owners_here e
 
-owners_clock : (parts : List History) (clock later : List ClockEvent) (q : ℕ) → q ≢ 64 → owners_at parts later q ≡ owners_at parts clock q
+pub owners_clock : (parts : List History) (clock later : List ClockEvent) (q : ℕ) → q ≢ 64 → owners_at parts later q ≡ owners_at parts clock q
 owners_clock parts clock later q other =
     let no : eqb q 64 ≡ false = ne_eqb q 64 other in
     ap (λ (b : Bool). cond b (map clock_owner_of later) (owners_here (slice_get parts q))) no

@@ -33,7 +33,7 @@ pub use Rattle.plain_broker.specs.Sound.{AllBelow, IsOver, IsDone, IsDelayedAs, 
 
 -- ---- accepted
 
-completes : (account : Account) (request : Request) (steps : List Step) (b : Bool) → is_quiet request.ask ≡ b → is_delayed account request steps ≡ false
+pub completes : (account : Account) (request : Request) (steps : List Step) (b : Bool) → is_quiet request.ask ≡ b → is_delayed account request steps ≡ false
     → Completes account request steps [] [] (cond b Quiet AtOnce)
 completes account request steps true quiet undelayed = (quiet, refl)
 completes account request steps false quiet undelayed = (quiet, undelayed, refl)

@@ -50,15 +50,15 @@ all_flat : {X Y : Type 0} (P : Y → Type 0) (f : X → List Y) (xs : List X) �
 all_flat P f [] all = tt
 all_flat P f (x ∷ xs) all = all_append P (f x) (flat_map f xs) all.0 (all_flat P f xs all.1)
 
-get_map : {X Y : Type 0} (f : X → Y) (xs : List X) (i : ℕ) (y : Y) → slice_get (map f xs) i ≡ Some y → (x : X) × (slice_get xs i ≡ Some x) × (f x ≡ y)
+pub get_map : {X Y : Type 0} (f : X → Y) (xs : List X) (i : ℕ) (y : Y) → slice_get (map f xs) i ≡ Some y → (x : X) × (slice_get xs i ≡ Some x) × (f x ≡ y)
 get_map f [] i y e = absurd cc
 get_map f (x ∷ xs) zero y e = (x, refl, some_is (f x) y e)
 get_map f (x ∷ xs) (suc i) y e = get_map f xs i y e
 
-map_get : {X Y : Type 0} (f : X → Y) (xs : List X) (i : ℕ) (x : X) → slice_get xs i ≡ Some x → slice_get (map f xs) i ≡ Some (f x)
+pub map_get : {X Y : Type 0} (f : X → Y) (xs : List X) (i : ℕ) (x : X) → slice_get xs i ≡ Some x → slice_get (map f xs) i ≡ Some (f x)
 map_get {Y = Y} f xs i x e = slice_get-map f xs i ∙ ap (option_map f) e
 
-flat_points : (calls : List Call) → flat_map (λ (points : List Point). points) (map points_of calls) ≡ flat_map points_of calls
+pub flat_points : (calls : List Call) → flat_map (λ (points : List Point). points) (map points_of calls) ≡ flat_map points_of calls
 flat_points [] = refl
 flat_points (call ∷ calls) = ap (λ (points : List Point). points_of call ++ points) (flat_points calls)
 
@@ -96,6 +96,26 @@ each_pass board P Q none one each = all_from_get Q (passes_of board.seats) (λ s
     listed : (s : ℕ) (o : Option Transcript) → P s (unwrap_or o (new_transcript s)) → Q (option_to_list o)
     listed s None p = none
     listed s (Some t) p = one s t p
+
+-- ---- the parts that are read off histories
+
+pub owned_here : (parts : List History) (p : ℕ) → owners_in (slice_get (map part_account parts) p) ≡ owners_here (slice_get parts p)
+owned_here [] p = refl
+owned_here (k ∷ parts) zero = refl
+owned_here (k ∷ parts) (suc p) = owned_here parts p
+
+pub followers_map : (parts : List History) → map (λ (part : PartAccount). part.followers) (map part_account parts) ≡ map (λ (k : History). k.followers) parts
+followers_map [] = refl
+followers_map (k ∷ parts) = ap (λ (ns : List ℕ). k.followers ∷ ns) (followers_map parts)
+
+pub whole_logs : (parts : List History) → AllWhole parts → AllByRecursion IsWholeLog (map part_account parts)
+whole_logs [] whole = tt
+whole_logs (k ∷ parts) whole = (sym (whole 0 k refl), whole_logs parts (λ p x e. whole (suc p) x e))
+
+pub last_state : (parts : List History) (p : ℕ) → final_in (slice_get (map part_account parts) p) ≡ state_of (history_at parts p)
+last_state [] p = refl
+last_state (k ∷ parts) zero = refl
+last_state (k ∷ parts) (suc p) = last_state parts p
 
 -- ---- how calls came to their ends
 
@@ -187,21 +207,8 @@ module _ (board : Board) (h : IsSound board) where
     events = sym (append-nil board.clock);
   }
 
-  owned_here : (parts : List History) (p : ℕ) → owners_in (slice_get (map part_account parts) p) ≡ owners_here (slice_get parts p)
-  owned_here [] p = refl
-  owned_here (k ∷ parts) zero = refl
-  owned_here (k ∷ parts) (suc p) = owned_here parts p
-
   owners_same : (p : ℕ) → owners_of (account_of board) p ≡ owners_at board.parts board.clock p
   owners_same p = ap (λ (xs : List (Option Owner)). cond (eqb p 64) (map clock_owner_of board.clock) xs) (owned_here board.parts p)
-
-  followers_map : (parts : List History) → map (λ (part : PartAccount). part.followers) (map part_account parts) ≡ map (λ (k : History). k.followers) parts
-  followers_map [] = refl
-  followers_map (k ∷ parts) = ap (λ (ns : List ℕ). k.followers ∷ ns) (followers_map parts)
-
-  whole_logs : (parts : List History) → AllWhole parts → AllByRecursion IsWholeLog (map part_account parts)
-  whole_logs [] whole = tt
-  whole_logs (k ∷ parts) whole = (sym (whole 0 k refl), whole_logs parts (λ p x e. whole (suc p) x e))
 
   call_there : (by seq : ℕ) (call : Call) → slice_get (transcript_at board by).calls seq ≡ Some call → call_of (account_of board) by seq ≡ Some call
   call_there by seq call e = ap (λ (cs : List Call). slice_get cs seq) (calls_at board by) ∙ e
@@ -233,11 +240,6 @@ module _ (board : Board) (h : IsSound board) where
       (subst (λ (points : List Point). IsStrictlyIncreasing (places_in part points)) (flat_points (transcript_at board pass).calls) (h.sound.kept.order pass part))
 
   -- ---- calls
-
-  last_state : (parts : List History) (p : ℕ) → final_in (slice_get (map part_account parts) p) ≡ state_of (history_at parts p)
-  last_state [] p = refl
-  last_state (k ∷ parts) zero = refl
-  last_state (k ∷ parts) (suc p) = last_state parts p
 
   last_present : (o : Option ℕ) → final_of (account_of board) o ≡ present board.parts o
   last_present None = refl

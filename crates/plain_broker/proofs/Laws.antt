@@ -1,5 +1,10 @@
 -- What the crates above may cite.
 
+-- ---- lists
+
+-- items and owners by their places, and what holds of all items
+pub use Rattle.plain_broker.proofs.Lawful.{all_from_get, all_get, get_map, map_get}
+pub use Rattle.plain_broker.proofs.Ledger.{all_on, push_get}
 -- ---- one history
 
 -- histories that go on, and the entry of a call in one of them
@@ -14,15 +19,23 @@ pub use Rattle.plain_broker.proofs.Entries.{IsWithin, IsFairOutcome, IsFair, All
 pub use Rattle.plain_broker.proofs.Fair.{parts_size, followers_size, part_within, produce_fair, fetch_fair, decides_fair}
 -- what holds in every account that goes on
 pub use Rattle.plain_broker.proofs.Going.{AllLonger, HaveGrown, GoesOn, Carried, all_longer_self, all_longer_on, set_longer, grown_self, grown_parts, grown_clock, goes_back, carried_on, clock_point, clock_looked, clock_moment}
+-- the histories of the configuration, as decisions are carried out and the clock is looked at
+pub use Rattle.plain_broker.proofs.Acts.{histories_on, ticks_looked}
+pub use Rattle.plain_broker.proofs.Playing.{ticks_rise}
+-- what an account shows of histories that its parts are read off
+pub use Rattle.plain_broker.proofs.Lawful.{flat_points, followers_map, last_state, owned_here, whole_logs}
 -- who left the entries, as one more comes, or all of a request
 pub use Rattle.plain_broker.proofs.Ledger.{IsKept, put, put_same, put_other, kept_nobodys, kept_entry, kept_begun, kept_alike}
-pub use Rattle.plain_broker.proofs.Accepting.{kept_part, kept_look, kept_tick, kept_accepted, accepted_within, look_decisions, look_points, looked, looks_points, looks_parts, looks_fair, looks_states, shown_in, shown_alike, looks_look, looks_shown}
+pub use Rattle.plain_broker.proofs.Accepting.{owners_clock, owners_part, kept_part, kept_look, kept_tick, kept_accepted, accepted_within, look_decisions, look_points, looked, looks_points, looks_parts, looks_fair, looks_states, shown_in, shown_alike, looks_look, looks_shown}
 -- ---- calls
 
 -- accepted and answered at once, waiting, satisfied and expired
-pub use Rattle.plain_broker.proofs.Calls.{acceptance, done_at_once, waits_on, left_on, done_satisfied, done_expired}
+pub use Rattle.plain_broker.proofs.Calls.{acceptance, completes, done_at_once, waits_on, left_on, done_satisfied, done_expired}
 -- ---- boards
 
+-- what holds of a waiting call holds on, and at first nobody left an entry
+pub use Rattle.plain_broker.proofs.Boards.{waiting_on}
+pub use Rattle.plain_broker.proofs.Playing.{nobodys}
 -- what holds of a board stays as one session changes
 pub use Rattle.plain_broker.proofs.Boards.{AreSound, IsSound, session_on, sound_alike, seat_changed, waits_more, waits_else, waits_no_more, waits_still, none_waits, find_is, finished}
 -- each step keeps it: a line, a waiting request that is asked, a scan, and what a session does

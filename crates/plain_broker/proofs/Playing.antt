@@ -53,7 +53,7 @@ nobodys_here [] p = refl
 nobodys_here (n ∷ followers) zero = refl
 nobodys_here (n ∷ followers) (suc p) = nobodys_here followers p
 
-nobodys : (followers : List ℕ) (p : ℕ) → owners_at (map empty_history followers) [] p ≡ []
+pub nobodys : (followers : List ℕ) (p : ℕ) → owners_at (map empty_history followers) [] p ≡ []
 nobodys followers p = either_way (λ (os : List (Option Owner)). os ≡ []) (eqb p 64) [] (owners_here (slice_get (map empty_history followers) p)) refl (nobodys_here followers p)
 
 none_kept : (followers : List ℕ) → IsKept (owners_at (map empty_history followers) []) (ledger_of new_transcript)
@@ -125,10 +125,13 @@ ticks_below (clocks.Tick u ∷ clock) least t lt =
     (omega (arith, rest.0), (omega (arith, rest.0), rest.1))
 ticks_below (clocks.Look by seq ∷ clock) least t lt = ticks_below clock least t lt
 
+-- a tick above the moment rises above all others
+pub ticks_rise : (clock : List ClockEvent) (t : ℕ) → IsStrictlyIncreasing (0 ∷ ticks_of clock) → moment_of clock < t → IsStrictlyIncreasing (0 ∷ ticks_of (clock ++ clocks.Tick t ∷ []))
+ticks_rise clock t rises lt = subst (λ (ts : List ℕ). IsStrictlyIncreasing (0 ∷ ts)) (sym (ticks_more clock t)) (rises_on t 1 (0 ∷ ticks_of clock) rises (ticks_below clock 0 t lt))
+
 tick_sound : (board : Board) (t : ℕ) → IsSound board → moment_of board.clock < t → IsSound (record board { clock = board.clock ++ clocks.Tick t ∷ [] })
 tick_sound board t h lt =
     let behind = board.clock ++ clocks.Tick t ∷ [] in
-    let below = ticks_below board.clock 0 t lt in
     let grown : HaveGrown board.parts board.clock board.parts behind = grown_clock board.parts board.parts board.clock (clocks.Tick t) (all_longer_self board.parts) in
     record {
       count = h.count;
@@ -137,7 +140,7 @@ tick_sound board t h lt =
           whole = h.sound.histories.whole;
           few = h.sound.histories.few;
           followers = h.sound.histories.followers;
-          ticks = subst (λ (ts : List ℕ). IsStrictlyIncreasing (0 ∷ ts)) (sym (ticks_more board.clock t)) (rises_on t 1 (0 ∷ ticks_of board.clock) h.sound.histories.ticks below);
+          ticks = ticks_rise board.clock t h.sound.histories.ticks lt;
         };
         kept = kept_tick board.parts board.clock (ledger_of (transcript_at board)) t h.sound.kept;
         sessions = λ s. session_on board.config board.parts board.parts board.clock behind grown (omega arith) s (waiting_of board.waiting s) (transcript_at board s) (h.sound.sessions s);
