@@ -82,9 +82,7 @@ fn a_partition_raises_its_gauges(rt: HostRuntime) -> Result<(), Fail> {
         mut part,
         clock: _,
     } = make_hall(alloc)?;
-    let batch = view_batch(&ONE_RECORD)
-        .ok()
-        .ok_or("the bytes are a batch")?;
+    let batch = view_batch(&ONE_RECORD).ok().ok_or("the bytes are a batch")?;
     let put = Entered {
         became: Accepted::Appended {
             part: 0,
