@@ -2,6 +2,8 @@
 pub mod Laws
 -- passes that go on
 pub mod Goes
+-- how many operations a pass has won, and of how many it has taken the end, after a step
+pub mod Counted
 -- what a pass keeps beside its seat, after a step
 pub mod Owners
 -- a pass's own session word
