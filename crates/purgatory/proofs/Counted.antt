@@ -1,16 +1,17 @@
 -- How many operations a pass has won, and of how many it has taken the end, after a step.
-use Rattle.std.proofs.Common.{⊎_elim, ◌≡◌, ◌≢◌, ◌∙◌, ℕ, ◌+◌, ◌≤◌, [], ◌∷◌, ◌++◌, Bool, cond, length, ap, refl, subst, sym, arith}
-use Rattle.std.specs.Prelude.{true, false}
+use Rattle.std.proofs.Common.{⊎_elim, ◌≡◌, ◌≢◌, ◌∙◌, ℕ, ◌+◌, ◌≤◌, Bool, Some, ◌||◌, cond, length, ap, refl, subst, sym, arith}
+use Rattle.std.specs.Prelude.{◌↔◌, IsTrue, true, false}
 use Rattle.std.proofs.lemmas.List.{length-append, length_push}
 use Rattle.room_core.specs.declared.event.How.{How}
 use Rattle.room_core.specs.declared.parts.Phase.{Phase}
 use Rattle.room_core.specs.declared.parts.Prize.{Prize}
 use Rattle.room_core.specs.declared.parts.Session.{Session}
 use Rattle.room_core.specs.declared.parts.Stage.{Stage}
-use Rattle.room_core.specs.Checks.{caller_leaves, caller_wins, exchanged, with_prize}
+use Rattle.room_core.specs.Checks.{caller_leaves, caller_wins, exchanged, is_overdue, is_satisfied}
 use Rattle.room_core.specs.Meetings.{is_live}
 use Rattle.room_core.specs.Numbers.{scanner_numbers}
-use Rattle.room_core.specs.Passes.{IsOver, caller_idles, caller_opens, caller_peeks, caller_sees_mark, peeked, taken_of}
+use Rattle.room_core.specs.Passes.{IsOver, all_seen, caller_idles, caller_opens, caller_peeks, caller_sees_mark, peeked, seen_with, taken_of}
+use Rattle.room_core.specs.Put.{put}
 use Rattle.room_core.specs.State.{Caller}
 use Rattle.room_core.proofs.Laws.{exchange_cases}
 use Rattle.room_core.proofs.Prizes.{no_prize, prize_made}
@@ -60,7 +61,7 @@ module _ (wins taken : ℕ) (caller : Caller) (h : IsCounted wins taken caller) 
       record {
         wins_are = h.wins_are;
         taken_are = h.taken_are;
-        few_wins = omega (arith, few, checks_or _ Stage.Listing (omega arith));
+        few_wins = omega (arith, few, checks_or (all_seen caller.description (seen_with caller at mark)) Stage.Listing (omega arith));
         few_taken = omega (arith, less, one_at_most new.stage);
       }
 
@@ -72,7 +73,7 @@ module _ (wins taken : ℕ) (caller : Caller) (h : IsCounted wins taken caller) 
       record {
         wins_are = h.wins_are;
         taken_are = h.taken_are;
-        few_wins = omega (arith, few, checks_or _ Stage.Waiting (omega arith));
+        few_wins = omega (arith, few, checks_or (is_satisfied caller.description (put caller.readings gauge (Some value)) || is_overdue shape caller.description (put caller.readings gauge (Some value))) Stage.Waiting (omega arith));
         few_taken = omega (arith, less, one_at_most new.stage);
       }
 
@@ -91,6 +92,10 @@ module _ (wins taken : ℕ) (caller : Caller) (h : IsCounted wins taken caller) 
 one_taken : (stage : Stage) (generation : ℕ) → IsOver stage → (length (taken_of stage generation) ≡ 1) × (untaken stage ≡ 1)
 unfolding taken_of
 one_taken (Stage.Over how by) generation over = (refl, refl)
+one_taken Stage.Idle generation over = elim over [ ]
+one_taken Stage.Listing generation over = elim over [ ]
+one_taken Stage.Checking generation over = elim over [ ]
+one_taken Stage.Waiting generation over = elim over [ ]
 
 -- it takes the end of an operation
 pub counts_idle : (wins taken : ℕ) (caller : Caller) → IsCounted wins taken caller → IsOver caller.stage → IsCounted wins (taken + 1) (caller_idles caller)
@@ -105,6 +110,11 @@ counts_idle wins taken caller h over =
       few_wins = omega (arith, few);
       few_taken = omega (arith, less, one.1);
     }
+
+-- an exchange that wasn't made found the word not open at the generation
+pub dead : (live won : Bool) → IsTrue won ↔ (live ≡ true) → won ≡ false → live ≡ false
+dead true won h n = let apart : false ≡ true = sym n ∙ h.1 refl in absurd (cc)
+dead false won h n = refl
 
 -- it tries to win its operation
 module _ (wins taken : ℕ) (caller : Caller) (h : IsCounted wins taken caller) (e : caller.stage ≡ Stage.Checking) (pass : ℕ) (how : How) (found : Session) where

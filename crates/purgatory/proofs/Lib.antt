@@ -18,6 +18,8 @@ pub mod Reading
 pub mod Leaving
 -- the room's locks, and what a pass has of them
 pub mod Doors
+-- the turns of all locks, held together
+pub mod Holds
 -- how a room is made
 pub mod Made
 -- a gauge is raised
