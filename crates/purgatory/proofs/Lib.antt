@@ -20,6 +20,8 @@ pub mod Leaving
 pub mod Doors
 -- the turns of all locks, held together
 pub mod Holds
+-- a room whose scanners' seats are back, as its passes' come back too
+pub mod Stills
 -- how a room is made
 pub mod Made
 -- a gauge is raised
