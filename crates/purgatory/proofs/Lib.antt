@@ -22,6 +22,10 @@ pub mod Doors
 pub mod Holds
 -- a room whose scanners' seats are back, as its passes' come back too
 pub mod Stills
+-- sums over seats, and over their numbers
+pub mod Added
+-- a room that was closed
+pub mod Closes
 -- how a room is made
 pub mod Made
 -- a gauge is raised
