@@ -2,16 +2,19 @@
 use Rattle.std.proofs.Common.{⊎_elim, ◌≡◌, ◌≢◌, ◌∙◌, ℕ, ◌+◌, ◌<◌, ◌≤◌, List, [], ◌∷◌, ◌++◌, cond, drop, eqb, get_or, length, map, set, take, ap, refl, subst, sym, arith, append_assoc}
 use Rattle.std.specs.Prelude.{All, count_by, slice_index}
 use Rattle.std.proofs.lemmas.Bool.{cases_eq, ne_eqb}
-use Rattle.std.proofs.lemmas.List.{append-nil, drop_all, get_or-set_other, get_or-set_same, length-map, length-set, map_push, take_all}
-use Rattle.std.proofs.lemmas.List.Elements.{All-head, All-tail}
+use Rattle.std.proofs.lemmas.List.{append-nil, drop_all, get_or-map, get_or-set_other, get_or-set_same, length-map, length-set, map_push, take_all}
+use Rattle.std.proofs.lemmas.List.Elements.{All-head, All-map, All-tail}
 use Rattle.std.proofs.lemmas.List.Sums.{sum_by-cons}
 use Rattle.room_core.specs.Gauges.{IsShape}
 use Rattle.room_table.specs.Closing.{ClosingView}
 use Rattle.room_table.specs.Seats.{CallerView, ScanView, TableView, caller_now}
-use Rattle.purgatory.specs.Ends.{IsScannerSeat, exchanges_of, seats_of, taken_of}
+use Rattle.purgatory.specs.declared.holding.Held.{Held}
+use Rattle.purgatory.specs.Ends.{IsScannerSeat, IsSettled, exchanges_of, seats_of, taken_of, won_by_passes}
+use Rattle.purgatory.specs.Going.{OwesNothing}
+use Rattle.purgatory.specs.Holding.{AreHeld, WereHeld, with_seats}
 use Rattle.purgatory.specs.Making.{AreFrom}
 use Rattle.purgatory.specs.Noted.{AreNoted, IsNoted}
-use Rattle.purgatory.specs.Rooms.{PassView}
+use Rattle.purgatory.specs.Rooms.{IsRoom, PassView, RoomView, winners}
 use Rattle.purgatory.specs.Still.{IsKept, IsReadyToKeep, IsSettledSeat}
 
 -- a list that was written through a slice of it
@@ -77,3 +80,49 @@ all_kept before closing passes numbers later b table sources scanners callers si
       taken = subst (λ (l : List ScanView). exchanges_of l closing.callers ≤ taken_of closing.callers) (sym scanners)
           (subst (λ (l : List CallerView). exchanges_of before.scanners l ≤ taken_of l) (sym callers) b.taken);
     }
+
+-- what holds of the seat of every pass
+of_seats : (Q : CallerView → Type 0) (passes : List PassView) → All Q (seats_of passes) → All (λ (pass : PassView). Q pass.seat) passes
+of_seats Q passes all i d less =
+    let f : PassView → CallerView = λ p. p.seat in
+    let size = length-map passes f in
+    subst Q (get_or-map f passes i d d.seat less) (all i d.seat (omega (arith, less, size)))
+
+module _ (room : RoomView) (passes later : List PassView) (closing : ClosingView) (numbers : List ℕ) (won taken : ℕ) (i : IsRoom room.table room.locks) (size : length numbers ≡ winners room.table)
+    (all : length passes ≡ room.table.shape.passes) (settled : All (IsSettled room) passes) (seats : seats_of later ≡ seats_of passes) (h : WereHeld room.table 0 won taken numbers (Held.Still closing))
+    (won_is : won ≡ won_by_passes (seats_of passes)) (taken_is : taken ≡ taken_of (seats_of passes)) where
+  abbrev seat_in : PassView → CallerView
+  seat_in pass = pass.seat
+
+  table : closing.table ≡ room.table
+  table = ap (λ (x : ClosingView). x.table) h.ended.0
+
+  scanners : closing.scanners ≡ h.seats
+  scanners = ap (λ (x : ClosingView). x.scanners) h.ended.0
+
+  abbrev IsMine : CallerView → Type 0
+  IsMine seat = (seat.table ≡ closing.table) × OwesNothing (caller_now seat)
+
+  mine : All IsMine (seats_of passes)
+  mine = All-map IsMine seat_in passes (λ k d less. (let one = settled k d less in (one.made.table ∙ sym table, one.paid)))
+
+  all_taken : exchanges_of closing.scanners (seats_of later) ≤ taken_of (seats_of later)
+  all_taken =
+      let less = h.ended.1 in
+      subst (λ (l : List CallerView). exchanges_of closing.scanners l ≤ taken_of l) (sym seats)
+      (subst (λ (l : List ScanView). exchanges_of l (seats_of passes) ≤ taken_of (seats_of passes)) (sym scanners) (omega (arith, less, won_is, taken_is)))
+
+  -- the scanners' seats are back, and the passes' may come
+  pub ready_so : IsReadyToKeep closing later numbers
+  ready_so = record {
+    shape = subst (λ (t : TableView). IsShape t.shape) (sym table) i.shape;
+    all_scanners = ap (λ (t : TableView). t.shape.scanners) table ∙ i.scanners;
+    size = size ∙ ap winners (sym table);
+    alone = subst (λ (x : ClosingView). x ≡ with_seats x.table x.scanners) (sym h.ended.0) refl;
+    count =
+        sym (length-map later seat_in) ∙ ap (λ (l : List CallerView). length l) seats ∙ length-map passes seat_in ∙ all
+        ∙ ap (λ (t : TableView). t.shape.passes) (sym table);
+    settled = of_seats IsMine later (subst (All IsMine) (sym seats) mine);
+    held = subst (λ (x : ClosingView). AreHeld x.table 0 numbers x.scanners) (sym h.ended.0) h.are_held;
+    taken = all_taken;
+  }
