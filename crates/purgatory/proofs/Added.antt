@@ -154,3 +154,14 @@ by_number {A} P key (x ∷ xs) all i some =
     let none : bit (eqb (key x) i) ≡ 0 = ap bit (ne_eqb (key x) i other) in
     by_number P key xs (All-tail Q x xs all) i (omega (arith, some, none, sum_by-cons (λ y. bit (eqb (key y) i)) x xs)))
     (cases_eq (key x) i)
+
+-- the item of a number that an item has, and what is so of it
+pub of_number : {A : Type 0} (Q : A → Type 0) (key : A → ℕ) (xs : List A) → All Q xs → (i : ℕ) → 1 ≤ count_by (λ x. eqb (key x) i) xs → (x : A) × (key x ≡ i) × Q x
+of_number Q key [] all i some = absurd (omega (arith, some))
+of_number Q key (x ∷ xs) all i some =
+    ⊎_elim
+    (λ (here : key x ≡ i). (x, here, All-head Q x xs all))
+    (λ (other : key x ≢ i).
+    let none : bit (eqb (key x) i) ≡ 0 = ap bit (ne_eqb (key x) i other) in
+    of_number Q key xs (All-tail Q x xs all) i (omega (arith, some, none, sum_by-cons (λ y. bit (eqb (key y) i)) x xs)))
+    (cases_eq (key x) i)

@@ -1,4 +1,4 @@
-use Rattle.std.proofs.Common.{◌∙◌, List, ap, length, refl, subst, sym}
+use Rattle.std.proofs.Common.{◌∙◌, ◌+◌, List, ap, length, refl, subst, sym}
 use Rattle.room_core.specs.declared.shape.Shape.{Shape}
 use Rattle.room_core.specs.Gauges.{IsShape}
 use Rattle.room_table.specs.Seats.{CallerView, ScanView}
