@@ -1,11 +1,11 @@
 -- Sums over seats, and over their numbers.
 use Rattle.std.proofs.Common.{⊎_elim, ◌≡◌, ◌≢◌, ◌∙◌, ℕ, zero, suc, ◌+◌, ◌<◌, ◌≤◌, Bool, List, [], ◌∷◌, cond, eqb, length, ap, refl, subst, sym, add-one, arith}
-use Rattle.std.specs.Prelude.{All, count_by, false, sum_by, true}
+use Rattle.std.specs.Prelude.{All, count_by, sum_by}
 use Rattle.std.proofs.lemmas.Bool.{cases_eq, eq-eqb, ne_eqb}
 use Rattle.std.proofs.lemmas.List.Elements.{All-head, All-tail}
 use Rattle.std.proofs.lemmas.List.Sums.{sum_by-cons}
 use Rattle.room_core.specs.Counts.{sum_below}
-use Rattle.room_table.proofs.Laws.{sum_both, term_le}
+use Rattle.room_table.proofs.Laws.{sum_both}
 use Rattle.purgatory.specs.Making.{AreFrom}
 
 abbrev bit : Bool → ℕ

@@ -1,22 +1,19 @@
 -- A room that was closed: the state at the close, and what the numbers of the winners are there.
-use Rattle.std.proofs.Common.{⊎_elim, ◌≡◌, ◌≢◌, ◌∙◌, ◌⊎◌, ℕ, suc, ◌+◌, ◌-◌, ◌<◌, ◌≤◌, Bool, List, [], ◌∷◌, Some, cond, eqb, get_or, inl, inr, length, ap, refl, subst, sym, arith}
-use Rattle.std.specs.Prelude.{All, count_by, false, slice_index, sum_by, true}
+use Rattle.std.proofs.Common.{⊎_elim, ◌≡◌, ◌≢◌, ◌∙◌, ℕ, suc, ◌+◌, ◌-◌, ◌<◌, ◌≤◌, List, [], ◌∷◌, cond, eqb, get_or, inl, inr, length, ap, refl, subst, sym, arith}
+use Rattle.std.specs.Prelude.{All, count_by, false, slice_index}
 use Rattle.std.proofs.lemmas.Bool.{cases_lt, eq-eqb, le-ltb}
 use Rattle.std.proofs.lemmas.Option.{slice_get-get_or}
 use Rattle.room_core.specs.declared.event.How.{How}
 use Rattle.room_core.specs.declared.parts.Phase.{Phase}
 use Rattle.room_core.specs.declared.parts.Phase.TheVariants.{Open, Won}
-use Rattle.room_core.specs.declared.parts.Session.{Session}
 use Rattle.room_core.specs.declared.parts.Source.{Source}
 use Rattle.room_core.specs.declared.parts.Stage.{Stage}
 use Rattle.room_core.specs.declared.parts.Taken.{Taken}
 use Rattle.room_core.specs.declared.shape.Shape.{Shape}
-use Rattle.room_core.specs.Carried.{IsCarried}
 use Rattle.room_core.specs.Counts.{is_won_by, sum_below, taken_by, won_by}
-use Rattle.room_core.specs.Described.{operation_of, values_in}
 use Rattle.room_core.specs.Description.{deadline_of, least_of, tally}
 use Rattle.room_core.specs.Duty.{IsOnDuty, IsOpen}
-use Rattle.room_core.specs.Gauges.{IsGauge, IsPass, IsScanner, IsShape, clock_of}
+use Rattle.room_core.specs.Gauges.{IsScanner, clock_of}
 use Rattle.room_core.specs.Quiet.{IsQuiet}
 use Rattle.room_core.specs.Scans.{HasNoDuty}
 use Rattle.room_core.specs.Sound.{Agree}
@@ -30,9 +27,8 @@ use Rattle.room_core.proofs.Prizes.{wins_of-pass, wins_of-scanner}
 use Rattle.room_core.proofs.Quiets.{in_time, unsatisfied}
 use Rattle.room_table.specs.Handed.{AreShown}
 use Rattle.room_table.specs.Closing.{ClosingView}
-use Rattle.room_table.specs.Seats.{CallerView, ScanView, SourceView, TableView, caller_now, scanner_now, source_now}
+use Rattle.room_table.specs.Seats.{CallerView, ScanView, SourceView, caller_now, scanner_now, source_now}
 use Rattle.room_table.proofs.Laws.{all_counted, sum_both, term_le}
-use Rattle.room_scans.specs.Listing.{open_at}
 use Rattle.purgatory.specs.Closed.{IsClosed, IsLeftOpen, IsUnanswerable, stored_in}
 use Rattle.purgatory.specs.Ends.{IsScannerSeat, exchanges_of, taken_of, won_by_passes, won_by_scanners}
 use Rattle.purgatory.specs.Going.{IsAtRest}

@@ -15,9 +15,7 @@ use Rattle.room_core.specs.Put.{put}
 use Rattle.room_core.specs.State.{Caller}
 use Rattle.room_core.proofs.Laws.{exchange_cases}
 use Rattle.room_core.proofs.Prizes.{no_prize, prize_made}
-use Rattle.room_table.specs.declared.part.CallerStep.{CallerStep}
 use Rattle.room_core.specs.declared.shape.Shape.{Shape}
-use Rattle.room_table.specs.Seats.{CallerView, caller_did, caller_now}
 use Rattle.purgatory.specs.Owned.{IsCounted, unsettled, untaken}
 
 busy_one : (stage : Stage) → stage ≢ Stage.Idle → untaken stage ≡ 1

@@ -1,19 +1,19 @@
 -- The turns of all locks, held together.
-use Rattle.std.proofs.Common.{◌≡◌, ◌≢◌, ◌∙◌, ℕ, ◌+◌, ◌-◌, ◌^◌, ◌<◌, ◌≤◌, List, [], ◌∷◌, min, length, get_or, set, map, ap, refl, subst, sym, arith}
+use Rattle.std.proofs.Common.{◌≡◌, ◌∙◌, ℕ, ◌+◌, ◌-◌, ◌^◌, ◌<◌, List, [], ◌∷◌, min, length, get_or, set, map, ap, refl, subst, sym, arith}
 use Rattle.std.specs.Prelude.{slice_index}
 use Rattle.std.proofs.lemmas.List.Sums.{sum_by-cons}
-use Rattle.std.proofs.lemmas.List.{get_or-map, get_or-set_same, map-set, set-get_or, set-set}
+use Rattle.std.proofs.lemmas.List.{get_or-map, map-set, set-get_or, set-set}
 use Rattle.turn_lock.specs.declared.lock.TurnLock.{TurnLock}
 use Rattle.turn_lock.specs.declared.pass.TurnPass.{TurnPass}
 use Rattle.turn_lock.specs.Locks.{IsPassOf, IsReady, lock_name}
 use Rattle.room_core.specs.Scans.{HasNoDuty}
-use Rattle.room_table.specs.Closing.{ClosingView, none_back, with_scanner}
+use Rattle.room_table.specs.Closing.{ClosingView, with_scanner}
 use Rattle.room_table.specs.Seats.{ScanView, TableView, scanner_now}
 use Rattle.room_scans.specs.Desks.{ClockView, ShardView, desk_name}
 use Rattle.room_scans.proofs.Laws.{name_number, name_table}
 use Rattle.purgatory.specs.declared.holding.Held.{Held}
 use Rattle.purgatory.specs.Ends.{IsScannerSeat, won_by_scanners}
-use Rattle.purgatory.specs.Holding.{AreHeld, AreKeysFrom, IsHeldFor, WereHeld}
+use Rattle.purgatory.specs.Holding.{AreHeld, AreKeysFrom, IsHeldFor}
 use Rattle.purgatory.specs.Rooms.{AreNamed, LockView}
 use Rattle.purgatory.specs.Turning.{IsKey, clock_name, key_view, lock_view, lock_views, shard_name}
 use Rattle.purgatory.proofs.Doors.{belongs, front_at, shard_named, shows}

@@ -1,12 +1,12 @@
 -- What the crates above may cite.
-use Rattle.std.proofs.Common.{◌≡◌, ◌∙◌, ℕ, ◌+◌, ◌<◌, ◌≤◌, List, [], ap, arith, eqb, get_or, length, refl, subst, sym}
+use Rattle.std.proofs.Common.{◌≡◌, ◌∙◌, ℕ, ◌+◌, ◌<◌, List, [], ap, arith, eqb, get_or, length, refl, subst, sym}
 use Rattle.std.specs.Prelude.{All, count_by, slice_index, sum_by}
 use Rattle.std.specs.List.{range_with_len}
 use Rattle.std.proofs.lemmas.List.Elements.{All-map}
 use Rattle.room_core.specs.declared.parts.Stage.{Stage}
 use Rattle.room_core.specs.declared.parts.Taken.{Taken}
 use Rattle.room_core.specs.declared.shape.Shape.{Shape}
-use Rattle.room_core.specs.Counts.{sum_below, taken_by}
+use Rattle.room_core.specs.Counts.{sum_below}
 use Rattle.room_core.specs.State.{Caller, Scanner}
 use Rattle.room_core.proofs.Prizes.{wins_of-pass, wins_of-scanner}
 use Rattle.room_core.specs.declared.parts.Source.{Source}

@@ -1,6 +1,6 @@
 -- A room whose scanners' seats are back, as its passes' come back too.
-use Rattle.std.proofs.Common.{⊎_elim, ◌≡◌, ◌≢◌, ◌∙◌, ℕ, ◌+◌, ◌<◌, ◌≤◌, List, [], ◌∷◌, ◌++◌, cond, drop, eqb, get_or, length, map, set, take, ap, refl, subst, sym, arith, append_assoc}
-use Rattle.std.specs.Prelude.{All, count_by, slice_index}
+use Rattle.std.proofs.Common.{⊎_elim, ◌≡◌, ◌≢◌, ◌∙◌, ℕ, ◌+◌, ◌<◌, ◌≤◌, List, [], ◌∷◌, ◌++◌, cond, drop, eqb, get_or, length, set, take, ap, refl, subst, sym, arith, append_assoc}
+use Rattle.std.specs.Prelude.{All, slice_index}
 use Rattle.std.proofs.lemmas.Bool.{cases_eq, ne_eqb}
 use Rattle.std.proofs.lemmas.List.{append-nil, drop_all, get_or-map, get_or-set_other, get_or-set_same, length-map, length-set, map_push, take_all}
 use Rattle.std.proofs.lemmas.List.Elements.{All-head, All-map, All-tail}

@@ -3,7 +3,7 @@ use Rattle.std.specs.Prelude.{◌≡◌, ℕ, ◌≤◌, List, All, length}
 use Rattle.room_core.specs.Gauges.{IsShape}
 use Rattle.room_core.specs.Numbers.{scanner_numbers}
 use Rattle.room_table.specs.Closing.{ClosingView}
-use Rattle.room_table.specs.Seats.{CallerView, TableView, caller_now}
+use Rattle.room_table.specs.Seats.{CallerView, caller_now}
 use Rattle.purgatory.specs.Ends.{IsScannerSeat, StillView, exchanges_of, seats_of, taken_of}
 use Rattle.purgatory.specs.Going.{IsAtRest, OwesNothing}
 use Rattle.purgatory.specs.Holding.{AreHeld, with_seats}

@@ -108,7 +108,16 @@ fn hold_from(
     desk.keeps();
     let won = desk.wins();
     wins[at] = won;
-    match hold_from(rt, locks, shards, clock, table, wins, count.with(won), at + 1) {
+    match hold_from(
+        rt,
+        locks,
+        shards,
+        clock,
+        table,
+        wins,
+        count.with(won),
+        at + 1,
+    ) {
         Held::Untaken(table) => {
             lock.end(&mut shards[at], turn);
             Held::Untaken(table)

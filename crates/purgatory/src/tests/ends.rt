@@ -28,11 +28,7 @@ fn three<T: Drop>(alloc: Global, one: T, other: T, last: T) -> Option<List<T>>
 }
 
 // The room and the passes, where more was won than they have taken.
-fn untaken(
-    rt: &impl Wait,
-    room: Room,
-    passes: List<RoomPass>,
-) -> Option<(Room, List<RoomPass>)>
+fn untaken(rt: &impl Wait, room: Room, passes: List<RoomPass>) -> Option<(Room, List<RoomPass>)>
     requires all { length passes ≡ room.table.shape.passes }
     requires settled { All (IsSettled room) passes }
     ensures { IfSome result (λ r. (r.0 ≡ room) × (r.1 ≡ passes)) }
@@ -102,7 +98,13 @@ fn end_of_a_shop(rt: &impl Wait, alloc: Global) -> Option<(Done, List<u64>)> {
 #[test]
 fn a_room_is_still_once_all_is_taken(rt: HostRuntime) -> Result<(), Fail> {
     let (done, wins) = end_of_a_shop(&rt, rt.alloc()).ok_or("memory, one untaken, and then none")?;
-    assert_eq!(rt; done, Done { how: How::Satisfied, by: 0 });
+    assert_eq!(rt;
+        done,
+        Done {
+            how: How::Satisfied,
+            by: 0
+        }
+    );
     assert_eq!(rt; wins.len(), 20);
     assert_eq!(rt; wins.as_slice()[0], 1);
     assert!(rt; wins.as_slice()[1..].iter().all(|won| *won == 0));

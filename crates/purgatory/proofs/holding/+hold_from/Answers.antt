@@ -1,10 +1,10 @@
-use Rattle.std.proofs.Common.{◌≡◌, ◌∙◌, ◌+◌, ◌-◌, ◌^◌, ◌<◌, ◌∷◌, ap, arith, length, min, set, subst, sym}
+use Rattle.std.proofs.Common.{◌≡◌, ◌∙◌, ◌+◌, ◌-◌, ◌^◌, ◌∷◌, ap, arith, length, min, subst, sym}
 use Rattle.std.specs.Prelude.{slice_index}
 use Rattle.std.proofs.lemmas.List.{get_or-set_same}
 use Rattle.room_core.specs.Scans.{HasNoDuty}
 use Rattle.room_scans.specs.Desks.{ShardView}
 use Rattle.room_table.specs.Closing.{ClosingView, with_scanner}
-use Rattle.room_table.specs.Seats.{ScanView, TableView, scanner_now}
+use Rattle.room_table.specs.Seats.{ScanView, scanner_now}
 use Rattle.purgatory.specs.declared.holding.Held.{Held}
 use Rattle.purgatory.specs.Holding.{IsHeldFor}
 use Rattle.purgatory.proofs.Holds.{all_taken, may_turn, more_held, more_won, name_at, named_seat, same_back}

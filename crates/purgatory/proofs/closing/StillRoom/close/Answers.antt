@@ -1,7 +1,7 @@
 use Rattle.std.proofs.Common.{◌≡◌, ◌∙◌, List, [], ◌∷◌, ◌++◌, Some, ap, append_assoc, refl, subst, sym}
 use Rattle.std.specs.Prelude.{All, false}
 use Rattle.std.proofs.lemmas.List.Elements.{All-cons, All-pop}
-use Rattle.room_table.specs.Closing.{ClosingView, with_source}
+use Rattle.room_table.specs.Closing.{ClosingView}
 use Rattle.room_table.specs.Handed.{AreShown}
 use Rattle.room_table.specs.Seats.{CallerView, ScanView, SourceView, TableView, source_now}
 use Rattle.purgatory.specs.Closed.{IsClosed}

@@ -1,4 +1,4 @@
-use Rattle.std.proofs.Common.{◌≡◌, ◌≢◌, ◌∙◌, ◌+◌, ap, arith, refl, sym}
+use Rattle.std.proofs.Common.{◌≢◌, ◌∙◌, ◌+◌, ap, arith, refl, sym}
 use Rattle.room_core.specs.declared.parts.Session.{Session}
 use Rattle.room_core.specs.declared.parts.Stage.{Stage}
 use Rattle.room_core.specs.Packing.{unpacked}

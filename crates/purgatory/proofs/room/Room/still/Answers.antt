@@ -1,4 +1,4 @@
-use Rattle.std.proofs.Common.{◌≡◌, ◌∙◌, List, ap, length, subst, sym}
+use Rattle.std.proofs.Common.{◌∙◌, List, ap, subst, sym}
 use Rattle.std.specs.Prelude.{All}
 use Rattle.purgatory.specs.Ends.{IsSettled, seats_of, taken_of, won_by_passes}
 use Rattle.purgatory.specs.Rooms.{PassView, RoomView}
