@@ -1,6 +1,5 @@
 //! The room's calls on one thread, and what threads come to that share it.
 mod crew;
-mod ends;
 mod held;
 mod many;
 mod race;
