@@ -58,7 +58,7 @@ none_left [] h = refl
 none_left (x ∷ xs) h = absurd (omega (arith, h))
 
 -- the item of a place
-from_at : {A : Type 0} (P : ℕ → A → Type 0) (first : ℕ) (xs : List A) → AreFrom P first xs → (k : ℕ) (d : A) → k < length xs → P (first + k) (get_or xs k d)
+pub from_at : {A : Type 0} (P : ℕ → A → Type 0) (first : ℕ) (xs : List A) → AreFrom P first xs → (k : ℕ) (d : A) → k < length xs → P (first + k) (get_or xs k d)
 from_at P first [] a k d less = absurd (omega (arith, less))
 from_at P first (x ∷ xs) a zero d less = subst (λ n. P n x) (omega arith) a.0
 from_at P first (x ∷ xs) a (suc k) d less = subst (λ n. P n (get_or xs k d)) (omega arith) (from_at P (first + 1) xs a.1 k d (omega (arith, less)))

@@ -3,7 +3,7 @@ ghost use Rattle.std.specs.Prelude.{◌≡◌, IfSome};
 ghost use Rattle.std.specs.Thread.{IsSync};
 ghost use Rattle.turn_lock.specs.Locks.{IsPassOf, IsReady as HasNoTurn};
 ghost use Rattle.purgatory.specs.Ready.{IsParked, IsReady, IsUnraised};
-ghost use Rattle.purgatory.specs.Rooms.{room_shape};
+ghost use Rattle.purgatory.specs.Rooms.{IsRoom, room_shape};
 ghost use Rattle.purgatory.specs.Turning.{shard_name};
 
 use crate::examples::{Shop, make_shop, order};
@@ -114,6 +114,7 @@ fn holds_first(
     flags: &Flags,
 ) -> Seen
     requires keys { keys ≡ locks.now }
+    requires room { IsRoom room.now.table locks.now }
     requires shape { room.now.table.shape ≡ room_shape 3 3 }
     requires pass { IsParked room.now 1 pass.old }
 {

@@ -1,5 +1,5 @@
-use Rattle.std.proofs.Common.{◌∙◌, arith, subst, sym}
-use Rattle.turn_lock.specs.Locks.{IsReady}
+use Rattle.std.proofs.Common.{◌∙◌, List, arith, subst, sym}
+use Rattle.purgatory.specs.Rooms.{AreNamed, LockView}
 use Rattle.purgatory.proofs.Doors.{shard_belongs}
 use Rattle.purgatory.proofs.tests.held.holds_first.Goals as goal
 
@@ -8,10 +8,6 @@ looks_in_turn-requires-clause-key g c =
     let locks = c.locks.inside in
     let keys = c.keys.inside in
     let same = c.keys.view_is ∙ c.requires.keys ∙ sym c.locks.view_is in
-    let key = c.index_mut.result.now in
-    let has = c.index_mut.ensures.value in
-    let ready = c.keys.invariant in
-    let size = ready.all in (
-      shard_belongs locks.shards.items locks.clock keys.shards.items keys.clock same c.locks.invariant ready 0 c.index.result.now key (omega arith) c.index.ensures has,
-      subst IsReady (sym has) (ready.each 0 key (omega (arith, size))),
-    )
+    let named = subst (λ (xs : List LockView). AreNamed c.args.room.now.table xs) (sym c.locks.view_is) c.requires.room.named in
+    shard_belongs c.args.room.now.table locks.shards.items locks.clock keys.shards.items keys.clock same c.locks.invariant named c.keys.invariant 0 c.index.result.now c.index_mut.result.now
+    (omega arith) c.index.ensures c.index_mut.ensures.value
