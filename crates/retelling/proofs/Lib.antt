@@ -1,0 +1,8 @@
+-- each entry of a lawful account can be put into a log again
+pub mod LawfulParts
+-- what is decided of a request asks a log only for what can be played again
+pub mod Sound
+-- an entry of a history, put behind the front before it
+pub mod Entries
+-- the numbers before each entry, and what was readable there
+pub mod Befores

@@ -1,0 +1,8 @@
+-- ==== the words of public contracts
+
+-- a history whose entries can be put into an empty log again
+pub mod Playable
+-- ==== the words of private functions
+
+-- the numbers of a history before each of its entries
+pub mod NumbersUpTo
