@@ -6,3 +6,5 @@ pub mod Sound
 pub mod Entries
 -- the numbers before each entry, and what was readable there
 pub mod Befores
+-- the steps of decisions, told one after the other by their points
+pub mod ByPoints

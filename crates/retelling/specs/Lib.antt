@@ -6,3 +6,5 @@ pub mod Playable
 
 -- the numbers of a history before each of its entries
 pub mod NumbersUpTo
+-- what became of the partitions of a call, told again
+pub mod Retells

@@ -1,5 +1,17 @@
 //! What became of each partition that a call names, from its frame, the points of its entries and the pasts of the partitions.
 
+ghost use Rattle.std.specs.Prelude.{◌≡◌, ◌≤◌, ◌<◌, ◌∷◌, [], List as Items, length, map, unwrap_or, is_some, OnOk, IfSome, IfNone, ℕ, pos, true, false, IsTrue, ◌⊎◌};
+ghost use Rattle.kbatch.specs.Kept.{count_of};
+ghost use Rattle.partlog.specs.declared.part_log.TheConstants.{MOST_LOG_BYTES};
+ghost use Rattle.partlog.specs.Follower.{IsFollower};
+ghost use Rattle.partlog.specs.Gauges.{numbers_of};
+ghost use Rattle.partlog.specs.State.{PartState, state_before};
+ghost use Rattle.kwire.specs.Configuration.{partitions_of, part_of};
+ghost use Rattle.kanswer.specs.LogReadings.{IsCarriable};
+ghost use Rattle.kanswer.specs.Waiting.{is_consumer};
+ghost use Rattle.kanswer.specs.Decisions.{AskLog, Decision, Decides, append_outcome, fetch_decision, fetch_outcome, is_acks};
+ghost use Rattle.retelling.specs.Retells.{Retells, RetellsProduce, fetch_decisions};
+
 use crate::past::Past;
 use crate::retold::Retold;
 use audit::Point;
@@ -28,13 +40,21 @@ struct Terms {
 
 impl Terms {
     // The acks are -1, 0 or 1.
-    fn has_known_acks(&self) -> bool {
+    fn has_known_acks(&self) -> bool
+        ensures { result ≡ is_acks self.now.acks }
+    {
         self.acks == -1 || self.acks == 0 || self.acks == 1
     }
 }
 
 // What became of a batch of so many records and bytes, where a log had these numbers.
-fn put(part: u32, before: &Numbers, count: u32, len: usize) -> Accepted {
+fn put(part: u32, before: &Numbers, count: u32, len: usize) -> Accepted
+    requires bytes { before.now.bytes ≤ MOST_LOG_BYTES }
+    requires end { before.now.end ≤ MOST_LOG_BYTES }
+    ensures outcome { (batch : Items ℕ) (state : PartState) → length batch ≡ len → before.now ≡ numbers_of state
+        → result ≡ (append_outcome part count batch state).result }
+    ensures carried { IsCarriable result }
+{
     if len > MOST_LOG_BYTES - before.bytes as usize {
         return Accepted::Refused { code: 6 };
     }
@@ -51,8 +71,12 @@ fn retell_put(
     part: u32,
     batch: &BatchView<'_>,
     retold: &mut Retold,
-) -> Result<(), NoMemory> {
-    let Some(point) = scene.points.get(retold.next) else {
+) -> Result<(), NoMemory>
+    requires { part < length scene.now.pasts.now }
+    ensures { OnOk result (Retells scene.now.pasts.now scene.now.points.now (AskLog part (append_outcome part (count_of batch.now) batch.now) ∷ [])
+        retold.old retold.new) }
+{
+    let Some(point) = scene.points.get(retold.taken()) else {
         return Ok(());
     };
     let before = scene.pasts[part as usize].before(point.place);
@@ -60,7 +84,9 @@ fn retell_put(
     retold.ask(became, point.place)
 }
 
-fn records_of<'a>(part: &ProducePartView<'a>) -> &'a [u8] {
+fn records_of<'a>(part: &ProducePartView<'a>) -> &'a [u8]
+    ensures { result.now ≡ unwrap_or part.now.records [] }
+{
     match part.records {
         None => &[],
         Some(records) => records,
@@ -74,7 +100,11 @@ fn retell_produce_part(
     topic: &[u8],
     part: &ProducePartView<'_>,
     retold: &mut Retold,
-) -> Result<(), NoMemory> {
+) -> Result<(), NoMemory>
+    requires { length scene.now.pasts.now ≡ partitions_of scene.now.config.now.topics }
+    ensures { OnOk result (RetellsProduce scene.now.config.now terms.is_transactional terms.acks scene.now.pasts.now scene.now.points.now
+        (record { name = topic.now; parts = part.now ∷ [] } ∷ []) retold.old retold.new) }
+{
     if terms.is_transactional {
         return retold.refuse(42);
     }
@@ -96,7 +126,11 @@ fn retell_produce_topic(
     terms: Terms,
     topic: &ProduceTopicView<'_>,
     retold: &mut Retold,
-) -> Result<(), NoMemory> {
+) -> Result<(), NoMemory>
+    requires { length scene.now.pasts.now ≡ partitions_of scene.now.config.now.topics }
+    ensures { OnOk result (RetellsProduce scene.now.config.now terms.is_transactional terms.acks scene.now.pasts.now scene.now.points.now
+        (topic.now ∷ []) retold.old retold.new) }
+{
     for part in topic.parts.as_slice() {
         retell_produce_part(scene, terms, topic.name, part, retold)?;
     }
@@ -108,7 +142,11 @@ fn retell_produce(
     terms: Terms,
     topics: &[ProduceTopicView<'_>],
     retold: &mut Retold,
-) -> Result<(), NoMemory> {
+) -> Result<(), NoMemory>
+    requires { length scene.now.pasts.now ≡ partitions_of scene.now.config.now.topics }
+    ensures { OnOk result (RetellsProduce scene.now.config.now terms.is_transactional terms.acks scene.now.pasts.now scene.now.points.now
+        topics.now retold.old retold.new) }
+{
     for topic in topics {
         retell_produce_topic(scene, terms, topic, retold)?;
     }
@@ -116,7 +154,10 @@ fn retell_produce(
 }
 
 // The offset that is asked for, where it is from 0 to the log end.
-fn offset_within(asked: &FetchPart, end: u64) -> Option<u64> {
+fn offset_within(asked: &FetchPart, end: u64) -> Option<u64>
+    ensures within { IfSome result (λ offset. (asked.now.offset ≡ pos offset) × (offset ≤ end)) }
+    ensures outside { IfNone result ((offset : ℕ) → asked.now.offset ≡ pos offset → end < offset) }
+{
     if asked.offset < 0 {
         return None;
     }
@@ -125,7 +166,10 @@ fn offset_within(asked: &FetchPart, end: u64) -> Option<u64> {
 }
 
 // A replica is a consumer or one of the followers.
-fn is_known(replica: i32, followers: u32) -> bool {
+fn is_known(replica: i32, followers: u32) -> bool
+    ensures known { IsTrue result → (is_consumer replica ≡ true) ⊎ IsFollower replica followers }
+    ensures other { result ≡ false → (is_consumer replica ≡ false) × (IsFollower replica followers → ⊥) }
+{
     replica < 0 || (replica > 0 && replica as u32 <= followers)
 }
 
@@ -137,7 +181,10 @@ fn seen(
     replica: i32,
     part: u32,
     asked: &FetchPart,
-) -> Accepted {
+) -> Accepted
+    ensures outcome { result ≡ (fetch_outcome followers replica asked.now part (state_before past.now place)).result }
+    ensures carried { IsCarriable result }
+{
     if !is_known(replica, followers) {
         return Accepted::Refused { code: 9 };
     }
@@ -157,11 +204,16 @@ fn retell_fetch_part(
     topic: &[u8],
     asked: &FetchPart,
     retold: &mut Retold,
-) -> Result<(), NoMemory> {
+) -> Result<(), NoMemory>
+    requires { length scene.now.pasts.now ≡ partitions_of scene.now.config.now.topics }
+    ensures { OnOk result (Retells scene.now.pasts.now scene.now.points.now
+        (fetch_decision scene.now.config.now replica (topic.now, asked.now) (part_of scene.now.config.now topic.now asked.now.index) ∷ [])
+        retold.old retold.new) }
+{
     let Some(part) = scene.config.part_of(topic, asked.index) else {
         return retold.refuse(3);
     };
-    let Some(point) = scene.points.get(retold.next) else {
+    let Some(point) = scene.points.get(retold.taken()) else {
         return Ok(());
     };
     let past = &scene.pasts[part as usize];
@@ -176,7 +228,11 @@ fn retell_fetch_topic(
     replica: i32,
     topic: &FetchTopicView<'_>,
     retold: &mut Retold,
-) -> Result<(), NoMemory> {
+) -> Result<(), NoMemory>
+    requires { length scene.now.pasts.now ≡ partitions_of scene.now.config.now.topics }
+    ensures { OnOk result (Retells scene.now.pasts.now scene.now.points.now (fetch_decisions scene.now.config.now replica (topic.now ∷ []))
+        retold.old retold.new) }
+{
     for asked in topic.parts.as_slice() {
         retell_fetch_part(scene, replica, topic.name, asked, retold)?;
     }
@@ -188,7 +244,11 @@ fn retell_fetch(
     replica: i32,
     topics: &[FetchTopicView<'_>],
     retold: &mut Retold,
-) -> Result<(), NoMemory> {
+) -> Result<(), NoMemory>
+    requires { length scene.now.pasts.now ≡ partitions_of scene.now.config.now.topics }
+    ensures { OnOk result (Retells scene.now.pasts.now scene.now.points.now (fetch_decisions scene.now.config.now replica topics.now)
+        retold.old retold.new) }
+{
     for topic in topics {
         retell_fetch_topic(scene, replica, topic, retold)?;
     }
@@ -200,7 +260,11 @@ pub fn retell(
     scene: &Scene<'_>,
     request: &RequestView<'_>,
     retold: &mut Retold,
-) -> Result<(), NoMemory> {
+) -> Result<(), NoMemory>
+    requires { length scene.now.pasts.now ≡ partitions_of scene.now.config.now.topics }
+    ensures { OnOk result ((decisions : Items Decision) × Decides scene.now.config.now request.now.ask decisions
+        × Retells scene.now.pasts.now scene.now.points.now decisions retold.old retold.new) }
+{
     match &request.ask {
         AskView::Produce {
             transactional,

@@ -33,12 +33,12 @@ fn look_places(
 // The places at which the partitions of an answered call were as its reply tells them: those of its own entries, or of its last
 // looks, before which an expired one looked at the clock.
 fn told_places(alloc: Global, call: &Call, retold: Retold) -> Result<(List<Accepted>, List<u64>), NoMemory> {
-    let accepted = retold.accepted;
+    let (accepted, places) = retold.into_parts();
     let finish = call.finish.as_slice();
     let places = match call.how {
         CallHow::Satisfied { .. } => look_places(alloc, accepted.as_slice(), finish)?,
         CallHow::Expired { .. } => look_places(alloc, accepted.as_slice(), &finish[1..])?,
-        CallHow::AtOnce | CallHow::Quiet | CallHow::Parked | CallHow::Cut { .. } => retold.places,
+        CallHow::AtOnce | CallHow::Quiet | CallHow::Parked | CallHow::Cut { .. } => places,
     };
     Ok((accepted, places))
 }
