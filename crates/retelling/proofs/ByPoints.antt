@@ -1,10 +1,10 @@
 -- The steps of decisions, told one after the other by their points.
-use Rattle.std.proofs.Common.{◌≡◌, ℕ, zero, suc, ℤ, ◌+◌, ◌<◌, List, [], ◌∷◌, ◌++◌, length, map, drop, Option, Some, None, refl, sym, ap, subst, ◌∙◌, arith, append-nil, append_assoc, length-append, option_map}
+use Rattle.std.proofs.Common.{◌≡◌, ℕ, zero, suc, ℤ, ◌+◌, ◌<◌, ◌≤◌, get_or, List, [], ◌∷◌, ◌++◌, length, map, drop, Option, Some, None, refl, sym, ap, subst, ◌∙◌, arith, append-nil, append_assoc, length-append, option_map}
 use Rattle.std.specs.Prelude.{slice_get}
 use Rattle.std.specs.List.{AllZip, cons_option}
 use Rattle.std.proofs.lemmas.List.{drop-drop, map-append}
 use Rattle.std.proofs.lemmas.List.Elements.{filter_map-append}
-use Rattle.std.proofs.lemmas.Option.{slice_get-map}
+use Rattle.std.proofs.lemmas.Option.{slice_get-map, slice_get-get_or}
 use Rattle.std.proofs.Math.Seq.{drop-append_seam}
 use Rattle.partlog.specs.History.{History}
 use Rattle.partlog.specs.State.{PartState, state_before, state_at}
@@ -40,6 +40,16 @@ pub at_there : (account : Account) (pasts : List History) (part place : ℕ) (pa
 at_there account pasts part place past same there =
     let p = part_there pasts account.parts part past same there in
     ap (λ (o : Option PartAccount). at_in o place) p.1 ∙ ap (λ (h : History). state_at h place) p.2
+
+-- ---- an item by its place
+
+pub item_there : {X : Type 0} (xs : List X) (i : ℕ) (x : X) → i < length xs → x ≡ get_or xs i x → slice_get xs i ≡ Some x
+item_there xs i x lt is = slice_get-get_or xs i x lt ∙ ap Some (sym is)
+
+pub none_there : {X : Type 0} (xs : List X) (i : ℕ) → length xs ≤ i → slice_get xs i ≡ None
+none_there [] i le = refl
+none_there (x ∷ xs) zero le = absurd (omega (arith, le))
+none_there (x ∷ xs) (suc i) le = none_there xs i (omega (arith, le))
 
 -- ---- one decision
 

@@ -27,6 +27,7 @@ use Rattle.audit.specs.IsLawful.{IsLawful, IsWholeLog, is_point}
 use Rattle.audit.specs.LawfulCall.{IsClockLook, IsEntry, IsLawfulCall, IsLook, IsStep, LooksAtClock, Step, step_points}
 use Rattle.audit.proofs.Laws.{all_append, some_is}
 use Rattle.audit.proofs.Prints.{looks_stand}
+use Rattle.plain_broker.proofs.Laws.{followers_size}
 use Rattle.retelling.specs.Playable.{CanPlay, IsPlayable, put_at}
 use Rattle.retelling.proofs.Sound.{IsSound, IsSoundEntry, decided_soundly}
 
@@ -278,3 +279,7 @@ all_playable account lawful few =
         ap (λ (fs : List ℕ). slice_get fs k) (sym lawful.logs.followers) ∙ slice_get-map (λ (p : PartAccount). p.followers) account.parts k ∙ ap (option_map (λ (p : PartAccount). p.followers)) there in
         playable account k part there (λ e. omega (arith, e, lt, few)) (at_place IsWholeLog account.parts k part lawful.logs.whole there)
         (get_or_from_slice_get followers k part.followers 0 same) lawful)
+
+pub parts_long : (account : Account) → IsLawful account → length account.parts ≡ partitions_of account.config.topics
+parts_long account lawful =
+    sym (length-map account.parts (λ (p : PartAccount). p.followers)) ∙ ap length lawful.logs.followers ∙ followers_size account.config.topics
