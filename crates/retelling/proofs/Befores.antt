@@ -33,7 +33,7 @@ use Rattle.retelling.proofs.Entries.{whole_front}
 pub numbers_more : (h : History) (n : ℕ) → numbers_upto h (n + 1) ≡ numbers_upto h n ++ numbers_of (state_before h n) ∷ []
 numbers_more h n = ap (numbers_upto h) (add-one n)
 
-numbers_long : (h : History) (n : ℕ) → length (numbers_upto h n) ≡ n
+pub numbers_long : (h : History) (n : ℕ) → length (numbers_upto h n) ≡ n
 numbers_long h zero = refl
 numbers_long h (suc n) = omega (arith, length-append (numbers_upto h n) (numbers_of (state_before h n) ∷ []), numbers_long h n)
 
@@ -65,6 +65,10 @@ none_behind h numbers k stand is = elim (cases_lt k (length h.events + 1)) [
 
 pub past_is_whole : (h : History) (k : ℕ) → length h.log ≡ bytes_of h.events → length h.events ≤ k → state_before h k ≡ state_of h
 past_is_whole h k whole le = ap state_of (whole_front h k whole le)
+
+pub drop_get : {X : Type 0} (xs : List X) (k : ℕ) → slice_get (drop 1 xs) k ≡ slice_get xs (k + 1)
+drop_get [] k = refl
+drop_get (x ∷ xs) k = ap (slice_get (x ∷ xs)) (sym (add-one k))
 
 -- none of them is above that of the whole
 pub not_above : (h : History) (k : ℕ) (n whole : Numbers) → length h.log ≡ bytes_of h.events → NoneFell (numbers_of (state_before h k)) (numbers_of (state_before h (length h.events)))

@@ -8,3 +8,5 @@ pub mod Playable
 pub mod NumbersUpTo
 -- what became of the partitions of a call, told again
 pub mod Retells
+-- what is shown of the partitions of a call
+pub mod WasShown

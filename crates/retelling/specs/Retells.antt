@@ -29,10 +29,9 @@ pub record IsRetold (steps : List Step) (before after : SoFar) : Type 0 where
   pub taken : after.taken ≡ before.taken + length (step_points steps)
 
 -- in each account whose partitions have these pasts, the steps of these decisions whose points are the next ones were told
-abbrev pub Retells : List History → List Point → List Decision → SoFar → SoFar → Type 0
-Retells pasts points decisions before after =
-    (account : Account) (steps : List Step) (rest : List Point) → map history_of account.parts ≡ pasts → AllZip (IsStep account) decisions steps
-    → drop before.taken points ≡ step_points steps ++ rest → IsRetold steps before after
+pub record Retells (pasts : List History) (points : List Point) (decisions : List Decision) (before after : SoFar) : Type 0 where
+  pub each : (account : Account) (steps : List Step) (rest : List Point) → map history_of account.parts ≡ pasts → AllZip (IsStep account) decisions steps
+      → drop before.taken points ≡ step_points steps ++ rest → IsRetold steps before after
 
 -- the partitions that these topics of a produce name were told, for each transactional id that it may have
 pub record RetellsProduce (config : Configuration) (transactional : Bool) (acks : ℤ) (pasts : List History) (points : List Point) (topics : List ProduceTopic) (before after : SoFar) : Type 0 where

@@ -91,22 +91,30 @@ impl Past {
         self.log.locate(offset)
     }
 
-    /// The bytes that this replica could read before the entry at a place, from the byte place `start` on: whole batches, as many
-    /// from the first on as have `limit` bytes together; the first whatever its length, unless the reply holds `any` batch yet.
-    /// It takes no memory.
-    pub fn readable_before(
-        &self,
-        place: u64,
-        replica: i32,
-        start: u64,
-        limit: u64,
-        any: bool,
-    ) -> &[u8]
-        ensures { let state = state_before self.now place in
+    /// The numbers just after the entry at a place, and past the last entry those of the whole history. It takes no memory.
+    pub fn at(&self, place: u64) -> Numbers
+        ensures numbers { result ≡ numbers_of (state_at self.now place) }
+        ensures high { result.high ≤ MOST_LOG_BYTES }
+        ensures kept { IsKept self.now.log self.now.events }
+    {
+        numbers_never_fall();
+        let whole = self.log.numbers();
+        let later = &self.numbers.as_slice()[1..];
+        match later.get(place as usize) {
+            Some(numbers) => *numbers,
+            None => whole,
+        }
+    }
+
+    /// The bytes that this replica could read just after the entry at a place, from the byte place `start` on: whole batches, as
+    /// many from the first on as have `limit` bytes together; the first whatever its length, unless the reply holds `any` batch
+    /// yet. It takes no memory.
+    pub fn readable_at(&self, place: u64, replica: i32, start: u64, limit: u64, any: bool) -> &[u8]
+        ensures { let state = state_at self.now place in
             result.now ≡ joined (taken limit any (filter (is_readable replica state) (batches_past start state.batches))) }
     {
         visible_is_readable();
-        let upto = upto(replica, &self.before(place));
+        let upto = upto(replica, &self.at(place));
         self.log.read(start, upto, limit, !any)
     }
 }

@@ -1,8 +1,9 @@
-use Rattle.std.proofs.Common.{◌≡◌, ◌<◌, ℕ, ℤ, [], ◌∷◌, length, Option, Some, None, ap, sym, subst, ◌∙◌, arith, pos, rules}
+use Rattle.std.proofs.Common.{◌≡◌, ◌<◌, ℕ, ℤ, [], ◌∷◌, length, get_or, Option, Some, None, ap, sym, subst, ◌∙◌, arith, pos, rules}
 use Rattle.std.proofs.lemmas.Int.{to_z-of_z}
 use Rattle.std.specs.Int.{w32}
 use Rattle.std.specs.Prelude.{slice_get, slice_index}
-use mir.Val.{SFits}
+use Rattle.std.proofs.lemmas.Option.{slice_get-get_or}
+use mir.Val.{SFits, to_z, of_z}
 use Rattle.partlog.specs.State.{state_before}
 use Rattle.kwire.specs.Configuration.{followers_of, part_of}
 use Rattle.kanswer.specs.Decisions.{fetch_outcome, fetch_decision}
@@ -20,7 +21,7 @@ returns c =
     let part = c.in-Some.part in
     let replica = c.args.replica in
     let point = c.in-Some-get.point.now in
-    let past = c.index-scene-part.result in
+    let past = get_or pasts part c.index-scene-part.result in
     let fits : SFits w32 asked.index = search rules in
     let there : part_of config c.args.topic.now asked.index ≡ Some part = ap (part_of config c.args.topic.now) (sym (to_z-of_z w32 asked.index fits)) ∙ sym c.in-Some.ensures.number in
     let found = c.in-Some-get.ensures.lookup in
@@ -28,11 +29,11 @@ returns c =
     let within : part < length pasts = omega (arith, c.in-Some.ensures.within, c.requires) in
     let followers = slice_index (followers_of config.topics) part in
     let is = c.seen-became.ensures.outcome
-    ∙ ap (λ (n : ℕ). (fetch_outcome n _ asked part (state_before past point.place)).result) c.followers_of-followers.ensures
+    ∙ ap (λ (n : ℕ). (fetch_outcome n (to_z w32 (of_z w32 replica)) asked part (state_before past point.place)).result) c.followers_of-followers.ensures
     ∙ ap (λ (r : ℤ). (fetch_outcome followers r asked part (state_before past point.place)).result) (to_z-of_z w32 replica c.ranges.replica) in
     let D : Option ℕ → Type 0 = λ o. Retells pasts points (fetch_decision config replica (c.args.topic.now, asked) o ∷ []) c.args.retold.now c.ask.new.self in
     on_ok c.ask.result c.ask.ensures (λ e. subst D (sym there) (asked_retells pasts points part (fetch_outcome followers replica asked part) c.args.retold.now c.ask.new.self point past c.seen-became.result
-    at (item_there pasts part past within c.index-scene-part.is) is e))
+    at (slice_get-get_or pasts part c.index-scene-part.result within) is e))
 
 pub returns-in_default : goal.returns-in_default
 returns-in_default c =

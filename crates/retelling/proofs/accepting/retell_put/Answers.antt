@@ -1,5 +1,6 @@
-use Rattle.std.proofs.Common.{◌≡◌, ℕ, Some, None, length, ap, sym, ◌∙◌}
+use Rattle.std.proofs.Common.{◌≡◌, ℕ, Some, None, length, get_or, ap, sym, ◌∙◌}
 use Rattle.std.specs.Prelude.{slice_get}
+use Rattle.std.proofs.lemmas.Option.{slice_get-get_or}
 use Rattle.kbatch.specs.Kept.{count_of}
 use Rattle.partlog.specs.State.{state_before}
 use Rattle.kanswer.specs.Decisions.{append_outcome}
@@ -13,13 +14,13 @@ returns c =
     let points = c.args.scene.now.points.now in
     let batch = c.args.batch.now in
     let point = c.in-Some.point.now in
-    let past = c.index-scene-part.result in
+    let past = get_or pasts c.args.part c.index-scene-part.result in
     let found = c.in-Some.ensures.lookup in
     let at : slice_get points c.args.retold.now.taken ≡ Some point = ap (slice_get points) (sym c.taken.ensures) ∙ item_there points c.taken.result point found.3.0 found.1 in
     let is = c.put-became.ensures.outcome batch (state_before past point.place) (sym (ap length c.bytes.ensures.bytes)) c.before-before.ensures.numbers
     ∙ ap (λ (n : ℕ). (append_outcome c.args.part n batch (state_before past point.place)).result) c.count.ensures.kept in
     on_ok c.ask.result c.ask.ensures (λ e. asked_retells pasts points c.args.part (append_outcome c.args.part (count_of batch) batch) c.args.retold.now c.ask.new.self point past c.put-became.result
-    at (item_there pasts c.args.part past c.requires c.index-scene-part.is) is e)
+    at (slice_get-get_or pasts c.args.part c.index-scene-part.result c.requires) is e)
 
 pub returns-in_default : goal.returns-in_default
 returns-in_default c =

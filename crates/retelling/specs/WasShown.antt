@@ -1,0 +1,29 @@
+-- What is shown of the partitions of a call: each as it was just after the entry at a place of its history.
+use Rattle.std.specs.Prelude.{ℕ, ◌≡◌, List, [], ◌∷◌, ⊤}
+use Rattle.partlog.specs.History.{History}
+use Rattle.partlog.specs.State.{PartState as State, state_at}
+use Rattle.plain_broker.specs.Board.{history_at}
+use Rattle.kanswer.specs.declared.accepted.Accepted.{Accepted}
+use Rattle.kanswer.specs.declared.accepted.Accepted.TheVariants.{Refused, Appended, Seen}
+use Rattle.kanswer.specs.Waiting.{Shown}
+use Rattle.audit.specs.declared.account.Point.{Point}
+
+abbrev pub IsShownAt : List History → Accepted → ℕ → State → Type 0
+IsShownAt pasts (Refused code) place state = ⊤
+IsShownAt pasts (Appended part base count) place state = state ≡ state_at (history_at pasts part) place
+IsShownAt pasts (Seen part start) place state = state ≡ state_at (history_at pasts part) place
+
+abbrev pub AreShown : List History → List Accepted → List ℕ → List Shown → Type 0
+AreShown pasts [] [] [] = ⊤
+AreShown pasts (result ∷ results) (place ∷ places) (s ∷ shown) =
+    (s.result ≡ result) × IsShownAt pasts result place s.state × AreShown pasts results places shown
+AreShown pasts _ _ _ = ⊥
+
+-- the places of these looks, one for each partition whose log was asked, and 0 for one that was refused or wasn't reached
+abbrev pub look_places : List Accepted → List Point → List ℕ
+look_places [] looks = []
+look_places (Refused code ∷ results) looks = 0 ∷ look_places results looks
+look_places (Appended part base count ∷ results) [] = 0 ∷ look_places results []
+look_places (Appended part base count ∷ results) (look ∷ looks) = look.place ∷ look_places results looks
+look_places (Seen part start ∷ results) [] = 0 ∷ look_places results []
+look_places (Seen part start ∷ results) (look ∷ looks) = look.place ∷ look_places results looks
