@@ -1,9 +1,9 @@
 -- The numbers before each entry of a history, and what was readable there.
-use Rattle.std.proofs.Common.{◌≡◌, ℕ, zero, suc, ℤ, pos, negsuc, ◌+◌, ◌<◌, ◌≤◌, Bool, true, List, [], ◌∷◌, ◌++◌, length, take, drop, filter, Some, None, refl, sym, ap, subst, ◌∙◌, arith, inl, inr, append-nil, add-one, ◌⊎◌, length-append}
+use Rattle.std.proofs.Common.{◌≡◌, ℕ, zero, suc, ℤ, pos, negsuc, ◌+◌, ◌-◌, get_or, ◌<◌, ◌≤◌, Bool, true, List, [], ◌∷◌, ◌++◌, length, take, drop, filter, Some, None, refl, sym, ap, subst, ◌∙◌, arith, inl, inr, append-nil, add-one, ◌⊎◌, length-append}
 use Rattle.std.specs.Prelude.{slice_get, if◌then◌else◌, nat_le}
 use Rattle.std.proofs.lemmas.Bool.{cases_lt, lt-ltb}
 use Rattle.std.proofs.lemmas.Bool.Decides.{nat_tests}
-use Rattle.std.proofs.lemmas.List.{take-append-drop}
+use Rattle.std.proofs.lemmas.List.{take-append-drop, take_all, length-drop}
 use Rattle.std.proofs.lemmas.Option.{slice_get_within}
 use Rattle.std.proofs.lemmas.List.Elements.{All-drop, filter-append}
 use Rattle.std.proofs.lemmas.List.Sums.{sum_by-take-le}
@@ -26,6 +26,7 @@ use Rattle.kanswer.specs.Waiting.{is_consumer}
 use Rattle.kanswer.specs.Answer.{is_readable}
 use Rattle.audit.proofs.Laws.{get_front, get_seam, some_is}
 use Rattle.retelling.specs.NumbersUpTo.{numbers_upto}
+use Rattle.retelling.proofs.ByPoints.{item_there, none_there}
 use Rattle.retelling.proofs.Entries.{whole_front}
 
 -- ---- the numbers
@@ -69,6 +70,17 @@ past_is_whole h k whole le = ap state_of (whole_front h k whole le)
 pub drop_get : {X : Type 0} (xs : List X) (k : ℕ) → slice_get (drop 1 xs) k ≡ slice_get xs (k + 1)
 drop_get [] k = refl
 drop_get (x ∷ xs) k = ap (slice_get (x ∷ xs)) (sym (add-one k))
+
+-- the item at a place of what stands behind the first
+pub behind_first : {X : Type 0} (xs ys : List X) (k : ℕ) (x : X) → xs ≡ ys → k < length (take (length xs - 1) (drop 1 xs)) → x ≡ get_or (take (length xs - 1) (drop 1 xs)) k x → Some x ≡ slice_get ys (k + 1)
+behind_first xs ys k x same lt is =
+    let tail : take (length xs - 1) (drop 1 xs) ≡ drop 1 ys = take_all (length xs - 1) (drop 1 xs) (omega (arith, length-drop 1 xs)) ∙ ap (drop 1) same in
+    sym (sym (drop_get ys k) ∙ ap (λ (l : List _). slice_get l k) (sym tail) ∙ item_there (take (length xs - 1) (drop 1 xs)) k x lt is)
+
+pub none_behind_first : {X : Type 0} (xs ys : List X) (k : ℕ) → xs ≡ ys → length (take (length xs - 1) (drop 1 xs)) ≤ k → None ≡ slice_get ys (k + 1)
+none_behind_first xs ys k same le =
+    let tail : take (length xs - 1) (drop 1 xs) ≡ drop 1 ys = take_all (length xs - 1) (drop 1 xs) (omega (arith, length-drop 1 xs)) ∙ ap (drop 1) same in
+    sym (sym (drop_get ys k) ∙ ap (λ (l : List _). slice_get l k) (sym tail) ∙ none_there (take (length xs - 1) (drop 1 xs)) k le)
 
 -- none of them is above that of the whole
 pub not_above : (h : History) (k : ℕ) (n whole : Numbers) → length h.log ≡ bytes_of h.events → NoneFell (numbers_of (state_before h k)) (numbers_of (state_before h (length h.events)))

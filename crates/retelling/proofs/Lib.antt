@@ -8,3 +8,5 @@ pub mod Entries
 pub mod Befores
 -- the steps of decisions, told one after the other by their points
 pub mod ByPoints
+-- the partitions of a produce or a fetch, one after the other
+pub mod NextParts

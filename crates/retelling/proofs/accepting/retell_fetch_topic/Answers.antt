@@ -6,8 +6,8 @@ use Rattle.kwire.specs.declared.request.FetchTopic.{FetchTopic}
 use Rattle.kanswer.specs.Decisions.{fetch_decision}
 use Rattle.kwire.specs.Configuration.{part_of}
 use Rattle.retelling.specs.Retells.{Retells, fetch_decisions}
-use Rattle.broker.proofs.DecisionSteps.{same_item}
-use Rattle.broker.proofs.ProduceParts.{fetch_next}
+use Rattle.retelling.proofs.NextParts.{same_item}
+use Rattle.retelling.proofs.NextParts.{fetch_next}
 use Rattle.retelling.proofs.ByPoints.{fetched_on}
 use Rattle.retelling.proofs.accepting.retell_fetch_topic.Goals as goal
 

@@ -1,5 +1,5 @@
 use Rattle.std.proofs.Common.{[], ◌∷◌, ◌+◌, take, refl, arith}
-use Rattle.broker.proofs.ProduceParts.{produce_next_topic}
+use Rattle.retelling.proofs.NextParts.{produce_next_topic}
 use Rattle.retelling.proofs.ByPoints.{produced_none, produced_on}
 use Rattle.retelling.proofs.accepting.retell_produce.Goals as goal
 

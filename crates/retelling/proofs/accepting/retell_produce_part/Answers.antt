@@ -9,7 +9,7 @@ use Rattle.kwire.specs.Configuration.{part_of}
 use Rattle.kanswer.specs.declared.accepted.Accepted.TheVariants.{Refused}
 use Rattle.kanswer.specs.Decisions.{AskLog, Decision, Refuse, BatchDecides, append_outcome, code_of}
 use Rattle.audit.proofs.Ends.{on_ok}
-use Rattle.broker.proofs.ProduceParts.{produce_with_id, produce_unknown, produce_bad_acks, produce_batch}
+use Rattle.retelling.proofs.NextParts.{produce_with_id, produce_unknown, produce_bad_acks, produce_batch}
 use Rattle.retelling.specs.Retells.{Retells, SoFar}
 use Rattle.retelling.proofs.ByPoints.{produced_one, refused_retells}
 use Rattle.retelling.proofs.accepting.retell_produce_part.Goals as goal
@@ -19,7 +19,7 @@ returns-then-terms c =
     let scene = c.args.scene.now in
     let acks = c.args.terms.acks in
     let old = c.args.retold.now in
-    let named = (c.args.topic.now, c.args.part.now) in
+    let named : List ℕ × ProducePart = (c.args.topic.now, c.args.part.now) in
     on_ok c.refuse.result c.refuse.ensures (λ e. produced_one scene.config.now c.args.terms.is_transactional acks scene.pasts.now scene.points.now c.args.topic.now c.args.part.now (Refuse (pos 42)) old c.refuse.new.self
     (λ id is. produce_with_id scene.config.now acks named id (is ∙ c.if-terms.true)) (refused_retells scene.pasts.now scene.points.now (pos 42) old c.refuse.new.self e))
 
@@ -29,7 +29,7 @@ returns-in_default c =
     let config = scene.config.now in
     let acks = c.args.terms.acks in
     let old = c.args.retold.now in
-    let named = (c.args.topic.now, c.args.part.now) in
+    let named : List ℕ × ProducePart = (c.args.topic.now, c.args.part.now) in
     let index = c.args.part.now.index in
     let seen = c.part.inside.index in
     let fits : SFits w32 seen = search rules in
@@ -44,7 +44,7 @@ returns-then-not-has_known_acks c =
     let config = scene.config.now in
     let acks = c.args.terms.acks in
     let old = c.args.retold.now in
-    let named = (c.args.topic.now, c.args.part.now) in
+    let named : List ℕ × ProducePart = (c.args.topic.now, c.args.part.now) in
     let index = c.args.part.now.index in
     let seen = c.part.inside.index in
     let fits : SFits w32 seen = search rules in
@@ -60,7 +60,7 @@ returns-in-Ok c =
     let acks = c.args.terms.acks in
     let old = c.args.retold.now in
     let new = c.retell_put.new.retold in
-    let named = (c.args.topic.now, c.args.part.now) in
+    let named : List ℕ × ProducePart = (c.args.topic.now, c.args.part.now) in
     let number = c.in-Some.number in
     let index = c.args.part.now.index in
     let seen = c.part.inside.index in
@@ -84,7 +84,7 @@ returns-in-Err c =
     let acks = c.args.terms.acks in
     let old = c.args.retold.now in
     let new = c.refuse-in-Err.new.self in
-    let named = (c.args.topic.now, c.args.part.now) in
+    let named : List ℕ × ProducePart = (c.args.topic.now, c.args.part.now) in
     let number = c.in-Some.number in
     let index = c.args.part.now.index in
     let seen = c.part.inside.index in

@@ -1,7 +1,7 @@
 use Rattle.std.proofs.Common.{◌≡◌, ◌+◌, ℕ, List, Option, [], ◌∷◌, length, get_or, take, refl, ap, subst, ◌∙◌, arith}
 use Rattle.kwire.specs.declared.request.ProducePart.{ProducePart}
 use Rattle.kwire.specs.declared.request.ProduceTopic.{ProduceTopic}
-use Rattle.broker.proofs.ProduceParts.{produce_next}
+use Rattle.retelling.proofs.NextParts.{produce_next}
 use Rattle.retelling.specs.Retells.{RetellsProduce}
 use Rattle.retelling.proofs.ByPoints.{produced_none, produced_on}
 use Rattle.retelling.proofs.accepting.retell_produce_topic.Goals as goal
