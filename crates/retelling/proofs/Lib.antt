@@ -10,3 +10,5 @@ pub mod Befores
 pub mod ByPoints
 -- the partitions of a produce or a fetch, one after the other
 pub mod NextParts
+-- what is read again of the partitions of a call
+pub mod Reread

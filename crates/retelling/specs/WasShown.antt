@@ -1,5 +1,5 @@
 -- What is shown of the partitions of a call: each as it was just after the entry at a place of its history.
-use Rattle.std.specs.Prelude.{ℕ, ◌≡◌, List, [], ◌∷◌, ⊤}
+use Rattle.std.specs.Prelude.{ℕ, ◌≡◌, ◌<◌, List, [], ◌∷◌, ⊤}
 use Rattle.partlog.specs.History.{History}
 use Rattle.partlog.specs.State.{PartState as State, state_at}
 use Rattle.plain_broker.specs.Board.{history_at}
@@ -7,6 +7,12 @@ use Rattle.kanswer.specs.declared.accepted.Accepted.{Accepted}
 use Rattle.kanswer.specs.declared.accepted.Accepted.TheVariants.{Refused, Appended, Seen}
 use Rattle.kanswer.specs.Waiting.{Shown}
 use Rattle.audit.specs.declared.account.Point.{Point}
+
+-- of so many pasts, that of the partition whose log was asked is one
+abbrev pub HasPast : ℕ → Accepted → Type 0
+HasPast count (Refused code) = ⊤
+HasPast count (Appended part base n) = part < count
+HasPast count (Seen part start) = part < count
 
 abbrev pub IsShownAt : List History → Accepted → ℕ → State → Type 0
 IsShownAt pasts (Refused code) place state = ⊤
