@@ -1,5 +1,6 @@
 -- What is read again of the partitions of a call is what its reply needs.
-use Rattle.std.proofs.Common.{◌≡◌, ◌≤◌, ◌<◌, ◌+◌, ◌-◌, ◌||◌, ℕ, zero, suc, ℤ, Bool, true, false, List, [], ◌∷◌, ◌++◌, length, get_or, take, map, Option, Some, Result, Ok, Err, IfOk, OnOk, refl, sym, ap, subst, ◌∙◌, arith}
+use Rattle.std.proofs.Common.{◌≡◌, ◌≤◌, ◌<◌, ◌+◌, ◌-◌, ◌||◌, ℕ, zero, suc, ℤ, Bool, true, false, List, [], ◌∷◌, ◌++◌, length, get_or, take, map, Option, Some, Result, Ok, Err, IfOk, OnOk, refl, sym, ap, subst, ◌∙◌, arith, sum_by, length-append}
+use Rattle.std.proofs.lemmas.List.Sums.{sum_by-cons}
 use Rattle.std.specs.Prelude.{unwrap_or, slice_get}
 use Rattle.std.proofs.lemmas.Option.{slice_get-get_or}
 use Rattle.audit.proofs.Laws.{some_is}
@@ -8,16 +9,20 @@ use Rattle.partlog.specs.State.{PartState, state_at}
 use Rattle.partlog.specs.declared.numbers.Numbers.{Numbers}
 use Rattle.partlog.specs.Gauges.{numbers_of}
 use Rattle.partlog.specs.Taken.{joined}
+use Rattle.kwire.specs.declared.request.Ask.{Ask}
+use Rattle.kwire.specs.declared.request.Ask.TheVariants.{Produce, Fetch, Metadata, Versions}
 use Rattle.kwire.specs.declared.request.FetchPart.{FetchPart}
+use Rattle.kwire.specs.declared.request.FetchTopic.{FetchTopic}
 use Rattle.plain_broker.specs.Board.{history_at, empty_history}
 use Rattle.kanswer.specs.declared.accepted.Accepted.{Accepted}
 use Rattle.kanswer.specs.declared.accepted.Accepted.TheVariants.{Refused, Appended, Seen}
 use Rattle.kanswer.specs.declared.accepted.Reading.{Reading}
 use Rattle.kanswer.specs.declared.accepted.Budget.{Budget}
 use Rattle.kanswer.specs.Waiting.{Shown}
-use Rattle.kanswer.specs.Answer.{read_of, batches_as, budget_after, budget_behind}
-use Rattle.kanswer.specs.LogReadings.{HasNumbers, HasRecords, FetchReadings, ProduceReadings}
+use Rattle.kanswer.specs.Answer.{asked_parts, read_of, batches_as, budget_after, budget_behind}
+use Rattle.kanswer.specs.LogReadings.{AreReadings, HasNumbers, HasRecords, FetchReadings, ProduceReadings, budget_of, named_count}
 use Rattle.retelling.specs.WasShown.{AreShown, HasPast, IsShownAt}
+use Rattle.retelling.proofs.LawfulParts.{one_more}
 
 pub if_ok_both : {T E : Type 0} {P Q R : T → Type 0} (r : Result T E) → IfOk r P → IfOk r Q → ((x : T) → P x → Q x → R x) → IfOk r R
 if_ok_both (Ok x) p q f = f x p q
@@ -166,3 +171,75 @@ shown_long pasts [] (p ∷ places) shown are = absurd are
 shown_long pasts (r ∷ results) [] shown are = absurd are
 shown_long pasts (r ∷ results) (p ∷ places) [] are = absurd are
 shown_long pasts (r ∷ results) (p ∷ places) (s ∷ shown) are = ap suc (shown_long pasts results places shown are.2)
+
+pub fetch_next : (pasts : List History) (replica : ℤ) (asks : List FetchPart) (accepted : List Accepted) (places : List ℕ) (readings : List Reading) (i place : ℕ) (a : FetchPart) (x : Accepted) (reading : Reading) (here next first : Budget)
+    → ((shown : List Shown) → AreShown pasts accepted places shown → FetchReadings replica (take i asks) (take i accepted) readings (take i shown) first × (here ≡ budget_behind replica (take i asks) (take i shown) first))
+    → ((state : PartState) → IsShownAt pasts x place state → HasRecords replica a x reading state here)
+    → ((state : PartState) → IsShownAt pasts x place state → next ≡ budget_after (batches_as replica a x state here) here)
+    → slice_get asks i ≡ Some a → slice_get accepted i ≡ Some x → slice_get places i ≡ Some place
+    → (shown : List Shown) → AreShown pasts accepted places shown
+    → FetchReadings replica (take (i + 1) asks) (take (i + 1) accepted) (readings ++ reading ∷ []) (take (i + 1) shown) first × (next ≡ budget_behind replica (take (i + 1) asks) (take (i + 1) shown) first)
+fetch_next pasts replica asks accepted places readings i place a x reading here next first before has left asked became put shown are =
+    let f = shown_at pasts accepted places shown i place x are became put in
+    let b = before shown are in
+    let B : Budget = budget_behind replica (take i asks) (take i shown) first in
+    let read = fetch_more replica (take i asks) (take i accepted) readings (take i shown) a x reading f.s first b.0 f.result (subst (λ (n : Budget). HasRecords replica a x reading f.s.state n) b.1 (has f.s.state f.state)) in
+    let more_asks = one_more asks i a asked in
+    let more_shown = one_more shown i f.s f.there in
+    (
+      subst (λ (l : List FetchPart). FetchReadings replica l (take (i + 1) accepted) (readings ++ reading ∷ []) (take (i + 1) shown) first) (sym more_asks)
+          (subst (λ (l : List Accepted). FetchReadings replica (take i asks ++ a ∷ []) l (readings ++ reading ∷ []) (take (i + 1) shown) first) (sym (one_more accepted i x became))
+          (subst (λ (l : List Shown). FetchReadings replica (take i asks ++ a ∷ []) (take i accepted ++ x ∷ []) (readings ++ reading ∷ []) l first) (sym more_shown) read)),
+      left f.s.state f.state ∙ ap (λ (n : Budget). budget_after (batches_as replica a x f.s.state n) n) b.1
+          ∙ ap (λ (r : Accepted). budget_after (batches_as replica a r f.s.state B) B) (sym f.result)
+          ∙ sym (behind_more replica (take i asks) (take i accepted) readings (take i shown) a f.s first b.0)
+          ∙ ap (λ (l : List FetchPart). budget_behind replica l (take i shown ++ f.s ∷ []) first) (sym more_asks)
+          ∙ ap (λ (l : List Shown). budget_behind replica (take (i + 1) asks) l first) (sym more_shown),
+    )
+
+pub produce_next : (pasts : List History) (accepted : List Accepted) (places : List ℕ) (readings : List Reading) (i place : ℕ) (x : Accepted) (reading : Reading)
+    → ((shown : List Shown) → AreShown pasts accepted places shown → ProduceReadings (take i accepted) readings (take i shown))
+    → ((state : PartState) → IsShownAt pasts x place state → HasNumbers x reading state)
+    → slice_get accepted i ≡ Some x → slice_get places i ≡ Some place
+    → (shown : List Shown) → AreShown pasts accepted places shown → ProduceReadings (take (i + 1) accepted) (readings ++ reading ∷ []) (take (i + 1) shown)
+produce_next pasts accepted places readings i place x reading before has became put shown are =
+    let f = shown_at pasts accepted places shown i place x are became put in
+    subst (λ (l : List Accepted). ProduceReadings l (readings ++ reading ∷ []) (take (i + 1) shown)) (sym (one_more accepted i x became))
+    (subst (λ (l : List Shown). ProduceReadings (take i accepted ++ x ∷ []) (readings ++ reading ∷ []) l) (sym (one_more shown i f.s f.there))
+    (produce_more (take i accepted) readings (take i shown) x reading f.s (before shown are) f.result (has f.s.state f.state)))
+
+-- ---- all of them
+
+pub asked_long : (topics : List FetchTopic) → length (asked_parts topics) ≡ sum_by (λ topic. length topic.parts) topics
+asked_long [] = refl
+asked_long (t ∷ topics) =
+    omega (arith, length-append t.parts (asked_parts topics), asked_long topics, sum_by-cons (λ (u : FetchTopic). length u.parts) t topics)
+
+pub asks_long : (ask : Ask) (replica max_wait min_bytes max_bytes isolation : ℤ) (topics : List FetchTopic) (asks : List FetchPart) (n : ℕ) → ask ≡ Fetch replica max_wait min_bytes max_bytes isolation topics → asks ≡ asked_parts topics → n ≡ named_count ask → n ≡ length asks
+asks_long ask replica max_wait min_bytes max_bytes isolation topics asks n is same count =
+    count ∙ ap named_count is ∙ sym (asked_long topics) ∙ sym (ap length same)
+
+pub fetch_are : (ask : Ask) (r replica max_wait min_bytes max_bytes isolation : ℤ) (topics : List FetchTopic) (asks : List FetchPart) (accepted : List Accepted) (readings : List Reading) (shown : List Shown) (b : Budget)
+    → ask ≡ Fetch replica max_wait min_bytes max_bytes isolation topics → r ≡ replica → asks ≡ asked_parts topics → b ≡ budget_of ask → FetchReadings r asks accepted readings shown b → AreReadings ask accepted readings shown
+fetch_are ask r replica max_wait min_bytes max_bytes isolation topics asks accepted readings shown b is who same left are =
+    subst (λ (a : Ask). AreReadings a accepted readings shown) (sym is)
+    (subst (λ (n : Budget). FetchReadings replica (asked_parts topics) accepted readings shown n) (left ∙ ap budget_of is)
+    (subst (λ (l : List FetchPart). FetchReadings replica l accepted readings shown b) same (subst (λ (z : ℤ). FetchReadings z asks accepted readings shown b) who are)))
+
+abbrev pub IsNoFetch : Ask → Type 0
+IsNoFetch (Produce transactional acks timeout topics) = Unit {0}
+IsNoFetch (Fetch replica max_wait min_bytes max_bytes isolation topics) = ⊥
+IsNoFetch (Metadata topics) = Unit {0}
+IsNoFetch (Versions version) = Unit {0}
+
+none_long : {X : Type 0} (xs : List X) → length xs ≡ 0 → xs ≡ []
+none_long [] e = refl
+none_long (x ∷ xs) e = absurd (omega (arith, e))
+
+pub other_are : (pasts : List History) (ask : Ask) (accepted : List Accepted) (places : List ℕ) (readings : List Reading) → IsNoFetch ask → length accepted ≡ named_count ask
+    → ((shown : List Shown) → AreShown pasts accepted places shown → ProduceReadings accepted readings shown)
+    → (shown : List Shown) → AreShown pasts accepted places shown → AreReadings ask accepted readings shown
+other_are pasts (Produce transactional acks timeout topics) accepted places readings is count read shown are = read shown are
+other_are pasts (Fetch replica max_wait min_bytes max_bytes isolation topics) accepted places readings is count read shown are = absurd is
+other_are pasts (Metadata topics) accepted places readings is count read shown are = none_long shown (shown_long pasts accepted places shown are ∙ count)
+other_are pasts (Versions version) accepted places readings is count read shown are = none_long shown (shown_long pasts accepted places shown are ∙ count)
