@@ -1,9 +1,10 @@
 //! What is printed of a run with several threads: session by session what it was sent, and then the summary.
 
 use crate::past::{Past, pasts_of};
-use crate::reply::reply_frame;
+use crate::reply::reply_to;
 use audit::{Account, Call, CallHow, Transcript, print_replay, put_end_line};
 use kbytes::{Bytes, List, NoMemory};
+use kwire::reply_bytes;
 use std::alloc::Global;
 use trace_file::put_reply_line;
 
@@ -26,7 +27,7 @@ fn put_reply(
     if !is_answered(call.how) {
         return Ok(());
     }
-    let frame = reply_frame(alloc, account, pasts, call)?;
+    let frame = reply_bytes(alloc, &reply_to(alloc, account, pasts, call)?)?;
     put_reply_line(out, session, frame.as_slice())
 }
 
