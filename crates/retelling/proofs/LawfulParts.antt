@@ -23,7 +23,7 @@ use Rattle.audit.specs.declared.account.Call.{Call}
 use Rattle.audit.specs.declared.account.PartAccount.{PartAccount}
 use Rattle.audit.specs.declared.account.Point.{Point}
 use Rattle.audit.specs.Histories.{Owner, clock_owner_of, at_in, at_point, before_in, before_point, event_at, event_in, history_of, owner_of, owners_in, owners_of, points_of}
-use Rattle.audit.specs.IsLawful.{IsLawful, IsWholeLog, is_point}
+use Rattle.audit.specs.IsLawful.{HasLogs, IsLawful, IsWholeLog, is_point}
 use Rattle.audit.specs.LawfulCall.{IsClockLook, IsEntry, IsLawfulCall, IsLook, IsStep, LooksAtClock, Step, step_points}
 use Rattle.audit.proofs.Laws.{all_append, some_is}
 use Rattle.audit.proofs.Prints.{looks_stand}
@@ -280,6 +280,6 @@ all_playable account lawful few =
         playable account k part there (λ e. omega (arith, e, lt, few)) (at_place IsWholeLog account.parts k part lawful.logs.whole there)
         (get_or_from_slice_get followers k part.followers 0 same) lawful)
 
-pub parts_long : (account : Account) → IsLawful account → length account.parts ≡ partitions_of account.config.topics
-parts_long account lawful =
-    sym (length-map account.parts (λ (p : PartAccount). p.followers)) ∙ ap length lawful.logs.followers ∙ followers_size account.config.topics
+pub parts_long : (account : Account) → HasLogs account → length account.parts ≡ partitions_of account.config.topics
+parts_long account logs =
+    sym (length-map account.parts (λ (p : PartAccount). p.followers)) ∙ ap length logs.followers ∙ followers_size account.config.topics

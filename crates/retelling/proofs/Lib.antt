@@ -12,3 +12,5 @@ pub mod ByPoints
 pub mod NextParts
 -- what is read again of the partitions of a call
 pub mod Reread
+-- what is told again of a call that was answered
+pub mod Answered

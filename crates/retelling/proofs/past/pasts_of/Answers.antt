@@ -13,6 +13,6 @@ of-requires c =
     let i = c.loop-part.part-index in
     let part = c.part-item.result in
     let items = c.as_slice-part-items.ensures in
-    let few = all_playable account c.requires (omega (arith, parts_long account c.requires, c.parts.ensures.count, c.parts.ensures.few)) in
+    let few = all_playable account c.requires (omega (arith, parts_long account c.requires.logs, c.parts.ensures.count, c.parts.ensures.few)) in
     at_place (λ (p : PartAccount). IsPlayable (history_of p)) parts i part few
     (item_there parts i part (omega (arith, c.loop-part-test.true, ap length items)) (c.part-item.is ∙ ap (λ (xs : List PartAccount). get_or xs i part) items))
