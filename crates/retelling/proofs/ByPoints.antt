@@ -193,7 +193,7 @@ produced_none config transactional acks pasts points topics sofar none = record 
   retold = none_retells pasts points sofar;
 }
 
-all_zip_append : {A B : Type 0} (P : A → B → Type 0) (xs ys : List A) (zs ws : List B) → AllZip P xs zs → AllZip P ys ws → AllZip P (xs ++ ys) (zs ++ ws)
+pub all_zip_append : {A B : Type 0} (P : A → B → Type 0) (xs ys : List A) (zs ws : List B) → AllZip P xs zs → AllZip P ys ws → AllZip P (xs ++ ys) (zs ++ ws)
 all_zip_append P [] ys [] ws h k = k
 all_zip_append P [] ys (z ∷ zs) ws h k = absurd h
 all_zip_append P (x ∷ xs) ys [] ws h k = absurd h

@@ -14,3 +14,5 @@ pub mod NextParts
 pub mod Reread
 -- what is told again of a call that was answered
 pub mod Answered
+-- the replies of calls and of sessions, one after the other
+pub mod Tellings

@@ -2,6 +2,8 @@
 
 -- a history whose entries can be put into an empty log again
 pub mod Playable
+-- an account that can be told again
+pub mod Tellable
 -- ==== the words of private functions
 
 -- the numbers of a history before each of its entries

@@ -1,5 +1,16 @@
 //! What is printed of a run with several threads: session by session what it was sent, and then the summary.
 
+ghost use Rattle.std.specs.Prelude.{ℕ, ◌≡◌, ◌<◌, ◌^◌, ◌∷◌, [], ◌++◌, map, List as Items, OnOk, OnErr};
+ghost use Rattle.std.specs.List.{AllByRecursion, AllZip, flat_map, zip};
+ghost use Rattle.kwire.specs.declared.reply.Reply.{Reply as TheReply};
+ghost use Rattle.trace_file.specs.PrintedLine.{reply_line};
+ghost use Rattle.audit.specs.Fits.{HasReplies, is_answered};
+ghost use Rattle.audit.specs.Histories.{history_of};
+ghost use Rattle.audit.specs.IsLawful.{HasLogs};
+ghost use Rattle.audit.specs.LawfulCall.{IsLawfulCall};
+ghost use Rattle.audit.specs.Printed.{IsPrintOf, session_text, transcripts_of};
+ghost use Rattle.retelling.specs.Tellable.{AreFramed, IsTellable, IsTold};
+
 use crate::past::{Past, pasts_of};
 use crate::reply::reply_to;
 use audit::{Account, Call, CallHow, Transcript, print_replay, put_end_line};
@@ -8,7 +19,9 @@ use kwire::reply_bytes;
 use std::alloc::Global;
 use trace_file::put_reply_line;
 
-fn is_answered(how: CallHow) -> bool {
+fn is_answered(how: CallHow) -> bool
+    ensures { result ≡ is_answered how }
+{
     match how {
         CallHow::AtOnce | CallHow::Satisfied { .. } | CallHow::Expired { .. } => true,
         CallHow::Quiet | CallHow::Parked | CallHow::Cut { .. } => false,
@@ -23,12 +36,42 @@ fn put_reply(
     session: u32,
     call: &Call,
     out: &mut Bytes,
-) -> Result<(), NoMemory> {
+) -> Result<(), NoMemory>
+    requires lawful { IsLawfulCall account.now call.now }
+    requires logs { HasLogs account.now }
+    requires pasts { pasts.now ≡ map history_of account.now.parts }
+    requires framed { AreFramed account.now }
+    ensures { OnOk result ((replies : Items TheReply) × HasReplies account.now (call.now ∷ []) replies
+        × (out.new ≡ out.old ++ flat_map (reply_line session) replies)) }
+{
     if !is_answered(call.how) {
         return Ok(());
     }
-    let frame = reply_bytes(alloc, &reply_to(alloc, account, pasts, call)?)?;
+    let reply = reply_to(alloc, account, pasts, call)?;
+    let frame = reply_bytes(alloc, &reply)?;
     put_reply_line(out, session, frame.as_slice())
+}
+
+// Puts the lines of these calls' replies.
+fn put_replies(
+    alloc: Global,
+    account: &Account,
+    pasts: &[Past],
+    session: u32,
+    calls: &[Call],
+    out: &mut Bytes,
+) -> Result<(), NoMemory>
+    requires lawful { AllByRecursion (IsLawfulCall account.now) calls.now }
+    requires logs { HasLogs account.now }
+    requires pasts { pasts.now ≡ map history_of account.now.parts }
+    requires framed { AreFramed account.now }
+    ensures { OnOk result ((replies : Items TheReply) × HasReplies account.now calls.now replies
+        × (out.new ≡ out.old ++ flat_map (reply_line session) replies)) }
+{
+    for call in calls {
+        put_reply(alloc, account, pasts, session, call, out)?;
+    }
+    Ok(())
 }
 
 // Puts the lines of a session: its replies, and how it ended.
@@ -38,11 +81,16 @@ fn put_session(
     pasts: &[Past],
     transcript: &Transcript,
     out: &mut Bytes,
-) -> Result<(), NoMemory> {
+) -> Result<(), NoMemory>
+    requires told { IsTold account.now transcript.now }
+    requires logs { HasLogs account.now }
+    requires pasts { pasts.now ≡ map history_of account.now.parts }
+    requires framed { AreFramed account.now }
+    ensures { OnOk result ((replies : Items TheReply) × HasReplies account.now transcript.now.calls replies
+        × (out.new ≡ out.old ++ session_text (transcript.now, replies))) }
+{
     let session = transcript.number as u32;
-    for call in transcript.calls.as_slice() {
-        put_reply(alloc, account, pasts, session, call, out)?;
-    }
+    put_replies(alloc, account, pasts, session, transcript.calls.as_slice(), out)?;
     match &transcript.end {
         Some(end) => put_end_line(out, session, end),
         None => Ok(()),
@@ -56,29 +104,47 @@ fn put_pass(
     pasts: &[Past],
     transcripts: &[Transcript],
     out: &mut Bytes,
-) -> Result<(), NoMemory> {
+) -> Result<(), NoMemory>
+    requires told { AllByRecursion (IsTold account.now) transcripts.now }
+    requires logs { HasLogs account.now }
+    requires pasts { pasts.now ≡ map history_of account.now.parts }
+    requires framed { AreFramed account.now }
+    ensures { OnOk result ((all : Items (Items TheReply)) × AllZip (λ transcript sent. HasReplies account.now transcript.calls sent) transcripts.now all
+        × (out.new ≡ out.old ++ flat_map session_text (zip transcripts.now all))) }
+{
     for transcript in transcripts {
         put_session(alloc, account, pasts, transcript, out)?;
     }
     Ok(())
 }
 
-// The same of each pass.
+// The same of each session of each pass.
 fn put_passes(
     alloc: Global,
     account: &Account,
     pasts: &[Past],
     out: &mut Bytes,
-) -> Result<(), NoMemory> {
+) -> Result<(), NoMemory>
+    requires told { AllByRecursion (IsTold account.now) (transcripts_of account.now) }
+    requires logs { HasLogs account.now }
+    requires pasts { pasts.now ≡ map history_of account.now.parts }
+    requires framed { AreFramed account.now }
+    ensures { OnOk result ((all : Items (Items TheReply)) × AllZip (λ transcript sent. HasReplies account.now transcript.calls sent) (transcripts_of account.now) all
+        × (out.new ≡ out.old ++ flat_map session_text (zip (transcripts_of account.now) all))) }
+{
     for transcripts in account.passes.as_slice() {
         put_pass(alloc, account, pasts, transcripts.as_slice(), out)?;
     }
     Ok(())
 }
 
-/// Puts what is printed of a run with several threads at the end of the bytes: of each session its replies and how it ended,
-/// and then the summary. After want of memory the bytes are as before.
-pub fn print_workers(alloc: Global, account: &Account, out: &mut Bytes) -> Result<(), NoMemory> {
+/// Puts what is printed of a run with several threads at the end of the bytes: of each session its replies in order and how it
+/// ended, and then the summary. After want of memory the bytes are as before.
+pub fn print_workers(alloc: Global, account: &Account, out: &mut Bytes) -> Result<(), NoMemory>
+    requires { IsTellable account.now }
+    ensures ok { OnOk result ((text : Items ℕ) × IsPrintOf account.now text × (out.new ≡ out.old ++ text)) }
+    ensures err { OnErr result (out.new ≡ out.old) }
+{
     let pasts = pasts_of(alloc, account)?;
     let mut text = Bytes::new(alloc);
     put_passes(alloc, account, pasts.as_slice(), &mut text)?;
