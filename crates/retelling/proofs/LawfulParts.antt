@@ -273,12 +273,12 @@ at_place P (y ∷ xs) (suc k) x all e = at_place P xs k x all.1 e
 pub all_playable : (account : Account) → IsLawful account → length account.parts ≤ 64 → AllByRecursion (λ part. IsPlayable (history_of part)) account.parts
 all_playable account lawful few =
     by_places (λ part. IsPlayable (history_of part)) account.parts (λ k part there.
-        let lt = slice_get_within account.parts k part there in
-        let followers : List ℕ = followers_of account.config.topics in
-        let same : slice_get followers k ≡ Some part.followers =
-        ap (λ (fs : List ℕ). slice_get fs k) (sym lawful.logs.followers) ∙ slice_get-map (λ (p : PartAccount). p.followers) account.parts k ∙ ap (option_map (λ (p : PartAccount). p.followers)) there in
-        playable account k part there (λ e. omega (arith, e, lt, few)) (at_place IsWholeLog account.parts k part lawful.logs.whole there)
-        (get_or_from_slice_get followers k part.followers 0 same) lawful)
+    let lt = slice_get_within account.parts k part there in
+    let followers : List ℕ = followers_of account.config.topics in
+    let same : slice_get followers k ≡ Some part.followers =
+    ap (λ (fs : List ℕ). slice_get fs k) (sym lawful.logs.followers) ∙ slice_get-map (λ (p : PartAccount). p.followers) account.parts k ∙ ap (option_map (λ (p : PartAccount). p.followers)) there in
+    playable account k part there (λ e. omega (arith, e, lt, few)) (at_place IsWholeLog account.parts k part lawful.logs.whole there)
+    (get_or_from_slice_get followers k part.followers 0 same) lawful)
 
 pub parts_long : (account : Account) → HasLogs account → length account.parts ≡ partitions_of account.config.topics
 parts_long account logs =

@@ -185,8 +185,7 @@ fetch_next pasts replica asks accepted places readings i place a x reading here 
     let B : Budget = budget_behind replica (take i asks) (take i shown) first in
     let read = fetch_more replica (take i asks) (take i accepted) readings (take i shown) a x reading f.s first b.0 f.result (subst (λ (n : Budget). HasRecords replica a x reading f.s.state n) b.1 (has f.s.state f.state)) in
     let more_asks = one_more asks i a asked in
-    let more_shown = one_more shown i f.s f.there in
-    (
+    let more_shown = one_more shown i f.s f.there in (
       subst (λ (l : List FetchPart). FetchReadings replica l (take (i + 1) accepted) (readings ++ reading ∷ []) (take (i + 1) shown) first) (sym more_asks)
           (subst (λ (l : List Accepted). FetchReadings replica (take i asks ++ a ∷ []) l (readings ++ reading ∷ []) (take (i + 1) shown) first) (sym (one_more accepted i x became))
           (subst (λ (l : List Shown). FetchReadings replica (take i asks ++ a ∷ []) (take i accepted ++ x ∷ []) (readings ++ reading ∷ []) l first) (sym more_shown) read)),

@@ -59,8 +59,7 @@ told_one account transcript a b d = (d.0 ∷ [], (d.1, tt), d.2 ∙ ap (λ (l : 
 
 pub told_on : (account : Account) (xs ys : List Transcript) (a b c : List ℕ) → HaveTold account xs a b → HaveTold account ys b c → HaveTold account (xs ++ ys) a c
 told_on account xs ys a b c f g =
-    let has : Transcript → List Reply → Type 0 = λ transcript sent. HasReplies account transcript.calls sent in
-    (
+    let has : Transcript → List Reply → Type 0 = λ transcript sent. HasReplies account transcript.calls sent in (
       f.0 ++ g.0,
       all_zip_append has xs ys f.0 g.0 f.1 g.1,
       g.2 ∙ ap (λ (l : List ℕ). l ++ flat_map session_text (zip ys g.0)) f.2 ∙ append_assoc a (flat_map session_text (zip xs f.0)) (flat_map session_text (zip ys g.0))

@@ -13,9 +13,9 @@ mod rereading;
 mod retold;
 mod telling;
 
+pub use accepting::{Scene, retell};
 pub use past::{Past, pasts_of};
 pub use promises::lawful_parts_play_again;
+pub use reply::reply_to;
+pub use retold::Retold;
 pub use telling::print_workers;
-
-#[cfg(test)]
-mod tests;

@@ -39,11 +39,7 @@ fn next_place(became: &Accepted, looks: &[Point], next: usize) -> (u64, usize)
 }
 
 // The places of these looks, one for each partition whose log was asked, and 0 for one that was refused.
-fn look_places(
-    alloc: Global,
-    accepted: &[Accepted],
-    looks: &[Point],
-) -> Result<List<u64>, NoMemory>
+fn look_places(alloc: Global, accepted: &[Accepted], looks: &[Point]) -> Result<List<u64>, NoMemory>
     ensures { IfOk result (λ places. places ≡ look_places accepted.now looks.now) }
 {
     let mut places = List::new(alloc);
@@ -131,5 +127,12 @@ pub fn reply_to(
     let (accepted, own) = retold.into_parts();
     let accepted = accepted.as_slice();
     let places = told_places(alloc, call, accepted, own)?;
-    answer_at(alloc, &account.config, pasts, &request, accepted, places.as_slice())
+    answer_at(
+        alloc,
+        &account.config,
+        pasts,
+        &request,
+        accepted,
+        places.as_slice(),
+    )
 }

@@ -90,7 +90,14 @@ fn put_session(
         × (out.new ≡ out.old ++ session_text (transcript.now, replies))) }
 {
     let session = transcript.number as u32;
-    put_replies(alloc, account, pasts, session, transcript.calls.as_slice(), out)?;
+    put_replies(
+        alloc,
+        account,
+        pasts,
+        session,
+        transcript.calls.as_slice(),
+        out,
+    )?;
     match &transcript.end {
         Some(end) => put_end_line(out, session, end),
         None => Ok(()),

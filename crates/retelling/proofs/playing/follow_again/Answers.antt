@@ -15,5 +15,5 @@ unreachable-requires c =
 pub unreachable-requires-in-Err-OutOfRange : goal.unreachable-requires-in-Err-OutOfRange
 unreachable-requires-in-Err-OutOfRange c =
     let why = (c.in-Err-OutOfRange.ensures.out_of_range c.in-Err-OutOfRange.field-0-0).0 (ap Err c.in-Err-OutOfRange.field-0-is) in
-    let small : c.args.offset < 2 ^ 63 = omega (arith, c.requires.within, c.numbers-end.ensures.numbers, c.numbers-end.ensures.end, c.if-prove.false) in
+    let small : c.args.offset < 2 ^ 63 = omega (arith, c.numbers-end.ensures.end, c.if-prove.false) in
     subst (λ (z : ℤ). IsInRange z (log_end_of c.args.log.now.events) → ⊥) (to_z_pos w64 c.args.offset small) why.1 c.requires.within

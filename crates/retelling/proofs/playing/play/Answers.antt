@@ -65,5 +65,5 @@ returns-in-Append c =
     let cut = cut_is (length c.log-start.result.now) (bytes_of (take c.args.place h.events)) e.len c.as_slice-in-Append.result.now h.log start c.as_slice-in-Append.ensures in
     let bytes : List ℕ = take ((length c.log-start.result.now + e.len) - length c.log-start.result.now) (drop (length c.log-start.result.now) c.as_slice-in-Append.result.now) in
     on_ok c.put_again.result c.put_again.ensures (λ is.
-        is ∙ ap (λ (f : History). appended f e.by e.seq bytes) c.requires.before ∙ ap (appended (front_of h c.args.place) e.by e.seq) cut
-        ∙ put_grown h c.requires.playable c.args.place e.by e.seq e.count e.len at kept)
+    is ∙ ap (λ (f : History). appended f e.by e.seq bytes) c.requires.before ∙ ap (appended (front_of h c.args.place) e.by e.seq) cut
+    ∙ put_grown h c.requires.playable c.args.place e.by e.seq e.count e.len at kept)
