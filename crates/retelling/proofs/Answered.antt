@@ -1,6 +1,5 @@
 -- What is told again of a call that was answered is what its own reply tells.
-use Rattle.std.proofs.Common.{◌≡◌, ℕ, zero, suc, ℤ, ◌+◌, ◌<◌, Bool, true, false, List, [], ◌∷◌, ◌++◌, length, map, drop, sum_by, Option, Some, None, unwrap_or, inl, inr, refl, sym, ap, subst, ◌∙◌, arith, length-append}
-use Rattle.std.specs.Prelude.{slice_get}
+use Rattle.std.proofs.Common.{◌≡◌, ℕ, suc, ◌<◌, true, false, List, [], ◌∷◌, length, map, drop, sum_by, Option, Some, None, unwrap_or, inl, inr, refl, sym, ap, subst, ◌∙◌, arith, length-append}
 use Rattle.std.specs.List.{AllByRecursion, AllZip, flat_map}
 use Rattle.std.proofs.lemmas.List.{length-map}
 use Rattle.std.proofs.lemmas.List.Sums.{sum_by-cons}
@@ -31,9 +30,9 @@ use Rattle.audit.specs.declared.account.CallHow.{CallHow}
 use Rattle.audit.specs.declared.account.CallHow.TheVariants.{Quiet, AtOnce, Satisfied, Expired, Parked, Cut}
 use Rattle.audit.specs.declared.account.Point.{Point}
 use Rattle.audit.specs.Fits.{ShowsFor, is_answered}
-use Rattle.audit.specs.Histories.{at_point, history_of, no_state}
+use Rattle.audit.specs.Histories.{at_point, history_of}
 use Rattle.audit.specs.IsLawful.{HasLogs}
-use Rattle.audit.specs.LawfulCall.{AreLooks, Completes, IsAccepted, IsLawfulCall, IsLook, IsStep, IsWholeCall, Step, operation_parts, shown_as_accepted, shown_as_completed, shown_at, step_points}
+use Rattle.audit.specs.LawfulCall.{AreLooks, Completes, IsAccepted, IsLawfulCall, IsStep, IsWholeCall, Step, shown_as_accepted, shown_as_completed, shown_at}
 use Rattle.retelling.specs.Retells.{Retells, SoFar, place_of}
 use Rattle.retelling.specs.WasShown.{AreShown, HasPast, IsShownAt, look_places, told_places}
 use Rattle.retelling.proofs.ByPoints.{at_there}

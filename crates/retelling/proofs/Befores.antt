@@ -1,18 +1,17 @@
 -- The numbers before each entry of a history, and what was readable there.
-use Rattle.std.proofs.Common.{◌≡◌, ℕ, zero, suc, ℤ, pos, negsuc, ◌+◌, ◌-◌, get_or, ◌<◌, ◌≤◌, Bool, true, List, [], ◌∷◌, ◌++◌, length, take, drop, filter, Some, None, refl, sym, ap, subst, ◌∙◌, arith, inl, inr, append-nil, add-one, ◌⊎◌, length-append}
+use Rattle.std.proofs.Common.{◌≡◌, ℕ, zero, suc, ℤ, pos, negsuc, ◌+◌, ◌-◌, get_or, ◌<◌, ◌≤◌, true, List, [], ◌∷◌, ◌++◌, length, take, drop, filter, Some, None, refl, sym, ap, subst, ◌∙◌, arith, inl, inr, append-nil, add-one, length-append}
 use Rattle.std.specs.Prelude.{slice_get, if◌then◌else◌, nat_le}
-use Rattle.std.proofs.lemmas.Bool.{cases_lt, lt-ltb}
+use Rattle.std.proofs.lemmas.Bool.{cases_lt}
 use Rattle.std.proofs.lemmas.Bool.Decides.{nat_tests}
 use Rattle.std.proofs.lemmas.List.{take-append-drop, take_all, length-drop}
 use Rattle.std.proofs.lemmas.Option.{slice_get_within}
 use Rattle.std.proofs.lemmas.List.Elements.{All-drop, filter-append}
-use Rattle.std.proofs.lemmas.List.Sums.{sum_by-take-le}
 use Rattle.partlog.specs.declared.event.PartEvent.{PartEvent}
 use Rattle.partlog.specs.declared.numbers.Numbers.{Numbers}
 use Rattle.partlog.specs.Added.{bytes_of, log_end_of}
 use Rattle.partlog.specs.Batches.{StoredBatch, batches_after, batches_of, next_offset}
 use Rattle.partlog.specs.Fallen.{NoneFell}
-use Rattle.partlog.specs.Gauges.{bytes_in, batches_below, gauges_of, numbers_of}
+use Rattle.partlog.specs.Gauges.{bytes_in, batches_below, numbers_of}
 use Rattle.partlog.specs.History.{History}
 use Rattle.partlog.specs.Kept.{IsDense, IsKept}
 use Rattle.partlog.specs.Readable.{IsReadable}

@@ -1,5 +1,5 @@
 -- Each entry of a lawful account can be put into a log again: it is that of a lawful call, which asked the log soundly.
-use Rattle.std.proofs.Common.{◌≡◌, ◌≢◌, ℕ, zero, suc, ◌+◌, ◌<◌, ◌≤◌, ◌&&◌, Bool, true, false, cond, eqb, List, [], ◌∷◌, ◌++◌, length, map, take, drop, count_by, Option, Some, None, ◌⊎◌, inl, inr, refl, sym, ap, subst, ◌∙◌, arith, append-nil, length-append, option_map}
+use Rattle.std.proofs.Common.{◌≡◌, ◌≢◌, ℕ, zero, suc, ◌+◌, ◌≤◌, ◌&&◌, Bool, true, false, cond, eqb, List, [], ◌∷◌, ◌++◌, length, map, take, drop, count_by, Option, Some, None, ◌⊎◌, inl, inr, refl, sym, ap, subst, ◌∙◌, arith, option_map}
 use Rattle.std.specs.Prelude.{slice_get, slice_index}
 use Rattle.std.specs.List.{AllByRecursion, AllZip, cons_option}
 use Rattle.std.proofs.lemmas.Bool.{eqb-true}
@@ -13,7 +13,7 @@ use Rattle.partlog.specs.Added.{added_bytes, bytes_of, log_end_of}
 use Rattle.partlog.specs.Batches.{StoredBatch, batches_after, batches_of}
 use Rattle.partlog.specs.Gauges.{bytes_in}
 use Rattle.partlog.specs.History.{History}
-use Rattle.partlog.specs.State.{PartState, state_before, front_of}
+use Rattle.partlog.specs.State.{PartState, state_before}
 use Rattle.partlog.proofs.Laws.{batches-append, batches-take, bytes_in-batches}
 use Rattle.kwire.specs.Configuration.{followers_of, partitions_of}
 use Rattle.kanswer.specs.Decisions.{Entry, Put, Followed, Looked, Decision, Refuse, AskLog}

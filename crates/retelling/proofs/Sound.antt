@@ -1,6 +1,6 @@
 -- What is decided of a request asks a log only for what can be played again: a batch that there is room for, a follower's fetch
 -- in range, or a look.
-use Rattle.std.proofs.Common.{◌≡◌, ℕ, ◌+◌, ◌<◌, ◌≤◌, ℤ, pos, negsuc, Bool, true, false, cond, ◌&&◌, List, [], ◌∷◌, length, map, Option, Some, None, MatchBool, inl, inr, refl, sym, subst}
+use Rattle.std.proofs.Common.{◌≡◌, ℕ, ◌+◌, ◌≤◌, ℤ, pos, negsuc, Bool, true, false, cond, ◌&&◌, List, [], ◌∷◌, length, map, Option, Some, None, MatchBool, inl, inr, refl, sym, subst}
 use Rattle.std.specs.Prelude.{⊤, MatchOption, unwrap_or, slice_index, nat_lt, nat_le}
 use Rattle.std.specs.List.{AllByRecursion, AllZip}
 use Rattle.std.proofs.lemmas.Bool.{cases_lt, lt-ltb, le-ltb, ltb-true, leb-true}

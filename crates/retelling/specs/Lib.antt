@@ -2,13 +2,13 @@
 
 -- a history whose entries can be put into an empty log again
 pub mod Playable
+-- what became of the partitions of a call, told again
+pub mod Retells
 -- an account that can be told again
 pub mod Tellable
 -- ==== the words of private functions
 
 -- the numbers of a history before each of its entries
 pub mod NumbersUpTo
--- what became of the partitions of a call, told again
-pub mod Retells
 -- what is shown of the partitions of a call
 pub mod WasShown

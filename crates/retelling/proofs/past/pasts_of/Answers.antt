@@ -1,4 +1,4 @@
-use Rattle.std.proofs.Common.{◌≡◌, length, List, ap, sym, ◌∙◌, arith, get_or}
+use Rattle.std.proofs.Common.{length, List, ap, ◌∙◌, arith, get_or}
 use Rattle.audit.specs.declared.account.PartAccount.{PartAccount}
 use Rattle.audit.specs.Histories.{history_of}
 use Rattle.retelling.specs.Playable.{IsPlayable}

@@ -1,4 +1,4 @@
-use Rattle.std.proofs.Common.{Err, ap, subst, refl, ℤ, ◌<◌, ◌^◌, arith}
+use Rattle.std.proofs.Common.{Err, ap, subst, ℤ, ◌<◌, ◌^◌, arith}
 use Rattle.std.proofs.lemmas.Int.{to_z-of_z, to_z_pos}
 use Rattle.std.specs.Int.{w32, w64}
 use Rattle.partlog.specs.Added.{log_end_of}

@@ -1,8 +1,7 @@
-use Rattle.std.proofs.Common.{◌≡◌, ℕ, ◌+◌, ◌-◌, ◌∙◌, sym, ap, subst, arith, List, length, take, drop, Some, rules, ℤ}
+use Rattle.std.proofs.Common.{◌≡◌, ℕ, ◌+◌, ◌-◌, ◌∙◌, sym, ap, subst, arith, List, length, take, drop, rules, ℤ}
 use Rattle.std.proofs.lemmas.Int.{to_z-of_z}
 use Rattle.std.specs.Int.{w32}
 use mir.Val.{SFits}
-use Rattle.std.specs.Prelude.{slice_get}
 use Rattle.kbatch.specs.Batch.{IsBatch}
 use Rattle.partlog.specs.declared.event.PartEvent.TheVariants.{Append, Follow}
 use Rattle.partlog.specs.Added.{bytes_of, log_end_of}
@@ -13,7 +12,6 @@ use Rattle.partlog.specs.Kept.{IsKept}
 use Rattle.partlog.specs.State.{front_of}
 use Rattle.audit.specs.Histories.{history_of}
 use Rattle.audit.proofs.Ends.{on_ok}
-use Rattle.retelling.specs.Playable.{put_at}
 use Rattle.retelling.proofs.Entries.{event_there, cut_is, put, put_batch, put_room, put_grown}
 use Rattle.retelling.proofs.playing.play.Goals as goal
 

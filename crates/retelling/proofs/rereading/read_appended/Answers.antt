@@ -1,4 +1,4 @@
-use Rattle.retelling.proofs.Reread.{appended_numbers, other_numbers}
+use Rattle.retelling.proofs.Reread.{appended_numbers}
 use Rattle.retelling.proofs.rereading.read_appended.Goals as goal
 
 pub returns-in-Appended-clause-read : goal.returns-in-Appended-clause-read

@@ -1,4 +1,4 @@
-use Rattle.std.proofs.Common.{◌≡◌, ◌+◌, ◌<◌, ◌≤◌, ◌++◌, ◌∷◌, [], ℤ, List, All, length-append, length, map, take, sym, ap, subst, ◌∙◌, arith, rules, to_z, of_z, option_map}
+use Rattle.std.proofs.Common.{◌≡◌, ◌+◌, ◌<◌, ◌≤◌, ◌∷◌, [], ℤ, List, All, length-append, length, map, take, sym, ap, subst, ◌∙◌, arith, to_z, of_z, option_map}
 use Rattle.std.specs.Int.{w32}
 use Rattle.std.proofs.lemmas.Int.{to_z-of_z}
 use Rattle.std.proofs.lemmas.Option.{slice_get-get_or, slice_get-map}

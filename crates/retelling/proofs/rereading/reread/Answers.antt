@@ -1,11 +1,9 @@
-use Rattle.std.proofs.Common.{◌≡◌, ℤ, List, length, map, sym, ap, ◌∙◌, subst, rules, to_z, of_z, inl, inr}
+use Rattle.std.proofs.Common.{◌≡◌, length, map, sym, ap, ◌∙◌, subst, rules, to_z, of_z, inl, inr}
 use Rattle.std.proofs.lemmas.Int.{to_z-of_z}
 use Rattle.std.proofs.lemmas.List.{length-map}
 use Rattle.std.specs.Int.{w32}
 use mir.Val.{SFits}
 use Rattle.kwire.specs.declared.request.Ask.TheVariants.{Fetch}
-use Rattle.kwire.specs.declared.request.FetchPart.{FetchPart}
-use Rattle.kwire.specs.declared.request.FetchTopic.{FetchTopic}
 use Rattle.kwire.specs.declared.request.Request.{Request}
 use Rattle.kwire.specs.Views.{ask_of}
 use Rattle.kanswer.specs.Answer.{asked_parts}

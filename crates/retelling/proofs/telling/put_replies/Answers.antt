@@ -1,4 +1,3 @@
-use Rattle.std.proofs.Common.{arith}
 use Rattle.retelling.proofs.ByPoints.{item_there}
 use Rattle.retelling.proofs.Tellings.{next_call}
 use Rattle.retelling.proofs.telling.put_replies.Goals as goal

@@ -1,4 +1,4 @@
-use Rattle.std.proofs.Common.{◌≡◌, ◌≤◌, ◌+◌, length, ap, sym, ◌∙◌, arith}
+use Rattle.std.proofs.Common.{◌+◌, length, ap, sym, ◌∙◌, arith}
 use Rattle.partlog.specs.Gauges.{numbers_of}
 use Rattle.partlog.specs.History.{History}
 use Rattle.partlog.specs.State.{state_at}

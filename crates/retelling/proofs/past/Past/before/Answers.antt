@@ -1,8 +1,7 @@
-use Rattle.std.proofs.Common.{◌≡◌, ◌≤◌, length, List, ap, sym, ◌∙◌, arith}
-use Rattle.partlog.specs.Fallen.{NoneFell}
+use Rattle.std.proofs.Common.{length, ap, sym, ◌∙◌, arith}
 use Rattle.partlog.specs.Gauges.{numbers_of}
 use Rattle.partlog.specs.History.{History}
-use Rattle.partlog.specs.State.{state_before, state_of}
+use Rattle.partlog.specs.State.{state_before}
 use Rattle.retelling.proofs.Befores.{found_before, none_behind, not_above, past_is_whole}
 use Rattle.retelling.proofs.past.Past.before.Goals as goal
 

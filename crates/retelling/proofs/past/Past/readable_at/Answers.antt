@@ -1,10 +1,9 @@
-use Rattle.std.proofs.Common.{◌+◌, ℕ, ℤ, Bool, List, ap, subst, ◌∙◌}
+use Rattle.std.proofs.Common.{◌+◌, ℕ, ℤ, Bool, List, ap, ◌∙◌}
 use Rattle.std.proofs.lemmas.Int.{to_z-of_z}
 use Rattle.std.specs.Int.{w32}
 use Rattle.std.specs.Prelude.{if◌then◌else◌}
 use Rattle.partlog.specs.Batches.{StoredBatch}
 use Rattle.partlog.specs.History.{History}
-use Rattle.partlog.specs.Kept.{IsKept}
 use Rattle.partlog.specs.State.{PartState, state_of, state_at}
 use Rattle.partlog.specs.declared.numbers.Numbers.{Numbers}
 use Rattle.partlog.specs.Taken.{batches_past, batches_upto, joined, taken}
