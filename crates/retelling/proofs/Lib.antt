@@ -1,0 +1,18 @@
+-- what is decided of a request asks a log only for what can be played again
+pub mod Sound
+-- each entry of a lawful account can be put into a log again
+pub mod LawfulParts
+-- an entry of a history, put behind the front before it
+pub mod Entries
+-- the numbers before each entry, and what was readable there
+pub mod Befores
+-- the partitions of a produce or a fetch, one after the other
+pub mod NextParts
+-- the steps of decisions, told one after the other by their points
+pub mod ByPoints
+-- what is read again of the partitions of a call
+pub mod Reread
+-- what is told again of a call that was answered
+pub mod Answered
+-- the replies of calls and of sessions, one after the other
+pub mod Tellings

@@ -1,0 +1,14 @@
+-- ==== the words of public contracts
+
+-- a history whose entries can be put into an empty log again
+pub mod Playable
+-- what became of the partitions of a call, told again
+pub mod Retells
+-- an account that can be told again
+pub mod Tellable
+-- ==== the words of private functions
+
+-- the numbers of a history before each of its entries
+pub mod NumbersUpTo
+-- what is shown of the partitions of a call
+pub mod WasShown
