@@ -2,6 +2,8 @@
 pub mod Laws
 -- passes that go on
 pub mod Goes
+-- how many operations a pass has won, and of how many it has taken the end, after a step
+pub mod Counted
 -- what a pass keeps beside its seat, after a step
 pub mod Owners
 -- a pass's own session word
@@ -16,6 +18,8 @@ pub mod Reading
 pub mod Leaving
 -- the room's locks, and what a pass has of them
 pub mod Doors
+-- the turns of all locks, held together
+pub mod Holds
 -- how a room is made
 pub mod Made
 -- a gauge is raised

@@ -14,7 +14,7 @@ use Rattle.purgatory.specs.Rooms.{LockView}
 use Rattle.room_scans.specs.Desks.{ClockView, ShardView, desk_name}
 use Rattle.room_table.specs.Seats.{ScanView}
 use Rattle.purgatory.specs.Making.{names_of}
-use Rattle.purgatory.specs.Turning.{AreReady, IsKeyOf, IsKeyring, clock_name, key_view, lock_view, lock_views, shard_name}
+use Rattle.purgatory.specs.Turning.{AreKeys, IsKeyOf, IsKeyring, clock_name, key_view, lock_view, lock_views, name_shown, shard_name}
 
 -- a row with a pass more
 pub ring_more : {T E : Type 0} (locks : List LockView) (lock : LockView) (row longer : List (TurnPass T E)) (pass : TurnPass T E) → longer ≡ row ++ pass ∷ []
@@ -32,7 +32,7 @@ fresh_keys {T} {E} name_of lock name passes named ones k d l =
     let at = ones k p (slice_get-get_or passes k d l) in
     let Mine : Type 0 = List (Known E) × List (ℕ × Option T) in
     let P : Mine → Type 0 = λ m. m ≡ (at_stage Idle (known_of m.0) ∷ [], []) in
-    let is : (known p).name ≡ lock_name name_of lock = ap (λ (m : Mine). (known_of m.0).name) at.1 ∙ sym named in
+    let is : name_shown (known p).stage (known p).name ≡ lock_name name_of lock = ap (λ (m : Mine). name_shown (known_of m.0).stage (known_of m.0).name) at.1 ∙ sym named in
     let same : key_view p ≡ lock_view name_of lock = λ i. record { id = at.0 i; name = is i } in
     (same, subst P (sym at.1) refl)
 
@@ -67,14 +67,14 @@ keys_step {T} {E} {U} {F} locks lock rows left row passes rest pass keys more ri
     )
 
 pub ready_ring : {E F : Type 0} (locks : List LockView) (lock : LockView) (rows left : List (List (TurnPass ShardView E))) (row items : List (TurnPass ShardView E)) (passes rest : List (TurnPass ClockView F))
-    (pass : TurnPass ClockView F) → rows ≡ left ++ row ∷ [] → passes ≡ rest ++ pass ∷ [] → length locks ≡ 16 → items ≡ row → All (IsKeyring locks) rows → All (IsKeyOf lock) passes → AreReady items pass
+    (pass : TurnPass ClockView F) → rows ≡ left ++ row ∷ [] → passes ≡ rest ++ pass ∷ [] → length locks ≡ 16 → items ≡ row → All (IsKeyring locks) rows → All (IsKeyOf lock) passes → AreKeys items pass
 ready_ring {E} {F} locks lock rows left row items passes rest pass r p sixteen is h k =
     let a = All-pop (IsKeyring {T = ShardView} {E = E} locks) rows left (Some row) r h in
     let b = All-pop (IsKeyOf {T = ClockView} {E = F} lock) passes rest (Some pass) p k in
     record {
       all = ap (λ l. length l) is ∙ sym (length-map row key_view) ∙ ap (λ (l : List LockView). length l) a.1.0 ∙ sixteen;
-      each = subst (All IsReady) (sym is) a.1.1;
-      last = b.1.1;
+      each = λ k d less idle. subst (All IsReady) (sym is) a.1.1 k d less;
+      last = λ idle. b.1.1;
     }
 
 map_twice : {A B C : Type 0} (f : A → B) (g : B → C) (xs : List A) → map g (map f xs) ≡ map (λ x. g (f x)) xs

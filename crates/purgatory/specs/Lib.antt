@@ -8,6 +8,12 @@ pub mod Going
 pub mod Polled
 -- what becomes of an operation that a pass registers, and why
 pub mod Registered
+-- how a room ends: what its winners won, and of how much its passes have taken the end
+pub mod Ends
+-- a room as it ended
+pub mod Ended
+-- what is so of a room that was closed
+pub mod Closed
 -- ==== the words of private functions
 
 -- locks and their passes, as views show them
@@ -24,6 +30,12 @@ pub mod Making
 pub mod Raised
 -- an operation that a pass describes, opens, sees listed, and checks
 pub mod Listed
+-- what each winner has won, noted by its number
+pub mod Noted
+-- the turns of all locks, held together
+pub mod Holding
+-- a room that nobody can act on any more, as it is kept
+pub mod Still
 -- ==== the words of the example and of the tests
 
 -- sources and passes between two calls

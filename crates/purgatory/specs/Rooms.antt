@@ -1,5 +1,5 @@
 -- What a clause sees of the room and of its passes.
-use Rattle.std.specs.Prelude.{◌≡◌, ℕ, ◌<◌, List, map, length, slice_index_or}
+use Rattle.std.specs.Prelude.{◌≡◌, ℕ, ◌+◌, ◌<◌, List, map, length, slice_index_or}
 use Rattle.atomic_table.specs.Seated.{TableId}
 use Rattle.room_core.specs.declared.shape.Shape.{Shape}
 use Rattle.room_core.specs.Gauges.{IsShape}
@@ -42,6 +42,10 @@ pub record IsRoom (table : TableView) (locks : List LockView) : Type 0 where
   pub shape : IsShape table.shape
   pub scanners : table.shape.scanners ≡ scanner_numbers
   pub named : AreNamed table locks
+
+-- how many may win: the scanners, and then the passes
+abbrev pub winners : TableView → ℕ
+winners table = scanner_numbers + table.shape.passes
 
 -- the shape of a room with so many gauges and passes
 abbrev pub room_shape : ℕ → ℕ → Shape

@@ -46,6 +46,9 @@
 //! `Keeps`, `GoesListing`, `HasReadAll` and their like (`specs/Listed.antt`), each of which says which steps the seat made.
 #![tactic(auto)]
 
+mod closing;
+mod crossing;
+mod holding;
 mod locks;
 mod making;
 mod outcome;
@@ -57,12 +60,15 @@ mod registering;
 mod room;
 mod settling;
 mod source;
+mod still;
 
+pub use closing::StillRoom;
 pub use outcome::{Done, Registered};
 pub use pass::RoomPass;
 pub use room::{Room, RoomParts};
 pub use room_core::How;
 pub use source::Source;
+pub use still::RoomEnd;
 
 #[cfg(test)]
 mod examples;

@@ -46,7 +46,7 @@ impl Model for Locks {
     ghost invariant = { λ l. length l.shards.items ≡ 16 };
 }
 
-/// A pass's turns: a pass of each lock, none of which has a turn out.
+/// A pass's turns: a pass of each lock. Between any two calls none of them has a turn out: else the view wouldn't show the lock's name.
 #[derive(Drop)]
 pub(crate) struct Keys {
     pub(crate) shards: Vec<TurnPass<ShardDesk>>,
@@ -56,13 +56,13 @@ pub(crate) struct Keys {
 impl Model for Keys {
     ghost use Rattle.std.specs.Prelude.{List};
     ghost use Rattle.purgatory.specs.Rooms.{LockView};
-    ghost use Rattle.purgatory.specs.Turning.{AreReady, key_views};
+    ghost use Rattle.purgatory.specs.Turning.{AreKeys, key_views};
 
     ghost Value = { List LockView };
 
     ghost view = { λ k. key_views k.shards.items k.clock };
 
-    ghost invariant = { λ k. AreReady k.shards.items k.clock };
+    ghost invariant = { λ k. AreKeys k.shards.items k.clock };
 }
 
 // The desk has scanned the gauge, in this turn.

@@ -80,6 +80,17 @@ pub(crate) fn behind_locks(
     Ok((Locks { shards, clock }, keys))
 }
 
+/// So many zeros.
+pub(crate) fn no_wins(alloc: Global, winners: u32) -> Result<List<u64>, NoMemory>
+    ensures { IfOk result (λ wins. length wins ≡ winners) }
+{
+    let mut wins = List::new(alloc);
+    for _ in 0..winners {
+        wins.push(0)?;
+    }
+    Ok(wins)
+}
+
 // A row of no passes, for each pass of the room.
 fn empty_rows(alloc: Global, passes: u32) -> Result<List<List<TurnPass<ShardDesk>>>, NoMemory>
     ensures { IfOk result (λ rows. (length rows ≡ passes) × All (IsKeyring []) rows) }

@@ -1,5 +1,5 @@
 //! A pass as the owner of its operation: its seat, and what it keeps beside it.
-ghost use Rattle.std.specs.Prelude.{◌≡◌, ◌≢◌, ◌≤◌, ◌<◌, ◌-◌, ◌^◌, ◌↔◌, ℕ, [], IfOk, IsTrue};
+ghost use Rattle.std.specs.Prelude.{◌≡◌, ◌≢◌, ◌≤◌, ◌<◌, ◌-◌, ◌^◌, ◌↔◌, ℕ, [], IfOk, IsTrue, length};
 ghost use Rattle.room_core.specs.declared.event.How.{How as Way};
 ghost use Rattle.room_core.specs.declared.parts.Session.{Session as SessionWord};
 ghost use Rattle.room_core.specs.declared.parts.Stage.TheVariants.{Checking, Idle, Listing};
@@ -22,12 +22,15 @@ use std::marker::Model;
 use std::sync::Wait;
 use std::time::Duration;
 
-/// A pass's seat, its number, the generation of its operation, and by gauge up to which value it owes a scan, 0 for none.
+/// A pass's seat, its number, the generation of its operation, how many operations it has won and of how many it has taken the end, and by
+/// gauge up to which value it owes a scan, 0 for none.
 #[derive(Drop)]
 pub(crate) struct Owner {
     seat: CallerSeat,
     number: u32,
     generation: u32,
+    wins: u32,
+    taken: u32,
     owed: Vec<u64>,
 }
 
@@ -39,7 +42,7 @@ impl Model for Owner {
 
     ghost view = { λ o. o.seat };
 
-    ghost invariant = { λ o. IsOwner o.number o.generation o.owed.items o.seat };
+    ghost invariant = { λ o. IsOwner o.number o.generation o.wins o.taken o.owed.items o.seat };
 }
 
 impl Owner {
@@ -59,6 +62,8 @@ impl Owner {
             seat,
             number,
             generation: 0,
+            wins: 0,
+            taken: 0,
             owed,
         })
     }
@@ -68,6 +73,35 @@ impl Owner {
         ensures there { IsPass self.now.table.shape result }
     {
         self.number
+    }
+
+    /// How many operations it has won.
+    pub(crate) fn wins(&self) -> u32
+        ensures { result ≡ length (caller_now self.now).wins }
+    {
+        self.wins
+    }
+
+    /// Of how many operations it has taken the end.
+    pub(crate) fn taken(&self) -> u32
+        ensures { result ≡ length (caller_now self.now).taken }
+    {
+        self.taken
+    }
+
+    /// The pass's seat, for the close of the table.
+    pub(crate) fn into_seat(self) -> CallerSeat
+        ensures { result ≡ self }
+    {
+        let Owner {
+            seat,
+            number: _,
+            generation: _,
+            wins: _,
+            taken: _,
+            owed: _,
+        } = self;
+        seat
     }
 
     /// A mark of its operation.
@@ -183,7 +217,9 @@ impl Owner {
         requires may { IsWon self.old.table.shape how (caller_now self.old).description (caller_now self.old).readings }
         ensures { (found : SessionWord) × (self.new ≡ caller_did self.old (Won how found)) }
     {
-        table.win(&mut self.seat, self.number, how);
+        if table.win(&mut self.seat, self.number, how) {
+            self.wins += 1;
+        }
     }
 
     /// Sleeps while its session word is open, for no longer than this.
@@ -204,6 +240,7 @@ impl Owner {
             return None;
         };
         table.idle(&mut self.seat);
+        self.taken += 1;
         Some(Done { how, by })
     }
 }

@@ -3,7 +3,7 @@ ghost use Rattle.room_table.specs.Handed.{fresh_sources};
 ghost use Rattle.purgatory.specs.Rooms.{fresh_passes, room_shape};
 
 use crate::locks::Locks;
-use crate::making::{behind_locks, quiet_sources, room_passes};
+use crate::making::{behind_locks, no_wins, quiet_sources, room_passes};
 use crate::pass::RoomPass;
 use crate::source::Source;
 use kbytes::{List, NoMemory};
@@ -18,17 +18,19 @@ pub struct Room {
     pub(crate) table: RoomTable,
     pub(crate) locks: Locks,
     pub(crate) shape: Shape,
+    // by winner, for `still` to note there how many exchanges each has won
+    pub(crate) wins: List<u64>,
 }
 
 impl Model for Room {
-    ghost use Rattle.std.specs.Prelude.{◌≡◌};
-    ghost use Rattle.purgatory.specs.Rooms.{IsRoom, RoomView};
+    ghost use Rattle.std.specs.Prelude.{◌≡◌, length};
+    ghost use Rattle.purgatory.specs.Rooms.{IsRoom, RoomView, winners};
 
     ghost Value = { RoomView };
 
     ghost view = { λ r. record { table = r.table; locks = r.locks } };
 
-    ghost invariant = { λ r. (r.shape ≡ r.table.shape) × IsRoom r.table r.locks };
+    ghost invariant = { λ r. (r.shape ≡ r.table.shape) × IsRoom r.table r.locks × (length r.wins ≡ winners r.table) };
 }
 
 /// A room, as it is made.
@@ -63,6 +65,7 @@ impl Room {
             scanners,
         } = RoomTable::make(alloc, shape)?;
         let (locks, keys) = behind_locks(alloc, scanners, shape)?;
+        let wins = no_wins(alloc, SCANNER_NUMBERS + passes)?;
         let sources = quiet_sources(alloc, sources)?;
         let passes = room_passes(alloc, callers, keys, shape)?;
         Ok(RoomParts {
@@ -70,6 +73,7 @@ impl Room {
                 table,
                 locks,
                 shape,
+                wins,
             },
             sources,
             passes,

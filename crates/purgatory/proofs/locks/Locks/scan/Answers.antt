@@ -1,5 +1,4 @@
-use Rattle.std.proofs.Common.{◌∙◌, ◌%◌, ◌-◌, ◌<◌, List, ap, arith, subst, sym}
-use Rattle.turn_lock.specs.Locks.{IsReady}
+use Rattle.std.proofs.Common.{◌∙◌, ◌%◌, ◌-◌, List, ap, arith, subst, sym}
 use Rattle.room_core.specs.declared.shape.Shape.{Shape}
 use Rattle.purgatory.specs.Rooms.{AreNamed, LockView}
 use Rattle.purgatory.proofs.Doors.{shard_belongs, shard_named, shard_of, shard_turned}
@@ -10,15 +9,9 @@ scan_shard-requires-clause-key g c =
     let locks = c.self.inside in
     let keys = c.keys.inside in
     let same = c.keys.view_is ∙ c.requires.keys ∙ sym c.self.view_is in
-    let k = c.args.gauge % 16 in
-    let less : k < 16 = omega arith in
-    let key = c.index_mut.result.now in
-    let has = c.index_mut.ensures.value in
-    let ready = c.keys.invariant in
-    let size = ready.all in (
-      shard_belongs locks.shards.items locks.clock keys.shards.items keys.clock same c.self.invariant ready k c.index.result.now key less c.index.ensures has,
-      subst IsReady (sym has) (ready.each k key (omega (arith, less, size))),
-    )
+    let named = subst (λ (xs : List LockView). AreNamed c.args.table.now xs) (sym c.self.view_is) c.requires.room.named in
+    shard_belongs c.args.table.now locks.shards.items locks.clock keys.shards.items keys.clock same c.self.invariant named c.keys.invariant (c.args.gauge % 16) c.index.result.now c.index_mut.result.now
+    (omega arith) c.index.ensures c.index_mut.ensures.value
 
 pub scan_shard-requires-clause-name : goal.scan_shard-requires-clause-name
 scan_shard-requires-clause-name g c =
@@ -36,5 +29,6 @@ returns g c =
     let locks = c.self.inside in
     let keys = c.keys.inside in
     let same = c.keys.view_is ∙ c.requires.keys ∙ sym c.self.view_is in
-    (shard_turned locks.shards.items locks.clock keys.shards.items keys.clock same c.self.invariant c.keys.invariant (c.args.gauge % 16) c.index.result.now c.index_mut.result.now c.scan_shard.new.key
+    let named = subst (λ (xs : List LockView). AreNamed c.args.table.now xs) (sym c.self.view_is) c.requires.room.named in
+    (shard_turned c.args.table.now locks.shards.items locks.clock keys.shards.items keys.clock same c.self.invariant named c.keys.invariant (c.args.gauge % 16) c.index.result.now c.index_mut.result.now c.scan_shard.new.key
     (omega arith) c.index.ensures c.index_mut.ensures.value c.scan_shard.ensures).0 ∙ c.keys.view_is

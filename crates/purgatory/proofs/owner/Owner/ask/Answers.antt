@@ -23,6 +23,6 @@ invariant_of-self c =
     let gauge = c.requires.gauge in
     let gauges = ap (λ (v : CallerView). v.table.shape.gauges) c.self.view_is in
     let owed = c.index-owed.ensures ∙ get_or_default i.owed.items c.args.gauge _ 0 (omega (arith, size, gauge, gauges)) in
-    owner_asks i.number i.generation i.owed.items c.read-value.new.who c.ask.new.caller c.args.gauge c.read-value.result c.max.result
-    (owner_reads i.number i.generation i.owed.items i.seat c.read-value.new.who c.args.gauge c.read-value.result c.self.invariant c.read-value.ensures.step)
+    owner_asks i.number i.generation i.wins i.taken i.owed.items c.read-value.new.who c.ask.new.caller c.args.gauge c.read-value.result c.max.result
+    (owner_reads i.number i.generation i.wins i.taken i.owed.items i.seat c.read-value.new.who c.args.gauge c.read-value.result c.self.invariant c.read-value.ensures.step)
     c.ask.ensures (c.max.ensures ∙ ap (λ n. max n c.read-value.result) owed) (omega (arith, size, gauge, gauges))

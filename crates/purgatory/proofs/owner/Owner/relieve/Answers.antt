@@ -13,7 +13,7 @@ invariant_of-self c =
     let gauges = ap (λ (v : CallerView). v.table.shape.gauges) c.self.view_is in
     let owed = c.index-owed.ensures ∙ get_or_default i.owed.items c.args.gauge _ 0 (omega (arith, size, gauge, gauges)) in
     let more = c.if-owed-relieve.true in
-    owner_still i.number i.generation i.owed.items i.seat c.relieve.new.caller c.args.gauge c.relieve.result c.self.invariant c.relieve.ensures (omega (arith, owed, more))
+    owner_still i.number i.generation i.wins i.taken i.owed.items i.seat c.relieve.new.caller c.args.gauge c.relieve.result c.self.invariant c.relieve.ensures (omega (arith, owed, more))
 
 pub returns-then-owed-relieve-clause-pays : goal.returns-then-owed-relieve-clause-pays
 returns-then-owed-relieve-clause-pays c =
@@ -27,7 +27,7 @@ invariant_of-self-2 c =
     let gauges = ap (λ (v : CallerView). v.table.shape.gauges) c.self.view_is in
     let owed = c.index-owed.ensures ∙ get_or_default i.owed.items c.args.gauge _ 0 (omega (arith, size, gauge, gauges)) in
     let paid = c.if-owed-relieve.false in
-    owner_paid i.number i.generation i.owed.items i.seat c.relieve.new.caller c.args.gauge c.relieve.result c.self.invariant c.relieve.ensures (omega (arith, owed, paid)) (omega (arith, size, gauge, gauges))
+    owner_paid i.number i.generation i.wins i.taken i.owed.items i.seat c.relieve.new.caller c.args.gauge c.relieve.result c.self.invariant c.relieve.ensures (omega (arith, owed, paid)) (omega (arith, size, gauge, gauges))
 
 pub returns-clause-pays : goal.returns-clause-pays
 returns-clause-pays c =
@@ -41,4 +41,4 @@ returns-clause-paid c _ =
     let gauges = ap (λ (v : CallerView). v.table.shape.gauges) c.self.view_is in
     let owed = c.index-owed.ensures ∙ get_or_default i.owed.items c.args.gauge _ 0 (omega (arith, size, gauge, gauges)) in
     let paid = c.if-owed-relieve.false in
-    relieves_paid i.number i.generation i.owed.items i.seat c.relieve.new.caller c.args.gauge c.relieve.result c.self.invariant c.relieve.ensures (omega (arith, owed, paid))
+    relieves_paid i.number i.generation i.wins i.taken i.owed.items i.seat c.relieve.new.caller c.args.gauge c.relieve.result c.self.invariant c.relieve.ensures (omega (arith, owed, paid))

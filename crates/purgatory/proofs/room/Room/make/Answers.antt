@@ -46,4 +46,5 @@ invariant_of-result c =
         scanners = all;
         named = named_so parts.table all c.in_ok-locks.locks (c.in_ok-locks.ensures.names ∙ ap names_of c.in_ok-table.ensures.scanners);
       },
+      c.in_ok-wins.ensures ∙ ap (λ (s : Shape). 17 + s.passes) (sym c.in_ok-table.ensures.shape),
     )

@@ -1,0 +1,66 @@
+//! A room that nobody can act on any more is closed.
+ghost use Rattle.std.specs.Prelude.{◌≡◌, All, length};
+ghost use Rattle.purgatory.specs.Closed.{IsClosed};
+ghost use Rattle.purgatory.specs.Ends.{seats_of};
+ghost use Rattle.purgatory.specs.Still.{IsReadyToKeep};
+
+use crate::pass::RoomPass;
+use crate::source::Source;
+use kbytes::List;
+use room_core::SCANNER_NUMBERS;
+use room_table::Closing;
+use std::marker::Model;
+
+/// A room that nobody can act on any more: everything that was won was taken. It keeps how many operations each winner has won.
+#[derive(Drop)]
+pub struct StillRoom {
+    closing: Closing,
+    wins: List<u64>,
+}
+
+impl Model for StillRoom {
+    ghost use Rattle.purgatory.specs.Ends.{StillView};
+    ghost use Rattle.purgatory.specs.Still.{IsKept, still_view};
+
+    ghost Value = { StillView };
+
+    ghost view = { λ r. still_view r.closing };
+
+    ghost invariant = { λ r. IsKept r.closing r.wins };
+}
+
+impl StillRoom {
+    /// The room whose scanners' seats are back, once its passes' are too.
+    pub(crate) fn of(
+        mut closing: Closing,
+        mut passes: List<RoomPass>,
+        mut wins: List<u64>,
+    ) -> StillRoom
+        requires back { IsReadyToKeep closing passes wins }
+        ensures { result ≡ record { table = closing.table; callers = seats_of passes; scanners = closing.scanners } }
+    {
+        while let Some(pass) = passes.pop() {
+            let RoomPass { owner, keys: _ } = pass;
+            let at = (SCANNER_NUMBERS + owner.number()) as usize;
+            wins.as_mut_slice()[at] = u64::from(owner.wins());
+            closing.take_caller(owner.into_seat());
+        }
+        StillRoom { closing, wins }
+    }
+
+    /// Closes the room: answers how many exchanges each winner has won, by the winners' numbers. The shards' scanners come first, then
+    /// the clock's, whose number is 16, and then the passes, whose numbers are 17 and their own.
+    pub fn close(self, mut sources: List<Source>) -> List<u64>
+        requires all { length sources ≡ self.table.shape.gauges }
+        requires made { All (λ source. source.table ≡ self.table) sources }
+        ensures { IsClosed self sources result }
+    {
+        let StillRoom { mut closing, wins } = self;
+        while let Some(source) = sources.pop() {
+            let Source { seat, gauge: _ } = source;
+            closing.take_source(seat);
+        }
+        let _words = closing.close();
+        wins
+    }
+}

@@ -1,0 +1,97 @@
+//! Whether everything that was won was taken. Then nobody can act on the room any more.
+ghost use Rattle.std.specs.Prelude.{◌≡◌, ◌-◌, ◌<◌, ◌≤◌, ◌^◌, All, length};
+ghost use Rattle.room_core.specs.Numbers.{scanner_numbers};
+ghost use Rattle.purgatory.specs.Ended.{HasEnded};
+ghost use Rattle.purgatory.specs.Ends.{IsSettled, seats_of, taken_of, won_by_passes};
+ghost use Rattle.purgatory.specs.Holding.{IfUntaken, WereHeld};
+ghost use Rattle.purgatory.specs.Rooms.{IsRoom};
+
+use crate::closing::StillRoom;
+use crate::holding::{Count, Held};
+use crate::locks::Locks;
+use crate::pass::RoomPass;
+use crate::room::Room;
+use kbytes::List;
+use room_table::RoomTable;
+use std::sync::Wait;
+
+/// How a room ended.
+#[derive(Drop)]
+pub enum RoomEnd {
+    /// Everything that was won was taken. Nobody can act on the room any more.
+    Still(StillRoom),
+    /// More was won than the passes have taken: some of them has yet to look at its operation, by `Room::poll`. The room and the passes
+    /// are handed back as they were.
+    Untaken { room: Room, passes: List<RoomPass> },
+}
+
+// What the passes have won and taken.
+fn counted(passes: &[RoomPass]) -> Count
+    requires { length passes.now < 81 }
+    ensures won { result.won ≡ won_by_passes (seats_of passes.now) }
+    ensures taken { result.taken ≡ taken_of (seats_of passes.now) }
+    ensures few { result.taken < 2 ^ 64 - 1 }
+{
+    let mut won = 0;
+    let mut taken = 0;
+    for i in 0..passes.len() {
+        let pass = &passes[i];
+        won += u64::from(pass.owner.wins());
+        taken += u64::from(pass.owner.taken());
+    }
+    Count { won, taken }
+}
+
+// All turns are held, by the first pass.
+fn hold_all(
+    rt: &impl Wait,
+    locks: &Locks,
+    passes: &mut List<RoomPass>,
+    table: RoomTable,
+    wins: &mut List<u64>,
+    count: Count,
+) -> Held
+    requires room { IsRoom table locks.now }
+    requires some { 0 < length passes.old }
+    requires made { All (λ pass. pass.locks ≡ locks.now) passes.old }
+    requires wins { scanner_numbers ≤ length wins.old }
+    requires taken { count.taken < 2 ^ 64 - 1 }
+    ensures wins { length wins.new ≡ length wins.old }
+    ensures held { WereHeld table 0 count.won count.taken wins.new result }
+    ensures seats { seats_of passes.new ≡ seats_of passes.old }
+    ensures back { IfUntaken result (passes.new ≡ passes.old) }
+{
+    let first = &mut passes.as_mut_slice()[0];
+    locks.hold(rt, &mut first.keys, table, wins, count)
+}
+
+impl Room {
+    /// Whether everything that was won was taken, by `poll` and `register`. The turns of all locks are held together while that is counted,
+    /// and all passes are there. Then `Still`: nobody can act on the room any more, and who waits is not won. Else `Untaken`, with the room
+    /// and the passes as they were: look with each pass that waits, and ask again. It takes no memory.
+    pub fn still(self, rt: &impl Wait, mut passes: List<RoomPass>) -> RoomEnd
+        requires all { length passes ≡ self.table.shape.passes }
+        requires settled { All (IsSettled self) passes }
+        ensures { HasEnded self passes result }
+    {
+        let Room {
+            table,
+            locks,
+            shape,
+            mut wins,
+        } = self;
+        let count = counted(passes.as_slice());
+        match hold_all(rt, &locks, &mut passes, table, &mut wins, count) {
+            Held::Untaken(table) => RoomEnd::Untaken {
+                room: Room {
+                    table,
+                    locks,
+                    shape,
+                    wins,
+                },
+                passes,
+            },
+            Held::Still(closing) => RoomEnd::Still(StillRoom::of(closing, passes, wins)),
+        }
+    }
+}
