@@ -1,0 +1,206 @@
+-- The books of all passes come to a lawful account.
+use Rattle.std.proofs.Common.{◌≡◌, ℕ, zero, suc, ◌<◌, Bool, List, [], ◌∷◌, ◌++◌, length, map, Option, Some, None, unwrap_or, refl, sym, ap, subst, ◌∙◌, arith, inl, inr, append_assoc, append-nil}
+use Rattle.std.proofs.lemmas.Grind.{flat_map-append}
+use Rattle.std.specs.Prelude.{slice_get, count_by}
+use Rattle.std.specs.List.{AllByRecursion, flat_map}
+use Rattle.std.specs.List.Sorted.{IsStrictlyIncreasing}
+use Rattle.partlog.specs.declared.clock_event.ClockEvent.{ClockEvent}
+use Rattle.partlog.specs.History.{History}
+use Rattle.partlog.specs.Moment.{moment_of}
+use Rattle.partlog.specs.State.{PartState, state_of}
+use Rattle.audit.specs.declared.account.Account.{Account}
+use Rattle.audit.specs.declared.account.Call.{Call}
+use Rattle.audit.specs.declared.account.CallHow.{CallHow}
+use Rattle.audit.specs.declared.account.Point.{Point}
+use Rattle.audit.specs.declared.account.Transcript.{Transcript}
+use Rattle.audit.specs.Histories.{Owner, owners_of, points_of, calls_in, calls_of, call_of, all_calls, final_in}
+use Rattle.audit.specs.IsLawful.{IsLawful, FollowOn, is_point, is_won_by, places_in}
+use Rattle.audit.specs.LawfulCall.{Step, IsLawfulCall, Completes, final_of, operation_in, part_in, shown_at_last}
+use Rattle.audit.proofs.Laws.{get_there, some_is}
+use Rattle.kanswer.specs.Waiting.{Shown, values_of}
+use Rattle.kwire.specs.Configuration.{Configuration}
+use Rattle.opcond.specs.Operation.{Operation}
+use Rattle.opcond.specs.Tally.{IsAnswerable}
+use Rattle.plain_broker.specs.Board.{Waiting, history_at, part_account}
+use Rattle.plain_broker.specs.Completing.{present}
+use Rattle.plain_broker.specs.GoesOn.{GoesOn, the_owner}
+use Rattle.plain_broker.specs.Kept.{owners_at}
+use Rattle.plain_broker.specs.Sound.{IsWaiting}
+use Rattle.plain_broker.proofs.Laws.{goes_back}
+use Rattle.pass_books.specs.Book.{Book}
+use Rattle.pass_books.specs.IsBook.{IsBook, IsFinished, Stand, WaitsLast, with_call}
+use Rattle.pass_books.specs.Owned.{AreOwn}
+use Rattle.pass_books.specs.Together.{AreTogether, GoesWith, IsAnswerableIn, account_of, all_calls_in, shown_in}
+use Rattle.pass_books.specs.Told.{told}
+use Rattle.pass_books.proofs.Ending.{told_calls}
+use Rattle.pass_books.proofs.Growing.{account_goes_on, followers_map, owner_seen, owner_stands, owners_same, whole_logs}
+use Rattle.pass_books.proofs.Lists.{all_from_get, all_get, all_on, get_map, map_get, push_get}
+
+-- ---- the calls of a pass, as they are told
+
+pub flat_points : (calls : List Call) → flat_map (λ (points : List Point). points) (map points_of calls) ≡ flat_map points_of calls
+flat_points [] = refl
+flat_points (call ∷ calls) = ap (λ (points : List Point). points_of call ++ points) (flat_points calls)
+
+told_all : (books : List Book) → flat_map calls_in (map (λ book. map told book.transcripts) books) ≡ all_calls_in books
+told_all [] = refl
+told_all (book ∷ books) =
+    ap (λ (calls : List Call). calls ++ flat_map calls_in (map (λ b. map told b.transcripts) books)) (told_calls book.transcripts)
+    ∙ ap (λ (calls : List Call). calls_in book.transcripts ++ calls) (told_all books)
+
+-- the last call of the last transcript is the last of all
+pub calls_with : (front : List Transcript) (transcript : Transcript) (call : Call) → calls_in (with_call front transcript call) ≡ (calls_in front ++ transcript.calls) ++ call ∷ []
+calls_with front transcript call =
+    let last : Transcript = record transcript { calls = transcript.calls ++ call ∷ [] } in
+    flat_map-append (λ (t : Transcript). t.calls) front (last ∷ [])
+    ∙ ap (λ (calls : List Call). calls_in front ++ calls) (append-nil (transcript.calls ++ call ∷ []))
+    ∙ sym (append_assoc (calls_in front) transcript.calls (call ∷ []))
+
+-- ---- the last states
+
+last_state : (parts : List History) (p : ℕ) → final_in (slice_get (map part_account parts) p) ≡ state_of (history_at parts p)
+last_state [] p = refl
+last_state (k ∷ parts) zero = refl
+last_state (k ∷ parts) (suc p) = last_state parts p
+
+module _ (config : Configuration) (books : List Book) (waits : ℕ → Option Waiting) (finals : List History) (clock : List ClockEvent) (wins : List ℕ) (together : AreTogether config books waits finals clock wins) (each : (k : ℕ) (book : Book) → slice_get books k ≡ Some book → IsBook book (waits k)) where
+  abbrev account : Account
+  account = account_of config books finals clock wins
+
+  -- it goes on from what each pass saw
+  goes_on : (k : ℕ) (book : Book) → slice_get books k ≡ Some book → GoesOn book.config book.parts book.clock account
+  goes_on k book e =
+      let with_it = together.each k book e in
+      subst (λ (c : Configuration). GoesOn c book.parts book.clock account) (sym with_it.same)
+      (goes_back config book.parts finals book.clock clock account with_it.grown (account_goes_on config finals clock account refl refl refl))
+
+  calls_at : (k : ℕ) (book : Book) → slice_get books k ≡ Some book → calls_of account k ≡ calls_in book.transcripts
+  calls_at k book e =
+      ap (λ (o : Option (List Transcript)). calls_in (unwrap_or o [])) (map_get (λ (b : Book). map told b.transcripts) books k book e) ∙ told_calls book.transcripts
+
+  none_at : (k : ℕ) → slice_get books k ≡ None → calls_of account k ≡ []
+  none_at k none = ap (λ (o : Option (List Transcript)). calls_in (unwrap_or o [])) (none_map books k none)
+    where
+      none_map : (bs : List Book) (i : ℕ) → slice_get bs i ≡ None → slice_get (map (λ (b : Book). map told b.transcripts) bs) i ≡ None
+      none_map [] i e = refl
+      none_map (b ∷ bs) zero e = absurd cc
+      none_map (b ∷ bs) (suc i) e = none_map bs i e
+
+  -- the book in which a call stands
+  book_with : (pass seq : ℕ) (call : Call) → call_of account pass seq ≡ Some call → (book : Book) × (slice_get books pass ≡ Some book) × (slice_get (calls_in book.transcripts) seq ≡ Some call)
+  book_with pass seq call e = by_case (slice_get books pass) refl
+    where
+      by_case : (o : Option Book) → slice_get books pass ≡ o → (book : Book) × (slice_get books pass ≡ Some book) × (slice_get (calls_in book.transcripts) seq ≡ Some call)
+      by_case None is =
+          let nothing : slice_get [] seq ≡ Some call = sym (ap (λ (calls : List Call). slice_get calls seq) (none_at pass is)) ∙ e in
+          absurd cc
+      by_case (Some book) is = (book, is, sym (ap (λ (calls : List Call). slice_get calls seq) (calls_at pass book is)) ∙ e)
+
+  -- ---- entries
+
+  same_owners : (part : ℕ) → owners_of account part ≡ owners_at finals clock part
+  same_owners part = owners_same finals account refl part
+
+  -- the book of a pass that left an entry
+  book_of : (part place by seq : ℕ) → slice_get (owners_at finals clock part) place ≡ Some (the_owner by seq) → (book : Book) × (slice_get books by ≡ Some book)
+  book_of part place by seq there =
+      let nobody : Book = record { config = config; number = 0; parts = []; clock = []; transcripts = [] } in
+      (unwrap_or (slice_get books by) nobody, get_there books by nobody (together.known part place by seq there))
+
+  own_of : (k : ℕ) (book : Book) → slice_get books k ≡ Some book → AreOwn (owners_at book.parts book.clock) k (map points_of (calls_in book.transcripts))
+  own_of k book e = subst (λ (n : ℕ). AreOwn (owners_at book.parts book.clock) n (map points_of (calls_in book.transcripts))) (together.each k book e).number (each k book e).own
+
+  -- an entry that the pass itself saw
+  left_in : (book : Book) (part place by seq : ℕ) → slice_get books by ≡ Some book → slice_get (owners_at finals clock part) place ≡ Some (the_owner by seq)
+      → (call : Call) × (call_of account by seq ≡ Some call) × (count_by (is_point part place) (points_of call) ≡ 1)
+  left_in book part place by seq at there =
+      let with_it = together.each by book at in
+      let found = (own_of by book at).left part place seq (owner_seen book.parts finals book.clock clock with_it.grown part place (the_owner by seq) (with_it.within part place seq there) there) in
+      let call = get_map points_of (calls_in book.transcripts) seq found.0 found.1 in
+      (call.0, ap (λ (calls : List Call). slice_get calls seq) (calls_at by book at) ∙ call.1, ap (count_by (is_point part place)) call.2 ∙ found.2)
+
+  entry_left : (part place by seq : ℕ) → slice_get (owners_of account part) place ≡ Some (the_owner by seq)
+      → (call : Call) × (call_of account by seq ≡ Some call) × (count_by (is_point part place) (points_of call) ≡ 1)
+  entry_left part place by seq e =
+      let there : slice_get (owners_at finals clock part) place ≡ Some (the_owner by seq) = sym (ap (λ (os : List (Option Owner)). slice_get os place) (same_owners part)) ∙ e in
+      let book = book_of part place by seq there in
+      left_in book.0 part place by seq book.1 there
+
+  points_owned : (pass seq : ℕ) (call : Call) → call_of account pass seq ≡ Some call
+      → AllByRecursion (λ point. slice_get (owners_of account point.part) point.place ≡ Some (the_owner pass seq)) (points_of call)
+  points_owned pass seq call e =
+      let found = book_with pass seq call e in
+      let book = found.0 in
+      let with_it = together.each pass book found.1 in
+      all_on (λ (point : Point). slice_get (owners_at book.parts book.clock point.part) point.place ≡ Some (the_owner pass seq))
+      (λ (point : Point). slice_get (owners_of account point.part) point.place ≡ Some (the_owner pass seq))
+      (λ point is. ap (λ (os : List (Option Owner)). slice_get os point.place) (same_owners point.part)
+      ∙ owner_stands book.parts finals book.clock clock with_it.grown point.part point.place (the_owner pass seq) is)
+      (points_of call) ((own_of pass book found.1).points seq (points_of call) (map_get points_of (calls_in book.transcripts) seq call found.2))
+
+  nothing_rises : (part : ℕ) → IsStrictlyIncreasing (places_in part (flat_map points_of []))
+  nothing_rises part k lt = absurd (omega (arith, lt))
+
+  the_order : (pass part : ℕ) → IsStrictlyIncreasing (places_in part (flat_map points_of (calls_of account pass)))
+  the_order pass part = by_case (slice_get books pass) refl
+    where
+      by_case : (o : Option Book) → slice_get books pass ≡ o → IsStrictlyIncreasing (places_in part (flat_map points_of (calls_of account pass)))
+      by_case None is = subst (λ (calls : List Call). IsStrictlyIncreasing (places_in part (flat_map points_of calls))) (sym (none_at pass is)) (nothing_rises part)
+      by_case (Some book) is =
+          subst (λ (calls : List Call). IsStrictlyIncreasing (places_in part (flat_map points_of calls))) (sym (calls_at pass book is))
+          (subst (λ (points : List Point). IsStrictlyIncreasing (places_in part points)) (flat_points (calls_in book.transcripts)) ((each pass book is).own.order part))
+
+  -- ---- calls
+
+  last_present : (o : Option ℕ) → final_of account o ≡ present finals o
+  last_present None = refl
+  last_present (Some p) = last_state finals p
+
+  last_shown : (steps : List Step) → shown_at_last account steps ≡ shown_in finals steps
+  last_shown [] = refl
+  last_shown (step ∷ steps) =
+      ap (λ (s : PartState). record { result = step.result; state = s } ∷ shown_at_last account steps) (last_present (part_in step.result))
+      ∙ ap (λ (ss : List Shown). record { result = step.result; state = present finals (part_in step.result) } ∷ ss) (last_shown steps)
+
+  parked_lawful : (parts : List History) (seen : List ClockEvent) (w : Waiting) (call : Call) → GoesOn config parts seen account → IsWaiting config parts seen w call → (IsAnswerableIn finals clock w → ⊥) → IsLawfulCall account call
+  parked_lawful parts seen w call goes waits still =
+      let d = waits.delayed account goes in
+      let unanswerable : IsAnswerable (operation_in account w.request w.steps d.looks) (values_of w.request.ask (shown_at_last account w.steps)) (moment_of clock) → ⊥ =
+      λ answerable. still (subst (λ (ss : List Shown). IsAnswerable w.operation (values_of w.request.ask ss) (moment_of clock)) (last_shown w.steps)
+      (subst (λ (op : Operation). IsAnswerable op (values_of w.request.ask (shown_at_last account w.steps)) (moment_of clock)) d.operation answerable)) in
+      inl (record {
+        whole = record { request = w.request; steps = w.steps; looks = d.looks; accepted = d.accepted; entries = d.entries };
+        completed = subst (λ (how : CallHow). Completes account w.request w.steps d.looks call.finish how) (sym waits.how) (d.delayed, waits.unfinished, unanswerable);
+      })
+
+  stands_lawful : (book : Book) (o : Option Waiting) → book.config ≡ config → GoesOn book.config book.parts book.clock account → ((w : Waiting) → o ≡ Some w → IsAnswerableIn finals clock w → ⊥) → Stand book o
+      → (seq : ℕ) (call : Call) → slice_get (calls_in book.transcripts) seq ≡ Some call → IsLawfulCall account call
+  stands_lawful book None same goes still stand seq call e = (all_get (IsFinished book.config book.parts book.clock) (calls_in book.transcripts) seq call stand e).lawful account goes
+  stands_lawful book (Some w) same goes still stand seq call e =
+      let earlier = calls_in stand.front ++ stand.transcript.calls in
+      let calls : calls_in book.transcripts ≡ earlier ++ stand.call ∷ [] = ap calls_in stand.transcripts ∙ calls_with stand.front stand.transcript stand.call in
+      elim (push_get earlier stand.call call seq (sym (ap (λ (cs : List Call). slice_get cs seq) calls) ∙ e)) [
+        | inl front ↦ (all_get (IsFinished book.config book.parts book.clock) earlier seq call stand.earlier front).lawful account goes
+        | inr last ↦
+            let waits : IsWaiting config book.parts book.clock w stand.call = subst (λ (c : Configuration). IsWaiting c book.parts book.clock w stand.call) same stand.waits in
+            let on : GoesOn config book.parts book.clock account = subst (λ (c : Configuration). GoesOn c book.parts book.clock account) same goes in
+            subst (IsLawfulCall account) (sym last.1) (parked_lawful book.parts book.clock w stand.call on waits (still w refl))
+      ]
+
+  each_lawful : (pass seq : ℕ) (call : Call) → call_of account pass seq ≡ Some call → IsLawfulCall account call
+  each_lawful pass seq call e =
+      let found = book_with pass seq call e in
+      let with_it = together.each pass found.0 found.1 in
+      stands_lawful found.0 (waits pass) with_it.same (goes_on pass found.0 found.1) with_it.still (each pass found.0 found.1).calls seq call found.2
+
+  pub books_lawful : IsLawful account
+  books_lawful = record {
+    entries = record { left = entry_left; points = points_owned; ticks = together.histories.ticks };
+    order = the_order;
+    logs = record { followers = followers_map finals ∙ together.histories.followers; whole = whole_logs finals together.histories.whole };
+    calls = each_lawful;
+    wins = λ winner. together.counts winner ∙ ap (count_by (is_won_by winner)) (sym (told_all books));
+    ends = all_from_get (FollowOn 0) account.passes (λ k pass e.
+        let found = get_map (λ (b : Book). map told b.transcripts) books k pass e in
+        subst (FollowOn 0) found.2 (each k found.0 found.1).ends);
+  }

@@ -1,0 +1,135 @@
+-- What comes to one history between two turns of a pass is others', and what is known of all histories then.
+use Rattle.std.proofs.Common.{◌≡◌, ◌≢◌, ℕ, zero, suc, ◌+◌, ◌-◌, ◌≤◌, ◌<◌, Bool, true, false, cond, eqb, List, [], ◌∷◌, ◌++◌, length, map, filter, set, Option, Some, None, refl, sym, ap, subst, ◌∙◌, arith, inl, inr, append-nil, length-append, eq-eqb}
+use Rattle.std.proofs.lemmas.Bool.{cases_lt}
+use Rattle.std.proofs.lemmas.List.{length-set, map-append}
+use Rattle.std.proofs.lemmas.List.Elements.{filter-append}
+use Rattle.std.proofs.lemmas.Option.{slice_get_past, slice_get_within}
+use Rattle.std.specs.Prelude.{slice_get}
+use Rattle.std.specs.List.{AllByRecursion}
+use Rattle.std.specs.List.Sorted.{IsStrictlyIncreasing}
+use Rattle.partlog.specs.declared.clock_event.ClockEvent.{ClockEvent}
+use Rattle.partlog.specs.declared.event.PartEvent.{PartEvent}
+use Rattle.partlog.specs.History.{History}
+use Rattle.audit.specs.Histories.{Owner, owner_of, clock_owner_of, ticks_of}
+use Rattle.audit.proofs.Laws.{same_or_not, get_behind, get_set_same, get_set_other, some_is}
+use Rattle.kwire.specs.Configuration.{Configuration}
+use Rattle.plain_broker.specs.GoesOn.{HaveGrown, IsWhole, Longer, the_owner}
+use Rattle.plain_broker.specs.Kept.{owners_here, owners_at}
+use Rattle.plain_broker.specs.Sound.{AreHistories}
+use Rattle.plain_broker.proofs.Laws.{set_same, set_whole}
+use Rattle.pass_books.specs.Owned.{NotOf, OthersAlone, OwnWithin}
+use Rattle.pass_books.proofs.Lists.{all_get}
+
+-- ---- entries of others
+
+-- as many entries of a pass as were seen: so none of it stands behind
+pub others_behind : {E : Type 0} (by : E → ℕ) (number : ℕ) (seen more : List E) → filter (λ e. eqb (by e) number) (seen ++ more) ≡ filter (λ e. eqb (by e) number) seen → AllByRecursion (λ e. by e ≢ number) more
+others_behind {E = E} by number seen more same =
+    let split : filter (λ e. eqb (by e) number) seen ++ filter (λ e. eqb (by e) number) more ≡ filter (λ e. eqb (by e) number) seen = sym (filter-append (λ (e : E). eqb (by e) number) seen more) ∙ same in
+    none_left more (no_more (filter (λ e. eqb (by e) number) seen) (filter (λ e. eqb (by e) number) more) split)
+  where
+    no_more : (xs ys : List E) → xs ++ ys ≡ xs → ys ≡ []
+    no_more xs [] e = refl
+    no_more xs (y ∷ ys) e = absurd (omega (arith, length-append xs (y ∷ ys), ap length e))
+    none_left : (es : List E) → filter (λ e. eqb (by e) number) es ≡ [] → AllByRecursion (λ e. by e ≢ number) es
+    none_left [] none = tt
+    none_left (e ∷ es) none = by_test (eqb (by e) number) refl none (none_left es)
+      where
+        by_test : (b : Bool) → eqb (by e) number ≡ b → cond b (e ∷ filter (λ x. eqb (by x) number) es) (filter (λ x. eqb (by x) number) es) ≡ []
+            → (filter (λ x. eqb (by x) number) es ≡ [] → AllByRecursion (λ x. by x ≢ number) es) → (by e ≢ number) × AllByRecursion (λ x. by x ≢ number) es
+        by_test true is f on = absurd cc
+        by_test false is f on = (λ same_pass. let yes : eqb (by e) number ≡ true = eq-eqb (by e) number same_pass in absurd (cc (yes, is)), on f)
+
+-- entries behind those that were seen: where none is the pass's, its entries lie within what it saw
+within_front : (number : ℕ) (seen more : List (Option Owner)) → AllByRecursion (NotOf number) more → (place seq : ℕ) → slice_get (seen ++ more) place ≡ Some (the_owner number seq) → place < length seen
+within_front number seen more others place seq e =
+    elim (cases_lt place (length seen)) [
+      | inl lt ↦ lt
+      | inr past ↦
+          let at : length seen + (place - length seen) ≡ place = omega (arith, past) in
+          let behind : slice_get more (place - length seen) ≡ Some (the_owner number seq) =
+          sym (get_behind seen more (place - length seen)) ∙ ap (slice_get (seen ++ more)) at ∙ e in
+          absurd (all_get (NotOf number) more (place - length seen) (the_owner number seq) others behind seq refl)
+    ]
+
+owners_of_others : {X : Type 0} (owner : X → Option Owner) (number : ℕ) (events : List X) → AllByRecursion (λ event. NotOf number (owner event)) events → AllByRecursion (NotOf number) (map owner events)
+owners_of_others owner number [] others = tt
+owners_of_others owner number (event ∷ events) others = (others.0, owners_of_others owner number events others.1)
+
+-- ---- histories go on by others' entries
+
+pub others_grown : (number : ℕ) (parts later : List History) (clock behind : List ClockEvent) → OthersAlone number parts clock later behind → HaveGrown parts clock later behind
+others_grown number parts later clock behind came = record {
+  each = λ p h e. let l = came.each p h e in (l.0, l.1, l.2);
+  more = came.more;
+  events = came.events;
+}
+
+none_past : (hs : List History) (i : ℕ) → slice_get hs i ≡ None → length hs ≤ i
+none_past [] i none = omega arith
+none_past (h ∷ hs) zero none = absurd cc
+none_past (h ∷ hs) (suc i) none = omega (arith, none_past hs i none)
+
+pub others_within : (number : ℕ) (parts later : List History) (clock behind : List ClockEvent) → OthersAlone number parts clock later behind → length later ≡ length parts → OwnWithin number parts clock later behind
+others_within number parts later clock behind came size part place seq e = by_test (eqb part 64) (slice_get parts part) refl e
+  where
+    by_test : (b : Bool) (o : Option History) → slice_get parts part ≡ o → slice_get (cond b (map clock_owner_of behind) (owners_here (slice_get later part))) place ≡ Some (the_owner number seq)
+        → place < length (cond b (map clock_owner_of clock) (owners_here o))
+    by_test true o is f =
+        let all : map clock_owner_of behind ≡ map clock_owner_of clock ++ map clock_owner_of came.more = ap (map clock_owner_of) came.events ∙ map-append clock_owner_of clock came.more in
+        within_front number (map clock_owner_of clock) (map clock_owner_of came.more) (owners_of_others clock_owner_of number came.more came.others) place seq
+        (sym (ap (λ (os : List (Option Owner)). slice_get os place) all) ∙ f)
+    by_test false None is f =
+        let past : length parts ≤ part = none_past parts part is in
+        let none : slice_get later part ≡ None = slice_get_past later part (omega (arith, past, size)) in
+        let nothing : slice_get [] place ≡ Some (the_owner number seq) = sym (ap (λ (o : Option History). slice_get (owners_here o) place) none) ∙ f in
+        absurd cc
+    by_test false (Some h) is f =
+        let l = came.each part h is in
+        let all : map owner_of l.0.events ≡ map owner_of h.events ++ map owner_of l.2.more = ap (map owner_of) l.2.events ∙ map-append owner_of h.events l.2.more in
+        within_front number (map owner_of h.events) (map owner_of l.2.more) (owners_of_others owner_of number l.2.more l.3) place seq
+        (sym (ap (λ (os : List (Option Owner)). slice_get os place) all) ∙ sym (ap (λ (o : Option History). slice_get (owners_here o) place) l.1) ∙ f)
+
+-- ---- the turn of one partition, or of the clock
+
+-- nothing came to it
+abbrev as_it_was : (h : History) → Longer h h
+as_it_was h = record { followers = refl; more = []; bytes = []; events = sym (append-nil h.events); log = sym (append-nil h.log) }
+
+-- one partition's history went on by others' entries
+pub part_came : (number : ℕ) (parts : List History) (clock : List ClockEvent) (p : ℕ) (h later : History) → slice_get parts p ≡ Some h → (longer : Longer h later)
+    → AllByRecursion (λ event. NotOf number (owner_of event)) longer.more → OthersAlone number parts clock (set parts p later) clock
+part_came number parts clock p h later there longer others = record {
+  each = λ q k e. elim (same_or_not q p) [
+    | inl same ↦
+        let is : h ≡ k = some_is h k (sym there ∙ sym (ap (slice_get parts) same) ∙ e) in
+        let at : slice_get (set parts p later) q ≡ Some later = ap (slice_get (set parts p later)) same ∙ get_set_same parts p later (slice_get_within parts p h there) in
+        subst (λ (x : History). (l : History) × (slice_get (set parts p later) q ≡ Some l) × (longer : Longer x l) × AllByRecursion (λ event. NotOf number (owner_of event)) longer.more) is (later, at, longer, others)
+    | inr other ↦ (k, get_set_other parts p q later other ∙ e, as_it_was k, tt)
+  ];
+  more = [];
+  events = sym (append-nil clock);
+  others = tt;
+}
+
+-- the clock's did
+pub clock_came : (number : ℕ) (parts : List History) (clock more : List ClockEvent) → AllByRecursion (λ event. NotOf number (clock_owner_of event)) more → OthersAlone number parts clock parts (clock ++ more)
+clock_came number parts clock more others = record {
+  each = λ p h e. (h, e, as_it_was h, tt);
+  more = more;
+  events = refl;
+  others = others;
+}
+
+-- the partition's log is that of its entries, as its lock keeps it
+pub part_histories : (config : Configuration) (parts : List History) (clock : List ClockEvent) (p : ℕ) (h later : History) → slice_get parts p ≡ Some h → IsWhole later → later.followers ≡ h.followers
+    → AreHistories config parts clock → AreHistories config (set parts p later) clock
+part_histories config parts clock p h later there whole followers histories = record {
+  whole = set_whole parts p later histories.whole (slice_get_within parts p h there) whole;
+  few = omega (arith, histories.few, length-set parts p later);
+  followers = set_same (λ (x : History). x.followers) parts p h later there followers ∙ histories.followers;
+  ticks = histories.ticks;
+}
+
+pub clock_histories : (config : Configuration) (parts : List History) (clock behind : List ClockEvent) → IsStrictlyIncreasing (0 ∷ ticks_of behind) → AreHistories config parts clock → AreHistories config parts behind
+clock_histories config parts clock behind ticks histories = record { whole = histories.whole; few = histories.few; followers = histories.followers; ticks = ticks }

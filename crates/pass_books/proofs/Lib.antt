@@ -1,0 +1,22 @@
+-- items of lists, and what holds of all of them
+mod Lists
+-- what stays as histories go on
+mod Growing
+-- how transcripts follow on, and calls end
+mod Ending
+-- the books of all passes come to a lawful account
+mod Closing
+-- which entries are a pass's own, as entries come
+mod Owning
+-- a book amid a call
+mod Underways
+-- a call is accepted
+mod Acceptings
+-- a delayed request asks some partition
+mod Asking
+-- a delayed call comes to its end
+mod Finishings
+-- how many of a book's calls each winner completed
+mod Winning
+-- what comes between two turns of a pass
+mod Coming
