@@ -18,7 +18,7 @@ use Rattle.audit.specs.declared.account.CallHow.TheVariants.{Quiet, AtOnce, Park
 use Rattle.audit.specs.declared.account.Point.{Point}
 use Rattle.audit.specs.declared.account.Transcript.{Transcript}
 use Rattle.audit.specs.Histories.{moment_at, points_of, ticks_of}
-use Rattle.audit.specs.LawfulCall.{Step, Completes, IsAcceptance, IsStep, LooksAtClock, is_delayed, operation_parts, part_in, shown_as_accepted, shown_at, step_points}
+use Rattle.audit.specs.LawfulCall.{Step, Completes, IsAcceptance, IsAccepted, IsStep, LooksAtClock, is_delayed, operation_parts, part_in, shown_as_accepted, shown_at, step_points}
 use Rattle.audit.proofs.Laws.{all_append, get_there}
 use Rattle.kanswer.specs.Decisions.{Decision, Refuse, AskLog, Decides}
 use Rattle.kanswer.specs.Waiting.{Shown, becomes_delayed, is_quiet, operation_of, results_of}
@@ -257,7 +257,7 @@ never_parked true e = absurd cc
 never_parked false e = absurd cc
 
 module _ (u : Underway) (request : Request) (decisions : List Decision) (noted : List Noted) (h : IsAccepting u request decisions (length decisions) noted) where
-  accepted_whole : (account : Account) → GoesOn u.config u.parts u.clock account → IsAcceptance account u.call.frame request (steps_of noted)
+  pub accepted_whole : (account : Account) → GoesOn u.config u.parts u.clock account → IsAcceptance account u.call.frame request (steps_of noted)
   accepted_whole account on = record {
     asked = h.asked;
     decisions = decisions;
@@ -265,23 +265,29 @@ module _ (u : Underway) (request : Request) (decisions : List Decision) (noted :
     each = subst (λ (ds : List Decision). AllZip (IsStep account) ds (steps_of noted)) (take-length decisions) (h.each account on);
   }
 
-  -- it isn't delayed, and is answered at once
+  -- it isn't delayed
+  abbrev pub accepted_in : becomes_delayed request.ask (shown_of noted) ≡ false → (account : Account) → GoesOn u.config u.parts u.clock account → IsAccepted account u.call
+  accepted_in at_once account on =
+      let undelayed : is_delayed account request (steps_of noted) ≡ false = ap (becomes_delayed request.ask) (h.shown account on) ∙ at_once in
+      record {
+        request = request;
+        steps = steps_of noted;
+        looks = [];
+        accepted = accepted_whole account on;
+        entries = record {
+          points = h.points ∙ sym (append-nil (step_points (steps_of noted)));
+          clock = subst (λ (b : Bool). LooksAtClock account b []) (sym undelayed) refl;
+        };
+      }
+
+  -- and is answered at once
   pub answered_book : becomes_delayed request.ask (shown_of noted) ≡ false → u.call.how ≡ how_at_once request.ask → IsBook (book_amid u) None
   answered_book at_once how = amid_book u h.underway (record {
     unparked = λ parked. never_parked (is_quiet request.ask) (sym how ∙ parked);
     lawful = λ account on.
         let undelayed : is_delayed account request (steps_of noted) ≡ false = ap (becomes_delayed request.ask) (h.shown account on) ∙ at_once in
         inl (record {
-          whole = record {
-            request = request;
-            steps = steps_of noted;
-            looks = [];
-            accepted = accepted_whole account on;
-            entries = record {
-              points = h.points ∙ sym (append-nil (step_points (steps_of noted)));
-              clock = subst (λ (b : Bool). LooksAtClock account b []) (sym undelayed) refl;
-            };
-          };
+          whole = accepted_in at_once account on;
           completed = subst (λ (end : CallHow). Completes account request (steps_of noted) [] u.call.finish end) (sym how)
               (subst (λ (ps : List Point). Completes account request (steps_of noted) [] ps (how_at_once request.ask)) (sym h.unfinished)
               (completes account request (steps_of noted) (is_quiet request.ask) refl undelayed));

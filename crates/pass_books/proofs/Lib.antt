@@ -1,3 +1,5 @@
+-- what the crates above may cite
+pub mod Laws
 -- items of lists, and what holds of all of them
 mod Lists
 -- what stays as histories go on
@@ -8,6 +10,10 @@ mod Ending
 mod Closing
 -- which entries are a pass's own, as entries come
 mod Owning
+-- the book of a pass that has done nothing
+mod Opening
+-- what comes between two turns of a pass
+mod Coming
 -- a book amid a call
 mod Underways
 -- a call is accepted
@@ -16,7 +22,7 @@ mod Acceptings
 mod Asking
 -- a delayed call comes to its end
 mod Finishings
+-- the reply of a call
+mod Replying
 -- how many of a book's calls each winner completed
 mod Winning
--- what comes between two turns of a pass
-mod Coming

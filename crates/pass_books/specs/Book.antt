@@ -1,9 +1,10 @@
 -- The book of a pass: what it has seen, and what it did.
-use Rattle.std.specs.Prelude.{ℕ, List}
+use Rattle.std.specs.Prelude.{ℕ, List, [], map}
 use Rattle.partlog.specs.declared.clock_event.ClockEvent.{ClockEvent}
 use Rattle.partlog.specs.History.{History}
 use Rattle.audit.specs.declared.account.Transcript.{Transcript}
-use Rattle.kwire.specs.Configuration.{Configuration}
+use Rattle.kwire.specs.Configuration.{Configuration, followers_of}
+use Rattle.plain_broker.specs.Board.{empty_history}
 
 pub record Book : Type 0 where
   pub config : Configuration
@@ -14,3 +15,7 @@ pub record Book : Type 0 where
   pub clock : List ClockEvent
   -- in the order in which they were begun
   pub transcripts : List Transcript
+
+-- of a pass that has seen nothing and done nothing
+abbrev pub opening_book : Configuration → ℕ → Book
+opening_book config number = record { config = config; number = number; parts = map empty_history (followers_of config.topics); clock = []; transcripts = [] }

@@ -1,0 +1,26 @@
+-- What the crates above may cite.
+
+-- ---- a book
+
+-- that of a pass that has done nothing, and how it goes on between calls
+pub use Rattle.pass_books.proofs.Opening.{opened}
+pub use Rattle.pass_books.proofs.Underways.{begun, ended, others_came}
+-- what comes between two turns of a pass is others'
+pub use Rattle.pass_books.proofs.Coming.{clock_came, clock_histories, others_behind, others_grown, others_within, part_came, part_histories}
+pub use Rattle.pass_books.proofs.Growing.{as_many, owner_seen, owner_stands}
+-- ---- amid a call
+
+-- its number, and with its end told otherwise
+pub use Rattle.pass_books.proofs.Underways.{is_seq, others_underway, seq_is, underway_as}
+-- it is written down, accepted decision by decision, answered at once or delayed, or cut off
+pub use Rattle.pass_books.proofs.Acceptings.{accepting_as, accepting_cut, accepting_delayed, accepting_on, answered_book, called_accepting, others_accepting}
+-- it waits, is won, looks at the clock and the partitions, and is satisfied or expires, or is cut off
+pub use Rattle.pass_books.proofs.Finishings.{delayed_as, delayed_cut, delayed_parked, others_delayed, waits_delayed}
+pub use Rattle.pass_books.proofs.Finishings.{finishing_as, finishing_cut, finishing_expired, finishing_late, finishing_on, finishing_satisfied, finishing_won, others_finishing, shown_completed}
+-- its reply
+pub use Rattle.pass_books.proofs.Replying.{answered_reply, expired_reply, satisfied_reply}
+-- how many calls each winner completed
+pub use Rattle.pass_books.proofs.Winning.{won_amid, won_begun, won_ended}
+-- ---- all books
+
+pub use Rattle.pass_books.proofs.Closing.{books_lawful, calls_with}
