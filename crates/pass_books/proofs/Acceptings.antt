@@ -1,7 +1,7 @@
 -- A call is accepted, one decision after the other: what holds of it holds on, and it is a book at each of these points.
-use Rattle.std.proofs.Common.{◌≡◌, ℕ, zero, suc, ◌+◌, ◌≤◌, ◌<◌, Bool, true, false, cond, List, [], ◌∷◌, ◌++◌, length, map, set, take, Option, Some, None, refl, sym, ap, subst, ◌∙◌, arith, inl, inr, append-nil}
+use Rattle.std.proofs.Common.{◌≡◌, ℕ, zero, suc, ◌+◌, ◌≤◌, ◌<◌, Bool, true, false, cond, List, [], ◌∷◌, ◌++◌, length, map, take, Some, None, refl, sym, ap, subst, ◌∙◌, arith, inl, inr, append-nil}
 use Rattle.std.proofs.Math.Seq.{take-length}
-use Rattle.std.proofs.lemmas.List.{length-set, map-append}
+use Rattle.std.proofs.lemmas.List.{map-append}
 use Rattle.std.proofs.lemmas.List.Elements.{filter_map-append}
 use Rattle.std.specs.Prelude.{slice_get}
 use Rattle.std.specs.List.{AllByRecursion, AllZip}
@@ -9,7 +9,6 @@ use Rattle.std.specs.List.Sorted.{IsStrictlyIncreasing}
 use Rattle.partlog.specs.declared.clock_event.ClockEvent.{ClockEvent}
 use Rattle.partlog.specs.declared.clock_event.ClockEvent.TheVariants as clocks
 use Rattle.partlog.specs.History.{History}
-use Rattle.partlog.specs.Moment.{moment_of}
 use Rattle.partlog.specs.State.{state_of}
 use Rattle.audit.specs.declared.account.Account.{Account}
 use Rattle.audit.specs.declared.account.Call.{Call}
@@ -27,16 +26,16 @@ use Rattle.kwire.specs.IsRequest.{IsRequest}
 use Rattle.kwire.specs.declared.request.Request.{Request}
 use Rattle.plain_broker.specs.Board.{Waiting, empty_history, history_at}
 use Rattle.plain_broker.specs.Entering.{Noted, accept_all, entered, shown_of, steps_of}
-use Rattle.plain_broker.specs.GoesOn.{AllWhole, Carried, GoesOn, HaveGrown}
+use Rattle.plain_broker.specs.GoesOn.{AllWhole, GoesOn, HaveGrown}
 use Rattle.plain_broker.specs.Kept.{owners_at}
-use Rattle.plain_broker.specs.Sound.{AllBelow, AreHistories, IsDelayedAs, IsWaiting}
+use Rattle.plain_broker.specs.Sound.{AllBelow, AreHistories, IsDelayedAs}
 use Rattle.plain_broker.specs.Turns.{how_at_once}
 use Rattle.plain_broker.proofs.Laws.{IsFair, ShowsAccepted, accepted_followers, accepted_longer, accepted_shows, accepted_size, accepted_within, all_longer_self, carried_on, clock_looked, clock_moment, clock_point, decides_fair, entered_whole, goes_back, grown_clock, grown_parts, parts_size, set_whole}
 use Rattle.pass_books.specs.Book.{Book}
-use Rattle.pass_books.specs.IsBook.{IsBook, IsFinished}
+use Rattle.pass_books.specs.IsBook.{IsBook}
 use Rattle.pass_books.specs.Owned.{AreOwn, OwnWithin}
 use Rattle.pass_books.specs.Told.{last_is_cut}
-use Rattle.pass_books.specs.Underway.{Underway, IsUnderway, book_amid, earlier_calls, seq_of}
+use Rattle.pass_books.specs.Underway.{Underway, begun_amid, book_amid, earlier_calls, seq_of, with_end}
 use Rattle.pass_books.specs.Accepting.{IsAccepting, carried_out, clock_seen, left_waiting, noted_next}
 use Rattle.pass_books.specs.Finishing.{IsDelayed}
 use Rattle.pass_books.proofs.Growing.{as_many}
@@ -105,7 +104,7 @@ others_accepting u request decisions reached noted later behind grown within his
 
 -- with its end told otherwise
 pub accepting_as : (u : Underway) (request : Request) (decisions : List Decision) (reached : ℕ) (noted : List Noted) (how : CallHow) → IsAccepting u request decisions reached noted
-    → IsAccepting (record u { call = record u.call { how = how } }) request decisions reached noted
+    → IsAccepting (with_end u how) request decisions reached noted
 accepting_as u request decisions reached noted how h = record {
   underway = underway_as u how h.underway;
   asked = h.asked;
@@ -120,15 +119,7 @@ accepting_as u request decisions reached noted how h = record {
 -- ---- a call is written down
 
 pub called_accepting : (book : Book) (front : List Transcript) (transcript : Transcript) (frame : List ℕ) (request : Request) (decisions : List Decision) → transcript.end ≡ None → last_is_cut transcript.calls ≡ false
-    → IsRequest frame request → Decides book.config request.ask decisions → IsBook (record book { transcripts = front ++ transcript ∷ [] }) None → IsAccepting (record {
-      config = book.config;
-      number = book.number;
-      parts = book.parts;
-      clock = book.clock;
-      front = front;
-      transcript = transcript;
-      call = record { frame = frame; accept = []; finish = []; how = Cut None };
-    }) request decisions 0 []
+    → IsRequest frame request → Decides book.config request.ask decisions → IsBook (record book { transcripts = front ++ transcript ∷ [] }) None → IsAccepting (begun_amid book front transcript frame) request decisions 0 []
 called_accepting book front transcript frame request decisions going uncut asked decided h = record {
   underway = called book front transcript frame going uncut h;
   asked = asked;

@@ -1,5 +1,5 @@
 -- A request that is delayed asks some partition: there is no operation without one.
-use Rattle.std.proofs.Common.{◌≡◌, ℕ, negsuc, Bool, true, false, ◌&&◌, ◌||◌, not, List, [], ◌∷◌, length, map, Option, Some, None, refl, sym, ap, ◌∙◌}
+use Rattle.std.proofs.Common.{◌≡◌, ℕ, negsuc, Bool, true, false, ◌&&◌, ◌||◌, not, List, [], ◌∷◌, length, map, Option, refl, sym, ap, ◌∙◌}
 use Rattle.std.specs.Prelude.{nat_lt}
 use Rattle.std.specs.List.{cons_option, filter_map, list_any}
 use Rattle.std.specs.Ordering.{int_eq}
@@ -7,7 +7,7 @@ use Rattle.audit.specs.declared.account.Account.{Account}
 use Rattle.audit.specs.LawfulCall.{Step, is_delayed, operation_parts, part_in, shown_as_accepted}
 use Rattle.kanswer.specs.declared.accepted.Accepted.{Accepted}
 use Rattle.kanswer.specs.declared.accepted.Accepted.TheVariants.{Refused, Appended, Seen}
-use Rattle.kanswer.specs.Waiting.{Shown, all_seen, becomes_delayed, falls_short, is_refused, needs_of, produce_need, results_of}
+use Rattle.kanswer.specs.Waiting.{all_seen, becomes_delayed, falls_short, is_refused, needs_of, produce_need, results_of}
 use Rattle.kwire.specs.declared.request.Ask.{Ask}
 use Rattle.kwire.specs.declared.request.Ask.TheVariants.{Produce, Fetch, Metadata, Versions}
 use Rattle.kwire.specs.declared.request.Request.{Request}

@@ -1,5 +1,5 @@
 -- The books of all passes come to a lawful account.
-use Rattle.std.proofs.Common.{◌≡◌, ℕ, zero, suc, ◌<◌, Bool, List, [], ◌∷◌, ◌++◌, length, map, Option, Some, None, unwrap_or, refl, sym, ap, subst, ◌∙◌, arith, inl, inr, append_assoc, append-nil}
+use Rattle.std.proofs.Common.{◌≡◌, ℕ, zero, suc, List, [], ◌∷◌, ◌++◌, map, Option, Some, None, unwrap_or, refl, sym, ap, subst, ◌∙◌, arith, inl, inr, append_assoc, append-nil}
 use Rattle.std.proofs.lemmas.Grind.{flat_map-append}
 use Rattle.std.specs.Prelude.{slice_get, count_by}
 use Rattle.std.specs.List.{AllByRecursion, flat_map}
@@ -13,10 +13,10 @@ use Rattle.audit.specs.declared.account.Call.{Call}
 use Rattle.audit.specs.declared.account.CallHow.{CallHow}
 use Rattle.audit.specs.declared.account.Point.{Point}
 use Rattle.audit.specs.declared.account.Transcript.{Transcript}
-use Rattle.audit.specs.Histories.{Owner, owners_of, points_of, calls_in, calls_of, call_of, all_calls, final_in}
+use Rattle.audit.specs.Histories.{Owner, owners_of, points_of, calls_in, calls_of, call_of, final_in}
 use Rattle.audit.specs.IsLawful.{IsLawful, FollowOn, is_point, is_won_by, places_in}
 use Rattle.audit.specs.LawfulCall.{Step, IsLawfulCall, Completes, final_of, operation_in, part_in, shown_at_last}
-use Rattle.audit.proofs.Laws.{get_there, some_is}
+use Rattle.audit.proofs.Laws.{get_there}
 use Rattle.kanswer.specs.Waiting.{Shown, values_of}
 use Rattle.kwire.specs.Configuration.{Configuration}
 use Rattle.opcond.specs.Operation.{Operation}
@@ -28,9 +28,9 @@ use Rattle.plain_broker.specs.Kept.{owners_at}
 use Rattle.plain_broker.specs.Sound.{IsWaiting}
 use Rattle.plain_broker.proofs.Laws.{goes_back}
 use Rattle.pass_books.specs.Book.{Book}
-use Rattle.pass_books.specs.IsBook.{IsBook, IsFinished, Stand, WaitsLast, with_call}
+use Rattle.pass_books.specs.IsBook.{IsBook, IsFinished, Stand, with_call}
 use Rattle.pass_books.specs.Owned.{AreOwn}
-use Rattle.pass_books.specs.Together.{AreTogether, GoesWith, IsAnswerableIn, account_of, all_calls_in, shown_in}
+use Rattle.pass_books.specs.Together.{AreTogether, IsAnswerableIn, account_of, all_calls_in, shown_in}
 use Rattle.pass_books.specs.Told.{told}
 use Rattle.pass_books.proofs.Ending.{told_calls}
 use Rattle.pass_books.proofs.Growing.{account_goes_on, followers_map, owner_seen, owner_stands, owners_same, whole_logs}

@@ -8,13 +8,12 @@ use Rattle.std.specs.Prelude.{slice_get}
 use Rattle.std.specs.List.{AllByRecursion}
 use Rattle.std.specs.List.Sorted.{IsStrictlyIncreasing}
 use Rattle.partlog.specs.declared.clock_event.ClockEvent.{ClockEvent}
-use Rattle.partlog.specs.declared.event.PartEvent.{PartEvent}
 use Rattle.partlog.specs.History.{History}
 use Rattle.audit.specs.Histories.{Owner, owner_of, clock_owner_of, ticks_of}
 use Rattle.audit.proofs.Laws.{same_or_not, get_behind, get_set_same, get_set_other, some_is}
 use Rattle.kwire.specs.Configuration.{Configuration}
 use Rattle.plain_broker.specs.GoesOn.{HaveGrown, IsWhole, Longer, the_owner}
-use Rattle.plain_broker.specs.Kept.{owners_here, owners_at}
+use Rattle.plain_broker.specs.Kept.{owners_here}
 use Rattle.plain_broker.specs.Sound.{AreHistories}
 use Rattle.plain_broker.proofs.Laws.{set_same, set_whole}
 use Rattle.pass_books.specs.Owned.{NotOf, OthersAlone, OwnWithin}
@@ -31,6 +30,7 @@ others_behind {E = E} by number seen more same =
     no_more : (xs ys : List E) → xs ++ ys ≡ xs → ys ≡ []
     no_more xs [] e = refl
     no_more xs (y ∷ ys) e = absurd (omega (arith, length-append xs (y ∷ ys), ap length e))
+
     none_left : (es : List E) → filter (λ e. eqb (by e) number) es ≡ [] → AllByRecursion (λ e. by e ≢ number) es
     none_left [] none = tt
     none_left (e ∷ es) none = by_test (eqb (by e) number) refl none (none_left es)

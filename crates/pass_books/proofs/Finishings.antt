@@ -1,8 +1,7 @@
 -- A delayed call comes to its end: what holds of it holds on, and it is a book at each of these points.
-use Rattle.std.proofs.Common.{◌≡◌, ℕ, zero, suc, ◌+◌, ◌≤◌, ◌<◌, Bool, true, false, List, [], ◌∷◌, ◌++◌, length, map, set, take, Option, Some, None, refl, sym, ap, subst, ◌∙◌, arith, inl, inr, append_assoc, append-nil, length-append}
+use Rattle.std.proofs.Common.{◌≡◌, ℕ, suc, ◌≤◌, ◌<◌, List, [], ◌∷◌, ◌++◌, length, map, set, take, Option, Some, None, refl, sym, ap, subst, ◌∙◌, arith, inl, inr, append_assoc, length-append}
 use Rattle.std.proofs.Math.Seq.{take-length}
-use Rattle.std.proofs.lemmas.List.{length-map, length-set, map-append}
-use Rattle.std.proofs.lemmas.Option.{slice_get_within}
+use Rattle.std.proofs.lemmas.List.{length-map, map-append}
 use Rattle.std.proofs.lemmas.Slice.Zip.{AllZip-long}
 use Rattle.std.specs.Prelude.{option_to_list, slice_get}
 use Rattle.std.specs.List.{AllZip}
@@ -17,22 +16,21 @@ use Rattle.audit.specs.declared.account.CallHow.{CallHow}
 use Rattle.audit.specs.declared.account.CallHow.TheVariants.{Satisfied, Expired, Parked, Cut}
 use Rattle.audit.specs.declared.account.Point.{Point}
 use Rattle.audit.specs.Histories.{at_point, moment_at, no_state, points_of}
-use Rattle.audit.specs.LawfulCall.{Step, AreFirstLooks, AreLooks, Completes, IsClockLook, IsCutAsExpired, IsCutAsSatisfied, IsLook, by_part, operation_in, operation_parts, part_in, shown_as_completed}
-use Rattle.audit.proofs.Laws.{get_there}
+use Rattle.audit.specs.LawfulCall.{Step, AreLooks, Completes, IsClockLook, IsCutAsExpired, IsCutAsSatisfied, IsLook, by_part, operation_in, operation_parts, part_in, shown_as_completed}
 use Rattle.kanswer.specs.Decisions.{AskLog, Decision, Looked, look}
 use Rattle.kanswer.specs.declared.accepted.Accepted.TheVariants.{Seen}
 use Rattle.kanswer.specs.Waiting.{Shown, values_of}
 use Rattle.opcond.specs.Operation.{Operation}
 use Rattle.opcond.specs.Tally.{IsOverdue, IsSatisfied}
-use Rattle.plain_broker.specs.Board.{Waiting, empty_history, history_at, part_account}
-use Rattle.plain_broker.specs.Entering.{accept_all, entered}
-use Rattle.plain_broker.specs.GoesOn.{Carried, GoesOn, HaveGrown}
+use Rattle.plain_broker.specs.Board.{Waiting, history_at, part_account}
+use Rattle.plain_broker.specs.Entering.{entered}
+use Rattle.plain_broker.specs.GoesOn.{GoesOn, HaveGrown}
 use Rattle.plain_broker.specs.Kept.{owners_at}
-use Rattle.plain_broker.specs.Sound.{AllBelow, AreHistories, IsDelayedAs, IsWaiting}
+use Rattle.plain_broker.specs.Sound.{AllBelow, AreHistories, IsDelayedAs}
 use Rattle.plain_broker.proofs.Laws.{IsFair, accepted_longer, accepted_shows, all_longer_self, carried_on, clock_looked, clock_moment, clock_point, goes_back, grown_clock, grown_parts, looked_moment, looked_state}
 use Rattle.pass_books.specs.IsBook.{IsBook, IsFinished}
 use Rattle.pass_books.specs.Owned.{AreOwn, OwnWithin}
-use Rattle.pass_books.specs.Underway.{Underway, IsUnderway, book_amid, earlier_calls, seq_of}
+use Rattle.pass_books.specs.Underway.{Underway, book_amid, earlier_calls, seq_of, with_end}
 use Rattle.pass_books.specs.Finishing.{IsDelayed, IsDue, IsFinishing, late_seen, part_seen, shown_with}
 use Rattle.pass_books.proofs.Acceptings.{histories_carried, histories_looked, take_next}
 use Rattle.pass_books.proofs.Asking.{delayed_asks}
@@ -65,7 +63,7 @@ waits_delayed u w h =
     (record { underway = waits_underway u w h; delayed = waits.delayed; within = waits.within; own = h.calls.own }, waits.unfinished, waits.how)
 
 -- with its end told otherwise
-pub delayed_as : (u : Underway) (w : Waiting) (how : CallHow) → IsDelayed u w → IsDelayed (record u { call = record u.call { how = how } }) w
+pub delayed_as : (u : Underway) (w : Waiting) (how : CallHow) → IsDelayed u w → IsDelayed (with_end u how) w
 delayed_as u w how h = record {
   underway = underway_as u how h.underway;
   delayed = λ account on. let d = h.delayed account on in record { accepted = d.accepted; looks = d.looks; entries = d.entries; delayed = d.delayed; operation = d.operation };
@@ -119,7 +117,7 @@ finishing_won u w h unfinished = record {
 }
 
 -- with its end told otherwise
-pub finishing_as : (u : Underway) (w : Waiting) (late : Option Point) (states : List State) (how : CallHow) → IsFinishing u w late states → IsFinishing (record u { call = record u.call { how = how } }) w late states
+pub finishing_as : (u : Underway) (w : Waiting) (late : Option Point) (states : List State) (how : CallHow) → IsFinishing u w late states → IsFinishing (with_end u how) w late states
 finishing_as u w late states how h = record {
   delayed = delayed_as u w how h.delayed;
   looks = h.looks;
@@ -129,7 +127,7 @@ finishing_as u w late states how h = record {
   due = by_cause late h.due;
 }
   where
-    by_cause : (o : Option Point) → IsDue u w o states → IsDue (record u { call = record u.call { how = how } }) w o states
+    by_cause : (o : Option Point) → IsDue u w o states → IsDue (with_end u how) w o states
     by_cause None due = due
     by_cause (Some point) due = due
 
@@ -210,8 +208,7 @@ module _ (u : Underway) (w : Waiting) (late : Option Point) (states : List State
   looks_at account on =
       let shows = accepted_shows u.number (seq_of u) (length u.parts) (decision ∷ []) u.parts account refl few h.delayed.underway.histories.whole (fair, tt) on.follows in
       let asks = shows.steps.0 in
-      let is : asks.point ≡ point = first_point asks.left in
-      (
+      let is : asks.point ≡ point = first_point asks.left in (
         subst (IsLook account part) is (asks.there, asks.entry.0, asks.entry.1, asks.entry.2),
         ap first_state shows.shown ∙ looked_state found u.number (seq_of u),
       )
@@ -219,6 +216,7 @@ module _ (u : Underway) (w : Waiting) (late : Option Point) (states : List State
       first_state : List Shown → State
       first_state [] = no_state
       first_state (s ∷ shown) = s.state
+
       first_point : {x y : Point} → Some y ≡ Some x → x ≡ y
       first_point e = cc
 

@@ -1,6 +1,5 @@
 -- Histories that go on keep the owners of their entries, and the account that is read off histories goes on from them.
-use Rattle.std.proofs.Common.{◌≡◌, ◌≢◌, ℕ, zero, suc, ◌≤◌, ◌<◌, Bool, true, false, cond, eqb, List, [], ◌∷◌, ◌++◌, length, map, Option, Some, None, refl, sym, ap, subst, ◌∙◌, arith, inl, inr, append-nil, eq-eqb}
-use Rattle.std.proofs.lemmas.Bool.{ne_eqb}
+use Rattle.std.proofs.Common.{◌≡◌, ℕ, zero, suc, ◌<◌, Bool, true, false, cond, eqb, List, [], ◌∷◌, ◌++◌, length, map, Option, Some, None, refl, sym, ap, ◌∙◌, append-nil}
 use Rattle.std.proofs.lemmas.List.{length-map, map-append}
 use Rattle.std.specs.Prelude.{slice_get}
 use Rattle.std.specs.List.{AllByRecursion}
@@ -10,7 +9,7 @@ use Rattle.audit.specs.declared.account.Account.{Account}
 use Rattle.audit.specs.declared.account.PartAccount.{PartAccount}
 use Rattle.audit.specs.Histories.{Owner, owner_of, clock_owner_of, owners_of, owners_in}
 use Rattle.audit.specs.IsLawful.{IsWholeLog}
-use Rattle.audit.proofs.Laws.{same_or_not, get_front, get_within}
+use Rattle.audit.proofs.Laws.{get_front, get_within}
 use Rattle.kwire.specs.Configuration.{Configuration}
 use Rattle.plain_broker.specs.Board.{part_account}
 use Rattle.plain_broker.specs.GoesOn.{AllWhole, GoesOn, HaveGrown}

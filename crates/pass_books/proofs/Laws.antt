@@ -7,6 +7,8 @@ pub use Rattle.pass_books.proofs.Opening.{opened}
 pub use Rattle.pass_books.proofs.Underways.{begun, ended, others_came}
 -- what comes between two turns of a pass is others'
 pub use Rattle.pass_books.proofs.Coming.{clock_came, clock_histories, others_behind, others_grown, others_within, part_came, part_histories}
+-- and changes nothing that it knows, between its calls or amid one
+pub use Rattle.pass_books.proofs.Passing.{others_amid_accepting, others_amid_delayed, others_amid_finishing, others_between}
 pub use Rattle.pass_books.proofs.Growing.{as_many, owner_seen, owner_stands}
 -- ---- amid a call
 

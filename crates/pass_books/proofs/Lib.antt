@@ -22,7 +22,11 @@ mod Acceptings
 mod Asking
 -- a delayed call comes to its end
 mod Finishings
+-- what others do changes nothing that a pass knows
+mod Passing
 -- the reply of a call
 mod Replying
 -- how many of a book's calls each winner completed
 mod Winning
+-- the worked books
+mod WorkedBooks

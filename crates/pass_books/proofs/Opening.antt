@@ -1,11 +1,11 @@
 -- The book of a pass that has seen nothing and done nothing.
-use Rattle.std.proofs.Common.{◌≡◌, ℕ, zero, suc, ◌≤◌, Bool, true, false, cond, eqb, List, [], ◌∷◌, length, map, Option, Some, None, refl, subst, arith}
+use Rattle.std.proofs.Common.{◌≡◌, ℕ, zero, suc, ◌≤◌, Bool, true, false, cond, eqb, List, [], ◌∷◌, map, Option, Some, None, refl, subst, arith}
 use Rattle.std.specs.Prelude.{slice_get}
 use Rattle.audit.specs.Histories.{Owner}
 use Rattle.kwire.specs.Configuration.{Configuration, followers_of, partitions_of}
 use Rattle.plain_broker.specs.Board.{empty_history}
 use Rattle.plain_broker.specs.GoesOn.{the_owner}
-use Rattle.plain_broker.specs.Kept.{owners_here, owners_at}
+use Rattle.plain_broker.specs.Kept.{owners_here}
 use Rattle.plain_broker.proofs.Laws.{opening_sound}
 use Rattle.pass_books.specs.Book.{opening_book}
 use Rattle.pass_books.specs.IsBook.{IsBook}

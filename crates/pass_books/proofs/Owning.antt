@@ -1,5 +1,5 @@
 -- Which entries are a pass's own, as others' entries come, as a call begins, and as its last call leaves one entry more.
-use Rattle.std.proofs.Common.{◌≡◌, ◌≢◌, ℕ, zero, suc, ◌≤◌, ◌<◌, Bool, true, false, cond, eqb, List, [], ◌∷◌, ◌++◌, length, map, set, Option, Some, None, refl, sym, ap, subst, ◌∙◌, arith, inl, inr, append_assoc, append-nil, eq-eqb}
+use Rattle.std.proofs.Common.{◌≡◌, ◌≢◌, ℕ, ◌≤◌, ◌<◌, Bool, true, false, cond, eqb, List, [], ◌∷◌, ◌++◌, length, map, set, Option, Some, None, refl, sym, ap, subst, ◌∙◌, arith, inl, inr, append-nil, eq-eqb}
 use Rattle.std.proofs.lemmas.Bool.{ne_eqb, eqb-true}
 use Rattle.std.proofs.lemmas.Grind.{flat_map-append}
 use Rattle.std.proofs.lemmas.List.{length-map, map-append}
@@ -39,7 +39,7 @@ pub own_others : (number : ℕ) (rows : List (List Point)) (parts later : List H
 own_others number rows parts later clock behind grown within own = record {
   left = λ part place seq e. own.left part place seq (owner_seen parts later clock behind grown part place (the_owner number seq) (within part place seq e) e);
   points = λ seq points e. all_on (IsOf (owners_at parts clock) number seq) (IsOf (owners_at later behind) number seq)
-  (λ point is. owner_stands parts later clock behind grown point.part point.place (the_owner number seq) is) points (own.points seq points e);
+      (λ point is. owner_stands parts later clock behind grown point.part point.place (the_owner number seq) is) points (own.points seq points e);
   order = own.order;
 }
 

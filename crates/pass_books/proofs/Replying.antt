@@ -1,7 +1,6 @@
 -- The reply of a call, by what its pass knows: in every account that goes on it is the same.
-use Rattle.std.proofs.Common.{◌≡◌, ℕ, Bool, false, List, [], ◌∷◌, length, map, Option, Some, None, refl, sym, ap, subst, ◌∙◌}
+use Rattle.std.proofs.Common.{◌≡◌, ℕ, false, List, length, Some, None, sym, ap, subst, ◌∙◌}
 use Rattle.partlog.specs.State.{PartState as State}
-use Rattle.audit.specs.declared.account.Account.{Account}
 use Rattle.audit.specs.declared.account.CallHow.{CallHow}
 use Rattle.audit.specs.declared.account.CallHow.TheVariants.{AtOnce, Satisfied, Expired}
 use Rattle.audit.specs.declared.account.Point.{Point}
@@ -9,7 +8,7 @@ use Rattle.audit.specs.Fits.{IsReplyOf, ShowsFor}
 use Rattle.audit.specs.LawfulCall.{shown_as_completed}
 use Rattle.kanswer.specs.Answer.{answer}
 use Rattle.kanswer.specs.Decisions.{Decision}
-use Rattle.kanswer.specs.Waiting.{Shown, becomes_delayed}
+use Rattle.kanswer.specs.Waiting.{becomes_delayed}
 use Rattle.kwire.specs.Configuration.{Configuration}
 use Rattle.kwire.specs.declared.request.Request.{Request}
 use Rattle.plain_broker.specs.Board.{Waiting}

@@ -1,21 +1,19 @@
 -- A book amid a call: what holds of it holds on as others' entries come and as the call goes on, and it is a book wherever the call is
 -- lawful or waits.
-use Rattle.std.proofs.Common.{◌≡◌, ℕ, ◌+◌, ◌≤◌, Bool, true, false, List, [], ◌∷◌, ◌++◌, length, map, Option, Some, None, refl, sym, ap, subst, ◌∙◌, arith, append-nil, length-append}
+use Rattle.std.proofs.Common.{◌≡◌, ℕ, ◌+◌, true, false, List, [], ◌∷◌, ◌++◌, length, map, Option, Some, None, refl, sym, ap, subst, ◌∙◌, arith, append-nil, length-append}
 use Rattle.std.proofs.lemmas.Grind.{flat_map-append}
 use Rattle.std.proofs.lemmas.List.{length-map, map-append}
 use Rattle.std.specs.List.{AllByRecursion}
 use Rattle.partlog.specs.declared.clock_event.ClockEvent.{ClockEvent}
-use Rattle.partlog.specs.declared.clock_event.ClockEvent.TheVariants as clocks
 use Rattle.partlog.specs.History.{History}
 use Rattle.audit.specs.declared.account.Call.{Call}
 use Rattle.audit.specs.declared.account.CallHow.{CallHow}
-use Rattle.audit.specs.declared.account.CallHow.TheVariants.{Parked, Cut}
-use Rattle.audit.specs.declared.account.Point.{Point}
+use Rattle.audit.specs.declared.account.CallHow.TheVariants.{Parked}
 use Rattle.audit.specs.declared.account.SessionEnd.{SessionEnd}
 use Rattle.audit.specs.declared.account.SessionEnd.TheVariants.{NoMemory}
 use Rattle.audit.specs.declared.account.Transcript.{Transcript}
-use Rattle.audit.specs.Histories.{calls_in, points_of, ticks_of}
-use Rattle.audit.specs.IsLawful.{EndWell, FollowOn}
+use Rattle.audit.specs.Histories.{calls_in, points_of}
+use Rattle.audit.specs.IsLawful.{EndWell}
 use Rattle.audit.specs.LawfulCall.{IsLawfulCall, operation_parts}
 use Rattle.audit.proofs.Laws.{all_append}
 use Rattle.kwire.specs.Configuration.{Configuration}
@@ -24,11 +22,11 @@ use Rattle.plain_broker.specs.GoesOn.{HaveGrown}
 use Rattle.plain_broker.specs.Kept.{owners_at}
 use Rattle.plain_broker.specs.Sound.{AllBelow, AreHistories, IsDelayedAs, IsWaiting}
 use Rattle.plain_broker.proofs.Laws.{carried_on}
-use Rattle.pass_books.specs.Book.{Book}
-use Rattle.pass_books.specs.IsBook.{AreFinished, IsBook, IsFinished, Stand, WaitsLast, with_call}
+use Rattle.pass_books.specs.Book.{Book, begun_behind}
+use Rattle.pass_books.specs.IsBook.{AreFinished, IsBook, IsFinished, Stand}
 use Rattle.pass_books.specs.Owned.{AreOwn, OwnWithin}
-use Rattle.pass_books.specs.Told.{last_is_cut, told, told_end}
-use Rattle.pass_books.specs.Underway.{Underway, IsUnderway, book_amid, earlier_calls, seq_of}
+use Rattle.pass_books.specs.Told.{last_is_cut, told_end}
+use Rattle.pass_books.specs.Underway.{Underway, IsUnderway, begun_amid, book_amid, earlier_calls, seq_of, with_end}
 use Rattle.pass_books.proofs.Closing.{calls_with}
 use Rattle.pass_books.proofs.Ending.{all_past, ended_well, follow_call, follow_last, last_follows, past_before}
 use Rattle.pass_books.proofs.Growing.{as_many}
@@ -80,9 +78,9 @@ others_came book waits later behind grown within histories h = record {
 -- ---- a transcript is begun, and ended
 
 pub begun : (book : Book) (number : ℕ) → IsBook book None
-    → IsBook (record book { transcripts = book.transcripts ++ record { number = number; first = length (calls_in book.transcripts); calls = []; end = None } ∷ [] }) None
+    → IsBook (record book { transcripts = book.transcripts ++ begun_behind book.transcripts number ∷ [] }) None
 begun book number h =
-    let new : Transcript = record { number = number; first = length (calls_in book.transcripts); calls = []; end = None } in
+    let new = begun_behind book.transcripts number in
     let calls : calls_in (book.transcripts ++ new ∷ []) ≡ calls_in book.transcripts =
     flat_map-append (λ (t : Transcript). t.calls) book.transcripts (new ∷ []) ∙ append-nil (calls_in book.transcripts) in
     record {
@@ -122,15 +120,7 @@ ended book front last end going cut h =
 -- ---- a call is written down
 
 pub called : (book : Book) (front : List Transcript) (transcript : Transcript) (frame : List ℕ) → transcript.end ≡ None → last_is_cut transcript.calls ≡ false
-    → IsBook (record book { transcripts = front ++ transcript ∷ [] }) None → IsUnderway (record {
-      config = book.config;
-      number = book.number;
-      parts = book.parts;
-      clock = book.clock;
-      front = front;
-      transcript = transcript;
-      call = record { frame = frame; accept = []; finish = []; how = Cut None };
-    })
+    → IsBook (record book { transcripts = front ++ transcript ∷ [] }) None → IsUnderway (begun_amid book front transcript frame)
 called book front transcript frame going uncut h =
     let follows = last_follows front transcript h.ends in
     let calls = calls_behind front transcript in
@@ -165,7 +155,7 @@ others_underway u later behind grown within histories h =
     underway_on u later behind u.call h grown histories (own_others u.number (map points_of (earlier_calls u) ++ points_of u.call ∷ []) u.parts later u.clock behind grown within h.own)
 
 -- with its end told otherwise
-pub underway_as : (u : Underway) (how : CallHow) → IsUnderway u → IsUnderway (record u { call = record u.call { how = how } })
+pub underway_as : (u : Underway) (how : CallHow) → IsUnderway u → IsUnderway (with_end u how)
 underway_as u how h = record { histories = h.histories; own = h.own; earlier = h.earlier; past = h.past; follow = h.follow; first = h.first; going = h.going }
 
 -- the call's number is that of its rows

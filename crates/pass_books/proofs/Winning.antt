@@ -1,5 +1,5 @@
 -- How many of a book's calls each winner completed, as the book goes on.
-use Rattle.std.proofs.Common.{◌≡◌, ℕ, ◌+◌, Bool, cond, List, [], ◌∷◌, ◌++◌, length, Some, None, refl, sym, ap, ◌∙◌, append-nil}
+use Rattle.std.proofs.Common.{◌≡◌, ℕ, ◌+◌, cond, List, [], ◌∷◌, ◌++◌, Some, sym, ap, ◌∙◌, append-nil}
 use Rattle.std.proofs.lemmas.Grind.{flat_map-append}
 use Rattle.std.proofs.lemmas.List.Sums.{sum_by_push}
 use Rattle.std.specs.Prelude.{count_by}
@@ -8,7 +8,7 @@ use Rattle.audit.specs.declared.account.SessionEnd.{SessionEnd}
 use Rattle.audit.specs.declared.account.Transcript.{Transcript}
 use Rattle.audit.specs.Histories.{calls_in}
 use Rattle.audit.specs.IsLawful.{is_won_as, is_won_by}
-use Rattle.pass_books.specs.Book.{Book}
+use Rattle.pass_books.specs.Book.{Book, begun_behind}
 use Rattle.pass_books.specs.Together.{won_by}
 use Rattle.pass_books.specs.Underway.{Underway, book_amid, earlier_calls}
 use Rattle.pass_books.proofs.Closing.{calls_with}
@@ -20,10 +20,9 @@ won_amid u winner =
 
 -- a transcript that is begun has no calls
 pub won_begun : (book : Book) (number winner : ℕ)
-    → won_by winner (record book { transcripts = book.transcripts ++ record { number = number; first = length (calls_in book.transcripts); calls = []; end = None } ∷ [] }) ≡ won_by winner book
+    → won_by winner (record book { transcripts = book.transcripts ++ begun_behind book.transcripts number ∷ [] }) ≡ won_by winner book
 won_begun book number winner =
-    let new : Transcript = record { number = number; first = length (calls_in book.transcripts); calls = []; end = None } in
-    ap (count_by (is_won_by winner)) (flat_map-append (λ (t : Transcript). t.calls) book.transcripts (new ∷ []) ∙ append-nil (calls_in book.transcripts))
+    ap (count_by (is_won_by winner)) (flat_map-append (λ (t : Transcript). t.calls) book.transcripts (begun_behind book.transcripts number ∷ []) ∙ append-nil (calls_in book.transcripts))
 
 -- one that is ended has those that it had
 pub won_ended : (book : Book) (front : List Transcript) (last : Transcript) (end : SessionEnd) (winner : ℕ)

@@ -3,8 +3,6 @@ use Rattle.std.specs.Prelude.{ℕ, ◌≡◌, List, [], ◌∷◌, ◌++◌, len
 use Rattle.std.specs.List.{AllZip}
 use Rattle.partlog.specs.declared.clock_event.ClockEvent.TheVariants as clocks
 use Rattle.partlog.specs.Moment.{moment_of}
-use Rattle.audit.specs.declared.account.Call.{Call}
-use Rattle.audit.specs.declared.account.Point.{Point}
 use Rattle.audit.specs.Histories.{clock_part}
 use Rattle.audit.specs.LawfulCall.{IsStep, operation_parts, shown_as_accepted, step_points}
 use Rattle.kanswer.specs.Decisions.{Decision, Decides}

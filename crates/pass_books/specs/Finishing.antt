@@ -3,7 +3,6 @@ use Rattle.std.specs.Prelude.{ℕ, ◌≡◌, List, [], ◌∷◌, ◌++◌, len
 use Rattle.std.specs.List.{AllZip}
 use Rattle.partlog.specs.declared.clock_event.ClockEvent.TheVariants as clocks
 use Rattle.partlog.specs.State.{PartState as State}
-use Rattle.audit.specs.declared.account.Call.{Call}
 use Rattle.audit.specs.declared.account.Point.{Point}
 use Rattle.audit.specs.Histories.{at_point, clock_part, moment_at, no_state}
 use Rattle.audit.specs.LawfulCall.{Step, IsClockLook, IsLook, by_part, operation_parts, part_in}

@@ -10,6 +10,8 @@ pub mod Owned
 pub mod IsBook
 -- the books of all passes, and the account that they come to
 pub mod Together
+-- two passes, written out
+pub mod Worked
 -- ==== the words of lemmas that the crates above may cite
 
 -- a pass amid a call

@@ -22,16 +22,19 @@ pub record AreOwn (owners : ℕ → List (Option Owner)) (number : ℕ) (rows : 
 -- in the later histories no entry of this pass stands behind what it saw
 abbrev pub OwnWithin : ℕ → List History → List ClockEvent → List History → List ClockEvent → Type 0
 OwnWithin number parts clock later behind =
-    (part place seq : ℕ) → slice_get (owners_at later behind part) place ≡ Some (the_owner number seq) → place < length (owners_at parts clock part)
+    (part place seq : ℕ) → slice_get (owners_at later behind part) place ≡ Some (the_owner number seq)
+    → place < length (owners_at parts clock part)
 
 -- it isn't this pass's
 abbrev pub NotOf : ℕ → Option Owner → Type 0
 NotOf number owner = (seq : ℕ) → owner ≡ the_owner number seq → ⊥
 
 -- histories go on, and what came is others' alone
-pub record OthersAlone (number : ℕ) (parts : List History) (clock : List ClockEvent) (later : List History) (behind : List ClockEvent) : Type 0 where
+pub record OthersAlone (number : ℕ) (parts : List History) (clock : List ClockEvent)
+    (later : List History) (behind : List ClockEvent) : Type 0 where
   pub each : (p : ℕ) (h : History) → slice_get parts p ≡ Some h
-      → (l : History) × (slice_get later p ≡ Some l) × (longer : Longer h l) × AllByRecursion (λ event. NotOf number (owner_of event)) longer.more
+      → (l : History) × (slice_get later p ≡ Some l) × (longer : Longer h l)
+      × AllByRecursion (λ event. NotOf number (owner_of event)) longer.more
   pub more : List ClockEvent
   pub events : behind ≡ clock ++ more
   pub others : AllByRecursion (λ event. NotOf number (clock_owner_of event)) more

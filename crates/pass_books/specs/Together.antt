@@ -37,7 +37,8 @@ abbrev pub IsAnswerableIn : List History → List ClockEvent → Waiting → Typ
 IsAnswerableIn parts clock w = IsAnswerable w.operation (values_of w.request.ask (shown_in parts w.steps)) (moment_of clock)
 
 -- the k-th book is that of pass k, and goes with these final histories
-pub record GoesWith (config : Configuration) (finals : List History) (clock : List ClockEvent) (k : ℕ) (book : Book) (waits : Option Waiting) : Type 0 where
+pub record GoesWith (config : Configuration) (finals : List History) (clock : List ClockEvent)
+    (k : ℕ) (book : Book) (waits : Option Waiting) : Type 0 where
   pub number : book.number ≡ k
   pub same : book.config ≡ config
   -- they go on from what the pass saw, and it added nothing behind that
@@ -46,7 +47,8 @@ pub record GoesWith (config : Configuration) (finals : List History) (clock : Li
   -- what waits isn't answerable
   pub still : (w : Waiting) → waits ≡ Some w → IsAnswerableIn finals clock w → ⊥
 
-pub record AreTogether (config : Configuration) (books : List Book) (waits : ℕ → Option Waiting) (finals : List History) (clock : List ClockEvent) (wins : List ℕ) : Type 0 where
+pub record AreTogether (config : Configuration) (books : List Book) (waits : ℕ → Option Waiting)
+    (finals : List History) (clock : List ClockEvent) (wins : List ℕ) : Type 0 where
   pub histories : AreHistories config finals clock
   pub each : (k : ℕ) (book : Book) → slice_get books k ≡ Some book → GoesWith config finals clock k book (waits k)
   -- every entry names a pass that there is

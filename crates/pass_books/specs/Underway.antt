@@ -36,6 +36,22 @@ book_amid u = record {
   transcripts = with_call u.front u.transcript u.call;
 }
 
+-- a call of this frame was written down just now
+abbrev pub begun_amid : Book → List Transcript → Transcript → List ℕ → Underway
+begun_amid book front transcript frame = record {
+  config = book.config;
+  number = book.number;
+  parts = book.parts;
+  clock = book.clock;
+  front = front;
+  transcript = transcript;
+  call = record { frame = frame; accept = []; finish = []; how = Cut None };
+}
+
+-- the call came to its end so
+abbrev pub with_end : Underway → CallHow → Underway
+with_end u how = record u { call = record u.call { how = how } }
+
 abbrev pub earlier_calls : Underway → List Call
 earlier_calls u = calls_in u.front ++ u.transcript.calls
 
