@@ -28,7 +28,7 @@ use Rattle.broker.specs.Desks.{transcript_of}
 use Rattle.broker.specs.Kept.{AreKept, IsKeptOf, Kept, MatchesWaiting, StandsFor, last_frame, waiting_in, with_waiting}
 use Rattle.broker.specs.Looks.{clock_after, clock_points, due_as, due_in, finished, gauge_now}
 use Rattle.broker.specs.declared.parked.Parked.{Parked}
-use Rattle.broker.proofs.FetchParts.{entered_followers, set_followers}
+use Rattle.broker.proofs.Followers.{entered_followers, set_followers}
 use Rattle.broker.proofs.Needs.{now_values}
 use Rattle.broker.proofs.Standing.{are_moved, moved, stands_of}
 use Rattle.broker.proofs.Turning.{turned}

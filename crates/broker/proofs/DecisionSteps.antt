@@ -1,32 +1,25 @@
 -- Decisions that are carried out one after the other.
-use Rattle.std.proofs.Common.{◌≡◌, ℕ, ◌+◌, ◌≤◌, ◌<◌, Bool, true, false, cond, ltb, pos, List, [], ◌∷◌, ◌++◌, length, get_or, set, Option, Some, None, Result, Ok, Err, unwrap_or, refl, sym, ap, subst, ◌∙◌, arith, append_assoc, append-nil, inl, inr}
+use Rattle.std.proofs.Common.{◌≡◌, ℕ, ◌<◌, List, [], ◌∷◌, ◌++◌, length, get_or, set, Option, Some, None, Result, Ok, Err, unwrap_or, refl, sym, ap, subst, ◌∙◌, append_assoc, append-nil}
 use Rattle.std.proofs.lemmas.List.{map-append, set-get_or}
 use Rattle.std.proofs.lemmas.List.Elements.{filter_map-append}
-use Rattle.std.proofs.lemmas.Bool.{le-ltb, lt-ltb}
-use Rattle.std.proofs.lemmas.Bool.Decides.{leb_tells}
+use Rattle.std.proofs.lemmas.Option.{slice_get-get_or}
 use Rattle.std.specs.Prelude.{OnOk}
 use Rattle.std.specs.List.{AllZip}
 use Rattle.partlog.specs.History.{History}
 use Rattle.partlog.specs.State.{PartState, state_of}
-use Rattle.partlog.specs.Gauges.{gauges_of}
-use Rattle.partlog.specs.Kept.{IsKept}
-use Rattle.partlog.specs.Added.{log_end_of}
-use Rattle.partlog.specs.Appended.{appended}
-use Rattle.kbatch.specs.Kept.{count_of}
-use Rattle.std.proofs.lemmas.Option.{slice_get-get_or}
-use Rattle.audit.proofs.Laws.{some_is}
-use Rattle.partlog.proofs.Laws.{bytes_in-batches}
-use Rattle.audit.specs.declared.account.Point.{Point}
-use Rattle.broker.specs.Carried.{Came}
 use Rattle.kanswer.specs.declared.accepted.Accepted.{Accepted}
-use Rattle.kanswer.specs.declared.accepted.Accepted.TheVariants.{Refused, Appended}
-use Rattle.kanswer.specs.Decisions.{Put, Outcome, Decision, Refuse, AskLog, look, append_outcome}
-use Rattle.plain_broker.specs.Entering.{Noted, entered, accept_all, steps_of, shown_of}
-use Rattle.plain_broker.specs.Board.{history_at, empty_history}
-use Rattle.broker.specs.Carried.{IsEntered, IsSettled, IsCarried}
+use Rattle.kanswer.specs.declared.accepted.Accepted.TheVariants.{Refused}
+use Rattle.kanswer.specs.Decisions.{Outcome, Decision, Refuse, AskLog}
 use Rattle.kanswer.specs.Waiting.{results_of}
-use Rattle.audit.specs.LawfulCall.{step_points, Step}
+use Rattle.audit.specs.declared.account.Point.{Point}
 use Rattle.audit.specs.Histories.{no_state}
+use Rattle.audit.specs.LawfulCall.{step_points, Step}
+use Rattle.audit.proofs.Laws.{some_is}
+use Rattle.plain_broker.specs.Board.{history_at, empty_history}
+use Rattle.plain_broker.specs.Entering.{Noted, entered, accept_all, steps_of, shown_of}
+use Rattle.acceptance.specs.declared.entered.Entered.{Entered}
+use Rattle.acceptance.specs.Entered.{HasEntered}
+use Rattle.broker.specs.Carried.{Came, IsEntered, IsSettled, IsCarried}
 
 pub on_ok : {T E : Type 0} {P Q : Type 0} (r : Result T E) → OnOk r P → (P → Q) → OnOk r Q
 on_ok (Ok x) p f = f p
@@ -41,22 +34,6 @@ pub refusal_carried : (by seq : ℕ) (code : _) (parts : List History) (came lat
     → IsCarried by seq (Refuse code ∷ []) parts parts came later
 refusal_carried by seq code parts came later e =
     record { histories = refl; accepted = ap (λ (c : Came). c.accepted) e; points = ap (λ (c : Came). c.points) e ∙ sym (append-nil came.points) }
-
--- a log's bytes are those of its batches
-pub log_bytes : (h : History) → IsKept h.log h.events → (gauges_of (state_of h)).bytes ≡ length h.log
-log_bytes h kept = bytes_in-batches [] h.events h.log (omega (arith, kept.whole)) ∙ kept.whole
-
-pub has_room : (part count : ℕ) (batch : List ℕ) (h : History) → IsKept h.log h.events → length h.log + length batch ≤ 67108864
-    → append_outcome part count batch (state_of h) ≡ record { result = Appended part (state_of h).log_end count; entry = Put count batch }
-has_room part count batch h kept room =
-    let no : ltb 67108864 ((gauges_of (state_of h)).bytes + length batch) ≡ false = le-ltb 67108864 ((gauges_of (state_of h)).bytes + length batch) (omega (arith, room, log_bytes h kept)) in
-    ap (λ (b : Bool). cond b (look (Refused (pos 6))) (record { result = Appended part (state_of h).log_end count; entry = Put count batch })) no
-
-pub has_no_room : (part count : ℕ) (batch : List ℕ) (h : History) → IsKept h.log h.events → 67108864 < length h.log + length batch
-    → append_outcome part count batch (state_of h) ≡ look (Refused (pos 6))
-has_no_room part count batch h kept full =
-    let yes : ltb 67108864 ((gauges_of (state_of h)).bytes + length batch) ≡ true = lt-ltb 67108864 ((gauges_of (state_of h)).bytes + length batch) (omega (arith, full, log_bytes h kept)) in
-    ap (λ (b : Bool). cond b (look (Refused (pos 6))) (record { result = Appended part (state_of h).log_end count; entry = Put count batch })) yes
 
 -- ---- some decisions and then others
 
@@ -118,34 +95,15 @@ all_zip_append R (x ∷ xs) xs1 (y ∷ ys) ys1 a b = (a.0, all_zip_append R xs x
 pub same_item : {X : Type 0} (xs : List X) (i : ℕ) (x y : X) → i < length xs → get_or xs i x ≡ get_or xs i y
 same_item xs i x y lt = some_is (get_or xs i x) (get_or xs i y) (sym (slice_get-get_or xs i x lt) ∙ slice_get-get_or xs i y lt)
 
-pub not_above : (a b : ℕ) → (a < b → ⊥) → b ≤ a
-not_above a b never = elim (leb_tells b a) [ inl le ↦ le.1 | inr lt ↦ absurd (never lt.1) ]
-
--- a batch was put
-pub put_entered : (by seq part base place count : ℕ) (h left : History) (batch : List ℕ) (came later : Came) → IsKept h.log h.events
-    → length h.log + length batch ≤ 67108864 → left ≡ appended h by seq batch → base ≡ log_end_of h.events → place ≡ length h.events → count ≡ count_of batch
-    → later ≡ record { accepted = came.accepted ++ Appended part base count ∷ []; points = came.points ++ record { part = part; place = place } ∷ [] }
-    → IsEntered by seq part (append_outcome part (count_of batch) batch) h left came later
-put_entered by seq part base place count h left batch came later kept room is_left is_base is_place is_count e =
-    let outcome = append_outcome part (count_of batch) batch in
-    let found : outcome (state_of h) ≡ record { result = Appended part (state_of h).log_end (count_of batch); entry = Put (count_of batch) batch } = has_room part (count_of batch) batch h kept room in
-    let all : later ≡ record { accepted = came.accepted ++ (outcome (state_of h)).result ∷ []; points = came.points ++ record { part = part; place = length h.events } ∷ [] } =
-    e ∙ ap (λ (b : ℕ). record { accepted = came.accepted ++ Appended part b count ∷ []; points = came.points ++ record { part = part; place = place } ∷ [] }) is_base
-    ∙ ap (λ (k : ℕ). record { accepted = came.accepted ++ Appended part (log_end_of h.events) k ∷ []; points = came.points ++ record { part = part; place = place } ∷ [] }) is_count
-    ∙ ap (λ (p : ℕ). record { accepted = came.accepted ++ Appended part (log_end_of h.events) (count_of batch) ∷ []; points = came.points ++ record { part = part; place = p } ∷ [] }) is_place
-    ∙ ap (λ (o : Outcome). record { accepted = came.accepted ++ o.result ∷ []; points = came.points ++ record { part = part; place = length h.events } ∷ [] }) (sym found) in
-    record {
-      history = is_left ∙ ap (λ (o : Outcome). entered h by seq o.entry) (sym found);
-      accepted = ap (λ (k : Came). k.accepted) all;
-      points = ap (λ (k : Came). k.points) all;
-    }
-
--- the log was full
-pub full_entered : (by seq part : ℕ) (h after : History) (batch : List ℕ) (came later : Came) → IsKept h.log h.events → 67108864 < length h.log + length batch
-    → ((outcome : PartState → Outcome) → outcome (state_of h) ≡ look (Refused (pos 6)) → IsEntered by seq part outcome h after came later)
-    → IsEntered by seq part (append_outcome part (count_of batch) batch) h after came later
-full_entered by seq part h after batch came later kept full then =
-    then (append_outcome part (count_of batch) batch) (has_no_room part (count_of batch) batch h kept full)
+-- a log was asked, and what became of its partition was noted with the point of the entry
+pub entered_noted : (by seq part : ℕ) (outcome : PartState → Outcome) (h left : History) (entered : Entered) (came later : Came) → HasEntered by seq outcome h left entered
+    → later ≡ record { accepted = came.accepted ++ entered.became ∷ []; points = came.points ++ record { part = part; place = entered.place } ∷ [] }
+    → IsEntered by seq part outcome h left came later
+entered_noted by seq part outcome h left entered came later e noted = record {
+  history = e.history;
+  accepted = ap (λ (c : Came). c.accepted) noted ∙ ap (λ (r : Accepted). came.accepted ++ r ∷ []) e.became;
+  points = ap (λ (c : Came). c.points) noted ∙ ap (λ (n : ℕ). came.points ++ record { part = part; place = n } ∷ []) e.place;
+}
 
 -- ---- one partition among the others
 

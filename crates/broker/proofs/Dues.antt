@@ -27,7 +27,7 @@ use Rattle.broker.specs.Looks.{HasGauge, due_as, due_in, gauge_now}
 use Rattle.broker.specs.Replying.{HasLog, ShowsLogs}
 use Rattle.broker.specs.declared.parked.Parked.{Parked}
 use Rattle.broker.proofs.Completes.{look_append, overdue_is, satisfied_is}
-use Rattle.broker.proofs.FetchParts.{parts_size}
+use Rattle.broker.proofs.Followers.{parts_size}
 use Rattle.broker.proofs.Needs.{kept_gauges, now_shows}
 use Rattle.broker.proofs.Standing.{by_waiting}
 use Rattle.audit.proofs.Laws.{some_is}

@@ -29,7 +29,7 @@ use Rattle.broker.specs.Handled.{IsAnswered, IsHandled, IsParked, looked_by}
 use Rattle.broker.specs.Replying.{HasLog, ShowsLog, ShowsLogs}
 use Rattle.broker.specs.declared.handling.Handled.{Handled}
 use Rattle.broker.specs.declared.parked.Parked.{Parked}
-use Rattle.broker.proofs.FetchParts.{parts_size}
+use Rattle.broker.proofs.Followers.{parts_size}
 use Rattle.broker.proofs.ResultsStand.{are_results, as_many, results_logs, shows_logs}
 
 shown_number : (parts : List History) (result : Accepted) (state : PartState) → ShowsLog parts (record { result = result; state = state }) → IsNumbered (part_numbers parts result) result state

@@ -2,8 +2,8 @@
 pub mod DecisionSteps
 -- what is decided of the partitions of a produce or a fetch, one after the other
 pub mod ProduceParts
--- what becomes of a partition of a fetch
-pub mod FetchParts
+-- no partition's followers change
+pub mod Followers
 -- a request asks no log twice
 pub mod NamedOnce
 -- what became of the partitions of a request stands for logs that are there

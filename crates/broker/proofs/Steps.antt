@@ -46,7 +46,7 @@ use Rattle.broker.specs.Steps.{AnyLeft, HasPart, IsActed, IsAlone, IsFreed, IsLe
 use Rattle.broker.specs.declared.handling.Handled.{Handled}
 use Rattle.broker.specs.declared.parked.Parked.{Parked}
 use Rattle.broker.proofs.Completes.{done_seat, finished_of, look_size}
-use Rattle.broker.proofs.FetchParts.{parts_size}
+use Rattle.broker.proofs.Followers.{parts_size}
 use Rattle.broker.proofs.ResultsStand.{accepted_size, shows_logs}
 use Rattle.broker.proofs.Standing.{kept_as, moved, reseated, seat_set_other, seat_set_same}
 use Rattle.broker.proofs.Taking.{call_of, noted}

@@ -36,7 +36,7 @@ use Rattle.broker.specs.Handled.{IsAnswered, IsHandled, IsParked, looked_by}
 use Rattle.broker.specs.Kept.{AreKept, IsKeptOf, Kept, MatchesWaiting, StandsFor, TurnsBy, last_frame, parked_at, waiting_in, with_waiting}
 use Rattle.broker.specs.declared.handling.Handled.{Handled}
 use Rattle.broker.specs.declared.parked.Parked.{Parked}
-use Rattle.broker.proofs.FetchParts.{accepted_followers, parts_size}
+use Rattle.broker.proofs.Followers.{accepted_followers, parts_size}
 use Rattle.broker.proofs.ResultsStand.{results_logs}
 use Rattle.broker.proofs.Standing.{are_moved, by_waiting, moved, stands_of}
 use Rattle.broker.proofs.Waits.{waits_more, waits_others}

@@ -1,38 +1,20 @@
 //! Accepting a request: each partition that it names is decided in order, and where its log is asked it gets an entry.
 
-ghost use Rattle.std.specs.Prelude.{◌≡◌, ◌<◌, ◌∷◌, [], ◌++◌, List as Items, length, map, OnOk, IfSome, IfNone, unwrap_or, ℕ, pos, ◌≤◌, ◌≤ℤ◌};
-ghost use Rattle.partlog.specs.Start.{start_of};
-ghost use Rattle.partlog.specs.State.{PartState, state_of};
+ghost use Rattle.std.specs.Prelude.{◌≡◌, ◌∷◌, [], List as Items, length, map, OnOk, unwrap_or};
 ghost use Rattle.kbatch.specs.Kept.{count_of};
 ghost use Rattle.kwire.specs.Configuration.{followers_of, partitions_of, part_of};
-ghost use Rattle.kanswer.specs.Decisions.{Decision, Outcome, look, append_outcome, BatchDecides, ProduceDecides, fetch_outcome, fetch_decision, in_range_outcome, Looked, is_acks, Decides};
+ghost use Rattle.kanswer.specs.Decisions.{Decision, append_outcome, BatchDecides, ProduceDecides, fetch_outcome, fetch_decision, is_acks, Decides};
 ghost use Rattle.broker.specs.Carried.{IsEntered, IsSettled, IsCarried, OnTerms, HasProduced, fetch_decisions};
-ghost use Rattle.kanswer.specs.LogReadings.{IsCarriable};
 
 use crate::came::Came;
+use acceptance::{enter_batch, enter_fetch};
 use kanswer::{Accepted, code_of};
 use kbatch::{BatchView, view_batch};
 use kbytes::NoMemory;
 use kwire::{
     AskView, Config, FetchPart, FetchTopicView, ProducePartView, ProduceTopicView, RequestView,
 };
-use partlog::{FollowFault, LogFault, PartLog, Who};
-
-// The log is looked at, and this became of the partition.
-fn look_at(
-    log: &mut PartLog,
-    who: Who,
-    part: u32,
-    became: Accepted,
-    came: &mut Came,
-) -> Result<(), NoMemory>
-    requires { IsCarriable became }
-    ensures { OnOk result ((outcome : PartState → Outcome) → outcome (state_of log.old) ≡ look became
-        → IsEntered who.by who.seq part outcome log.old log.new came.old came.new) }
-{
-    let place = log.look(who)?;
-    came.note_at(became, part, place)
-}
+use partlog::{PartLog, Who};
 
 // The batch is put at the end of the log, where there is room.
 fn put(
@@ -44,19 +26,8 @@ fn put(
 ) -> Result<(), NoMemory>
     ensures { OnOk result (IsEntered who.by who.seq part (append_outcome part (count_of batch.now) batch.now) log.old log.new came.old came.new) }
 {
-    match log.append_view(who, batch) {
-        Ok(placed) => came.note_at(
-            Accepted::Appended {
-                part,
-                base: placed.base,
-                count: batch.count(),
-            },
-            part,
-            placed.place,
-        ),
-        Err(LogFault::LogFull) => look_at(log, who, part, Accepted::Refused { code: 6 }, came),
-        Err(LogFault::NoMemory) => Err(NoMemory),
-    }
+    let entered = enter_batch(log, who, part, batch)?;
+    came.note_at(entered.became, part, entered.place)
 }
 
 /// Accepts what a produce puts into one partition, over its log alone: the bytes go to the end of the log, where they are a
@@ -173,68 +144,6 @@ fn produce(
     Ok(())
 }
 
-// The offset that is asked for, where it is from 0 to the log end.
-fn offset_within(asked: &FetchPart, end: u64) -> Option<u64>
-    ensures within { IfSome result (λ offset. (asked.now.offset ≡ pos offset) × (offset ≤ end)) }
-    ensures outside { IfNone result ((offset : ℕ) → asked.now.offset ≡ pos offset → end < offset) }
-{
-    if asked.offset < 0 {
-        return None;
-    }
-    let offset = asked.offset as u64;
-    if offset > end { None } else { Some(offset) }
-}
-
-// A consumer's fetch looks at the log.
-fn consume(
-    log: &mut PartLog,
-    who: Who,
-    part: u32,
-    asked: &FetchPart,
-    came: &mut Came,
-) -> Result<(), NoMemory>
-    ensures { OnOk result (IsEntered who.by who.seq part (in_range_outcome part asked.now.offset Looked) log.old log.new came.old came.new) }
-{
-    let Some(offset) = offset_within(asked, log.numbers().end) else {
-        return look_at(log, who, part, Accepted::Refused { code: 1 }, came);
-    };
-    let start = log.locate(offset);
-    look_at(log, who, part, Accepted::Seen { part, start }, came)
-}
-
-// Where reading from an offset begins; 0 below 0.
-fn start_at(log: &PartLog, offset: i64) -> u64
-    ensures { (at : ℕ) → offset ≡ pos at → result ≡ start_of at (state_of log.now) }
-{
-    if offset < 0 {
-        return 0;
-    }
-    log.locate(offset as u64)
-}
-
-// A replica's fetch is entered where it is a follower's and in range.
-fn follow(
-    log: &mut PartLog,
-    who: Who,
-    replica: i32,
-    part: u32,
-    asked: &FetchPart,
-    came: &mut Came,
-) -> Result<(), NoMemory>
-    requires { pos 0 ≤ℤ replica }
-    ensures { OnOk result (IsEntered who.by who.seq part (fetch_outcome log.old.followers replica asked.now part) log.old log.new came.old came.new) }
-{
-    let start = start_at(log, asked.offset);
-    match log.follow(who, replica, asked.offset) {
-        Ok(place) => came.note_at(Accepted::Seen { part, start }, part, place),
-        Err(FollowFault::NoReplica) => look_at(log, who, part, Accepted::Refused { code: 9 }, came),
-        Err(FollowFault::OutOfRange { .. }) => {
-            look_at(log, who, part, Accepted::Refused { code: 1 }, came)
-        }
-        Err(FollowFault::NoMemory) => Err(NoMemory),
-    }
-}
-
 /// Accepts what a fetch asks of one partition, over its log alone. After want of memory the log may have its entry.
 pub fn accept_fetch_part(
     log: &mut PartLog,
@@ -246,11 +155,8 @@ pub fn accept_fetch_part(
 ) -> Result<(), NoMemory>
     ensures { OnOk result (IsEntered who.by who.seq part (fetch_outcome log.old.followers replica asked.now part) log.old log.new came.old came.new) }
 {
-    if replica >= 0 {
-        follow(log, who, replica, part, asked, came)
-    } else {
-        consume(log, who, part, asked, came)
-    }
+    let entered = enter_fetch(log, who, replica, part, asked)?;
+    came.note_at(entered.became, part, entered.place)
 }
 
 // Decides one partition of a fetch, and asks its log where there is one.

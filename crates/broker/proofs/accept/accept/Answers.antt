@@ -13,7 +13,7 @@ use Rattle.kwire.specs.declared.request.ProduceTopic.{ProduceTopic}
 use Rattle.kanswer.specs.Decisions.{Decision, Decides, ProduceDecides, produce_parts}
 use Rattle.broker.specs.Carried.{fetch_decisions}
 use Rattle.broker.proofs.DecisionSteps.{on_ok}
-use Rattle.broker.proofs.FetchParts.{parts_size}
+use Rattle.broker.proofs.Followers.{parts_size}
 use Rattle.broker.proofs.accept.accept.Goals as goal
 
 pub returns-in-Produce : goal.returns-in-Produce

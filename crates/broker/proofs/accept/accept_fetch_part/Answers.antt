@@ -1,26 +1,17 @@
-use Rattle.std.proofs.Common.{ℤ, pos, sym, ap, subst, ◌∙◌}
+use Rattle.std.proofs.Common.{ℤ, subst}
 use Rattle.std.proofs.lemmas.Int.{to_z-of_z}
 use Rattle.std.specs.Int.{w32}
-use lib.Signed.{le_z}
-use Rattle.partlog.specs.State.{state_of}
-use Rattle.kanswer.specs.Decisions.{Looked, fetch_outcome, in_range_outcome}
-use Rattle.broker.specs.Carried.{IsEntered}
-use Rattle.broker.proofs.DecisionSteps.{on_ok}
-use Rattle.broker.proofs.FetchParts.{above, consumes, entered_alike, negative}
+use Rattle.kanswer.specs.Decisions.{fetch_outcome}
+use Rattle.acceptance.specs.Entered.{HasEntered}
+use Rattle.broker.proofs.DecisionSteps.{on_ok, entered_noted}
 use Rattle.broker.proofs.accept.accept_fetch_part.Goals as goal
 
-pub follow-requires : goal.follow-requires
-follow-requires c = above _ c.if-replica-ge0.true
-
-pub returns-then-replica-ge0 : goal.returns-then-replica-ge0
-returns-then-replica-ge0 c =
-    on_ok c.follow.result c.follow.ensures (λ e.
-    subst (λ (z : ℤ). IsEntered c.args.who.by c.args.who.seq c.args.part (fetch_outcome c.args.log.now.followers z c.args.asked.now c.args.part) c.args.log.now c.follow.new.log c.args.came.now c.follow.new.came)
-    (to_z-of_z w32 c.args.replica c.ranges.replica) e)
-
-pub returns-else-replica-ge0 : goal.returns-else-replica-ge0
-returns-else-replica-ge0 c =
-    let n = negative c.args.replica (ap (le_z (pos 0)) (sym (to_z-of_z w32 c.args.replica c.ranges.replica)) ∙ c.if-replica-ge0.false) in
-    on_ok c.consume.result c.consume.ensures (λ e.
-    entered_alike c.args.who.by c.args.who.seq c.args.part (in_range_outcome c.args.part c.args.asked.now.offset Looked) (fetch_outcome c.args.log.now.followers c.args.replica c.args.asked.now c.args.part) c.args.log.now c.consume.new.log c.args.came.now c.consume.new.came
-    (consumes c.args.log.now.followers c.args.part c.args.replica n.0 c.args.asked.now (state_of c.args.log.now) n.1) e)
+pub returns : goal.returns
+returns c =
+    let who = c.args.who in
+    let log = c.args.log.now in
+    let left = c.enter_fetch.new.log in
+    let entered = c.in_ok-entered.entered in
+    let asked = c.args.asked.now in
+    let e = subst (λ (z : ℤ). HasEntered who.by who.seq (fetch_outcome log.followers z asked c.args.part) log left entered) (to_z-of_z w32 c.args.replica c.ranges.replica) c.in_ok-entered.ensures.entered in
+    on_ok c.note_at.result c.note_at.ensures (entered_noted who.by who.seq c.args.part (fetch_outcome log.followers c.args.replica asked c.args.part) log left entered c.args.came.now c.note_at.new.self e)

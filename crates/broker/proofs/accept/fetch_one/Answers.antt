@@ -6,7 +6,7 @@ use Rattle.kwire.specs.Configuration.{followers_of, part_of}
 use Rattle.kanswer.specs.Decisions.{fetch_outcome, fetch_decision}
 use Rattle.broker.specs.Carried.{IsEntered, IsCarried}
 use Rattle.broker.proofs.DecisionSteps.{on_ok, same_item, refusal_carried, entered_carried}
-use Rattle.broker.proofs.FetchParts.{followers_at, parts_size}
+use Rattle.broker.proofs.Followers.{followers_at, parts_size}
 use Rattle.broker.proofs.accept.fetch_one.Goals as goal
 
 pub returns-in_default : goal.returns-in_default

@@ -8,7 +8,7 @@ use Rattle.kwire.specs.Configuration.{part_of}
 use Rattle.broker.specs.Carried.{IsCarried, fetch_decisions}
 use Rattle.broker.proofs.DecisionSteps.{same_item}
 use Rattle.broker.proofs.ProduceParts.{fetched_on, fetch_next}
-use Rattle.broker.proofs.FetchParts.{carried_followers}
+use Rattle.broker.proofs.Followers.{carried_followers}
 use Rattle.broker.proofs.accept.fetch_topic.Goals as goal
 
 pub loop-part-preserved : goal.loop-part-preserved

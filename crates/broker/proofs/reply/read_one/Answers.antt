@@ -3,7 +3,8 @@ use Rattle.std.proofs.lemmas.Int.{to_z-of_z}
 use Rattle.std.specs.Int.{w32}
 use Rattle.partlog.specs.State.{PartState, state_of}
 use Rattle.partlog.specs.Gauges.{bytes_in}
-use Rattle.broker.proofs.DecisionSteps.{on_ok, log_bytes}
+use Rattle.acceptance.proofs.Laws.{log_bytes}
+use Rattle.broker.proofs.DecisionSteps.{on_ok}
 use Rattle.broker.proofs.ReadForReply.{if_ok_two, if_ok_both, seen_read, seen_left, seen_room}
 use Rattle.broker.proofs.reply.read_one.Goals as goal
 

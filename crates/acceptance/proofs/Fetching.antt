@@ -1,9 +1,7 @@
--- What becomes of a partition of a fetch, and that no partition's followers change.
-use Rattle.std.proofs.Common.{◌≡◌, ◌⊎◌, ℕ, zero, suc, ◌<◌, ◌≤◌, ℤ, pos, negsuc, Bool, true, false, cond, ltb, ◌&&◌, List, [], ◌∷◌, ◌++◌, length, get_or, map, set, replicate, refl, sym, ap, subst, ◌∙◌, arith, inl, inr, length-append}
+-- What becomes of a partition of a fetch.
+use Rattle.std.proofs.Common.{◌≡◌, ◌⊎◌, ℕ, ◌<◌, ◌≤◌, ℤ, pos, negsuc, Bool, true, false, cond, ltb, ◌&&◌, length, refl, sym, ap, subst, ◌∙◌, arith, inl, inr}
 use Rattle.std.proofs.lemmas.Bool.{lt-ltb, le-ltb, le-leb}
 use Rattle.std.proofs.lemmas.Bool.Decides.{leb_tells}
-use Rattle.std.proofs.lemmas.List.{length-map, length-replicate}
-use Rattle.std.proofs.lemmas.List.Sums.{sum_by-cons}
 use Rattle.std.proofs.lemmas.Int.{ints}
 use Rattle.std.specs.Prelude.{nat_lt, nat_le, ◌≤ℤ◌}
 use lib.Dec.{T}
@@ -15,14 +13,12 @@ use Rattle.partlog.specs.History.{History}
 use Rattle.partlog.specs.InRange.{IsInRange}
 use Rattle.partlog.specs.State.{PartState, state_of}
 use Rattle.partlog.specs.Start.{start_of}
-use Rattle.kwire.specs.declared.config.Topic.{Topic}
 use Rattle.kwire.specs.declared.request.FetchPart.{FetchPart}
-use Rattle.kwire.specs.Configuration.{followers_of, partitions_of}
 use Rattle.kanswer.specs.declared.accepted.Accepted.TheVariants.{Refused, Seen}
-use Rattle.kanswer.specs.Decisions.{Entry, Put, Looked, Followed, Outcome, Decision, Refuse, AskLog, look, offset_of, fetch_outcome, in_range_outcome}
-use Rattle.plain_broker.specs.Board.{history_at}
-use Rattle.plain_broker.specs.Entering.{entered, accept_all}
-use Rattle.broker.specs.Carried.{Came, IsCarried, IsEntered}
+use Rattle.kanswer.specs.Decisions.{Entry, Looked, Followed, Outcome, look, offset_of, fetch_outcome, in_range_outcome}
+use Rattle.plain_broker.specs.Entering.{entered}
+use Rattle.acceptance.specs.declared.entered.Entered.{Entered}
+use Rattle.acceptance.specs.Entered.{HasEntered}
 
 pub not_below : (z : ℤ) → pos 0 ≤ℤ z → (n : ℕ) × (z ≡ pos n)
 not_below (pos n) h = (n, refl)
@@ -40,12 +36,13 @@ negative (pos n) e = absurd (grind (arith, ints))
 negative (negsuc n) e = (n, refl)
 
 -- the same outcome
-pub entered_alike : (by seq part : ℕ) (outcome other : PartState → Outcome) (h after : History) (came later : Came) → outcome (state_of h) ≡ other (state_of h)
-    → IsEntered by seq part outcome h after came later → IsEntered by seq part other h after came later
-entered_alike by seq part outcome other h after came later same e = record {
+pub entered_alike : (by seq : ℕ) (outcome other : PartState → Outcome) (h after : History) (came : Entered) → outcome (state_of h) ≡ other (state_of h)
+    → HasEntered by seq outcome h after came → HasEntered by seq other h after came
+entered_alike by seq outcome other h after came same e = record {
   history = e.history ∙ ap (λ (o : Outcome). entered h by seq o.entry) same;
-  accepted = e.accepted ∙ ap (λ (o : Outcome). came.accepted ++ o.result ∷ []) same;
-  points = e.points;
+  became = e.became ∙ ap (λ (o : Outcome). o.result) same;
+  place = e.place;
+  carriable = e.carriable;
 }
 
 pub consumes : (followers part : ℕ) (replica : ℤ) (n : ℕ) (asked : FetchPart) (state : PartState) → replica ≡ negsuc n → in_range_outcome part asked.offset Looked state ≡ fetch_outcome followers replica asked part state
@@ -135,11 +132,10 @@ not_in_range part offset entry state never =
     ])
 
 -- a follower's fetch was entered
-pub followed_entered : (by seq part : ℕ) (replica : ℤ) (r : ℕ) (asked : FetchPart) (h after : History) (at start place : ℕ) (came later : Came) → replica ≡ pos r → IsFollower replica h.followers → asked.offset ≡ pos at
+pub followed_entered : (by seq part : ℕ) (replica : ℤ) (r : ℕ) (asked : FetchPart) (h after : History) (at start place : ℕ) → replica ≡ pos r → IsFollower replica h.followers → asked.offset ≡ pos at
     → IsInRange asked.offset (log_end_of h.events) → start ≡ start_of at (state_of h) → place ≡ length h.events → after ≡ followed h by seq replica at
-    → later ≡ record { accepted = came.accepted ++ Seen part start ∷ []; points = came.points ++ record { part = part; place = place } ∷ [] }
-    → IsEntered by seq part (fetch_outcome h.followers replica asked part) h after came later
-followed_entered by seq part replica r asked h after at start place came later is f off range starts placed follows e =
+    → HasEntered by seq (fetch_outcome h.followers replica asked part) h after (record { became = Seen part start; place = place })
+followed_entered by seq part replica r asked h after at start place is f off range starts placed follows =
     let le : at ≤ log_end_of h.events = subst (λ (z : ℤ). IsInRange z (log_end_of h.events)) off range in
     let entry : Followed (pos r) (offset_of asked.offset) ≡ Followed replica at = ap (λ (z : ℤ). Followed (pos r) (offset_of z)) off ∙ ap (λ (z : ℤ). Followed z at) (sym is) in
     let outcome : fetch_outcome h.followers replica asked part (state_of h) ≡ record { result = Seen part start; entry = Followed replica at } =
@@ -148,45 +144,7 @@ followed_entered by seq part replica r asked h after at start place came later i
     ∙ ap (λ (x : Entry). let o : Outcome = record { result = Seen part start; entry = x } in o) entry in
     record {
       history = follows ∙ sym (ap (λ (o : Outcome). entered h by seq o.entry) outcome);
-      accepted = ap (λ (k : Came). k.accepted) e ∙ sym (ap (λ (o : Outcome). came.accepted ++ o.result ∷ []) outcome);
-      points = ap (λ (k : Came). k.points) e ∙ ap (λ (n : ℕ). came.points ++ record { part = part; place = n } ∷ []) placed;
+      became = sym (ap (λ (o : Outcome). o.result) outcome);
+      place = placed;
+      carriable = tt;
     }
-
--- ---- followers
-
-pub followers_at : (parts : List History) (part : ℕ) (h : History) → part < length parts → get_or (map (λ (x : History). x.followers) parts) part 0 ≡ (get_or parts part h).followers
-followers_at [] part h lt = absurd (omega (arith, lt))
-followers_at (p ∷ parts) zero h lt = refl
-followers_at (p ∷ parts) (suc part) h lt = followers_at parts part h (omega (arith, lt))
-
-pub followers_size : (topics : List Topic) → length (followers_of topics) ≡ partitions_of topics
-followers_size [] = refl
-followers_size (topic ∷ topics) =
-    length-append (replicate topic.partitions topic.followers) (followers_of topics)
-    ∙ omega (arith, length-replicate topic.partitions topic.followers, followers_size topics, sum_by-cons (λ (t : Topic). t.partitions) topic topics)
-
--- a history for each partition
-pub parts_size : (topics : List Topic) (parts : List History) → map (λ (h : History). h.followers) parts ≡ followers_of topics → length parts ≡ partitions_of topics
-parts_size topics parts e = sym (length-map parts (λ (h : History). h.followers)) ∙ ap length e ∙ followers_size topics
-
-pub set_followers : (parts : List History) (part : ℕ) (left : History) → left.followers ≡ (history_at parts part).followers → map (λ (h : History). h.followers) (set parts part left) ≡ map (λ (h : History). h.followers) parts
-set_followers [] part left e = refl
-set_followers (p ∷ parts) zero left e = ap (λ (n : ℕ). n ∷ map (λ (h : History). h.followers) parts) e
-set_followers (p ∷ parts) (suc part) left e = ap (λ (ns : List ℕ). p.followers ∷ ns) (set_followers parts part left e)
-
-pub entered_followers : (h : History) (by seq : ℕ) (entry : Entry) → (entered h by seq entry).followers ≡ h.followers
-entered_followers h by seq (Put count batch) = refl
-entered_followers h by seq (Followed replica offset) = refl
-entered_followers h by seq Looked = refl
-
-pub accepted_followers : (by seq : ℕ) (decisions : List Decision) (parts : List History) → map (λ (h : History). h.followers) (accept_all by seq decisions parts).1 ≡ map (λ (h : History). h.followers) parts
-accepted_followers by seq [] parts = refl
-accepted_followers by seq (Refuse code ∷ decisions) parts = accepted_followers by seq decisions parts
-accepted_followers by seq (AskLog part outcome ∷ decisions) parts =
-    let found = history_at parts part in
-    let entry = (outcome (state_of found)).entry in
-    accepted_followers by seq decisions (set parts part (entered found by seq entry)) ∙ set_followers parts part (entered found by seq entry) (entered_followers found by seq entry)
-
-pub carried_followers : (by seq : ℕ) (decisions : List Decision) (before after : List History) (came later : Came) → IsCarried by seq decisions before after came later
-    → map (λ (h : History). h.followers) after ≡ map (λ (h : History). h.followers) before
-carried_followers by seq decisions before after came later c = ap (map (λ (h : History). h.followers)) c.histories ∙ accepted_followers by seq decisions before

@@ -10,13 +10,14 @@ use Rattle.partlog.specs.History.{History}
 use Rattle.partlog.specs.State.{PartState, state_of}
 use Rattle.kanswer.specs.declared.accepted.Accepted.TheVariants.{Refused}
 use Rattle.kanswer.specs.Decisions.{Followed, Outcome, look, offset_of}
-use Rattle.broker.specs.Carried.{IsEntered}
-use Rattle.broker.proofs.DecisionSteps.{on_ok}
-use Rattle.broker.proofs.FetchParts.{not_below, follower_by, range_by, fetch_of_nobody, fetch_of_follower, not_in_range, followed_entered}
-use Rattle.broker.proofs.accept.follow.Goals as goal
+use Rattle.acceptance.specs.declared.entered.Entered.{Entered}
+use Rattle.acceptance.specs.Entered.{HasEntered}
+use Rattle.acceptance.proofs.Putting.{if_ok}
+use Rattle.acceptance.proofs.Fetching.{not_below, follower_by, range_by, fetch_of_nobody, fetch_of_follower, not_in_range, followed_entered}
+use Rattle.acceptance.proofs.fetch.follow.Goals as goal
 
-pub returns-in-Ok : goal.returns-in-Ok
-returns-in-Ok c =
+pub returns-in-Ok-clause-entered : goal.returns-in-Ok-clause-entered
+returns-in-Ok-clause-entered c =
     let log = c.args.log.now in
     let replica = c.args.replica in
     let asked = c.args.asked.now in
@@ -29,34 +30,37 @@ returns-in-Ok c =
     let range : IsInRange asked.offset (log_end_of log.events) = range_by asked.offset (log_end_of log.events) (λ never.
     let e = (c.in-Ok.ensures.out_of_range (log_end_of log.events)).1 (subst (λ (z : ℤ). IsFollower z log.followers) (sym same) follows, subst (λ (z : ℤ). IsInRange z (log_end_of log.events) → ⊥) (sym wide) never, refl) in absurd cc) in
     let f = c.in-Ok.ensures.followed in
-    on_ok c.note_at.result c.note_at.ensures (λ e.
-    followed_entered c.args.who.by c.args.who.seq c.args.part replica n.0 asked log c.follow.new.self f.0 c.start_at-start.result c.in-Ok.place c.args.came.now c.note_at.new.self n.1 follows (sym wide ∙ f.1) range
-    (c.start_at-start.ensures f.0 f.1) c.in-Ok.ensures.place (f.2 ∙ ap (λ (z : ℤ). followed log c.args.who.by c.args.who.seq z f.0) same) e)
+    followed_entered c.args.who.by c.args.who.seq c.args.part replica n.0 asked log c.follow.new.self f.0 c.start_at-start.result c.in-Ok.place n.1 follows (sym wide ∙ f.1) range
+    (c.start_at-start.ensures f.0 f.1) c.in-Ok.ensures.place (f.2 ∙ ap (λ (z : ℤ). followed log c.args.who.by c.args.who.seq z f.0) same)
 
-pub returns-in-Err-NoReplica : goal.returns-in-Err-NoReplica
-returns-in-Err-NoReplica c =
+pub returns-in-Err-NoReplica-clause-entered : goal.returns-in-Err-NoReplica-clause-entered
+returns-in-Err-NoReplica-clause-entered c =
     let log = c.args.log.now in
+    let who = c.args.who in
+    let after = c.look_at.new.log in
     let replica = c.args.replica in
     let same = to_z-of_z w32 replica c.ranges.replica in
     let n = not_below replica c.requires in
-    let Then : History → Type 0 = λ h. (outcome : PartState → Outcome) → outcome (state_of h) ≡ look (Refused (pos 9)) → IsEntered c.args.who.by c.args.who.seq c.args.part outcome h c.look_at.new.log c.args.came.now c.look_at.new.came in
+    let Then : Entered → History → Type 0 = λ came h. (outcome : PartState → Outcome) → outcome (state_of h) ≡ look (Refused (pos 9)) → HasEntered who.by who.seq outcome h after came in
     let never = subst (λ (z : ℤ). IsFollower z log.followers → ⊥) same (c.in-Err-NoReplica.ensures.no_replica.0 (ap Err c.in-Err-NoReplica.field-0-is)) in
-    on_ok c.look_at.result c.look_at.ensures (λ then. subst Then c.in-Err-NoReplica.ensures.refused then _
+    if_ok c.look_at.result c.look_at.ensures.entered (λ came then. subst (Then came) c.in-Err-NoReplica.ensures.refused then _
     (fetch_of_nobody log.followers c.args.part replica n.0 c.args.asked.now (state_of log) n.1 never))
 
-pub returns-in-Err-OutOfRange : goal.returns-in-Err-OutOfRange
-returns-in-Err-OutOfRange c =
+pub returns-in-Err-OutOfRange-clause-entered : goal.returns-in-Err-OutOfRange-clause-entered
+returns-in-Err-OutOfRange-clause-entered c =
     let log = c.args.log.now in
+    let who = c.args.who in
+    let after = c.look_at-in-Err-OutOfRange.new.log in
     let replica = c.args.replica in
     let asked = c.args.asked.now in
     let fits : SFits w64 asked.offset = search rules in
     let same = to_z-of_z w32 replica c.ranges.replica in
     let wide = to_z-of_z w64 asked.offset fits in
     let n = not_below replica c.requires in
-    let Then : History → Type 0 = λ h. (outcome : PartState → Outcome) → outcome (state_of h) ≡ look (Refused (pos 1)) → IsEntered c.args.who.by c.args.who.seq c.args.part outcome h c.look_at-in-Err-OutOfRange.new.log c.args.came.now c.look_at-in-Err-OutOfRange.new.came in
+    let Then : Entered → History → Type 0 = λ came h. (outcome : PartState → Outcome) → outcome (state_of h) ≡ look (Refused (pos 1)) → HasEntered who.by who.seq outcome h after came in
     let why = (c.in-Err-OutOfRange.ensures.out_of_range c.in-Err-OutOfRange.field-0-0).0 (ap Err c.in-Err-OutOfRange.field-0-is) in
     let follows = subst (λ (z : ℤ). IsFollower z log.followers) same why.0 in
     let never = subst (λ (z : ℤ). IsInRange z (log_end_of log.events) → ⊥) wide why.1 in
-    on_ok c.look_at-in-Err-OutOfRange.result c.look_at-in-Err-OutOfRange.ensures (λ then. subst Then c.in-Err-OutOfRange.ensures.refused then _
+    if_ok c.look_at-in-Err-OutOfRange.result c.look_at-in-Err-OutOfRange.ensures.entered (λ came then. subst (Then came) c.in-Err-OutOfRange.ensures.refused then _
     (fetch_of_follower log.followers c.args.part replica n.0 asked (state_of log) n.1 follows
     ∙ not_in_range c.args.part asked.offset (Followed (pos n.0) (offset_of asked.offset)) (state_of log) never))
