@@ -18,12 +18,12 @@ use Rattle.purgatory.specs.Rooms.{AreNamed, LockView}
 use Rattle.purgatory.specs.Turning.{AreKeys, IsKey, clock_name, key_view, key_views, lock_view, lock_views, name_shown, shard_name}
 
 -- the place of a shard among all
-front_at : {A : Type 0} (f : A → LockView) (xs : List A) (last : LockView) (k : ℕ) (x : A) → k < length xs → get_or (map f xs ++ last ∷ []) k (f x) ≡ f (get_or xs k x)
+pub front_at : {A : Type 0} (f : A → LockView) (xs : List A) (last : LockView) (k : ℕ) (x : A) → k < length xs → get_or (map f xs ++ last ∷ []) k (f x) ≡ f (get_or xs k x)
 front_at f xs last k x less =
     let size = length-map xs f in
     get_or_append_left (map f xs) (last ∷ []) (f x) k (omega (arith, less, size)) ∙ get_or-map f xs k x (f x) less
 
-back_at : {A : Type 0} (f : A → LockView) (xs : List A) (last d : LockView) → length xs ≡ 16 → get_or (map f xs ++ last ∷ []) 16 d ≡ last
+pub back_at : {A : Type 0} (f : A → LockView) (xs : List A) (last d : LockView) → length xs ≡ 16 → get_or (map f xs ++ last ∷ []) 16 d ≡ last
 back_at f xs last d all = get_or_at (map f xs) last [] d 16 (length-map xs f ∙ all)
 
 -- a name is shown only where no ticket is drawn
