@@ -1,0 +1,20 @@
+//! A lock round a desk may be shared by threads, and it and its passes may go to another one.
+use crate::moment_desk::MomentDesk;
+use crate::part_desk::PartDesk;
+use turn_lock::{TurnLock, TurnPass};
+
+fn may_go<X: Send>(_value: &X) {}
+
+fn may_be_shared<X: Sync>(_value: &X) {}
+
+fn part_crosses(lock: &TurnLock<PartDesk>, pass: &TurnPass<PartDesk>) {
+    may_be_shared(lock);
+    may_go(lock);
+    may_go(pass);
+}
+
+fn moment_crosses(lock: &TurnLock<MomentDesk>, pass: &TurnPass<MomentDesk>) {
+    may_be_shared(lock);
+    may_go(lock);
+    may_go(pass);
+}
