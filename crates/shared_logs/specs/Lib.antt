@@ -18,3 +18,5 @@ pub mod Ended
 
 -- how the logs and a pass are seen behind their locks
 pub mod Locked
+-- a turn of a lock, by what the pass knew before it and knows after it
+pub mod Turned

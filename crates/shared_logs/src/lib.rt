@@ -10,8 +10,12 @@
 //! (`AreClosed`).
 #![tactic(auto)]
 
+mod clock_turns;
 mod closing;
+mod crossing;
+mod desk_calls;
 mod logs;
+mod part_turns;
 mod pass;
 mod ticking;
 mod turns;
