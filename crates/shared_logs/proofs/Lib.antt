@@ -1,0 +1,10 @@
+-- what a whole turn of a lock tells of the histories
+pub mod Turns
+-- what a pass knows of a lock, as its turn goes on
+pub mod Keys
+-- a pass after a turn of a lock
+pub mod Passes
+-- a pass after a turn of the clock's lock
+pub mod Moments
+-- a pass whose seat in the room went on
+pub mod Steps

@@ -64,6 +64,13 @@ module _ {T E : Type 0} (entries : T → List E) (by : E → ℕ) where
     pub added : AddedBy by before.number (entries found) (entries left)
     pub after_is : after ≡ ended entries left (begun entries 0 found before)
 
+-- the pass saw more of the history, and left nothing
+pub record HasSeenMore {E : Type 0} (first now : Known E) : Type 0 where
+  pub number : now.number ≡ first.number
+  pub name : now.name ≡ first.name
+  pub mine : now.mine ≡ first.mine
+  pub seen : StartsWith now.seen first.seen
+
 -- a whole turn of a partition's lock
 pub record WasPartTurn (before after : Known LogEntry) (found left : PartView) : Type 0 where
   pub turn : HasLeft part_entries entry_by before after found left
