@@ -13,7 +13,7 @@ use Rattle.log_desks.specs.declared.entries.LogEntry.{LogEntry}
 use Rattle.log_desks.specs.Desks.{MomentView, PartView, moment_name, part_name}
 use Rattle.log_desks.specs.Entries.{clock_by, clock_entries, entry_by, log_entries}
 use Rattle.log_desks.specs.Histories.{events_of}
-use Rattle.log_desks.specs.Keeps.{MomentKeeps}
+use Rattle.log_desks.specs.Keeps.{MomentKeeps, PartKeeps}
 use Rattle.log_desks.proofs.Beside.{clock_events}
 use Rattle.shared_logs.specs.Turned.{HasFound, HasLeft, HasSeenMore, WasClockTurn, WasPartTurn, moment_entries, part_entries}
 
@@ -69,28 +69,41 @@ module _ {T E : Type 0} (entries : T → List E) (by : E → ℕ) where
     after_is = f ∙ ap (ended entries left) e;
   }
 
--- a whole turn of a partition's lock
-pub part_turned : (before key after : Known LogEntry) (number ticket : ℕ) (found left : PartView) (name : List ℕ) → HasFound part_entries entry_by before found → key ≡ begun part_entries ticket found before
-    → after ≡ ended part_entries left key → before.number ≡ number → AddedBy entry_by number (log_entries found.history) (log_entries left.history) → part_name found ≡ name → part_name left ≡ part_name found
-    → before.name ≡ name → IsKept found.history.log found.history.events → IsKept left.history.log left.history.events → WasPartTurn before after found left
-part_turned before key after number ticket found left name is e f same added found_name left_name named kept kept_left = record {
-  turn = has_left part_entries entry_by before key after number ticket found left is e f same added;
-  name_found = found_name ∙ sym named;
-  name_left = left_name ∙ found_name ∙ sym named;
-  kept_found = kept;
-  kept_left = kept_left;
+-- a turn of a partition's lock that began, and was found so
+pub record BeganPart (before key : Known LogEntry) (name : List ℕ) (ticket : ℕ) (found : PartView) : Type 0 where
+  pub found_is : HasFound part_entries entry_by before found
+  pub begun_is : key ≡ begun part_entries ticket found before
+  pub named : part_name found ≡ name
+  pub keeps : PartKeeps found
+
+-- it ends
+pub part_turned : (before key after : Known LogEntry) (name : List ℕ) (number ticket : ℕ) (found left : PartView) → BeganPart before key name ticket found → after ≡ ended part_entries left key → before.number ≡ number
+    → before.name ≡ name → AddedBy entry_by number (log_entries found.history) (log_entries left.history) → part_name left ≡ part_name found → IsKept left.history.log left.history.events
+    → WasPartTurn before after found left
+part_turned before key after name number ticket found left began f same named added left_name kept = record {
+  turn = has_left part_entries entry_by before key after number ticket found left began.found_is began.begun_is f same added;
+  name_found = began.named ∙ sym named;
+  name_left = left_name ∙ began.named ∙ sym named;
+  kept_found = began.keeps.kept;
+  kept_left = kept;
 }
 
 -- the same of the clock's lock
-pub clock_turned : (before key after : Known ClockEntry) (number ticket : ℕ) (found left : MomentView) (name : List ℕ) → HasFound moment_entries clock_by before found → key ≡ begun moment_entries ticket found before
-    → after ≡ ended moment_entries left key → before.number ≡ number → AddedBy clock_by number (clock_entries found.events found.tickers) (clock_entries left.events left.tickers) → moment_name found ≡ name
-    → moment_name left ≡ moment_name found → before.name ≡ name → MomentKeeps found → MomentKeeps left → WasClockTurn before after found left
-clock_turned before key after number ticket found left name is e f same added found_name left_name named keeps keeps_left = record {
-  turn = has_left moment_entries clock_by before key after number ticket found left is e f same added;
-  name_found = found_name ∙ sym named;
-  name_left = left_name ∙ found_name ∙ sym named;
-  keeps_found = keeps;
-  keeps_left = keeps_left;
+pub record BeganClock (before key : Known ClockEntry) (name : List ℕ) (ticket : ℕ) (found : MomentView) : Type 0 where
+  pub found_is : HasFound moment_entries clock_by before found
+  pub begun_is : key ≡ begun moment_entries ticket found before
+  pub named : moment_name found ≡ name
+  pub keeps : MomentKeeps found
+
+pub clock_turned : (before key after : Known ClockEntry) (name : List ℕ) (number ticket : ℕ) (found left : MomentView) → BeganClock before key name ticket found → after ≡ ended moment_entries left key → before.number ≡ number
+    → before.name ≡ name → AddedBy clock_by number (clock_entries found.events found.tickers) (clock_entries left.events left.tickers) → moment_name left ≡ moment_name found → MomentKeeps left
+    → WasClockTurn before after found left
+clock_turned before key after name number ticket found left began f same named added left_name keeps = record {
+  turn = has_left moment_entries clock_by before key after number ticket found left began.found_is began.begun_is f same added;
+  name_found = began.named ∙ sym named;
+  name_left = left_name ∙ began.named ∙ sym named;
+  keeps_found = began.keeps;
+  keeps_left = keeps;
 }
 
 -- the clock's moment is that of the history that the pass has seen then

@@ -1,5 +1,5 @@
 -- what a whole turn of a lock tells of the histories
-pub mod Turns
+pub mod Telling
 -- what a pass knows of a lock, as its turn goes on
 pub mod Keys
 -- a pass after a turn of a lock

@@ -40,7 +40,7 @@ use Rattle.shared_logs.specs.Seen.{HasSeen}
 use Rattle.shared_logs.specs.Shared.{AreShared, LogPassView, followers_in}
 use Rattle.shared_logs.specs.Turned.{HasLeft, LookedAtClock, SawClock, ToldClock, WasClockTurn, moment_entries}
 use Rattle.shared_logs.proofs.Passes.{came_of, hand_after, own_of, same_lock}
-use Rattle.shared_logs.proofs.Turns.{clock_found, clock_left_seen, clock_more, clock_others}
+use Rattle.shared_logs.proofs.Telling.{clock_found, clock_left_seen, clock_more, clock_others}
 
 -- ---- moments
 

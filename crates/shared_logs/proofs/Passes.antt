@@ -31,7 +31,7 @@ use Rattle.pass_books.proofs.Laws.{others_grown, others_within, part_came}
 use Rattle.turn_lock.specs.declared.known.Known.{Known}
 use Rattle.turn_lock.specs.declared.pass.TurnPass.{TurnPass}
 use Rattle.turn_lock.specs.declared.lock.TurnLock.{TurnLock}
-use Rattle.turn_lock.specs.Locks.{IsReady, known, lock_name}
+use Rattle.turn_lock.specs.Locks.{IsPassOf, IsReady, known, lock_name}
 use Rattle.turn_lock.specs.OfPass.{of_pass}
 use Rattle.purgatory.specs.Going.{GoesOn, IsAtRest, KeepsOperation}
 use Rattle.purgatory.specs.Rooms.{IsOfRoom, LockView, PassView, RoomView}
@@ -46,7 +46,7 @@ use Rattle.shared_logs.specs.Locked.{IsHand, IsLogPass, lock_of, moment_lock, pa
 use Rattle.shared_logs.specs.Seen.{HasSeen}
 use Rattle.shared_logs.specs.Shared.{AreShared, LogPassView, SharedView, followers_in}
 use Rattle.shared_logs.specs.Turned.{HasLeft, OpensClock, OpensPart, SawPart, WasPartTurn, part_entries}
-use Rattle.shared_logs.proofs.Turns.{followers_are, found_longer, found_others, left_seen, name_after, number_after, own_after}
+use Rattle.shared_logs.proofs.Telling.{followers_are, found_longer, found_others, left_seen, name_after, number_after, own_after}
 
 -- ---- lists
 
@@ -96,6 +96,12 @@ came_of number parts later clock behind came size = record {
   grown = others_grown number parts later clock behind came;
   within = others_within number parts later clock behind came size;
 }
+
+-- what the pass has seen of a partition, where its pass of that lock was set
+pub seen_at : (parts : List (TurnPass PartView LogEntry)) (part : ℕ) (new : TurnPass PartView LogEntry) → part < length parts → history_at (map seen_part (set parts part new)) part ≡ seen_part new
+seen_at parts part new less =
+    let size : part < length (map seen_part parts) = omega (arith, less, length-map parts seen_part) in
+    ap (λ (hs : List History). history_at hs part) (map-set seen_part parts part new) ∙ at_set (map seen_part parts) part (seen_part new) size
 
 -- ---- a turn of a partition's lock
 
@@ -243,6 +249,11 @@ part_caught_up number room after parts clock moment ticked part old new step saw
 
 -- ---- the locks of a pass, beside those of the logs
 
+pub within : (its : RoomView) (locks : List (TurnLock PartView LogEntry)) (last : TurnLock MomentView ClockEntry) (shared : SharedView) (part : ℕ) → shared_view its locks last ≡ shared → part < length shared.parts → part < length locks
+within its locks last shared part is there =
+    let here : part < length (map part_lock locks) = subst (λ (s : SharedView). part < length s.parts) (sym is) there in
+    omega (arith, here, length-map locks part_lock)
+
 module _ (number : ℕ) (room : PassView) (parts : List (TurnPass PartView LogEntry)) (clock : TurnPass MomentView ClockEntry) (moment ticked : ℕ) (is : IsLogPass number room parts clock moment ticked)
     (its : RoomView) (locks : List (TurnLock PartView LogEntry)) (last : TurnLock MomentView ClockEntry) (made : (pass_view number room parts clock ticked).made ≡ shared_view its locks last) where
   pub of_room : IsOfRoom its room
@@ -284,6 +295,19 @@ module _ (number : ℕ) (room : PassView) (parts : List (TurnPass PartView LogEn
         let size : part < length (map part_lock locks) = omega (arith, less, length-map locks part_lock) in
         get_or-map (λ (v : LockView). slice_index v.name 0) (map part_lock locks) part (lock_of old) 0 size
         ∙ ap (λ (v : LockView). slice_index v.name 0) lock_there
+
+    pub part_step : (after : PassView) (new : TurnPass PartView LogEntry) → IsOfRoom its after → GoesOn room.seat after.seat → KeepsOperation (caller_now room.seat) (caller_now after.seat) → IsPassOf part_name lock new
+        → IsReady new → IsPartStep number room after parts clock moment ticked part old new
+    part_step after new of went kept pass ready = record {
+      is = is;
+      went = went;
+      kept = kept;
+      locks = of.locks ∙ sym of_room.locks;
+      less = less_parts;
+      at = at;
+      ready = ready;
+      id = pass.0 ∙ sym opens.of_lock.0;
+    }
 
   pub opens_clock : OpensClock its.table number last clock
   opens_clock =

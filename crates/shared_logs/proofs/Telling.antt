@@ -1,11 +1,11 @@
 -- What a whole turn of a lock tells of the histories.
-use Rattle.std.proofs.Common.{◌≡◌, ◌≢◌, ℕ, ◌+◌, Bool, true, cond, eqb, eq-eqb, List, [], ◌∷◌, ◌++◌, drop, filter, length, map, get_or, Result, Ok, Err, refl, sym, ap, subst, ◌∙◌}
+use Rattle.std.proofs.Common.{◌≡◌, ◌≢◌, ℕ, ◌+◌, Bool, true, cond, eqb, eq-eqb, List, [], ◌∷◌, ◌++◌, drop, filter, length, map, Option, Some, None, Result, Ok, Err, refl, sym, ap, subst, ◌∙◌}
 use Rattle.std.proofs.Math.Seq.{drop-append_seam}
 use Rattle.std.proofs.lemmas.Grind.{flat_map-append}
 use Rattle.std.proofs.lemmas.List.{map-append}
 use Rattle.std.proofs.lemmas.List.Elements.{filter-append, recursion_from_All}
 use Rattle.std.specs.List.{AllByRecursion, flat_map}
-use Rattle.std.specs.Prelude.{All, IfOk, slice_index}
+use Rattle.std.specs.Prelude.{All, IfOk, OnErr, OnOk, slice_index}
 use Rattle.partlog.specs.declared.clock_event.ClockEvent.{ClockEvent}
 use Rattle.partlog.specs.declared.clock_event.ClockEvent.TheVariants as clocks
 use Rattle.partlog.specs.declared.event.PartEvent.{PartEvent}
@@ -34,6 +34,27 @@ use Rattle.shared_logs.specs.Turned.{HasFound, HasLeft, WasClockTurn, WasPartTur
 pub if_ok : {T E : Type 0} {P Q : T → Type 0} (r : Result T E) → IfOk r P → ((x : T) → P x → Q x) → IfOk r Q
 if_ok (Ok x) p f = f x p
 if_ok (Err e) p f = p
+
+pub if_ok_both : {T E : Type 0} {P Q R : T → Type 0} (r : Result T E) → IfOk r P → IfOk r Q → ((x : T) → P x → Q x → R x) → IfOk r R
+if_ok_both (Ok x) p q f = f x p q
+if_ok_both (Err e) p q f = p
+
+pub if_ok_with : {T E A : Type 0} {P R : T → Type 0} (r : Result T E) → OnOk r A → IfOk r P → (A → (x : T) → P x → R x) → IfOk r R
+if_ok_with (Ok x) a p f = f a x p
+if_ok_with (Err e) a p f = p
+
+pub if_ok_three : {T E A : Type 0} {P Q R : T → Type 0} (r : Result T E) → OnOk r A → IfOk r P → IfOk r Q → (A → (x : T) → P x → Q x → R x) → IfOk r R
+if_ok_three (Ok x) a p q f = f a x p q
+if_ok_three (Err e) a p q f = p
+
+pub on_err : {T E A B : Type 0} (r : Result T E) → OnErr r A → (A → B) → OnErr r B
+on_err (Ok x) a f = a
+on_err (Err e) a f = f a
+
+-- what holds either way
+pub by_result : {T E A C : Type 0} {P : T → Type 0} (r : Result T E) → IfOk r P → OnErr r A → ((x : T) → P x → C) → (A → C) → C
+by_result (Ok x) p a f h = f x p
+by_result (Err e) p a f h = h a
 
 -- ---- names
 
@@ -97,10 +118,14 @@ module _ {T E : Type 0} (entries : T → List E) (by : E → ℕ) (before : Know
 
 -- ---- a partition's
 
+abbrev by_or : ℕ → Option Owner → ℕ
+by_or n (Some owner) = owner.by
+by_or n None = n
+
 owner_named : (e : PartEvent) (by seq : ℕ) → owner_of e ≡ the_owner by seq → event_by e ≡ by
-owner_named (Append b s count len) by seq is = cc
-owner_named (Follow b s replica offset) by seq is = cc
-owner_named (Look b s) by seq is = cc
+owner_named (Append b s count len) by seq is = ap (by_or 0) is
+owner_named (Follow b s replica offset) by seq is = ap (by_or 0) is
+owner_named (Look b s) by seq is = ap (by_or 0) is
 
 owned_by_others : (number : ℕ) (es : List LogEntry) → AllByRecursion (λ e. entry_by e ≢ number) es → AllByRecursion (λ event. NotOf number (owner_of event)) (map event_in es)
 owned_by_others number [] all = tt
@@ -119,6 +144,7 @@ module _ (before : Known LogEntry) (found : PartView) (is : HasFound part_entrie
       }
 
   pub found_others : of_pass entry_by before.number before.seen ≡ before.mine → AllByRecursion (λ event. NotOf before.number (owner_of event)) found_longer.more
+  unfolding found_longer
   found_others own = owned_by_others before.number is.seen.0 (others_came part_entries entry_by before found is own)
 
 -- the history that was left is what the pass has seen then
@@ -140,7 +166,7 @@ IsHonest entry = (by seq : ℕ) → clock_owner_of entry.event ≡ the_owner by 
 honest : (es : List ClockEvent) (ps : List ℕ) → AllByRecursion IsHonest (clock_entries es ps)
 honest [] ps = tt
 honest (clocks.Tick t ∷ es) ps = ((λ by seq is. absurd cc), honest es (drop 1 ps))
-honest (clocks.Look b s ∷ es) ps = ((λ by seq is. cc), honest es ps)
+honest (clocks.Look b s ∷ es) ps = ((λ by seq is. ap (by_or 0) is), honest es ps)
 
 all_behind : {X : Type 0} (P : X → Type 0) (xs ys : List X) → AllByRecursion P (xs ++ ys) → AllByRecursion P ys
 all_behind P [] ys all = all
