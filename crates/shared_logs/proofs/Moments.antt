@@ -17,29 +17,31 @@ use Rattle.audit.specs.Histories.{clock_owner_of, ticks_of}
 use Rattle.room_core.specs.Gauges.{IsPass}
 use Rattle.room_table.specs.Seats.{TableView, caller_now}
 use Rattle.plain_broker.specs.GoesOn.{Longer}
-use Rattle.plain_broker.proofs.Laws.{longer_self, looked_moment}
+use Rattle.plain_broker.proofs.Laws.{looked_moment}
 use Rattle.pass_books.specs.Owned.{NotOf, OthersAlone}
 use Rattle.pass_books.proofs.Laws.{clock_came}
 use Rattle.turn_lock.specs.declared.known.Known.{Known}
 use Rattle.turn_lock.specs.declared.pass.TurnPass.{TurnPass}
-use Rattle.turn_lock.specs.Locks.{IsReady, known}
+use Rattle.turn_lock.specs.declared.lock.TurnLock.{TurnLock}
+use Rattle.turn_lock.specs.Locks.{IsPassOf, IsReady, known}
 use Rattle.turn_lock.specs.OfPass.{of_pass}
 use Rattle.purgatory.specs.Going.{GoesOn, IsAtRest, KeepsOperation}
-use Rattle.purgatory.specs.Rooms.{PassView}
+use Rattle.purgatory.specs.Rooms.{IsOfRoom, PassView, RoomView}
+use Rattle.purgatory.proofs.Goes.{kept_same, stays}
 use Rattle.log_desks.specs.declared.entries.ClockEntry.{ClockEntry}
 use Rattle.log_desks.specs.declared.entries.LogEntry.{LogEntry}
-use Rattle.log_desks.specs.Desks.{MomentView, PartView}
+use Rattle.log_desks.specs.Desks.{MomentView, PartView, moment_name}
 use Rattle.log_desks.specs.Entries.{clock_by}
 use Rattle.log_desks.specs.Histories.{events_of}
 use Rattle.log_desks.proofs.Beside.{clock_events, clock_length}
 use Rattle.log_desks.proofs.Ticking.{ticked_above}
 use Rattle.shared_logs.specs.Asked.{HasLookedAtClock, HasTicked}
 use Rattle.shared_logs.specs.Coming.{HasCaughtUp, IsSamePass, OthersCame}
-use Rattle.shared_logs.specs.Locked.{IsHand, IsLogPass, lock_of, pass_view, seen_part}
+use Rattle.shared_logs.specs.Locked.{IsHand, IsLogPass, lock_of, pass_view, seen_part, shared_view}
 use Rattle.shared_logs.specs.Seen.{HasSeen}
 use Rattle.shared_logs.specs.Shared.{AreShared, LogPassView, followers_in}
 use Rattle.shared_logs.specs.Turned.{HasLeft, LookedAtClock, SawClock, ToldClock, WasClockTurn, moment_entries}
-use Rattle.shared_logs.proofs.Passes.{came_of, hand_after, own_of, same_lock}
+use Rattle.shared_logs.proofs.Passes.{came_of, hand_after, of_room, opens_clock, own_of, same_lock}
 use Rattle.shared_logs.proofs.Telling.{clock_found, clock_left_seen, clock_more, clock_others}
 
 -- ---- moments
@@ -65,14 +67,15 @@ later_both n m (Tick t) le = omega (arith, le)
 later_both n m (Look by seq) le = le
 
 -- some of the entries have no later moment
+some_test : (p : ClockEntry → Bool) (n m : ℕ) (e : ClockEntry) (es : List ClockEntry) (b : Bool) → n ≤ m → ((i j : ℕ) → i ≤ j → most i (events_of (filter p es)) ≤ most j (events_of es))
+    → most n (events_of (cond b (e ∷ filter p es) (filter p es))) ≤ most m (e.event ∷ events_of es)
+some_test p n m e es true le on =
+    rw (most_later n e.event (events_of (filter p es)), most_later m e.event (events_of es)) (on (later n e.event) (later m e.event) (later_both n m e.event le))
+some_test p n m e es false le on = rw (most_later m e.event (events_of es)) (on n (later m e.event) (later_least n m e.event le))
+
 some_most : (p : ClockEntry → Bool) (n m : ℕ) (es : List ClockEntry) → n ≤ m → most n (events_of (filter p es)) ≤ most m (events_of es)
 some_most p n m [] le = le
-some_most p n m (e ∷ es) le = by_test (p e)
-  where
-    by_test : (b : Bool) → most n (events_of (cond b (e ∷ filter p es) (filter p es))) ≤ most m (e.event ∷ events_of es)
-    by_test true =
-        rw (most_later n e.event (events_of (filter p es)), most_later m e.event (events_of es)) (some_most p (later n e.event) (later m e.event) es (later_both n m e.event le))
-    by_test false = rw (most_later m e.event (events_of es)) (some_most p n (later m e.event) es (later_least n m e.event le))
+some_most p n m (e ∷ es) le = some_test p n m e es (p e) le (λ i j less. some_most p i j es less)
 
 -- a pass's own ticks are no later than the clock
 pub own_moment : (number : ℕ) (seen mine : List ClockEntry) → of_pass clock_by number seen ≡ mine → moment_of (events_of mine) ≤ moment_of (events_of seen)
@@ -82,13 +85,9 @@ own_moment number seen mine own =
 pub tick_moment : (events : List ClockEvent) (t : ℕ) → moment_of (events ++ Tick t ∷ []) ≡ max (moment_of events) t
 tick_moment events t = ap (fold max 0) (filter_map-append tick_of events (Tick t ∷ [])) ∙ fold_push max 0 (filter_map tick_of events) t
 
-was_true : (b : Bool) → IsTrue b → b ≡ true
-was_true true yes = refl
-was_true false yes = absurd yes
-
 was_false : (b : Bool) → (IsTrue b → ⊥) → b ≡ false
-was_false true no = absurd (no tt)
-was_false false no = refl
+was_false true never = absurd (never refl)
+was_false false never = refl
 
 -- later events lower no moment
 most_least : (n : ℕ) (events : List ClockEvent) → n ≤ most n events
@@ -257,7 +256,7 @@ module _ (number : ℕ) (room after : PassView) (parts : List (TurnPass PartView
   module _ (t : ℕ) (rose : Bool) (d : ToldClock t (known old) (known new) rose) where
     told_ticked : (b : Bool) → rose ≡ b → cond b t ticked ≡ moment_of (events_of (known new).mine)
     told_ticked true is =
-        let less : moment_of d.found.events < t = d.told.rose_is.0 (subst IsTrue (sym is) tt) in
+        let less : moment_of d.found.events < t = d.told.rose_is.0 is in
         let grown : d.left.events ≡ d.found.events ++ Tick t ∷ [] = d.told.events ∙ ticked_above d.found.events t less in
         let before : ticked ≤ moment_of (events_of (known old).seen) = step.is.seen.ticked in
         let on : moment_of (events_of (known old).seen) ≤ moment_of d.found.events =
@@ -282,14 +281,47 @@ module _ (number : ℕ) (room after : PassView) (parts : List (TurnPass PartView
           others = clock_came_to number room after parts old new moment ticked step d.found d.left d.turn moment_after (cond rose t ticked) moment_is (told_ticked rose refl);
           parts = refl;
           clock = at;
-          added = λ less. ap (λ (b : Bool). cond b t ticked) (was_true rose (d.told.rose_is.1 less));
-          stood = λ most. ap (λ (b : Bool). cond b t ticked) (was_false rose (λ yes. omega (arith, most, d.told.rose_is.0 yes)));
+          added = λ less. ap (λ (b : Bool). cond b t ticked) (d.told.rose_is.1 less);
+          stood = λ most. ap (λ (b : Bool). cond b t ticked) (was_false rose (λ up. let above = d.told.rose_is.0 up in omega (arith, most, above)));
           reached = subst (λ (es : List ClockEvent). t ≤ moment_of es) (sym at) (reaches d.found.events t);
         }
 
 -- nothing came
+abbrev as_it_was : (h : History) → Longer h h
+as_it_was h = record { followers = refl; more = []; bytes = []; events = sym (append-nil h.events); log = sym (append-nil h.log) }
+
 pub none_came : (number : ℕ) (parts : List History) (clock : List ClockEvent) → OthersCame number parts clock parts clock
 none_came number parts clock =
     came_of number parts parts clock clock
-    (record { each = λ p h e. (h, e, longer_self h, tt); more = []; events = sym (append-nil clock); others = tt })
+    (record { each = λ p h e. (h, e, as_it_was h, tt); more = []; events = sym (append-nil clock); others = tt })
     refl
+
+-- a moment that the clock has reached
+pub told_before : (v : LogPassView) (t : ℕ) → t ≤ moment_of v.clock → HasTicked t v v
+told_before v t past = record {
+  found = v.clock;
+  same = record { number = refl; made = refl; went = stays v.seat; kept = kept_same (caller_now v.seat) };
+  others = none_came v.number v.parts v.clock;
+  parts = refl;
+  clock = sym (stands v.clock t past);
+  added = λ less. absurd (omega (arith, less, past));
+  stood = λ most. refl;
+  reached = past;
+}
+
+-- what the clock's lock tells of a pass beside the logs
+pub clock_step : (number : ℕ) (room : PassView) (parts : List (TurnPass PartView LogEntry)) (old : TurnPass MomentView ClockEntry) (moment ticked : ℕ) → IsLogPass number room parts old moment ticked
+    → (its : RoomView) (locks : List (TurnLock PartView LogEntry)) (last : TurnLock MomentView ClockEntry) → (pass_view number room parts old ticked).made ≡ shared_view its locks last
+    → (after : PassView) (new : TurnPass MomentView ClockEntry) → IsOfRoom its after → GoesOn room.seat after.seat → KeepsOperation (caller_now room.seat) (caller_now after.seat) → IsPassOf moment_name last new → IsReady new
+    → IsClockStep number room after parts old new moment ticked
+clock_step number room parts old moment ticked is its locks last made after new of went kept pass ready =
+    let was = of_room number room parts old moment ticked is its locks last made in
+    let opened = opens_clock number room parts old moment ticked is its locks last made in
+    record {
+      is = is;
+      went = went;
+      kept = kept;
+      locks = of.locks ∙ sym was.locks;
+      ready = ready;
+      id = pass.0 ∙ sym opened.of_lock.0;
+    }

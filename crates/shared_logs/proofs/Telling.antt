@@ -51,6 +51,17 @@ pub on_err : {T E A B : Type 0} (r : Result T E) → OnErr r A → (A → B) →
 on_err (Ok x) a f = a
 on_err (Err e) a f = f a
 
+-- what is so in any case, said of Err
+pub any_err : {T E A : Type 0} (r : Result T E) → A → OnErr r A
+any_err (Ok x) a = tt
+any_err (Err e) a = a
+
+pub err_is : {T E A : Type 0} (r : Result T E) (e : E) → r ≡ Err e → OnErr r A → A
+err_is {T = T} {E = E} {A = A} r e is a = subst (λ (x : Result T E). OnErr x A) is a
+
+pub ok_is : {T E : Type 0} (P : T → Type 0) (r : Result T E) (x : T) → r ≡ Ok x → IfOk r P → P x
+ok_is {T = T} {E = E} P r x is p = subst (λ (y : Result T E). IfOk y P) is p
+
 -- what holds either way
 pub by_result : {T E A C : Type 0} {P : T → Type 0} (r : Result T E) → IfOk r P → OnErr r A → ((x : T) → P x → C) → (A → C) → C
 by_result (Ok x) p a f h = f x p
