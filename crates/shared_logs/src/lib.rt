@@ -11,7 +11,9 @@
 #![tactic(auto)]
 
 mod closing;
+mod hands;
 mod logs;
+mod making;
 mod pass;
 mod ticking;
 mod turns;
@@ -21,3 +23,6 @@ pub use closing::{ClosedLogs, LogsEnd};
 pub use logs::SharedLogs;
 pub use pass::LogPass;
 pub use turns::{Fetched, Looked, Put, Read};
+
+#[cfg(test)]
+mod closing_tests;
