@@ -1,6 +1,5 @@
 -- How the logs and a pass are seen behind their locks.
 use Rattle.std.specs.Prelude.{◌≡◌, ℕ, List, All, length, map, slice_index}
-use Rattle.std.specs.List.{zip}
 use Rattle.partlog.specs.History.{History}
 use Rattle.partlog.specs.Moment.{moment_of}
 use Rattle.turn_lock.specs.declared.lock.TurnLock.{TurnLock}
@@ -51,8 +50,11 @@ module _ {T E : Type 0} where
     pub number_is : (known pass).number ≡ number
     pub own : of_pass by number (known pass).seen ≡ (known pass).mine
 
+-- Its hands have its number. The moment is that of the clock as it was seen, and `ticked` that of the pass's own entries alone: a look
+-- has no moment, so it is the greatest of the ticks that the pass added.
 pub record IsLogPass (number : ℕ) (room : PassView) (parts : List (TurnPass PartView LogEntry)) (clock : TurnPass MomentView ClockEntry) (moment ticked : ℕ) : Type 0 where
   pub seen : HasSeen (pass_view number room parts clock ticked)
   pub parts_are : All (IsHand entry_by number) parts
   pub clock_is : IsHand clock_by number clock
   pub moment_is : moment ≡ moment_of (events_of (known clock).seen)
+  pub ticked_is : ticked ≡ moment_of (events_of (known clock).mine)
