@@ -18,3 +18,9 @@ pub mod Ended
 
 -- how the logs and a pass are seen behind their locks
 pub mod Locked
+-- the locks of new logs, and their passes as they are dealt out
+pub mod Dealt
+-- passes taken apart for the close
+pub mod Apart
+-- what is left of locks that were closed
+pub mod Gone

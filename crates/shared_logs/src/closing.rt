@@ -1,8 +1,12 @@
 //! The logs are closed.
-ghost use Rattle.std.specs.Prelude.{◌≡◌, All, length};
-ghost use Rattle.room_table.specs.Seats.{caller_now};
+ghost use Rattle.std.specs.Prelude.{◌≡◌, All, IfOk, length, map};
+ghost use Rattle.turn_lock.specs.Locks.{lock_passes};
+ghost use Rattle.room_table.specs.Seats.{TableView, caller_now};
+ghost use Rattle.purgatory.specs.Making.{AreFrom};
 ghost use Rattle.purgatory.specs.Going.{OwesNothing};
+ghost use Rattle.shared_logs.specs.Apart.{IsOfClock, IsOfLocks};
 ghost use Rattle.shared_logs.specs.Ended.{HasEnded};
+ghost use Rattle.shared_logs.specs.Gone.{AreAllOut, AreOfRoom, AreOut, AreSourcesOf, HaveGone, IsClockOut, IsNamed, followers_named};
 
 use crate::hands::{Hand, first_of_each, put_together, take_apart};
 use crate::logs::SharedLogs;
@@ -46,7 +50,15 @@ fn close_parts(
     alloc: Global,
     locks: Vec<TurnLock<PartDesk>>,
     mut hands: List<Hand>,
-) -> Result<ClosedParts, NoMemory> {
+) -> Result<ClosedParts, NoMemory>
+    requires hands { All (IsOfLocks locks.items) hands }
+    requires passes { All (λ lock. lock_passes lock ≡ length hands) locks.items }
+    ensures gone { IfOk result (λ closed. HaveGone closed.logs hands closed.hands) }
+    ensures count { IfOk result (λ closed. length closed.hands ≡ length hands) }
+    ensures out { IfOk result (λ closed. AreOut (length hands) closed.logs) }
+    ensures followers { IfOk result (λ closed. map (λ h. h.followers) closed.logs ≡ followers_named locks.items) }
+    ensures sources { IfOk result (λ closed. (table : TableView) → AreFrom (IsNamed table) 0 locks.items → AreSourcesOf table closed.logs closed.sources) }
+{
     let mut logs = List::new(alloc);
     let mut sources = List::new(alloc);
     for lock in locks {
@@ -70,7 +82,11 @@ fn close_clock(
     alloc: Global,
     lock: TurnLock<MomentDesk>,
     hands: List<Hand>,
-) -> Result<(ClockLog, Source), NoMemory> {
+) -> Result<(ClockLog, Source), NoMemory>
+    requires hands { All (IsOfClock lock) hands }
+    requires passes { lock_passes lock ≡ length hands }
+    ensures { IfOk result (λ closed. IsClockOut lock hands closed.0 closed.1) }
+{
     let mut passes = List::new(alloc);
     for hand in hands.into_vec() {
         passes.push(hand.clock)?;
@@ -86,7 +102,12 @@ fn close_all(
     parts: Vec<TurnLock<PartDesk>>,
     clock: TurnLock<MomentDesk>,
     hands: List<Hand>,
-) -> Result<ClosedLogs, NoMemory> {
+) -> Result<ClosedLogs, NoMemory>
+    requires room { AreOfRoom still.table parts.items clock }
+    requires hands { All (IsOfLocks parts.items) hands × All (IsOfClock clock) hands }
+    requires passes { All (λ lock. lock_passes lock ≡ length hands) parts.items × (lock_passes clock ≡ length hands) }
+    ensures { IfOk result (λ closed. AreAllOut still parts.items clock hands closed.parts closed.clock closed.wins) }
+{
     let ClosedParts {
         logs,
         mut sources,

@@ -1,4 +1,8 @@
 //! The passes are taken apart for the close.
+ghost use Rattle.std.specs.Prelude.{◌≡◌, ◌<◌, [], ◌++◌, All, IfOk, length};
+ghost use Rattle.shared_logs.specs.Apart.{AreJoined, AreRests, gathered};
+ghost use Rattle.shared_logs.specs.declared.hands.Hand.{Hand as HandView};
+
 use crate::pass::LogPass;
 use kbytes::{List, NoMemory};
 use log_desks::{MomentDesk, PartDesk};
@@ -20,7 +24,11 @@ pub struct Hand {
 pub(crate) fn take_apart(
     alloc: Global,
     passes: &mut List<LogPass>,
-) -> Result<(List<RoomPass>, List<Hand>), NoMemory> {
+) -> Result<(List<RoomPass>, List<Hand>), NoMemory>
+    ensures passes { IfOk result (λ apart. passes.old ≡ gathered apart.0 apart.1) }
+    ensures joined { IfOk result (λ apart. AreJoined apart.0 apart.1) }
+    ensures none { IfOk result (λ apart. passes.new ≡ []) }
+{
     let mut seats = List::new(alloc);
     let mut hands = List::new(alloc);
     while let Some(pass) = passes.pop() {
@@ -49,7 +57,10 @@ pub(crate) fn put_together(
     mut passes: List<LogPass>,
     mut seats: List<RoomPass>,
     mut hands: List<Hand>,
-) -> Result<List<LogPass>, NoMemory> {
+) -> Result<List<LogPass>, NoMemory>
+    requires { AreJoined seats hands }
+    ensures { IfOk result (λ whole. whole ≡ passes ++ gathered seats hands) }
+{
     while let Some(room) = seats.pop() {
         let Some(hand) = hands.pop() else {
             unreachable!()
@@ -77,7 +88,10 @@ pub(crate) fn put_together(
 pub(crate) fn first_of_each(
     alloc: Global,
     hands: List<Hand>,
-) -> Result<(List<Hand>, List<TurnPass<PartDesk>>), NoMemory> {
+) -> Result<(List<Hand>, List<TurnPass<PartDesk>>), NoMemory>
+    requires { All (λ (hand : HandView). 0 < length hand.parts.items) hands }
+    ensures { IfOk result (λ apart. AreRests hands apart.1 apart.0) }
+{
     let mut rest = List::new(alloc);
     let mut firsts = List::new(alloc);
     for mut hand in hands.into_vec() {

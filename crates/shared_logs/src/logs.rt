@@ -22,13 +22,13 @@ pub struct SharedLogs {
 
 impl Model for SharedLogs {
     ghost use Rattle.shared_logs.specs.Shared.{AreShared, SharedView};
-    ghost use Rattle.shared_logs.specs.Locked.{shared_view};
+    ghost use Rattle.shared_logs.specs.Locked.{HaveAllPasses, shared_view};
 
     ghost Value = { SharedView };
 
     ghost view = { λ l. shared_view l.room l.parts.items l.clock };
 
-    ghost invariant = { λ l. AreShared (shared_view l.room l.parts.items l.clock) };
+    ghost invariant = { λ l. AreShared (shared_view l.room l.parts.items l.clock) × HaveAllPasses l.room l.parts.items l.clock };
 }
 
 impl SharedLogs {
