@@ -122,6 +122,9 @@ from_at P first [] a k d less = absurd (omega (arith, less))
 from_at P first (x ∷ xs) a zero d less = subst (λ n. P n x) (omega arith) a.0
 from_at P first (x ∷ xs) a (suc k) d less = subst (λ n. P n (get_or xs k d)) (omega arith) (from_at P (first + 1) xs a.1 k d (omega (arith, less)))
 
+pub from_start : {A : Type 0} (P : ℕ → A → Type 0) (xs : List A) → AreFrom P 0 xs → (k : ℕ) (d : A) → k < length xs → P k (get_or xs k d)
+from_start P xs a k d less = subst (λ n. P n (get_or xs k d)) (omega arith) (from_at P 0 xs a k d less)
+
 -- the first sources of a room
 pub first_sources : (table : TableView) (sources : List SourceView) (last : SourceView) (gauges : ℕ) → table.shape.gauges ≡ gauges + 1 → sources ++ last ∷ [] ≡ fresh_sources table
     → AreFirst table gauges sources × (last ≡ fresh_source table gauges)
@@ -145,7 +148,7 @@ module _ (table : TableView) (followers : List ℕ) (passes : ℕ) where
 
   passes_from : (first : ℕ) (locks : List (TurnLock PartView LogEntry)) → AreFrom (IsPartLock table followers passes) first locks → All (λ (lock : TurnLock PartView LogEntry). lock_passes lock ≡ passes) locks
   passes_from first [] a = All-nil _
-  passes_from first (lock ∷ locks) a = All-cons _ lock locks a.0.passes_are (passes_from (first + 1) locks a.1)
+  passes_from first (lock ∷ locks) a = All-cons (λ (x : TurnLock PartView LogEntry). lock_passes x ≡ passes) lock locks a.0.passes_are (passes_from (first + 1) locks a.1)
 
 module _ (room : RoomView) (followers : List ℕ) (passes : ℕ) (locks : List (TurnLock PartView LogEntry)) (clock : TurnLock MomentView ClockEntry) (named : AreFrom (IsPartLock room.table followers passes) 0 locks)
     (as_many : length locks ≡ length followers) where
@@ -161,7 +164,7 @@ module _ (room : RoomView) (followers : List ℕ) (passes : ℕ) (locks : List (
         parts = λ part lock less.
             let views = from_mapped (λ k (view : LockView). view.name ≡ slice_index followers k ∷ desk_name room.table k) part_lock 0 locks
             (from_weaker (IsPartLock room.table followers passes) (λ k lock. lock_name part_name lock ≡ slice_index followers k ∷ desk_name room.table k) 0 locks (λ k lock is. is.name) named) in
-            from_at (λ k (view : LockView). view.name ≡ slice_index followers k ∷ desk_name room.table k) 0 (map part_lock locks) views part lock less
+            from_start (λ k (view : LockView). view.name ≡ slice_index followers k ∷ desk_name room.table k) (map part_lock locks) views part lock less
             ∙ ap (λ (all : List ℕ). slice_index all part ∷ desk_name room.table part) (sym new_followers);
         clock = name ∙ ap (λ n. desk_name room.table (3 * n)) (sym size);
       }

@@ -1,8 +1,7 @@
 -- The passes of new logs have seen nothing.
 use Rattle.std.proofs.Common.{◌≡◌, ◌∙◌, ℕ, zero, suc, ◌+◌, ◌≤◌, List, [], ◌∷◌, ◌++◌, Global, Option, Some, None, Vec, length, map, ap, inl, refl, subst, sym, arith}
-use Rattle.std.specs.Prelude.{All, slice_get, slice_index}
+use Rattle.std.specs.Prelude.{All, slice_get, slice_index, unwrap_or}
 use Rattle.std.proofs.lemmas.List.Elements.{All-head, All-nil, All-tail, All-weaker}
-use Rattle.std.proofs.lemmas.Option.{some_injective}
 use Rattle.partlog.specs.History.{History}
 use Rattle.partlog.specs.Kept.{IsDense, IsKept}
 use Rattle.partlog.specs.Moment.{moment_of}
@@ -28,22 +27,23 @@ use Rattle.shared_logs.specs.Seen.{HasSeen}
 use Rattle.shared_logs.proofs.Dealt.{from_next}
 use Rattle.shared_logs.specs.Shared.{AreShared, LogPassView, SharedView, followers_in}
 
-module _ {T E : Type 0} where
-  Mine : Type 0
-  Mine = List (Known E) × List (ℕ × Option T)
+-- what a seat has
+abbrev Mine : Type 0 → Type 0 → Type 0
+Mine T E = List (Known E) × List (ℕ × Option T)
 
+module _ {T E : Type 0} where
   nothing_seen : (number : ℕ) (pass : TurnPass T E) → IsFreshHand number pass → (known pass).seen ≡ []
-  nothing_seen number pass is = ap (λ (m : Mine). (known_of m.0).seen) is
+  nothing_seen number pass is = ap (λ (m : Mine T E). (known_of m.0).seen) is
 
   nothing_added : (number : ℕ) (pass : TurnPass T E) → IsFreshHand number pass → (known pass).mine ≡ []
-  nothing_added number pass is = ap (λ (m : Mine). (known_of m.0).mine) is
+  nothing_added number pass is = ap (λ (m : Mine T E). (known_of m.0).mine) is
 
   pub new_hand : (by : E → ℕ) (number : ℕ) (pass : TurnPass T E) → IsFreshHand number pass → IsHand by number pass
   new_hand by number pass is =
-      let P : Mine → Type 0 = λ m. m ≡ (at_stage Idle (known_of m.0) ∷ [], []) in
+      let P : Mine T E → Type 0 = λ m. m ≡ (at_stage Idle (known_of m.0) ∷ [], []) in
       record {
         ready = subst P (sym is) refl;
-        number_is = ap (λ (m : Mine). (known_of m.0).number) is;
+        number_is = ap (λ (m : Mine T E). (known_of m.0).number) is;
         own = ap (λ (entries : List E). of_pass by number entries) (nothing_seen number pass is) ∙ sym (nothing_added number pass is);
       }
 
@@ -63,7 +63,7 @@ at_empty (n ∷ counts) (suc part) = at_empty counts part
 
 empty_whole : (counts : List ℕ) → AllWhole (map empty_history counts)
 empty_whole [] p h at = absurd cc
-empty_whole (n ∷ counts) zero h at = subst IsWhole (some_injective _ _ at) refl
+empty_whole (n ∷ counts) zero h at = subst IsWhole (ap (λ o. unwrap_or o (empty_history n)) at) refl
 empty_whole (n ∷ counts) (suc p) h at = empty_whole counts p h at
 
 empty_followers : (counts : List ℕ) → map (λ (h : History). h.followers) (map empty_history counts) ≡ counts
