@@ -2,3 +2,9 @@
 pub mod Dealt
 -- the passes of new logs
 pub mod NewPasses
+-- passes taken apart, and put together again
+pub mod Apart
+-- locks that are closed
+pub mod Gone
+-- new logs, from the parts of a room
+pub mod NewLogs

@@ -115,7 +115,7 @@ fn close_all(
     } = close_parts(alloc, parts, hands)?;
     let (clock, source) = close_clock(alloc, clock, hands)?;
     sources.push(source)?;
-    let _ = still; let _ = sources; let wins = List::new(alloc);
+    let wins = still.close(sources);
     Ok(ClosedLogs {
         parts: logs,
         clock,
