@@ -8,3 +8,13 @@ pub mod Passes
 pub mod Moments
 -- a pass whose seat in the room went on
 pub mod Steps
+-- locks and passes as they are dealt out
+pub mod Dealt
+-- the passes of new logs
+pub mod NewPasses
+-- passes taken apart, and put together again
+pub mod Apart
+-- locks that are closed
+pub mod Gone
+-- new logs, from the parts of a room
+pub mod NewLogs

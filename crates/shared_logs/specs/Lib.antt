@@ -20,3 +20,9 @@ pub mod Ended
 pub mod Locked
 -- a turn of a lock, by what the pass knew before it and knows after it
 pub mod Turned
+-- the locks of new logs, and their passes as they are dealt out
+pub mod Dealt
+-- passes taken apart for the close
+pub mod Apart
+-- what is left of locks that were closed
+pub mod Gone

@@ -4,7 +4,7 @@ use Rattle.partlog.specs.History.{History}
 use Rattle.partlog.specs.Moment.{moment_of}
 use Rattle.turn_lock.specs.declared.lock.TurnLock.{TurnLock}
 use Rattle.turn_lock.specs.declared.pass.TurnPass.{TurnPass}
-use Rattle.turn_lock.specs.Locks.{IsReady, known, lock_id, lock_name}
+use Rattle.turn_lock.specs.Locks.{IsReady, known, lock_id, lock_name, lock_passes}
 use Rattle.turn_lock.specs.OfPass.{of_pass}
 use Rattle.log_desks.specs.declared.entries.ClockEntry.{ClockEntry}
 use Rattle.log_desks.specs.declared.entries.LogEntry.{LogEntry}
@@ -58,3 +58,8 @@ pub record IsLogPass (number : ℕ) (room : PassView) (parts : List (TurnPass Pa
   pub clock_is : IsHand clock_by number clock
   pub moment_is : moment ≡ moment_of (events_of (known clock).seen)
   pub ticked_is : ticked ≡ moment_of (events_of (known clock).mine)
+
+-- every lock has as many passes as the room
+pub record HaveAllPasses (room : RoomView) (parts : List (TurnLock PartView LogEntry)) (clock : TurnLock MomentView ClockEntry) : Type 0 where
+  pub parts_have : All (λ (lock : TurnLock PartView LogEntry). lock_passes lock ≡ room.table.shape.passes) parts
+  pub clock_has : lock_passes clock ≡ room.table.shape.passes

@@ -14,7 +14,9 @@ mod clock_turns;
 mod closing;
 mod crossing;
 mod desk_calls;
+mod hands;
 mod logs;
+mod making;
 mod part_turns;
 mod pass;
 mod ticking;
@@ -25,3 +27,6 @@ pub use closing::{ClosedLogs, LogsEnd};
 pub use logs::SharedLogs;
 pub use pass::LogPass;
 pub use turns::{Fetched, Looked, Put, Read};
+
+#[cfg(test)]
+mod closing_tests;

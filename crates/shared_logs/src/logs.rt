@@ -2,10 +2,11 @@ ghost use Rattle.std.specs.Prelude.{◌≡◌, ◌≤◌, IfOk, length};
 ghost use Rattle.shared_logs.specs.Making.{fresh_log_passes};
 ghost use Rattle.shared_logs.specs.Shared.{followers_in};
 
+use crate::making::{log_passes, part_locks};
 use crate::pass::LogPass;
 use kbytes::{List, NoMemory};
 use log_desks::{MomentDesk, PartDesk};
-use purgatory::Room;
+use purgatory::{Room, RoomParts};
 use std::alloc::Global;
 use std::marker::Model;
 use turn_lock::TurnLock;
@@ -21,13 +22,13 @@ pub struct SharedLogs {
 
 impl Model for SharedLogs {
     ghost use Rattle.shared_logs.specs.Shared.{AreShared, SharedView};
-    ghost use Rattle.shared_logs.specs.Locked.{shared_view};
+    ghost use Rattle.shared_logs.specs.Locked.{HaveAllPasses, shared_view};
 
     ghost Value = { SharedView };
 
     ghost view = { λ l. shared_view l.room l.parts.items l.clock };
 
-    ghost invariant = { λ l. AreShared (shared_view l.room l.parts.items l.clock) };
+    ghost invariant = { λ l. AreShared (shared_view l.room l.parts.items l.clock) × HaveAllPasses l.room l.parts.items l.clock };
 }
 
 impl SharedLogs {
@@ -44,6 +45,25 @@ impl SharedLogs {
         ensures size { IfOk result (λ made. made.0.room.table.shape.passes ≡ passes) }
         ensures passes { IfOk result (λ made. made.1 ≡ fresh_log_passes made.0 passes) }
     {
-        Err(NoMemory)
+        let count = followers.len() as u32;
+        let RoomParts {
+            room,
+            mut sources,
+            passes: seats,
+        } = Room::make(alloc, 3 * count + 1, passes)?;
+        let Some(last) = sources.pop() else {
+            unreachable!()
+        };
+        let (parts, rows) = part_locks(alloc, followers, sources, passes)?;
+        let desk = MomentDesk::make(alloc, last);
+        let (clock, keys) = TurnLock::make(alloc, desk, passes)?;
+        let passes = log_passes(alloc, seats, rows, keys)?;
+        let logs = SharedLogs {
+            alloc,
+            room,
+            parts,
+            clock,
+        };
+        Ok((logs, passes))
     }
 }
