@@ -16,13 +16,14 @@ use Rattle.plain_broker.specs.GoesOn.{IsWhole, Longer}
 use Rattle.log_desks.specs.declared.entries.ClockEntry.{ClockEntry}
 use Rattle.log_desks.specs.declared.entries.LogEntry.{LogEntry}
 use Rattle.log_desks.specs.Entries.{clock_entries, entries_from, log_entries}
+use Rattle.log_desks.specs.Histories.{history_of}
 
 -- ---- a partition's
 
-abbrev event_in : LogEntry → PartEvent
+abbrev pub event_in : LogEntry → PartEvent
 event_in entry = entry.event
 
-abbrev bytes_in : LogEntry → List ℕ
+abbrev pub bytes_in : LogEntry → List ℕ
 bytes_in entry = entry.bytes
 
 pub entries_append : (es more : List PartEvent) (log bytes : List ℕ) → bytes_of es ≡ length log → entries_from (es ++ more) (log ++ bytes) ≡ entries_from es log ++ entries_from more bytes
@@ -38,7 +39,7 @@ entries_append (e ∷ es) more log bytes whole =
     ∙ ap (λ (bs : List ℕ). record { event = e; bytes = take n log } ∷ entries_from (es ++ more) bs) rest
     ∙ ap (λ (xs : List LogEntry). record { event = e; bytes = take n log } ∷ xs) (entries_append es more (drop n log) bytes (omega (arith, whole, total, length-drop n log)))
 
-entries_events : (es : List PartEvent) (log : List ℕ) → map event_in (entries_from es log) ≡ es
+pub entries_events : (es : List PartEvent) (log : List ℕ) → map event_in (entries_from es log) ≡ es
 entries_events [] log = refl
 entries_events (e ∷ es) log = ap (λ (xs : List PartEvent). e ∷ xs) (entries_events es (drop (added_bytes e) log))
 
@@ -46,7 +47,7 @@ pub entries_length : (es : List PartEvent) (log : List ℕ) → length (entries_
 entries_length [] log = refl
 entries_length (e ∷ es) log = ap suc (entries_length es (drop (added_bytes e) log))
 
-entries_bytes : (es : List PartEvent) (log : List ℕ) → bytes_of es ≡ length log → flat_map bytes_in (entries_from es log) ≡ log
+pub entries_bytes : (es : List PartEvent) (log : List ℕ) → bytes_of es ≡ length log → flat_map bytes_in (entries_from es log) ≡ log
 entries_bytes [] [] whole = refl
 entries_bytes [] (b ∷ log) whole = absurd (omega (arith, whole))
 entries_bytes (e ∷ es) log whole =
@@ -67,9 +68,15 @@ goes_on h later whole all followers starts = record {
       ∙ ap (λ (bs : List ℕ). bs ++ flat_map bytes_in starts.0) (entries_bytes h.events h.log whole);
 }
 
+-- what the entries of a whole history tell is that history
+pub history_told : (h : History) → IsWhole h → history_of h.followers (log_entries h) ≡ h
+history_told h whole =
+    ap (λ (bs : List ℕ). record { log = bs; followers = h.followers; events = map event_in (log_entries h) }) (entries_bytes h.events h.log whole)
+    ∙ ap (λ (es : List PartEvent). record { log = h.log; followers = h.followers; events = es }) (entries_events h.events h.log)
+
 -- ---- the clock's
 
-abbrev clock_event_in : ClockEntry → ClockEvent
+abbrev pub clock_event_in : ClockEntry → ClockEvent
 clock_event_in entry = entry.event
 
 pub clock_append : (es more : List ClockEvent) (ps qs : List ℕ) → length ps ≡ length (ticks_of es) → clock_entries (es ++ more) (ps ++ qs) ≡ clock_entries es ps ++ clock_entries more qs
@@ -81,7 +88,7 @@ clock_append (Tick t ∷ es) more (p ∷ ps) qs as_many =
 clock_append (Look by seq ∷ es) more ps qs as_many =
     ap (λ (xs : List ClockEntry). record { event = Look by seq; by = by } ∷ xs) (clock_append es more ps qs as_many)
 
-clock_events : (es : List ClockEvent) (ps : List ℕ) → map clock_event_in (clock_entries es ps) ≡ es
+pub clock_events : (es : List ClockEvent) (ps : List ℕ) → map clock_event_in (clock_entries es ps) ≡ es
 clock_events [] ps = refl
 clock_events (Tick t ∷ es) ps = ap (λ (xs : List ClockEvent). Tick t ∷ xs) (clock_events es (drop 1 ps))
 clock_events (Look by seq ∷ es) ps = ap (λ (xs : List ClockEvent). Look by seq ∷ xs) (clock_events es ps)

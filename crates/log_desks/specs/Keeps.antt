@@ -1,5 +1,6 @@
 -- What the desks keep between any two calls.
-use Rattle.std.specs.Prelude.{◌≡◌, ℕ, ◌+◌, ◌*◌, false, length}
+use Rattle.std.specs.Prelude.{◌≡◌, ℕ, ◌+◌, ◌*◌, ◌∷◌, false, length}
+use Rattle.std.specs.List.Sorted.{IsStrictlyIncreasing}
 use Rattle.partlog.specs.declared.numbers.Numbers.{Numbers}
 use Rattle.partlog.specs.Gauges.{numbers_of}
 use Rattle.partlog.specs.Kept.{IsKept}
@@ -43,8 +44,9 @@ pub record PartKeeps (desk : PartView) : Type 0 where
   pub values : AreAt (numbers_of (state_of desk.history)) desk.sources
   pub quiet : AreQuiet desk.sources
 
--- the clock's gauge is at the moment of its history, and each tick has the pass that added it
+-- the clock's gauge is at the moment of its history, whose ticks rise, and each tick has the pass that added it
 pub record MomentKeeps (desk : MomentView) : Type 0 where
   pub value : (source_now desk.source).stored ≡ moment_of desk.events
   pub quiet : (source_now desk.source).loud ≡ false
   pub tickers : length desk.tickers ≡ length (ticks_of desk.events)
+  pub ticks : IsStrictlyIncreasing (0 ∷ ticks_of desk.events)

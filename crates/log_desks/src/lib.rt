@@ -24,7 +24,10 @@ mod sources;
 pub use entries::{ClockEntry, LogEntry};
 pub use moment_desk::MomentDesk;
 pub use part_desk::PartDesk;
-pub use promises::{entries_name_owners, entries_of_others, histories_go_on, names_fix_desks};
+pub use promises::{
+    entries_name_owners, entries_of_others, entries_tell_histories, histories_go_on,
+    names_fix_desks,
+};
 pub use sources::PartSources;
 
 #[cfg(test)]

@@ -11,6 +11,7 @@ ghost use Rattle.log_desks.specs.declared.entries.ClockEntry.{ClockEntry};
 ghost use Rattle.log_desks.specs.declared.entries.LogEntry.{LogEntry};
 ghost use Rattle.log_desks.specs.Desks.{MomentView, PartView, moment_name, part_name};
 ghost use Rattle.log_desks.specs.Entries.{clock_by, clock_entries, entry_by, log_entries};
+ghost use Rattle.log_desks.specs.Histories.{events_of, history_of};
 
 /// Law: where the entries go on, the histories do. Of a partition so do the log's bytes.
 pub fn histories_go_on()
@@ -18,6 +19,12 @@ pub fn histories_go_on()
         → StartsWith (log_entries later) (log_entries h) → Longer h later }
     ensures clock { (events later : List ClockEvent) (tickers after : List ℕ)
         → StartsWith (clock_entries later after) (clock_entries events tickers) → StartsWith later events }
+{}
+
+/// Law: the entries tell the histories that they are of. Of a partition they tell the log's bytes too.
+pub fn entries_tell_histories()
+    ensures part { (h : History) → IsKept h.log h.events → history_of h.followers (log_entries h) ≡ h }
+    ensures clock { (events : List ClockEvent) (tickers : List ℕ) → events_of (clock_entries events tickers) ≡ events }
 {}
 
 /// Law: desks of one name are of one partition, with as many followers, and of one room; or of one room's clock.

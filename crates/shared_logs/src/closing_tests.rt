@@ -1,0 +1,18 @@
+//! Logs are made and closed, on one thread.
+use super::*;
+use kbytes::List;
+use opcond::{Need, Op};
+use purgatory::Registered;
+use std::test::*;
+
+#[test]
+fn closed_at_once(rt: HostRuntime) -> Result<(), Fail> {
+    let (logs, passes) = SharedLogs::make(rt.alloc(), &[1, 0], 2)?;
+    let LogsEnd::Closed(closed) = logs.close(&rt, passes) else {
+        return Err("nothing was won".into());
+    };
+    assert_eq!(rt; closed.parts.len(), 2);
+    assert_eq!(rt; closed.clock.now(), 0);
+    assert_eq!(rt; closed.wins.len(), 19);
+    Ok(())
+}
