@@ -18,7 +18,7 @@ pub use Rattle.pass_books.proofs.Underways.{is_seq, others_underway, seq_is, und
 pub use Rattle.pass_books.proofs.Acceptings.{accepting_as, accepting_cut, accepting_delayed, accepting_on, accepting_refused, answered_book, called_accepting, others_accepting}
 -- it waits, is won, looks at the clock and the partitions, and is satisfied or expires, or is cut off
 pub use Rattle.pass_books.proofs.Finishings.{delayed_as, delayed_cut, delayed_parked, others_delayed, waits_delayed}
-pub use Rattle.pass_books.proofs.Finishings.{finishing_as, finishing_cut, finishing_expired, finishing_late, finishing_on, finishing_satisfied, finishing_won, others_finishing, shown_completed}
+pub use Rattle.pass_books.proofs.Finishings.{finishing_as, finishing_cut, finishing_expired, finishing_late, finishing_on, finishing_satisfied, finishing_won, others_finishing, results_with, shown_completed}
 -- each entry in the turn of its partition
 pub use Rattle.pass_books.proofs.Turning.{accepting_turn, finishing_turn}
 -- its reply
