@@ -1,5 +1,5 @@
 -- Passes taken apart, and put together again.
-use Rattle.std.proofs.Common.{◌≡◌, ◌∙◌, ℕ, ◌+◌, ◌<◌, List, [], ◌∷◌, ◌++◌, length, ap, refl, subst, sym, arith, append_assoc}
+use Rattle.std.proofs.Common.{◌≡◌, ◌∙◌, ℕ, ◌+◌, ◌<◌, List, [], ◌∷◌, ◌++◌, drop, get_or, length, take, ap, refl, subst, sym, arith, append_assoc}
 use Rattle.std.specs.Prelude.{All}
 use Rattle.std.proofs.lemmas.List.{length_push}
 use Rattle.std.proofs.lemmas.List.Elements.{All-head, All-nil, All-tail}
@@ -57,13 +57,13 @@ module _ (passes left : List LogPassView) (pass : LogPassView) (seats seats_more
   )
 
 -- a pass is put together again
-module _ (passes more : List LogPassView) (pass : LogPassView) (seats seats_left : List PassView) (seat : PassView) (hands hands_left : List Hand) (hand : Hand) (s : seats ≡ seats_left ++ seat ∷ [])
+module _ (seats seats_left : List PassView) (seat : PassView) (hands hands_left : List Hand) (hand : Hand) (s : seats ≡ seats_left ++ seat ∷ [])
     (h : hands ≡ hands_left ++ hand ∷ []) (all : AreJoined seats hands) where
   pub last_joined : AreJoined seats_left hands_left × IsJoined seat hand
   last_joined = joined_less seats_left hands_left seat hand (subst (λ (l : List PassView). AreJoined l (hands_left ++ hand ∷ [])) s (subst (λ (l : List Hand). AreJoined seats l) h all))
 
-  pub together_step : (whole : List LogPassView) → more ≡ passes ++ pass ∷ [] → pass ≡ joined seat hand → whole ≡ passes ++ gathered seats hands → whole ≡ more ++ gathered seats_left hands_left
-  together_step whole m is e =
+  pub together_step : (passes more : List LogPassView) (pass : LogPassView) (whole : List LogPassView) → more ≡ passes ++ pass ∷ [] → pass ≡ joined seat hand → whole ≡ passes ++ gathered seats hands → whole ≡ more ++ gathered seats_left hands_left
+  together_step passes more pass whole m is e =
       e ∙ ap (λ (l : List PassView). passes ++ gathered l hands) s ∙ ap (λ (l : List Hand). passes ++ gathered (seats_left ++ seat ∷ []) l) h
       ∙ ap (λ (l : List LogPassView). passes ++ l) (gathered_more seats_left hands_left seat hand last_joined.0)
       ∙ sym (append_assoc passes (joined seat hand ∷ []) (gathered seats_left hands_left))
@@ -79,3 +79,14 @@ rests_more [] [] (r ∷ rests) hand first rest all is = absurd all
 rests_more [] (f ∷ firsts) rests hand first rest all is = absurd all
 rests_more (h ∷ hands) [] rests hand first rest all is = absurd all
 rests_more (h ∷ hands) (f ∷ firsts) [] hand first rest all is = absurd all
+
+pub rests_step : (hands : List Hand) (firsts firsts_more : List (TurnPass PartView LogEntry)) (rests all_rests : List Hand) (hand : Hand) (first : TurnPass PartView LogEntry) (rest : Hand)
+    → firsts_more ≡ firsts ++ first ∷ [] → all_rests ≡ rests ++ rest ∷ [] → AreRests hands firsts rests → IsRest hand first rest → AreRests (hands ++ hand ∷ []) firsts_more all_rests
+rests_step hands firsts firsts_more rests all_rests hand first rest f r all is =
+    subst (λ (l : List (TurnPass PartView LogEntry)). AreRests (hands ++ hand ∷ []) l all_rests) (sym f)
+    (subst (λ (l : List Hand). AreRests (hands ++ hand ∷ []) (firsts ++ first ∷ []) l) (sym r) (rests_more hands firsts rests hand first rest all is))
+
+-- the first of a list, taken out
+pub first_removed : {A : Type 0} (xs ys : List A) (r : A) → 0 < length xs → r ≡ get_or xs 0 r → ys ≡ take 0 xs ++ drop 1 xs → xs ≡ r ∷ ys
+first_removed [] ys r some v e = absurd (omega (arith, some))
+first_removed (x ∷ xs) ys r some v e = λ i. sym v i ∷ sym e i

@@ -18,3 +18,5 @@ pub mod Apart
 pub mod Gone
 -- new logs, from the parts of a room
 pub mod NewLogs
+-- sums over the passes, and over their numbers
+pub mod Wins

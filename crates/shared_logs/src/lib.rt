@@ -30,3 +30,6 @@ pub use turns::{Fetched, Looked, Put, Read};
 
 #[cfg(test)]
 mod closing_tests;
+
+#[cfg(test)]
+mod tests;
