@@ -20,7 +20,7 @@ use std::sync::Wait;
 pub enum RoomEnd {
     /// Everything that was won was taken. Nobody can act on the room any more.
     Still(StillRoom),
-    /// More was won than the passes have taken: some of them has yet to look at its operation, by `Room::poll`. The room and the passes
+    /// More was won than the passes have taken: one that waits has yet to look at its operation, by `Room::poll`. The room and the passes
     /// are handed back as they were.
     Untaken { room: Room, passes: List<RoomPass> },
 }
