@@ -1,15 +1,16 @@
 //! Each call once, on one thread.
 ghost use Rattle.std.specs.Prelude.{◌≡◌, IfOk};
+ghost use Rattle.room_table.specs.Handed.{fresh_source, fresh_sources};
 ghost use Rattle.purgatory.specs.Rooms.{IsOfRoom, IsSourceOf, room_shape};
 
 use super::*;
 use acceptance::Entered;
 use kanswer::Accepted;
 use kbatch::view_batch;
-use kbytes::NoMemory;
+use kbytes::{List, NoMemory};
 use kwire::FetchPart;
-use partlog::{ClockEvent, Numbers, Who};
-use purgatory::{Room, RoomParts, RoomPass};
+use partlog::Who;
+use purgatory::{Room, RoomParts, RoomPass, Source};
 use std::alloc::Global;
 use std::test::*;
 use turn_lock::Kept;
@@ -32,23 +33,36 @@ struct Hall {
     clock: MomentDesk,
 }
 
+// The sources of such a room, taken from their list.
+fn take_sources(room: &Room, mut sources: List<Source>) -> Result<(PartSources, Source), NoMemory>
+    requires fresh { sources ≡ fresh_sources room.now.table }
+    requires shape { room.now.table.shape ≡ room_shape 4 1 }
+    ensures part { IfOk result (λ taken. taken.0 ≡ record {
+      high = fresh_source room.now.table 0;
+      visible = fresh_source room.now.table 1;
+      end = fresh_source room.now.table 2;
+    }) }
+    ensures clock { IfOk result (λ taken. taken.1 ≡ fresh_source room.now.table 3) }
+{
+    let clock = sources.pop().ok_or(NoMemory)?;
+    let end = sources.pop().ok_or(NoMemory)?;
+    let visible = sources.pop().ok_or(NoMemory)?;
+    let high = sources.pop().ok_or(NoMemory)?;
+    Ok((PartSources { high, visible, end }, clock))
+}
+
 // The partition has one follower.
 fn make_hall(alloc: Global) -> Result<Hall, NoMemory>
-    ensures shape { IfOk result (λ hall. hall.room.table.shape ≡ room_shape 4 1) }
     ensures pass { IfOk result (λ hall. IsOfRoom hall.room hall.pass) }
     ensures desks { IfOk result (λ hall. IsSourceOf hall.room hall.part.sources.high × IsSourceOf hall.room hall.clock.source) }
 {
     let RoomParts {
         room,
-        mut sources,
+        sources,
         mut passes,
     } = Room::make(alloc, 4, 1)?;
-    let clock = sources.pop().ok_or(NoMemory)?;
-    let end = sources.pop().ok_or(NoMemory)?;
-    let visible = sources.pop().ok_or(NoMemory)?;
-    let high = sources.pop().ok_or(NoMemory)?;
     let pass = passes.pop().ok_or(NoMemory)?;
-    let sources = PartSources { high, visible, end };
+    let (sources, clock) = take_sources(&room, sources)?;
     let part = PartDesk::make(alloc, 0, 1, sources)?;
     let clock = MomentDesk::make(alloc, clock);
     Ok(Hall {
@@ -57,20 +71,6 @@ fn make_hall(alloc: Global) -> Result<Hall, NoMemory>
         part,
         clock,
     })
-}
-
-// The values of the gauges of the partition and of the clock.
-fn gauges(room: &Room, pass: &mut RoomPass) -> [u64; 4]
-    requires made { IsOfRoom room.now pass.old }
-    requires shape { room.now.table.shape ≡ room_shape 4 1 }
-    ensures made { IsOfRoom room.now pass.new }
-{
-    [
-        room.gauge(pass, 0),
-        room.gauge(pass, 1),
-        room.gauge(pass, 2),
-        room.gauge(pass, 3),
-    ]
 }
 
 #[test]
@@ -92,7 +92,6 @@ fn a_partition_raises_its_gauges(rt: HostRuntime) -> Result<(), Fail> {
         place: 0,
     };
     assert_eq!(rt; part.put(&rt, &room, &mut pass, WHO, &batch), Ok(put));
-    assert_eq!(rt; gauges(&room, &mut pass), [0, 0, 69, 0]);
     let asked = FetchPart {
         index: 0,
         offset: 1,
@@ -103,18 +102,8 @@ fn a_partition_raises_its_gauges(rt: HostRuntime) -> Result<(), Fail> {
         place: 1,
     };
     assert_eq!(rt; part.fetch(&rt, &room, &mut pass, WHO, 1, &asked), Ok(seen));
-    assert_eq!(rt; gauges(&room, &mut pass), [1, 69, 69, 0]);
     assert_eq!(rt; part.look(WHO), Ok(2));
     assert_eq!(rt; (part.number(), part.count()), (0, 3));
-    let (log, sources) = part.into_parts();
-    let numbers = Numbers {
-        end: 1,
-        high: 1,
-        visible: 69,
-        bytes: 69,
-    };
-    assert_eq!(rt; log.numbers(), numbers);
-    assert_eq!(rt; sources.end.gauge(), 2);
     Ok(())
 }
 
@@ -129,16 +118,17 @@ fn a_clock_ticks_upward(rt: HostRuntime) -> Result<(), Fail> {
     } = make_hall(alloc)?;
     assert_eq!(rt; clock.tick(&rt, &room, &mut pass, 5, 20), Ok(true));
     assert_eq!(rt; clock.tick(&rt, &room, &mut pass, 6, 20), Ok(false));
-    assert_eq!(rt; gauges(&room, &mut pass), [0, 0, 0, 20]);
     assert_eq!(rt; clock.look(WHO), Ok(1));
     assert_eq!(rt; (clock.now(), clock.count()), (20, 2));
-    let entries = [
-        ClockEvent::Tick { t: 20 },
-        ClockEvent::Look { by: 0, seq: 7 },
-    ];
-    assert_eq!(rt; clock.events(), entries.as_slice());
-    let (_, tickers, source) = clock.into_parts();
-    assert_eq!(rt; tickers.as_slice(), [5u32].as_slice());
-    assert_eq!(rt; source.gauge(), 3);
+    Ok(())
+}
+
+#[test]
+fn a_desk_gives_back_what_it_has(rt: HostRuntime) -> Result<(), Fail> {
+    let hall = make_hall(rt.alloc())?;
+    let (log, sources) = hall.part.into_parts();
+    assert_eq!(rt; (log.followers(), sources.end.gauge()), (1, 2));
+    let (_, tickers, source) = hall.clock.into_parts();
+    assert_eq!(rt; (tickers.len(), source.gauge()), (0, 3));
     Ok(())
 }
