@@ -1,5 +1,5 @@
 -- Passes taken apart, and put together again.
-use Rattle.std.proofs.Common.{◌≡◌, ◌∙◌, ℕ, ◌+◌, ◌<◌, List, [], ◌∷◌, ◌++◌, drop, get_or, length, take, ap, refl, subst, sym, arith, append_assoc}
+use Rattle.std.proofs.Common.{◌≡◌, ◌∙◌, ℕ, suc, ◌+◌, ◌<◌, List, [], ◌∷◌, ◌++◌, drop, get_or, length, take, ap, refl, subst, sym, arith, append_assoc}
 use Rattle.std.specs.Prelude.{All}
 use Rattle.std.proofs.lemmas.List.{length_push}
 use Rattle.std.proofs.lemmas.List.Elements.{All-head, All-nil, All-tail}
@@ -30,7 +30,7 @@ pub as_many : (seats : List PassView) (hands : List Hand) → AreJoined seats ha
 as_many [] [] all = refl
 as_many [] (h ∷ hands) all = absurd all
 as_many (s ∷ seats) [] all = absurd all
-as_many (s ∷ seats) (h ∷ hands) all = ap (λ n. n + 1) (as_many seats hands all.1)
+as_many (s ∷ seats) (h ∷ hands) all = ap suc (as_many seats hands all.1)
 
 joined_less : (seats : List PassView) (hands : List Hand) (seat : PassView) (hand : Hand) → AreJoined (seats ++ seat ∷ []) (hands ++ hand ∷ [])
     → AreJoined seats hands × IsJoined seat hand

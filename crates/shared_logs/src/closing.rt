@@ -46,6 +46,7 @@ struct ClosedParts {
 }
 
 // The partitions' locks are closed, each with the passes that all hands have of it.
+#[tactic(auto, using(crate::proofs::Gone::gone_none, crate::proofs::Gone::tell_none))]
 fn close_parts(
     alloc: Global,
     locks: Vec<TurnLock<PartDesk>>,
