@@ -68,11 +68,11 @@ gone_more logs h [] [] (l ∷ less) (first ∷ firsts) was is told = absurd is
 gone_more logs h (hand ∷ hands) (rest ∷ rests) less [] was is told = absurd is
 gone_more logs h (hand ∷ hands) (rest ∷ rests) [] (first ∷ firsts) was is told = absurd is
 
-first_lock : LockView → List LockView → LockView
+abbrev first_lock : LockView → List LockView → LockView
 first_lock d [] = d
 first_lock d (l ∷ ls) = l
 
-rest_locks : List LockView → List LockView
+abbrev rest_locks : List LockView → List LockView
 rest_locks [] = []
 rest_locks (l ∷ ls) = ls
 
@@ -173,7 +173,9 @@ module _ (lock : TurnLock MomentView ClockEntry) (hands : List Hand) (passes : L
     pub clock_out : (events : List ClockEvent) (source : SourceView) → events ≡ desk.events → source ≡ desk.source → MomentKeeps desk → IsClockOut lock hands events source
     clock_out events source e s keeps =
         let P : TurnPass MomentView ClockEntry → Type 0 = λ p. IsTold clock_by (clock_entries desk.events desk.tickers) p in
-        let told : All P passes = All-weaker _ P (λ p is. record { seen = is.0; mine = is.1 }) passes each in
+        let told : All P passes =
+        All-weaker (λ (p : TurnPass MomentView ClockEntry). StartsWith (clock_entries desk.events desk.tickers) (known p).seen × (of_pass clock_by (known p).number (clock_entries desk.events desk.tickers) ≡ (known p).mine)) P
+        (λ p is. record { seen = is.0; mine = is.1 }) passes each in
         let out : IsClockOut lock hands desk.events desk.source =
         record {
           tickers = desk.tickers;
@@ -190,7 +192,7 @@ module _ (lock : TurnLock MomentView ClockEntry) (hands : List Hand) (passes : L
 
 -- ---- a partition's lock
 
-name_rest : List ℕ → List ℕ
+abbrev name_rest : List ℕ → List ℕ
 name_rest [] = []
 name_rest (n ∷ ns) = ns
 
@@ -251,3 +253,64 @@ module _ (lock : TurnLock PartView LogEntry) (desk : PartView) (name : part_name
               (All-push T ((sources ++ three.high ∷ []) ++ three.visible ∷ []) three.end (All-push T (sources ++ three.high ∷ []) three.visible (All-push T sources three.high was.tables room) (whose.visible_there ∙ room)) (whose.end_there ∙ room));
           tell = subst (λ (l : List History). TellOf l more) (sym a) (tell_more logs sources more h (length logs) three refl m whose at was.tell);
         }
+
+-- ---- what is left of the hands, and the hands
+
+pub rests_of_clock : (logs : List History) (lock : TurnLock MomentView ClockEntry) (hands rests : List Hand) → HaveGone logs hands rests → All (IsOfClock lock) hands → All (IsOfClock lock) rests
+rests_of_clock logs lock [] [] gone all = All-nil _
+rests_of_clock logs lock [] (rest ∷ rests) gone all = absurd gone
+rests_of_clock logs lock (hand ∷ hands) [] gone all = absurd gone
+rests_of_clock logs lock (hand ∷ hands) (rest ∷ rests) gone all =
+    let here = All-head (IsOfClock lock) hand hands all in
+    All-cons (IsOfClock lock) rest rests
+        (record {
+      lock_is = ap (λ (key : TurnPass MomentView ClockEntry). lock_of key) gone.0.clock ∙ here.lock_is;
+      hand_is = subst (λ n. IsHand clock_by n rest.clock) (sym gone.0.number) (subst (λ (key : TurnPass MomentView ClockEntry). IsHand clock_by hand.number key) (sym gone.0.clock) here.hand_is);
+    })
+        (rests_of_clock logs lock hands rests gone.1 (All-tail (IsOfClock lock) hand hands all))
+
+told_back : (P : TurnPass MomentView ClockEntry → Type 0) (logs : List History) (hands rests : List Hand) → HaveGone logs hands rests → All (λ (rest : Hand). P rest.clock) rests → All (λ (hand : Hand). P hand.clock) hands
+told_back P logs [] [] gone all = All-nil _
+told_back P logs [] (rest ∷ rests) gone all = absurd gone
+told_back P logs (hand ∷ hands) [] gone all = absurd gone
+told_back P logs (hand ∷ hands) (rest ∷ rests) gone all =
+    let Q : Hand → Type 0 = λ h. P h.clock in
+    All-cons Q hand hands (subst P gone.0.clock (All-head Q rest rests all)) (told_back P logs hands rests gone.1 (All-tail Q rest rests all))
+
+count_back : (number : ℕ) (logs : List History) (hands rests : List Hand) → HaveGone logs hands rests
+    → count_by (λ (hand : Hand). hand.number == number) rests ≡ count_by (λ (hand : Hand). hand.number == number) hands
+count_back number logs [] [] gone = refl
+count_back number logs [] (rest ∷ rests) gone = absurd gone
+count_back number logs (hand ∷ hands) [] gone = absurd gone
+count_back number logs (hand ∷ hands) (rest ∷ rests) gone =
+    let bit : ℕ → ℕ = λ n. cond (n == number) 1 0 in
+    let a = sum_by-cons (λ (h : Hand). bit h.number) rest rests in
+    let b = sum_by-cons (λ (h : Hand). bit h.number) hand hands in
+    let same = ap bit gone.0.number in
+    omega (arith, a, b, same, count_back number logs hands rests gone.1)
+
+pub clock_back : (logs : List History) (lock : TurnLock MomentView ClockEntry) (hands rests : List Hand) (events : List ClockEvent) (source : SourceView) → HaveGone logs hands rests → length rests ≡ length hands
+    → IsClockOut lock rests events source → IsClockOut lock hands events source
+clock_back logs lock hands rests events source gone size out = record {
+  tickers = out.tickers;
+  told = told_back (IsTold clock_by (clock_entries events out.tickers)) logs hands rests gone out.told;
+  whose = subst (λ n. All (λ (x : ClockEntry). clock_by x < n) (clock_entries events out.tickers)) size out.whose;
+  one = λ number less. sym (count_back number logs hands rests gone) ∙ out.one number (subst (λ n. number < n) (sym size) less);
+  ticks = out.ticks;
+  stored = out.stored;
+  name = out.name;
+}
+
+-- the clock's source is that of the room's last gauge
+module _ (table : TableView) (lock : TurnLock MomentView ClockEntry) (gauge : ℕ) (named : lock_name moment_name lock ≡ desk_name table gauge) (hands : List Hand) (events : List ClockEvent) (source : SourceView)
+    (out : IsClockOut lock hands events source) where
+  pub clock_table : source.table ≡ table
+  clock_table = name_table source.table table source.gauge gauge (out.name ∙ named)
+
+  pub clock_gauge : source.gauge ≡ gauge
+  clock_gauge = name_number source.table table source.gauge gauge (out.name ∙ named)
+
+-- as many logs as locks
+pub logs_count : (logs : List History) (locks : List (TurnLock PartView LogEntry)) → map (λ (h : History). h.followers) logs ≡ followers_named locks → length logs ≡ length locks
+logs_count logs locks e =
+    sym (length-map logs (λ (h : History). h.followers)) ∙ ap (λ (l : List ℕ). length l) e ∙ length-map locks (λ (lock : TurnLock PartView LogEntry). slice_index (lock_name part_name lock) 0)
