@@ -10,3 +10,5 @@ pub mod Gone
 pub mod NewLogs
 -- sums over the passes, and over their numbers
 pub mod Wins
+-- the passes of seats and hands, one by one
+pub mod Gathered
