@@ -107,5 +107,5 @@ pub clock_goes_on : (events later : List ClockEvent) (tickers after : List ℕ) 
 clock_goes_on events later tickers after starts = (
   map clock_event_in starts.0,
   sym (clock_events later after) ∙ ap (map clock_event_in) starts.1 ∙ map-append clock_event_in (clock_entries events tickers) starts.0
-  ∙ ap (λ (es : List ClockEvent). es ++ map clock_event_in starts.0) (clock_events events tickers),
+      ∙ ap (λ (es : List ClockEvent). es ++ map clock_event_in starts.0) (clock_events events tickers),
 )

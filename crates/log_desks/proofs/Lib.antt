@@ -8,3 +8,5 @@ pub mod Adding
 pub mod Entering
 -- the clock's desk, as its history goes on
 pub mod Ticking
+-- the sources of a new room, as they are taken from their list
+pub mod Taking

@@ -31,6 +31,12 @@ pub record AreQuiet (sources : PartSources) : Type 0 where
   pub visible : (source_now sources.visible).loud ≡ false
   pub end : (source_now sources.end).loud ≡ false
 
+-- of these a gauge whose number stayed wasn't stored again: its source made no step
+pub record AreStill (before after : Numbers) (old new : PartSources) : Type 0 where
+  pub high : before.high ≡ after.high → new.high ≡ old.high
+  pub visible : before.visible ≡ after.visible → new.visible ≡ old.visible
+  pub end : before.bytes ≡ after.bytes → new.end ≡ old.end
+
 -- the log is the bytes of its appends, and the partition's gauges are at the numbers of its history
 pub record PartKeeps (desk : PartView) : Type 0 where
   pub kept : IsKept desk.history.log desk.history.events

@@ -2,6 +2,7 @@
 ghost use Rattle.std.specs.Prelude.{◌≡◌, [], IfOk, OnOk, OnErr, length};
 ghost use Rattle.kbatch.specs.Kept.{count_of};
 ghost use Rattle.kanswer.specs.Decisions.{append_outcome, fetch_outcome};
+ghost use Rattle.partlog.specs.Gauges.{numbers_of};
 ghost use Rattle.partlog.specs.Looked.{looked};
 ghost use Rattle.partlog.specs.State.{state_of};
 ghost use Rattle.acceptance.specs.Entered.{HasEntered};
@@ -11,7 +12,7 @@ ghost use Rattle.purgatory.specs.Going.{GoesOn, KeepsOperation};
 ghost use Rattle.purgatory.specs.Rooms.{IsOfRoom, IsSourceOf};
 ghost use Rattle.log_desks.specs.Desks.{part_name};
 ghost use Rattle.log_desks.specs.Entries.{entry_by, log_entries};
-ghost use Rattle.log_desks.specs.Keeps.{AreAt, AreOfPart, PartKeeps};
+ghost use Rattle.log_desks.specs.Keeps.{AreAt, AreOfPart, AreStill, PartKeeps};
 
 use crate::sources::PartSources;
 use acceptance::{Entered, enter_batch, enter_fetch};
@@ -84,6 +85,8 @@ impl PartDesk {
         requires desk { IsSourceOf room.now self.old.sources.high }
         ensures entered { IfOk result (λ entered. HasEntered who.by who.seq (append_outcome self.old.part (count_of batch.now) batch.now) self.old.history self.new.history entered) }
         ensures refused { OnErr result ((self.new ≡ self.old) × (pass.new ≡ pass.old)) }
+        ensures still { AreStill (numbers_of (state_of self.old.history)) (numbers_of (state_of self.new.history)) self.old.sources self.new.sources }
+        ensures untouched { numbers_of (state_of self.new.history) ≡ numbers_of (state_of self.old.history) → pass.new ≡ pass.old }
         ensures name { part_name self.new ≡ part_name self.old }
         ensures added { AddedBy entry_by who.by (log_entries self.old.history) (log_entries self.new.history) }
         ensures made { IsOfRoom room.now pass.new }
@@ -114,6 +117,8 @@ impl PartDesk {
         requires desk { IsSourceOf room.now self.old.sources.high }
         ensures entered { IfOk result (λ entered. HasEntered who.by who.seq (fetch_outcome self.old.history.followers replica asked.now self.old.part) self.old.history self.new.history entered) }
         ensures refused { OnErr result ((self.new ≡ self.old) × (pass.new ≡ pass.old)) }
+        ensures still { AreStill (numbers_of (state_of self.old.history)) (numbers_of (state_of self.new.history)) self.old.sources self.new.sources }
+        ensures untouched { numbers_of (state_of self.new.history) ≡ numbers_of (state_of self.old.history) → pass.new ≡ pass.old }
         ensures name { part_name self.new ≡ part_name self.old }
         ensures added { AddedBy entry_by who.by (log_entries self.old.history) (log_entries self.new.history) }
         ensures made { IsOfRoom room.now pass.new }

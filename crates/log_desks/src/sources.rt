@@ -5,7 +5,7 @@ ghost use Rattle.room_table.specs.Seats.{caller_now, source_now};
 ghost use Rattle.purgatory.specs.Going.{GoesOn, KeepsOperation};
 ghost use Rattle.purgatory.specs.Raised.{IsQuietAt};
 ghost use Rattle.purgatory.specs.Rooms.{IsOfRoom, IsSourceOf};
-ghost use Rattle.log_desks.specs.Keeps.{AreAt, AreOfPart, AreQuiet};
+ghost use Rattle.log_desks.specs.Keeps.{AreAt, AreQuiet, AreStill};
 
 use partlog::Numbers;
 use purgatory::{Room, RoomPass, Source};
@@ -36,6 +36,7 @@ fn raise_from(
     requires stored { (source_now source.old).stored ≡ before }
     requires rises { before ≤ after }
     ensures source { IsQuietAt after source.old source.new }
+    ensures still { before ≡ after → (source.new ≡ source.old) × (pass.new ≡ pass.old) }
     ensures made { IsOfRoom room.now pass.new }
     ensures went { GoesOn pass.old.seat pass.new.seat }
     ensures kept { KeepsOperation (caller_now pass.old.seat) (caller_now pass.new.seat) }
@@ -63,6 +64,8 @@ impl PartSources {
         requires rises { NoneFell before.now after.now }
         ensures told { AreAt after.now self.new }
         ensures quiet { AreQuiet self.new }
+        ensures still { AreStill before.now after.now self.old self.new }
+        ensures untouched { before.now ≡ after.now → pass.new ≡ pass.old }
         ensures high { IsQuietAt after.now.high self.old.high self.new.high }
         ensures visible { IsQuietAt after.now.visible self.old.visible self.new.visible }
         ensures end { IsQuietAt after.now.bytes self.old.end self.new.end }

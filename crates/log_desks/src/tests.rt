@@ -1,7 +1,6 @@
 //! Each call once, on one thread.
 ghost use Rattle.std.specs.Prelude.{◌≡◌, IfOk};
-ghost use Rattle.partlog.specs.History.{History};
-ghost use Rattle.purgatory.specs.Rooms.{IsOfRoom, IsSourceOf};
+ghost use Rattle.purgatory.specs.Rooms.{IsOfRoom, IsSourceOf, room_shape};
 
 use super::*;
 use acceptance::Entered;
@@ -35,6 +34,7 @@ struct Hall {
 
 // The partition has one follower.
 fn make_hall(alloc: Global) -> Result<Hall, NoMemory>
+    ensures shape { IfOk result (λ hall. hall.room.table.shape ≡ room_shape 4 1) }
     ensures pass { IfOk result (λ hall. IsOfRoom hall.room hall.pass) }
     ensures desks { IfOk result (λ hall. IsSourceOf hall.room hall.part.sources.high × IsSourceOf hall.room hall.clock.source) }
 {
@@ -59,11 +59,18 @@ fn make_hall(alloc: Global) -> Result<Hall, NoMemory>
     })
 }
 
-// The values of the room's gauges.
+// The values of the gauges of the partition and of the clock.
 fn gauges(room: &Room, pass: &mut RoomPass) -> [u64; 4]
     requires made { IsOfRoom room.now pass.old }
+    requires shape { room.now.table.shape ≡ room_shape 4 1 }
+    ensures made { IsOfRoom room.now pass.new }
 {
-    [0, 0, 0, 0]
+    [
+        room.gauge(pass, 0),
+        room.gauge(pass, 1),
+        room.gauge(pass, 2),
+        room.gauge(pass, 3),
+    ]
 }
 
 #[test]
@@ -75,9 +82,7 @@ fn a_partition_raises_its_gauges(rt: HostRuntime) -> Result<(), Fail> {
         mut part,
         clock: _,
     } = make_hall(alloc)?;
-    let batch = view_batch(&ONE_RECORD)
-        .ok()
-        .ok_or("the bytes are a batch")?;
+    let batch = view_batch(&ONE_RECORD).ok().ok_or("the bytes are a batch")?;
     let put = Entered {
         became: Accepted::Appended {
             part: 0,
@@ -87,6 +92,7 @@ fn a_partition_raises_its_gauges(rt: HostRuntime) -> Result<(), Fail> {
         place: 0,
     };
     assert_eq!(rt; part.put(&rt, &room, &mut pass, WHO, &batch), Ok(put));
+    assert_eq!(rt; gauges(&room, &mut pass), [0, 0, 69, 0]);
     let asked = FetchPart {
         index: 0,
         offset: 1,
@@ -97,6 +103,7 @@ fn a_partition_raises_its_gauges(rt: HostRuntime) -> Result<(), Fail> {
         place: 1,
     };
     assert_eq!(rt; part.fetch(&rt, &room, &mut pass, WHO, 1, &asked), Ok(seen));
+    assert_eq!(rt; gauges(&room, &mut pass), [1, 69, 69, 0]);
     assert_eq!(rt; part.look(WHO), Ok(2));
     assert_eq!(rt; (part.number(), part.count()), (0, 3));
     let (log, sources) = part.into_parts();
@@ -122,6 +129,7 @@ fn a_clock_ticks_upward(rt: HostRuntime) -> Result<(), Fail> {
     } = make_hall(alloc)?;
     assert_eq!(rt; clock.tick(&rt, &room, &mut pass, 5, 20), Ok(true));
     assert_eq!(rt; clock.tick(&rt, &room, &mut pass, 6, 20), Ok(false));
+    assert_eq!(rt; gauges(&room, &mut pass), [0, 0, 0, 20]);
     assert_eq!(rt; clock.look(WHO), Ok(1));
     assert_eq!(rt; (clock.now(), clock.count()), (20, 2));
     let entries = [

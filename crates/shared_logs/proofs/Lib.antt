@@ -1,3 +1,13 @@
+-- what a whole turn of a lock tells of the histories
+pub mod Telling
+-- what a pass knows of a lock, as its turn goes on
+pub mod Keys
+-- a pass after a turn of a lock
+pub mod Passes
+-- a pass after a turn of the clock's lock
+pub mod Moments
+-- a pass whose seat in the room went on
+pub mod Steps
 -- locks and passes as they are dealt out
 pub mod Dealt
 -- the passes of new logs

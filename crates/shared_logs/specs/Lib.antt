@@ -18,6 +18,8 @@ pub mod Ended
 
 -- how the logs and a pass are seen behind their locks
 pub mod Locked
+-- a turn of a lock, by what the pass knew before it and knows after it
+pub mod Turned
 -- the locks of new logs, and their passes as they are dealt out
 pub mod Dealt
 -- passes taken apart for the close

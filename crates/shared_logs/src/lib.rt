@@ -10,10 +10,14 @@
 //! (`AreClosed`).
 #![tactic(auto)]
 
+mod clock_turns;
 mod closing;
+mod crossing;
+mod desk_calls;
 mod hands;
 mod logs;
 mod making;
+mod part_turns;
 mod pass;
 mod ticking;
 mod turns;
@@ -26,3 +30,6 @@ pub use turns::{Fetched, Looked, Put, Read};
 
 #[cfg(test)]
 mod closing_tests;
+
+#[cfg(test)]
+mod tests;

@@ -4,9 +4,11 @@ ghost use Rattle.partlog.specs.declared.clock_event.TheConstants.{MOST_MOMENT};
 ghost use Rattle.shared_logs.specs.Asked.{HasLookedAtClock, HasTicked};
 ghost use Rattle.shared_logs.specs.Coming.{HasCaughtUp};
 
+use crate::clock_turns::{look_up, tick_to};
 use crate::logs::SharedLogs;
 use crate::pass::LogPass;
 use kbytes::NoMemory;
+use partlog::Who;
 use std::sync::Wait;
 
 impl SharedLogs {
@@ -19,8 +21,24 @@ impl SharedLogs {
         ensures ticked { OnOk result (HasTicked t pass.old pass.new) }
         ensures refused { OnErr result (HasCaughtUp pass.old pass.new) }
     {
-        for _ in rt.forever() {}
-        unreachable!()
+        if t <= pass.moment {
+            return Ok(());
+        }
+        let by = pass.number;
+        let (rose, moment) = tick_to(
+            rt,
+            &self.room,
+            &self.clock,
+            &mut pass.clock,
+            &mut pass.room,
+            by,
+            t,
+        );
+        pass.moment = moment;
+        if rose? {
+            pass.ticked = t;
+        }
+        Ok(())
     }
 
     /// Looks at the clock for a call of the pass, in a turn in which its moment is no less than `least`, and answers the place of the look
@@ -37,7 +55,12 @@ impl SharedLogs {
         ensures looked { IfOk result (λ looked. HasLookedAtClock seq least pass.old pass.new looked.0 looked.1) }
         ensures refused { OnErr result (HasCaughtUp pass.old pass.new) }
     {
-        for _ in rt.forever() {}
-        unreachable!()
+        let who = Who {
+            by: pass.number,
+            seq,
+        };
+        let (place, moment) = look_up(rt, &self.clock, &mut pass.clock, least, who);
+        pass.moment = moment;
+        Ok((place?, moment))
     }
 }

@@ -11,13 +11,14 @@ ghost use Rattle.shared_logs.specs.Coming.{HasCaughtUp};
 ghost use Rattle.shared_logs.specs.Shared.{followers_in};
 
 use crate::logs::SharedLogs;
+use crate::part_turns::{fetch_from, look_into, put_into, read_from};
 use crate::pass::LogPass;
 use acceptance::Entered;
 use kanswer::Budget;
 use kbatch::BatchView;
 use kbytes::{Bytes, NoMemory};
 use kwire::FetchPart;
-use partlog::Numbers;
+use partlog::{Numbers, Who};
 use std::sync::Wait;
 
 /// What became of a partition into which a batch was put, and its log's numbers just after.
@@ -67,8 +68,21 @@ impl SharedLogs {
         ensures asked { IfOk result (λ put. HasAsked part seq (append_outcome part (count_of batch.now) batch.now) pass.old pass.new put.entered put.numbers) }
         ensures refused { OnErr result (HasCaughtUp pass.old pass.new) }
     {
-        for _ in rt.forever() {}
-        unreachable!()
+        let at = part as usize;
+        let who = Who {
+            by: pass.number,
+            seq,
+        };
+        put_into(
+            rt,
+            &self.room,
+            &self.parts[at],
+            &mut pass.parts[at],
+            &mut pass.room,
+            part,
+            who,
+            batch,
+        )
     }
 
     /// Enters what a fetch asks of a partition, in a turn of its lock, for a call of the pass, and reads what the reply takes of it: the
@@ -93,8 +107,24 @@ impl SharedLogs {
         ensures bounded { IfOk result (λ fetched. fetched.numbers.high ≤ MOST_LOG_BYTES) }
         ensures refused { OnErr result (HasCaughtUp pass.old pass.new) }
     {
-        for _ in rt.forever() {}
-        unreachable!()
+        let at = part as usize;
+        let who = Who {
+            by: pass.number,
+            seq,
+        };
+        fetch_from(
+            rt,
+            self.alloc,
+            &self.room,
+            &self.parts[at],
+            &mut pass.parts[at],
+            &mut pass.room,
+            part,
+            who,
+            replica,
+            asked,
+            budget,
+        )
     }
 
     /// Looks at a partition for a call of the pass, in a turn of its lock in which the gauge, one of this partition's, is no less than
@@ -114,8 +144,19 @@ impl SharedLogs {
         ensures bounded { IfOk result (λ looked. looked.numbers.high ≤ MOST_LOG_BYTES) }
         ensures refused { OnErr result (HasCaughtUp pass.old pass.new) }
     {
-        for _ in rt.forever() {}
-        unreachable!()
+        let at = (gauge / 3) as usize;
+        let who = Who {
+            by: pass.number,
+            seq,
+        };
+        look_into(
+            rt,
+            &self.parts[at],
+            &mut pass.parts[at],
+            gauge,
+            least,
+            who,
+        )
     }
 
     /// The same, and reads what the reply to a fetch takes of the partition from the byte place `start` on: the budget is lowered by that.
@@ -140,7 +181,23 @@ impl SharedLogs {
         ensures bounded { IfOk result (λ read. read.looked.numbers.high ≤ MOST_LOG_BYTES) }
         ensures refused { OnErr result (HasCaughtUp pass.old pass.new) }
     {
-        for _ in rt.forever() {}
-        unreachable!()
+        let at = (gauge / 3) as usize;
+        let who = Who {
+            by: pass.number,
+            seq,
+        };
+        read_from(
+            rt,
+            self.alloc,
+            &self.parts[at],
+            &mut pass.parts[at],
+            gauge,
+            least,
+            who,
+            replica,
+            asked,
+            start,
+            budget,
+        )
     }
 }

@@ -1,0 +1,327 @@
+-- A pass after a turn of the clock's lock.
+use Rattle.std.proofs.Common.{◌≡◌, ℕ, ◌≤◌, ◌<◌, Bool, true, false, cond, eqb, inl, inr, List, [], ◌∷◌, ◌++◌, drop, filter, length, map, max, refl, sym, ap, subst, ◌∙◌, arith, append-nil}
+use Rattle.std.proofs.Math.Seq.{drop-append_seam}
+use Rattle.std.proofs.lemmas.Bool.{cases_lt, le-ltb}
+use Rattle.std.proofs.lemmas.List.{drop-map, map-append}
+use Rattle.std.proofs.lemmas.List.Elements.{filter_map-append}
+use Rattle.std.proofs.lemmas.List.Sums.{fold_push}
+use Rattle.std.specs.List.{AllByRecursion, filter_map, fold}
+use Rattle.std.specs.Prelude.{IsTrue}
+use Rattle.std.specs.List.Sorted.{IsStrictlyIncreasing}
+use Rattle.partlog.specs.declared.clock_event.ClockEvent.{ClockEvent}
+use Rattle.partlog.specs.declared.clock_event.ClockEvent.TheVariants.{Look, Tick}
+use Rattle.partlog.specs.History.{History}
+use Rattle.partlog.specs.Moment.{moment_of, tick_of}
+use Rattle.partlog.specs.Ticked.{ticked}
+use Rattle.audit.specs.Histories.{clock_owner_of, ticks_of}
+use Rattle.room_core.specs.Gauges.{IsPass}
+use Rattle.room_table.specs.Seats.{TableView, caller_now}
+use Rattle.plain_broker.specs.GoesOn.{Longer}
+use Rattle.plain_broker.proofs.Laws.{looked_moment}
+use Rattle.pass_books.specs.Owned.{NotOf, OthersAlone}
+use Rattle.pass_books.proofs.Laws.{clock_came}
+use Rattle.turn_lock.specs.declared.known.Known.{Known}
+use Rattle.turn_lock.specs.declared.pass.TurnPass.{TurnPass}
+use Rattle.turn_lock.specs.declared.lock.TurnLock.{TurnLock}
+use Rattle.turn_lock.specs.Locks.{IsPassOf, IsReady, known}
+use Rattle.turn_lock.specs.OfPass.{of_pass}
+use Rattle.purgatory.specs.Going.{GoesOn, IsAtRest, KeepsOperation}
+use Rattle.purgatory.specs.Rooms.{IsOfRoom, PassView, RoomView}
+use Rattle.purgatory.proofs.Goes.{kept_same, stays}
+use Rattle.log_desks.specs.declared.entries.ClockEntry.{ClockEntry}
+use Rattle.log_desks.specs.declared.entries.LogEntry.{LogEntry}
+use Rattle.log_desks.specs.Desks.{MomentView, PartView, moment_name}
+use Rattle.log_desks.specs.Entries.{clock_by}
+use Rattle.log_desks.specs.Histories.{events_of}
+use Rattle.log_desks.proofs.Beside.{clock_events, clock_length}
+use Rattle.log_desks.proofs.Ticking.{ticked_above}
+use Rattle.shared_logs.specs.Asked.{HasLookedAtClock, HasTicked}
+use Rattle.shared_logs.specs.Coming.{HasCaughtUp, IsSamePass, OthersCame}
+use Rattle.shared_logs.specs.Locked.{IsHand, IsLogPass, lock_of, pass_view, seen_part, shared_view}
+use Rattle.shared_logs.specs.Seen.{HasSeen}
+use Rattle.shared_logs.specs.Shared.{AreShared, LogPassView, followers_in}
+use Rattle.shared_logs.specs.Turned.{HasLeft, LookedAtClock, SawClock, ToldClock, WasClockTurn, moment_entries}
+use Rattle.shared_logs.proofs.Passes.{came_of, hand_after, of_room, opens_clock, own_of, same_lock}
+use Rattle.shared_logs.proofs.Telling.{clock_found, clock_left_seen, clock_more, clock_others}
+
+-- ---- moments
+
+-- the moment with one event more
+abbrev later : ℕ → ClockEvent → ℕ
+later n (Tick t) = max n t
+later n (Look by seq) = n
+
+abbrev most : ℕ → List ClockEvent → ℕ
+most n events = fold max n (filter_map tick_of events)
+
+most_later : (n : ℕ) (event : ClockEvent) (events : List ClockEvent) → most n (event ∷ events) ≡ most (later n event) events
+most_later n (Tick t) events = refl
+most_later n (Look by seq) events = refl
+
+later_least : (n m : ℕ) (event : ClockEvent) → n ≤ m → n ≤ later m event
+later_least n m (Tick t) le = omega (arith, le)
+later_least n m (Look by seq) le = le
+
+later_both : (n m : ℕ) (event : ClockEvent) → n ≤ m → later n event ≤ later m event
+later_both n m (Tick t) le = omega (arith, le)
+later_both n m (Look by seq) le = le
+
+-- some of the entries have no later moment
+some_test : (p : ClockEntry → Bool) (n m : ℕ) (e : ClockEntry) (es : List ClockEntry) (b : Bool) → n ≤ m → ((i j : ℕ) → i ≤ j → most i (events_of (filter p es)) ≤ most j (events_of es))
+    → most n (events_of (cond b (e ∷ filter p es) (filter p es))) ≤ most m (e.event ∷ events_of es)
+some_test p n m e es true le on =
+    rw (most_later n e.event (events_of (filter p es)), most_later m e.event (events_of es)) (on (later n e.event) (later m e.event) (later_both n m e.event le))
+some_test p n m e es false le on = rw (most_later m e.event (events_of es)) (on n (later m e.event) (later_least n m e.event le))
+
+some_most : (p : ClockEntry → Bool) (n m : ℕ) (es : List ClockEntry) → n ≤ m → most n (events_of (filter p es)) ≤ most m (events_of es)
+some_most p n m [] le = le
+some_most p n m (e ∷ es) le = some_test p n m e es (p e) le (λ i j less. some_most p i j es less)
+
+-- a pass's own ticks are no later than the clock
+pub own_moment : (number : ℕ) (seen mine : List ClockEntry) → of_pass clock_by number seen ≡ mine → moment_of (events_of mine) ≤ moment_of (events_of seen)
+own_moment number seen mine own =
+    subst (λ (es : List ClockEntry). moment_of (events_of es) ≤ moment_of (events_of seen)) own (some_most (λ (e : ClockEntry). eqb (clock_by e) number) 0 0 seen (omega arith))
+
+pub tick_moment : (events : List ClockEvent) (t : ℕ) → moment_of (events ++ Tick t ∷ []) ≡ max (moment_of events) t
+tick_moment events t = ap (fold max 0) (filter_map-append tick_of events (Tick t ∷ [])) ∙ fold_push max 0 (filter_map tick_of events) t
+
+was_false : (b : Bool) → (IsTrue b → ⊥) → b ≡ false
+was_false true never = absurd (never refl)
+was_false false never = refl
+
+-- later events lower no moment
+most_least : (n : ℕ) (events : List ClockEvent) → n ≤ most n events
+most_least n [] = omega arith
+most_least n (Tick t ∷ events) = omega (arith, most_least (max n t) events)
+most_least n (Look by seq ∷ events) = most_least n events
+
+most_on : (n : ℕ) (events more : List ClockEvent) → most n events ≤ most n (events ++ more)
+most_on n [] more = most_least n more
+most_on n (Tick t ∷ events) more = most_on (max n t) events more
+most_on n (Look by seq ∷ events) more = most_on n events more
+
+moment_on : (events more : List ClockEvent) → moment_of events ≤ moment_of (events ++ more)
+moment_on events more = most_on 0 events more
+
+-- a clock that has reached a moment is as it was
+pub stands : (events : List ClockEvent) (t : ℕ) → t ≤ moment_of events → ticked events t ≡ events
+stands events t past = ap (λ (b : Bool). cond b (events ++ Tick t ∷ []) events) (le-ltb (moment_of events) t past)
+
+-- a clock that was told a moment has reached it
+pub reaches : (events : List ClockEvent) (t : ℕ) → t ≤ moment_of (ticked events t)
+reaches events t =
+    let M : List ClockEvent → Type 0 = λ es. t ≤ moment_of es in
+    elim (cases_lt (moment_of events) t) [
+      | inl less ↦
+          let moment = tick_moment events t in
+          subst M (sym (ticked_above events t less)) (omega (arith, moment))
+      | inr past ↦ subst M (sym (stands events t past)) past
+    ]
+
+-- ---- the pass's own entries
+
+pub mine_events : (before after : Known ClockEntry) (found left : MomentView) (more : List ClockEvent) → HasLeft moment_entries clock_by before after found left → left.events ≡ found.events ++ more
+    → events_of after.mine ≡ events_of before.mine ++ more
+mine_events before after found left more turn is =
+    let es = moment_entries found in
+    let fs = moment_entries left in
+    let mine : after.mine ≡ before.mine ++ drop (length es) fs = ap (λ (k : Known ClockEntry). k.mine) turn.after_is in
+    let event = λ (e : ClockEntry). e.event in
+    let size : length es ≡ length found.events = clock_length found.events found.tickers in
+    let told : events_of fs ≡ found.events ++ more = clock_events left.events left.tickers ∙ is in
+    ap events_of mine
+    ∙ map-append event before.mine (drop (length es) fs)
+    ∙ ap (λ (xs : List ClockEvent). events_of before.mine ++ xs)
+        (sym (drop-map event (length es) fs) ∙ ap (λ (n : ℕ). drop n (events_of fs)) size ∙ ap (drop (length found.events)) told ∙ drop-append_seam found.events more)
+
+-- ---- a turn of the clock's lock
+
+-- Of the pass's fields its pass of the room went on, and its pass of the clock's lock took a turn.
+pub record IsClockStep (number : ℕ) (room after : PassView) (parts : List (TurnPass PartView LogEntry)) (old new : TurnPass MomentView ClockEntry) (moment ticked : ℕ) : Type 0 where
+  pub is : IsLogPass number room parts old moment ticked
+  pub went : GoesOn room.seat after.seat
+  pub kept : KeepsOperation (caller_now room.seat) (caller_now after.seat)
+  pub locks : after.locks ≡ room.locks
+  pub ready : IsReady new
+  pub id : new.seat.table_id ≡ old.seat.table_id
+
+module _ (number : ℕ) (room after : PassView) (parts : List (TurnPass PartView LogEntry)) (old new : TurnPass MomentView ClockEntry) (moment ticked : ℕ)
+    (step : IsClockStep number room after parts old new moment ticked) (found left : MomentView) (turn : WasClockTurn (known old) (known new) found left) (moment_after ticked_after : ℕ)
+    (moment_is : moment_after ≡ moment_of (events_of (known new).seen)) (ticked_is : ticked_after ≡ moment_of (events_of (known new).mine)) where
+  abbrev before_view : LogPassView
+  before_view = pass_view number room parts old ticked
+
+  abbrev after_view : LogPassView
+  after_view = pass_view number after parts new ticked_after
+
+  hand : IsHand clock_by number new
+  hand = hand_after moment_entries clock_by number old new found left turn.turn step.is.clock_is step.ready
+
+  made : after_view.made ≡ before_view.made
+  made =
+      let l = same_lock moment_entries clock_by number old new found left turn.turn step.id in
+      λ i. record { room = record { table = step.went.table i; locks = step.locks i }; parts = map lock_of parts; clock = l i }
+
+  pub clock_same : IsSamePass before_view after_view
+  clock_same = record { number = refl; made = made; went = step.went; kept = step.kept }
+
+  pub clock_came_to : OthersCame number before_view.parts before_view.clock before_view.parts found.events
+  clock_came_to =
+      let f = turn.turn.found_is in
+      let more = clock_more (known old) found f in
+      let others = clock_others (known old) found f (own_of clock_by number old step.is.clock_is) in
+      came_of number before_view.parts before_view.parts before_view.clock found.events
+      (subst (OthersAlone number before_view.parts before_view.clock before_view.parts) (sym (clock_found (known old) found f))
+          (clock_came number before_view.parts before_view.clock more
+              (subst (λ (n : ℕ). AllByRecursion (λ event. NotOf n (clock_owner_of event)) more) step.is.clock_is.number_is others)))
+      refl
+
+  pub clock_after : after_view.clock ≡ left.events
+  clock_after = clock_left_seen (known old) (known new) found left turn
+
+  pub clock_pass : IsLogPass number after parts new moment_after ticked_after
+  clock_pass =
+      let s = step.is.seen in
+      record {
+        seen = record {
+          shared = subst AreShared (sym made) s.shared;
+          seat = refl;
+          number = step.went.pass ∙ s.number;
+          there = subst (λ (t : TableView). IsPass t.shape number) (sym step.went.table) s.there;
+          rests = subst IsAtRest (sym step.kept.stage) s.rests;
+          whole = s.whole;
+          kept = s.kept;
+          followers = s.followers ∙ ap followers_in (sym made);
+          ticks = subst (λ (es : List ClockEvent). IsStrictlyIncreasing (0 ∷ ticks_of es)) (sym clock_after) turn.keeps_left.ticks;
+          ticked = subst (λ (n : ℕ). n ≤ moment_of after_view.clock) (sym ticked_is) (own_moment number (known new).seen (known new).mine hand.own);
+        };
+        parts_are = step.is.parts_are;
+        clock_is = hand;
+        moment_is = moment_is;
+        ticked_is = ticked_is;
+      }
+
+-- where the pass added no tick
+pub ticked_still : (number : ℕ) (room after : PassView) (parts : List (TurnPass PartView LogEntry)) (old new : TurnPass MomentView ClockEntry) (moment ticked : ℕ) (found left : MomentView) (more : List ClockEvent)
+    → IsClockStep number room after parts old new moment ticked → WasClockTurn (known old) (known new) found left → left.events ≡ found.events ++ more
+    → ((events : List ClockEvent) → moment_of (events ++ more) ≡ moment_of events) → ticked ≡ moment_of (events_of (known new).mine)
+ticked_still number room after parts old new moment ticked found left more step turn is still =
+    step.is.ticked_is ∙ sym (ap moment_of (mine_events (known old) (known new) found left more turn.turn is) ∙ still (events_of (known old).mine))
+
+still_nil : (events : List ClockEvent) → moment_of (events ++ []) ≡ moment_of events
+still_nil events = ap moment_of (append-nil events)
+
+module _ (number : ℕ) (room after : PassView) (parts : List (TurnPass PartView LogEntry)) (old new : TurnPass MomentView ClockEntry) (moment ticked moment_after : ℕ)
+    (step : IsClockStep number room after parts old new moment ticked) (moment_is : moment_after ≡ moment_of (events_of (known new).seen)) where
+  saw_ticked : SawClock (known old) (known new) → ticked ≡ moment_of (events_of (known new).mine)
+  saw_ticked saw = ticked_still number room after parts old new moment ticked saw.0 saw.0 [] step saw.1 (sym (append-nil saw.0.events)) still_nil
+
+  pub saw_pass : SawClock (known old) (known new) → IsLogPass number after parts new moment_after ticked
+  saw_pass saw = clock_pass number room after parts old new moment ticked step saw.0 saw.0 saw.1 moment_after ticked moment_is (saw_ticked saw)
+
+  pub clock_caught_up : SawClock (known old) (known new) → HasCaughtUp (pass_view number room parts old ticked) (pass_view number after parts new ticked)
+  clock_caught_up saw =
+      let now = saw_ticked saw in
+      record {
+        same = clock_same number room after parts old new moment ticked step saw.0 saw.0 saw.1 moment_after ticked moment_is now;
+        others = subst (OthersCame number (map seen_part parts) (events_of (known old).seen) (map seen_part parts))
+            (sym (clock_after number room after parts old new moment ticked step saw.0 saw.0 saw.1 moment_after ticked moment_is now))
+            (clock_came_to number room after parts old new moment ticked step saw.0 saw.0 saw.1 moment_after ticked moment_is now);
+        ticked = refl;
+      }
+
+  module _ (seq least place told : ℕ) (l : LookedAtClock seq least (known old) (known new) place told) where
+    looked_ticked : ticked ≡ moment_of (events_of (known new).mine)
+    looked_ticked = ticked_still number room after parts old new moment ticked l.found l.left (Look (known old).number seq ∷ []) step l.turn l.entry (λ events. looked_moment events (known old).number seq)
+
+    pub looked_pass : IsLogPass number after parts new moment_after ticked
+    looked_pass = clock_pass number room after parts old new moment ticked step l.found l.left l.turn moment_after ticked moment_is looked_ticked
+
+    pub clock_looked : HasLookedAtClock seq least (pass_view number room parts old ticked) (pass_view number after parts new ticked) place told
+    clock_looked = record {
+      found = l.found.events;
+      same = clock_same number room after parts old new moment ticked step l.found l.left l.turn moment_after ticked moment_is looked_ticked;
+      others = clock_came_to number room after parts old new moment ticked step l.found l.left l.turn moment_after ticked moment_is looked_ticked;
+      parts = refl;
+      clock = clock_after number room after parts old new moment ticked step l.found l.left l.turn moment_after ticked moment_is looked_ticked
+          ∙ l.entry ∙ ap (λ (n : ℕ). l.found.events ++ Look n seq ∷ []) step.is.clock_is.number_is;
+      ticked = refl;
+      place_is = l.place_is;
+      moment_is = l.moment_is;
+      late = l.late;
+      limit = l.limit;
+    }
+
+  -- it was told a moment
+  module _ (t : ℕ) (rose : Bool) (d : ToldClock t (known old) (known new) rose) where
+    told_ticked : (b : Bool) → rose ≡ b → cond b t ticked ≡ moment_of (events_of (known new).mine)
+    told_ticked true is =
+        let less : moment_of d.found.events < t = d.told.rose_is.0 is in
+        let grown : d.left.events ≡ d.found.events ++ Tick t ∷ [] = d.told.events ∙ ticked_above d.found.events t less in
+        let before : ticked ≤ moment_of (events_of (known old).seen) = step.is.seen.ticked in
+        let on : moment_of (events_of (known old).seen) ≤ moment_of d.found.events =
+        subst (λ (es : List ClockEvent). moment_of (events_of (known old).seen) ≤ moment_of es) (sym (clock_found (known old) d.found d.turn.turn.found_is))
+        (moment_on (events_of (known old).seen) (clock_more (known old) d.found d.turn.turn.found_is)) in
+        let mine = ap moment_of (mine_events (known old) (known new) d.found d.left (Tick t ∷ []) d.turn.turn grown) ∙ tick_moment (events_of (known old).mine) t in
+        let was = step.is.ticked_is in
+        omega (arith, mine, was, before, on, less)
+    told_ticked false is =
+        let same : d.left.events ≡ d.found.events ++ [] = ap (λ (m : MomentView). m.events) (d.told.still is) ∙ sym (append-nil d.found.events) in
+        ticked_still number room after parts old new moment ticked d.found d.left [] step d.turn same still_nil
+
+    pub told_pass : IsLogPass number after parts new moment_after (cond rose t ticked)
+    told_pass = clock_pass number room after parts old new moment ticked step d.found d.left d.turn moment_after (cond rose t ticked) moment_is (told_ticked rose refl)
+
+    pub clock_ticked : HasTicked t (pass_view number room parts old ticked) (pass_view number after parts new (cond rose t ticked))
+    clock_ticked =
+        let at = clock_after number room after parts old new moment ticked step d.found d.left d.turn moment_after (cond rose t ticked) moment_is (told_ticked rose refl) ∙ d.told.events in
+        record {
+          found = d.found.events;
+          same = clock_same number room after parts old new moment ticked step d.found d.left d.turn moment_after (cond rose t ticked) moment_is (told_ticked rose refl);
+          others = clock_came_to number room after parts old new moment ticked step d.found d.left d.turn moment_after (cond rose t ticked) moment_is (told_ticked rose refl);
+          parts = refl;
+          clock = at;
+          added = λ less. ap (λ (b : Bool). cond b t ticked) (d.told.rose_is.1 less);
+          stood = λ most. ap (λ (b : Bool). cond b t ticked) (was_false rose (λ up. let above = d.told.rose_is.0 up in omega (arith, most, above)));
+          reached = subst (λ (es : List ClockEvent). t ≤ moment_of es) (sym at) (reaches d.found.events t);
+        }
+
+-- nothing came
+abbrev as_it_was : (h : History) → Longer h h
+as_it_was h = record { followers = refl; more = []; bytes = []; events = sym (append-nil h.events); log = sym (append-nil h.log) }
+
+pub none_came : (number : ℕ) (parts : List History) (clock : List ClockEvent) → OthersCame number parts clock parts clock
+none_came number parts clock =
+    came_of number parts parts clock clock
+    (record { each = λ p h e. (h, e, as_it_was h, tt); more = []; events = sym (append-nil clock); others = tt })
+    refl
+
+-- a moment that the clock has reached
+pub told_before : (v : LogPassView) (t : ℕ) → t ≤ moment_of v.clock → HasTicked t v v
+told_before v t past = record {
+  found = v.clock;
+  same = record { number = refl; made = refl; went = stays v.seat; kept = kept_same (caller_now v.seat) };
+  others = none_came v.number v.parts v.clock;
+  parts = refl;
+  clock = sym (stands v.clock t past);
+  added = λ less. absurd (omega (arith, less, past));
+  stood = λ most. refl;
+  reached = past;
+}
+
+-- what the clock's lock tells of a pass beside the logs
+pub clock_step : (number : ℕ) (room : PassView) (parts : List (TurnPass PartView LogEntry)) (old : TurnPass MomentView ClockEntry) (moment ticked : ℕ) → IsLogPass number room parts old moment ticked
+    → (its : RoomView) (locks : List (TurnLock PartView LogEntry)) (last : TurnLock MomentView ClockEntry) → (pass_view number room parts old ticked).made ≡ shared_view its locks last
+    → (after : PassView) (new : TurnPass MomentView ClockEntry) → IsOfRoom its after → GoesOn room.seat after.seat → KeepsOperation (caller_now room.seat) (caller_now after.seat) → IsPassOf moment_name last new → IsReady new
+    → IsClockStep number room after parts old new moment ticked
+clock_step number room parts old moment ticked is its locks last made after new of went kept pass ready =
+    let was = of_room number room parts old moment ticked is its locks last made in
+    let opened = opens_clock number room parts old moment ticked is its locks last made in
+    record {
+      is = is;
+      went = went;
+      kept = kept;
+      locks = of.locks ∙ sym was.locks;
+      ready = ready;
+      id = pass.0 ∙ sym opened.of_lock.0;
+    }

@@ -1,0 +1,34 @@
+-- A pass whose seat in the room went on.
+use Rattle.std.proofs.Common.{◌≡◌, ℕ, List, map, Option, Some, None, refl}
+use Rattle.room_table.specs.declared.part.CallerStep.TheVariants.{Idled, Peeked}
+use Rattle.room_table.specs.Seats.{CallerView, caller_did, caller_now}
+use Rattle.room_scans.specs.Listing.{open_at}
+use Rattle.turn_lock.specs.declared.pass.TurnPass.{TurnPass}
+use Rattle.purgatory.specs.declared.outcome.Done.{Done}
+use Rattle.purgatory.specs.Going.{GoesOn}
+use Rattle.purgatory.specs.Polled.{HasPolled, won_at}
+use Rattle.purgatory.specs.Rooms.{PassView}
+use Rattle.purgatory.proofs.Goes.{goes_by, one_step}
+use Rattle.log_desks.specs.declared.entries.ClockEntry.{ClockEntry}
+use Rattle.log_desks.specs.declared.entries.LogEntry.{LogEntry}
+use Rattle.log_desks.specs.Desks.{MomentView, PartView}
+use Rattle.shared_logs.specs.Coming.{HasStepped}
+use Rattle.shared_logs.specs.Locked.{lock_of, pass_view}
+
+pub stepped : (number : ℕ) (room after : PassView) (parts : List (TurnPass PartView LogEntry)) (clock : TurnPass MomentView ClockEntry) (ticked : ℕ) → GoesOn room.seat after.seat → after.locks ≡ room.locks
+    → HasStepped (pass_view number room parts clock ticked) (pass_view number after parts clock ticked)
+stepped number room after parts clock ticked went locks = record {
+  number = refl;
+  made = λ i. record { room = record { table = went.table i; locks = locks i }; parts = map lock_of parts; clock = lock_of clock };
+  went = went;
+  parts = refl;
+  clock = refl;
+  ticked = refl;
+}
+
+pub polled_goes : (result : Option Done) (old new : CallerView) → HasPolled result old new → GoesOn old new
+polled_goes None old new e = one_step old new (Peeked (open_at (caller_now old).generation)) e
+polled_goes (Some done) old new e =
+    let word = Peeked (won_at (caller_now old).generation done) in
+    let peeked = caller_did old word in
+    goes_by old peeked new Idled (one_step old peeked word refl) e

@@ -1,0 +1,29 @@
+use Rattle.std.proofs.Common.{◌∙◌, ap}
+use Rattle.turn_lock.specs.Locks.{known}
+use Rattle.turn_lock.specs.Passes.{ended}
+use Rattle.log_desks.specs.Entries.{clock_by}
+use Rattle.shared_logs.specs.Turned.{moment_entries}
+use Rattle.shared_logs.proofs.Keys.{begun_first, found_first, more_self, more_turned}
+use Rattle.shared_logs.proofs.clock_turns.late_turn.Goals as goal
+
+pub loop-init : goal.loop-init
+loop-init g c = record { of_lock = c.requires.key; more = more_self (known c.args.key.now) }
+
+pub loop-preserved : goal.loop-preserved
+loop-preserved g c =
+    let t = c.clock_turn-turn in
+    record {
+      of_lock = c.end.ensures.pass;
+      more = more_turned moment_entries clock_by (known c.args.key.now) (known c.loop.key) (known c.end.new.pass) t.result.ticket t.result.value c.loop.invariant.more t.ensures.found
+          (c.end.ensures.seen ∙ ap (ended moment_entries t.result.value) t.ensures.begun);
+    }
+
+pub returns-then-now-least-clause-found : goal.returns-then-now-least-clause-found
+returns-then-now-least-clause-found g c =
+    let t = c.clock_turn-turn in
+    found_first moment_entries clock_by (known c.args.key.now) (known c.loop.key) t.result.value c.loop.invariant.more t.ensures.found
+
+pub returns-then-now-least-clause-begun : goal.returns-then-now-least-clause-begun
+returns-then-now-least-clause-begun g c =
+    let t = c.clock_turn-turn in
+    t.ensures.begun ∙ begun_first moment_entries clock_by (known c.args.key.now) (known c.loop.key) t.result.ticket t.result.value c.loop.invariant.more

@@ -1,0 +1,166 @@
+//! What a turn does at a partition's desk.
+ghost use Rattle.std.specs.Prelude.{◌≡◌, ◌≤◌, IfOk, OnErr, OnOk, length};
+ghost use Rattle.kbatch.specs.Kept.{count_of};
+ghost use Rattle.kanswer.specs.declared.accepted.Accepted.TheVariants.{Seen};
+ghost use Rattle.kanswer.specs.Decisions.{append_outcome, fetch_outcome};
+ghost use Rattle.partlog.specs.declared.part_log.TheConstants.{MOST_LOG_BYTES};
+ghost use Rattle.partlog.specs.Gauges.{numbers_of};
+ghost use Rattle.partlog.specs.Kept.{IsKept};
+ghost use Rattle.partlog.specs.Looked.{looked};
+ghost use Rattle.partlog.specs.State.{state_of};
+ghost use Rattle.acceptance.specs.Entered.{HasEntered};
+ghost use Rattle.room_table.specs.Seats.{caller_now};
+ghost use Rattle.turn_lock.specs.AddedBy.{AddedBy};
+ghost use Rattle.purgatory.specs.Going.{GoesOn, KeepsOperation};
+ghost use Rattle.purgatory.specs.Rooms.{IsOfRoom, IsSourceOf};
+ghost use Rattle.log_desks.specs.Desks.{part_name};
+ghost use Rattle.log_desks.specs.Entries.{entry_by, log_entries};
+ghost use Rattle.shared_logs.specs.Asked.{HasRead};
+
+use crate::turns::{Fetched, Looked, Put, Read};
+use kanswer::{Accepted, Budget, read_asked};
+use kbatch::BatchView;
+use kbytes::{Bytes, NoMemory};
+use kwire::FetchPart;
+use log_desks::PartDesk;
+use partlog::{PartLog, Who};
+use purgatory::{Room, RoomPass};
+use std::alloc::Global;
+use std::sync::Wait;
+
+// What the reply to a fetch takes of a log, where this became of the partition.
+fn records_of(
+    alloc: Global,
+    replica: i32,
+    asked: &FetchPart,
+    became: &Accepted,
+    log: &PartLog,
+    budget: &mut Budget,
+) -> Result<Bytes, NoMemory>
+    ensures { IfOk result (λ records.
+        HasRead replica asked.now became.now (state_of log.now) (numbers_of (state_of log.now)) records budget.old budget.new) }
+{
+    match became {
+        Accepted::Seen { start, .. } => {
+            let reading = read_asked(alloc, replica, asked, *start, log, budget)?;
+            Ok(reading.records)
+        }
+        Accepted::Refused { .. } | Accepted::Appended { .. } => Ok(Bytes::new(alloc)),
+    }
+}
+
+/// Puts a batch into the log, and tells its numbers then.
+pub(crate) fn put_at(
+    rt: &impl Wait,
+    room: &Room,
+    desk: &mut PartDesk,
+    pass: &mut RoomPass,
+    who: Who,
+    batch: &BatchView<'_>,
+) -> Result<Put, NoMemory>
+    requires pass { IsOfRoom room.now pass.old }
+    requires desk { IsSourceOf room.now desk.old.sources.high }
+    ensures entered { IfOk result (λ put. HasEntered who.by who.seq (append_outcome desk.old.part (count_of batch.now) batch.now) desk.old.history desk.new.history put.entered) }
+    ensures numbers { IfOk result (λ put. put.numbers ≡ numbers_of (state_of desk.new.history)) }
+    ensures refused { OnErr result (desk.new ≡ desk.old) }
+    ensures name { part_name desk.new ≡ part_name desk.old }
+    ensures added { AddedBy entry_by who.by (log_entries desk.old.history) (log_entries desk.new.history) }
+    ensures whole { IsKept desk.new.history.log desk.new.history.events }
+    ensures made { IsOfRoom room.now pass.new }
+    ensures went { GoesOn pass.old.seat pass.new.seat }
+    ensures kept { KeepsOperation (caller_now pass.old.seat) (caller_now pass.new.seat) }
+{
+    let entered = desk.put(rt, room, pass, who, batch);
+    let numbers = desk.log().numbers();
+    Ok(Put {
+        entered: entered?,
+        numbers,
+    })
+}
+
+/// Enters what a fetch asks, tells the log's numbers then, and reads what the reply takes of it.
+pub(crate) fn fetch_at(
+    rt: &impl Wait,
+    alloc: Global,
+    room: &Room,
+    desk: &mut PartDesk,
+    pass: &mut RoomPass,
+    who: Who,
+    replica: i32,
+    asked: &FetchPart,
+    budget: &mut Budget,
+) -> Result<Fetched, NoMemory>
+    requires pass { IsOfRoom room.now pass.old }
+    requires desk { IsSourceOf room.now desk.old.sources.high }
+    ensures entered { IfOk result (λ fetched. HasEntered who.by who.seq (fetch_outcome desk.old.history.followers replica asked.now desk.old.part) desk.old.history desk.new.history fetched.entered) }
+    ensures numbers { IfOk result (λ fetched. fetched.numbers ≡ numbers_of (state_of desk.new.history)) }
+    ensures bounded { IfOk result (λ fetched. fetched.numbers.high ≤ MOST_LOG_BYTES) }
+    ensures read { IfOk result (λ fetched. IfOk fetched.records (λ records.
+        HasRead replica asked.now fetched.entered.became (state_of desk.new.history) fetched.numbers records budget.old budget.new)) }
+    ensures refused { OnErr result (desk.new ≡ desk.old) }
+    ensures name { part_name desk.new ≡ part_name desk.old }
+    ensures added { AddedBy entry_by who.by (log_entries desk.old.history) (log_entries desk.new.history) }
+    ensures whole { IsKept desk.new.history.log desk.new.history.events }
+    ensures made { IsOfRoom room.now pass.new }
+    ensures went { GoesOn pass.old.seat pass.new.seat }
+    ensures kept { KeepsOperation (caller_now pass.old.seat) (caller_now pass.new.seat) }
+{
+    let entered = desk.fetch(rt, room, pass, who, replica, asked);
+    let log = desk.log();
+    let numbers = log.numbers();
+    let entered = entered?;
+    let records = records_of(alloc, replica, asked, &entered.became, log, budget);
+    Ok(Fetched {
+        entered,
+        numbers,
+        records,
+    })
+}
+
+/// Looks at the log, and tells the place of the look and the log's numbers.
+pub(crate) fn look_at(desk: &mut PartDesk, who: Who) -> Result<Looked, NoMemory>
+    ensures looked { OnOk result (desk.new.history ≡ looked desk.old.history who.by who.seq) }
+    ensures place { IfOk result (λ at. at.place ≡ length desk.old.history.events) }
+    ensures numbers { IfOk result (λ at. at.numbers ≡ numbers_of (state_of desk.old.history)) }
+    ensures state { state_of desk.new.history ≡ state_of desk.old.history }
+    ensures bounded { IfOk result (λ at. at.numbers.high ≤ MOST_LOG_BYTES) }
+    ensures refused { OnErr result (desk.new ≡ desk.old) }
+    ensures name { part_name desk.new ≡ part_name desk.old }
+    ensures added { AddedBy entry_by who.by (log_entries desk.old.history) (log_entries desk.new.history) }
+    ensures whole { IsKept desk.new.history.log desk.new.history.events }
+{
+    let place = desk.look(who);
+    let numbers = desk.log().numbers();
+    Ok(Looked {
+        place: place?,
+        numbers,
+    })
+}
+
+/// The same, and reads what the reply to a fetch takes from the byte place `start` on.
+pub(crate) fn read_at(
+    alloc: Global,
+    desk: &mut PartDesk,
+    who: Who,
+    replica: i32,
+    asked: &FetchPart,
+    part: u32,
+    start: u64,
+    budget: &mut Budget,
+) -> Result<Read, NoMemory>
+    ensures looked { OnOk result (desk.new.history ≡ looked desk.old.history who.by who.seq) }
+    ensures place { IfOk result (λ read. read.looked.place ≡ length desk.old.history.events) }
+    ensures numbers { IfOk result (λ read. read.looked.numbers ≡ numbers_of (state_of desk.old.history)) }
+    ensures bounded { IfOk result (λ read. read.looked.numbers.high ≤ MOST_LOG_BYTES) }
+    ensures read { IfOk result (λ read. IfOk read.records (λ records.
+        HasRead replica asked.now (Seen part start) (state_of desk.new.history) read.looked.numbers records budget.old budget.new)) }
+    ensures refused { OnErr result (desk.new ≡ desk.old) }
+    ensures name { part_name desk.new ≡ part_name desk.old }
+    ensures added { AddedBy entry_by who.by (log_entries desk.old.history) (log_entries desk.new.history) }
+    ensures whole { IsKept desk.new.history.log desk.new.history.events }
+{
+    let looked = look_at(desk, who)?;
+    let became = Accepted::Seen { part, start };
+    let records = records_of(alloc, replica, asked, &became, desk.log(), budget);
+    Ok(Read { looked, records })
+}
