@@ -28,6 +28,14 @@ later_zero : (n : ℕ) (event : ClockEvent) → later 0 event ≤ later n event
 later_zero n (Tick t) = omega arith
 later_zero n (Look by seq) = omega arith
 
+within_test : (number n : ℕ) (x : ClockEntry) (entries : List ClockEntry) (entry : ClockEntry) (b : Bool) → ((m : ℕ) → later 0 entry.event ≤ most m (events_of (of_pass clock_by number entries)))
+    → later 0 entry.event ≤ most n (events_of (cond b (x ∷ of_pass clock_by number entries) (of_pass clock_by number entries)))
+within_test number n x entries entry true rest =
+    let first = most_later n x.event (events_of (of_pass clock_by number entries)) in
+    let least = rest (later n x.event) in
+    omega (arith, first, least)
+within_test number n x entries entry false rest = rest n
+
 -- an entry is no later than the moment of its pass's entries
 entry_within : (number n i : ℕ) (entries : List ClockEntry) (entry : ClockEntry) → slice_get entries i ≡ Some entry → clock_by entry ≡ number → later 0 entry.event ≤ most n (events_of (of_pass clock_by number entries))
 entry_within number n i [] entry at is = absurd cc
@@ -41,14 +49,7 @@ entry_within number n zero (x ∷ entries) entry at is =
     let here : later 0 entry.event ≡ later 0 x.event = ap (λ (e : ClockEntry). later 0 e.event) (sym same) in
     let all = ap (λ (es : List ClockEntry). most n (events_of es)) kept in
     omega (arith, here, zero_first, least, first, all)
-entry_within number n (suc i) (x ∷ entries) entry at is = by_test (eqb (clock_by x) number)
-  where
-    by_test : (b : Bool) → later 0 entry.event ≤ most n (events_of (cond b (x ∷ of_pass clock_by number entries) (of_pass clock_by number entries)))
-    by_test true =
-        let first = most_later n x.event (events_of (of_pass clock_by number entries)) in
-        let rest = entry_within number (later n x.event) i entries entry at is in
-        omega (arith, first, rest)
-    by_test false = entry_within number n i entries entry at is
+entry_within number n (suc i) (x ∷ entries) entry at is = within_test number n x entries entry (eqb (clock_by x) number) (λ m. entry_within number m i entries entry at is)
 
 abbrev ticked_of : LogPassView → ℕ
 ticked_of pass = pass.ticked
