@@ -87,8 +87,7 @@ firsts_of lock locks (hand ∷ hands) (first ∷ firsts) (rest ∷ rests) is all
     let views : lock_of first ∷ map lock_of rest.parts.items ≡ part_lock lock ∷ map part_lock locks = ap (map lock_of) (sym is.0.parts) ∙ here.locks_are in
     let same : lock_of first ≡ part_lock lock = ap (first_lock (part_lock lock)) views in
     let others = ap rest_locks views in
-    let ready = subst (All (IsHand entry_by hand.number)) is.0.parts here.hands_are in
-    (
+    let ready = subst (All (IsHand entry_by hand.number)) is.0.parts here.hands_are in (
       All-cons P first firsts ((ap (λ (l : LockView). l.id) same, ap (λ (l : LockView). l.name) same), (All-head (IsHand entry_by hand.number) first rest.parts.items ready).ready) more.0,
       All-cons (IsOfLocks locks) rest rests
           (record { locks_are = others; hands_are = subst (λ n. All (IsHand entry_by n) rest.parts.items) (sym is.0.number) (All-tail (IsHand entry_by hand.number) first rest.parts.items ready) }) more.1,
@@ -263,11 +262,11 @@ rests_of_clock logs lock (hand ∷ hands) [] gone all = absurd gone
 rests_of_clock logs lock (hand ∷ hands) (rest ∷ rests) gone all =
     let here = All-head (IsOfClock lock) hand hands all in
     All-cons (IsOfClock lock) rest rests
-        (record {
+    (record {
       lock_is = ap (λ (key : TurnPass MomentView ClockEntry). lock_of key) gone.0.clock ∙ here.lock_is;
       hand_is = subst (λ n. IsHand clock_by n rest.clock) (sym gone.0.number) (subst (λ (key : TurnPass MomentView ClockEntry). IsHand clock_by hand.number key) (sym gone.0.clock) here.hand_is);
     })
-        (rests_of_clock logs lock hands rests gone.1 (All-tail (IsOfClock lock) hand hands all))
+    (rests_of_clock logs lock hands rests gone.1 (All-tail (IsOfClock lock) hand hands all))
 
 told_back : (P : TurnPass MomentView ClockEntry → Type 0) (logs : List History) (hands rests : List Hand) → HaveGone logs hands rests → All (λ (rest : Hand). P rest.clock) rests → All (λ (hand : Hand). P hand.clock) hands
 told_back P logs [] [] gone all = All-nil _

@@ -11,4 +11,4 @@ pub returns : goal.returns
 returns c =
     let all = clocks_all c.args.hands c.loop-hand.passes _ c.loop-hand.invariant.all (sym c.loop-hand.invariant.len ∙ c.in-None.ensures.steps.0) in
     clock_out c.args.lock c.args.hands c.loop-hand.passes all c.requires.hands c.requires.passes c.close.result c.close.ensures.name c.close.ensures.each c.close.ensures.whose c.close.ensures.once
-        c.into_parts-log.result.0 c.into_parts-log.result.2 c.into_parts-log.ensures.log c.into_parts-log.ensures.source c.into_parts-log.ensures.keeps
+    c.into_parts-log.result.0 c.into_parts-log.result.2 c.into_parts-log.ensures.log c.into_parts-log.ensures.source c.into_parts-log.ensures.keeps

@@ -48,8 +48,7 @@ returns-in-Ok-put_together g c =
     let seats = c.in-Ok.seats in
     let hands = c.in-Ok.hands in
     let e = c.in-Ok.ensures in
-    let back = c.in-Untaken.ensures in
-    (
+    let back = c.in-Untaken.ensures in (
       ap (λ (r : RoomView). shared_view r parts clock) back.0 ∙ c.self.view_is,
       c.in-Ok-put_together.ensures ∙ ap (λ (l : List LogPassView). l ++ gathered c.in-Untaken.seats hands) e.none ∙ ap (λ (l : List PassView). gathered l hands) back.1 ∙ sym e.passes,
       subst (λ (l : List LogPassView). IsUntaken c.args.self.room (map in_room l)) (sym e.passes)
@@ -109,5 +108,5 @@ returns-in-Ok-close_all g c =
     let n = sym count.1 ∙ sym size ∙ all in
     let closed = c.in-Ok-close_all.closed in
     subst (λ (v : SharedView). AreClosed v c.args.passes closed.parts closed.clock closed.wins) c.self.view_is
-        (subst (λ (l : List LogPassView). AreClosed (shared_view room parts clock) l closed.parts closed.clock closed.wins) (sym e.passes)
-        (all_closed room parts clock seats hands e.joined made c.in-Still.still c.in-Still.ensures closed.parts closed.clock closed.wins c.in-Ok-close_all.ensures (of_shared room parts clock c.self.invariant.0).gauges n))
+    (subst (λ (l : List LogPassView). AreClosed (shared_view room parts clock) l closed.parts closed.clock closed.wins) (sym e.passes)
+    (all_closed room parts clock seats hands e.joined made c.in-Still.still c.in-Still.ensures closed.parts closed.clock closed.wins c.in-Ok-close_all.ensures (of_shared room parts clock c.self.invariant.0).gauges n))
