@@ -1,5 +1,5 @@
 -- Passes taken apart, and put together again.
-use Rattle.std.proofs.Common.{◌≡◌, ◌∙◌, ℕ, ◌+◌, ◌<◌, List, [], ◌∷◌, ◌++◌, drop, get_or, length, take, ap, refl, subst, sym, arith, append_assoc}
+use Rattle.std.proofs.Common.{◌≡◌, ◌∙◌, ℕ, suc, ◌+◌, ◌<◌, List, [], ◌∷◌, ◌++◌, drop, get_or, length, take, ap, refl, subst, sym, arith, append_assoc}
 use Rattle.std.specs.Prelude.{All}
 use Rattle.std.proofs.lemmas.List.{length_push}
 use Rattle.std.proofs.lemmas.List.Elements.{All-head, All-nil, All-tail}
@@ -30,7 +30,7 @@ pub as_many : (seats : List PassView) (hands : List Hand) → AreJoined seats ha
 as_many [] [] all = refl
 as_many [] (h ∷ hands) all = absurd all
 as_many (s ∷ seats) [] all = absurd all
-as_many (s ∷ seats) (h ∷ hands) all = ap (λ n. n + 1) (as_many seats hands all.1)
+as_many (s ∷ seats) (h ∷ hands) all = ap suc (as_many seats hands all.1)
 
 joined_less : (seats : List PassView) (hands : List Hand) (seat : PassView) (hand : Hand) → AreJoined (seats ++ seat ∷ []) (hands ++ hand ∷ [])
     → AreJoined seats hands × IsJoined seat hand
@@ -49,10 +49,10 @@ module _ (passes left : List LogPassView) (pass : LogPassView) (seats seats_more
   pub apart_step : (all : List LogPassView) → AreJoined seats hands → all ≡ passes ++ gathered seats hands → (all ≡ left ++ gathered seats_more hands_more) × AreJoined seats_more hands_more
   apart_step all j e = (
     e ∙ ap (λ (l : List LogPassView). l ++ gathered seats hands) p ∙ append_assoc left (pass ∷ []) (gathered seats hands)
-    ∙ ap (λ (x : LogPassView). left ++ (x ∷ gathered seats hands)) is
-    ∙ ap (λ (l : List LogPassView). left ++ l) (sym (gathered_more seats hands seat hand j))
-    ∙ ap (λ (l : List PassView). left ++ gathered l (hands ++ hand ∷ [])) (sym s)
-    ∙ ap (λ (l : List Hand). left ++ gathered seats_more l) (sym h),
+        ∙ ap (λ (x : LogPassView). left ++ (x ∷ gathered seats hands)) is
+        ∙ ap (λ (l : List LogPassView). left ++ l) (sym (gathered_more seats hands seat hand j))
+        ∙ ap (λ (l : List PassView). left ++ gathered l (hands ++ hand ∷ [])) (sym s)
+        ∙ ap (λ (l : List Hand). left ++ gathered seats_more l) (sym h),
     subst (λ (l : List PassView). AreJoined l hands_more) (sym s) (subst (λ (l : List Hand). AreJoined (seats ++ seat ∷ []) l) (sym h) (joined_more seats hands seat hand j whole)),
   )
 

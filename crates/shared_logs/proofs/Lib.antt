@@ -20,3 +20,15 @@ pub mod Gone
 pub mod NewLogs
 -- sums over the passes, and over their numbers
 pub mod Wins
+-- the passes of seats and hands, one by one
+pub mod Gathered
+-- what came to the logs after each pass saw them
+pub mod Came
+-- what waits, by the closed logs
+pub mod Unmet
+-- the greatest moment that a pass ticked
+pub mod Latest
+-- logs that were closed
+pub mod Closed
+-- how shared logs end
+pub mod Ending

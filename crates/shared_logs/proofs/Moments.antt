@@ -47,18 +47,18 @@ use Rattle.shared_logs.proofs.Telling.{clock_found, clock_left_seen, clock_more,
 -- ---- moments
 
 -- the moment with one event more
-abbrev later : ℕ → ClockEvent → ℕ
+abbrev pub later : ℕ → ClockEvent → ℕ
 later n (Tick t) = max n t
 later n (Look by seq) = n
 
-abbrev most : ℕ → List ClockEvent → ℕ
+abbrev pub most : ℕ → List ClockEvent → ℕ
 most n events = fold max n (filter_map tick_of events)
 
-most_later : (n : ℕ) (event : ClockEvent) (events : List ClockEvent) → most n (event ∷ events) ≡ most (later n event) events
+pub most_later : (n : ℕ) (event : ClockEvent) (events : List ClockEvent) → most n (event ∷ events) ≡ most (later n event) events
 most_later n (Tick t) events = refl
 most_later n (Look by seq) events = refl
 
-later_least : (n m : ℕ) (event : ClockEvent) → n ≤ m → n ≤ later m event
+pub later_least : (n m : ℕ) (event : ClockEvent) → n ≤ m → n ≤ later m event
 later_least n m (Tick t) le = omega (arith, le)
 later_least n m (Look by seq) le = le
 
@@ -90,7 +90,7 @@ was_false true never = absurd (never refl)
 was_false false never = refl
 
 -- later events lower no moment
-most_least : (n : ℕ) (events : List ClockEvent) → n ≤ most n events
+pub most_least : (n : ℕ) (events : List ClockEvent) → n ≤ most n events
 most_least n [] = omega arith
 most_least n (Tick t ∷ events) = omega (arith, most_least (max n t) events)
 most_least n (Look by seq ∷ events) = most_least n events

@@ -138,7 +138,7 @@ owner_named (Append b s count len) by seq is = ap (by_or 0) is
 owner_named (Follow b s replica offset) by seq is = ap (by_or 0) is
 owner_named (Look b s) by seq is = ap (by_or 0) is
 
-owned_by_others : (number : ℕ) (es : List LogEntry) → AllByRecursion (λ e. entry_by e ≢ number) es → AllByRecursion (λ event. NotOf number (owner_of event)) (map event_in es)
+pub owned_by_others : (number : ℕ) (es : List LogEntry) → AllByRecursion (λ e. entry_by e ≢ number) es → AllByRecursion (λ event. NotOf number (owner_of event)) (map event_in es)
 owned_by_others number [] all = tt
 owned_by_others number (e ∷ es) all = ((λ seq is. all.0 (owner_named e.event number seq is)), owned_by_others number es all.1)
 

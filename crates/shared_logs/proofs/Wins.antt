@@ -1,10 +1,18 @@
 -- What the passes have taken, added up over the passes and over their numbers.
 use Rattle.std.proofs.Common.{⊎_elim, ◌≡◌, ◌≢◌, ◌∙◌, ℕ, zero, suc, ◌+◌, ◌<◌, ◌≤◌, Bool, true, false, cond, List, [], ◌∷◌, ap, refl, sym, arith}
-use Rattle.std.specs.Prelude.{All, count_by, sum_by, ◌==◌}
+use Rattle.std.specs.Prelude.{All, count_by, slice_index, sum_by, ◌==◌}
 use Rattle.std.proofs.lemmas.Bool.{cases_eq, eq-eqb, ne_eqb}
-use Rattle.std.proofs.lemmas.List.Elements.{All-head, All-tail}
+use Rattle.std.proofs.lemmas.List.Elements.{All-head, All-tail, All-weaker}
 use Rattle.std.proofs.lemmas.List.Sums.{sum_by-cons}
+use Rattle.room_core.specs.declared.parts.Taken.{Taken}
+use Rattle.room_core.specs.declared.shape.Shape.{Shape}
 use Rattle.room_core.specs.Counts.{sum_below}
+use Rattle.room_core.specs.State.{Caller}
+use Rattle.room_table.specs.Seats.{CallerView, SourceView, caller_now}
+use Rattle.purgatory.specs.Closed.{IsClosed}
+use Rattle.purgatory.specs.Ends.{StillView}
+use Rattle.purgatory.specs.Rooms.{winners}
+use Rattle.shared_logs.specs.Closing.{taken_from}
 
 abbrev bit : Bool → ℕ
 bit b = cond b 1 0
@@ -95,3 +103,25 @@ module _ {A : Type 0} (key : A → ℕ) (f : ℕ → ℕ) where
   -- where each number below n stands there once
   pub over_numbers : (n : ℕ) (xs : List A) → All (λ x. key x < n) xs → ((i : ℕ) → i < n → count_by (λ x. key x == i) xs ≡ 1) → sum_by (λ x. f (key x)) xs ≡ sum_below f n
   over_numbers n xs all once = by_numbers n xs all ∙ sum_same (λ i. items_at i xs) f n (λ i l. one_there i xs (once i l))
+
+sum_agrees : {A : Type 0} (f g : A → ℕ) (xs : List A) → All (λ x. f x ≡ g x) xs → sum_by f xs ≡ sum_by g xs
+sum_agrees f g [] all = refl
+sum_agrees {A = A} f g (x ∷ xs) all =
+    let P : A → Type 0 = λ y. f y ≡ g y in
+    omega (arith, sum_by-cons f x xs, sum_by-cons g x xs, All-head P x xs all, sum_agrees f g xs (All-tail P x xs all))
+
+-- what a winner has won is what all passes have taken from it
+pub wins_taken : (still : StillView) (sources : List SourceView) (numbers : List ℕ) (closed : IsClosed still sources numbers) (by : ℕ) → by < winners still.table
+    → slice_index numbers by ≡ sum_by (λ (seat : CallerView). taken_from by seat) still.callers
+wins_taken still sources numbers closed by less =
+    let state = closed.shown.state in
+    let f : ℕ → ℕ = λ pass. count_by (λ (item : Taken). item.by == by) (state.caller pass).taken in
+    let key : CallerView → ℕ = λ seat. seat.pass in
+    let size = ap (λ (s : Shape). s.passes) closed.shown.shape in
+    let n = still.table.shape.passes in
+    let same : All (λ (seat : CallerView). f seat.pass ≡ taken_from by seat) still.callers =
+    All-weaker (λ (seat : CallerView). state.caller seat.pass ≡ caller_now seat) (λ (seat : CallerView). f seat.pass ≡ taken_from by seat) (λ seat is. ap (λ (c : Caller). count_by (λ (item : Taken). item.by == by) c.taken) is) still.callers closed.shown.caller in
+    closed.taken by less
+    ∙ ap (sum_below f) size
+    ∙ sym (over_numbers key f n still.callers closed.shown.passes closed.shown.one_caller)
+    ∙ sum_agrees (λ (seat : CallerView). f seat.pass) (λ (seat : CallerView). taken_from by seat) still.callers same

@@ -39,7 +39,7 @@ pub record AreLogs (shared : SharedView) (parts : List History) (clock : List Cl
   pub followers : map (λ h. h.followers) parts ≡ followers_in shared
   pub ticks : IsStrictlyIncreasing (0 ∷ ticks_of clock)
 
-pub record AreClosed (shared : SharedView) (passes : List LogPassView) (parts : List History) (clock : List ClockEvent) (wins : List ℕ) : Type 0 where
+pub record AreClosed (shared : SharedView) (passes : List LogPassView) (parts : List History) (clock : List ClockEvent) (numbers : List ℕ) : Type 0 where
   pub logs : AreLogs shared parts clock
   -- they go on from what each pass saw, and it left nothing behind that
   pub each : All (λ (pass : LogPassView). OthersCame pass.number pass.parts pass.clock parts clock) passes
@@ -49,8 +49,8 @@ pub record AreClosed (shared : SharedView) (passes : List LogPassView) (parts : 
   -- what waits isn't answerable
   pub still : All (λ (pass : LogPassView). (caller_now pass.seat).stage ≡ Stage.Waiting → IsUnanswerable parts clock (operation_of (caller_now pass.seat).description)) passes
   -- each winner's number is that of the ends that the passes have taken from it
-  pub size : length wins ≡ winners shared.room.table
-  pub wins : (by : ℕ) → by < winners shared.room.table → slice_index wins by ≡ sum_by (λ (pass : LogPassView). taken_from by pass.seat) passes
+  pub size : length numbers ≡ winners shared.room.table
+  pub wins : (by : ℕ) → by < winners shared.room.table → slice_index numbers by ≡ sum_by (λ (pass : LogPassView). taken_from by pass.seat) passes
   -- the moment is the greatest that a pass has ticked
   pub moment : moment_of clock ≡ fold max 0 (map (λ (pass : LogPassView). pass.ticked) passes)
 

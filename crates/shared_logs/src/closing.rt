@@ -33,7 +33,10 @@ pub struct ClosedLogs {
 pub enum LogsEnd {
     Closed(ClosedLogs),
     /// More was won than the passes have taken. The logs and the passes are handed back as they were.
-    Untaken { logs: SharedLogs, passes: List<LogPass> },
+    Untaken {
+        logs: SharedLogs,
+        passes: List<LogPass>,
+    },
     /// No memory was left. Nothing is handed back.
     NoMemory,
 }
@@ -46,6 +49,7 @@ struct ClosedParts {
 }
 
 // The partitions' locks are closed, each with the passes that all hands have of it.
+#[tactic(auto, using(crate::proofs::Gone::gone_none, crate::proofs::Gone::tell_none))]
 fn close_parts(
     alloc: Global,
     locks: Vec<TurnLock<PartDesk>>,
