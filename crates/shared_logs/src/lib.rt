@@ -30,6 +30,5 @@ pub use turns::{Fetched, Looked, Put, Read};
 
 #[cfg(test)]
 mod closing_tests;
-
 #[cfg(test)]
 mod tests;
