@@ -132,7 +132,7 @@ mine_events before after found left more turn is =
     ap events_of mine
     ∙ map-append event before.mine (drop (length es) fs)
     ∙ ap (λ (xs : List ClockEvent). events_of before.mine ++ xs)
-        (sym (drop-map event (length es) fs) ∙ ap (λ (n : ℕ). drop n (events_of fs)) size ∙ ap (drop (length found.events)) told ∙ drop-append_seam found.events more)
+    (sym (drop-map event (length es) fs) ∙ ap (λ (n : ℕ). drop n (events_of fs)) size ∙ ap (drop (length found.events)) told ∙ drop-append_seam found.events more)
 
 -- ---- a turn of the clock's lock
 
@@ -172,8 +172,8 @@ module _ (number : ℕ) (room after : PassView) (parts : List (TurnPass PartView
       let others = clock_others (known old) found f (own_of clock_by number old step.is.clock_is) in
       came_of number before_view.parts before_view.parts before_view.clock found.events
       (subst (OthersAlone number before_view.parts before_view.clock before_view.parts) (sym (clock_found (known old) found f))
-          (clock_came number before_view.parts before_view.clock more
-              (subst (λ (n : ℕ). AllByRecursion (λ event. NotOf n (clock_owner_of event)) more) step.is.clock_is.number_is others)))
+      (clock_came number before_view.parts before_view.clock more
+      (subst (λ (n : ℕ). AllByRecursion (λ event. NotOf n (clock_owner_of event)) more) step.is.clock_is.number_is others)))
       refl
 
   pub clock_after : after_view.clock ≡ left.events

@@ -154,7 +154,7 @@ module _ (number : ℕ) (room after : PassView) (parts : List (TurnPass PartView
       let others = found_others (known old) found turn.turn.found_is turn.name_found turn.kept_found (own_of entry_by number old hand) in
       came_of number histories (set histories part found.history) before_view.clock before_view.clock
       (part_came number histories before_view.clock part (seen_part old) found.history there_seen longer
-          (subst (λ (n : ℕ). AllByRecursion (λ event. NotOf n (owner_of event)) longer.more) hand.number_is others))
+      (subst (λ (n : ℕ). AllByRecursion (λ event. NotOf n (owner_of event)) longer.more) hand.number_is others))
       (length-set histories part found.history)
 
   pub parts_after : after_view.parts ≡ set histories part left.history

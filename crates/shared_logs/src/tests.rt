@@ -58,9 +58,7 @@ fn each_call_once(rt: HostRuntime) -> Result<(), Fail> {
         mut one,
         other: _,
     } = make_two(rt.alloc())?;
-    let batch = view_batch(&ONE_RECORD)
-        .ok()
-        .ok_or("the bytes are a batch")?;
+    let batch = view_batch(&ONE_RECORD).ok().ok_or("the bytes are a batch")?;
     let put = logs.put(&rt, &mut one, 0, 0, &batch)?;
     assert_eq!(rt; (put.entered.place, put.numbers), (0, PUT));
     let mut asked = FetchPart {
@@ -85,7 +83,13 @@ fn each_call_once(rt: HostRuntime) -> Result<(), Fail> {
     let read = logs.read(&rt, &mut one, 1, 69, 3, -1, &asked, 0, &mut budget)?;
     assert_eq!(rt; (read.looked.place, read.looked.numbers), (3, FOLLOWED));
     assert_eq!(rt; read.records?.len(), 69);
-    assert_eq!(rt; budget, Budget { left: 31, any: true });
+    assert_eq!(rt;
+        budget,
+        Budget {
+            left: 31,
+            any: true
+        }
+    );
     logs.settle(&rt, &mut one);
     assert_eq!(rt; logs.gauge(&mut one, 1), 69);
     Ok(())
@@ -99,9 +103,7 @@ fn two_passes_see_each_other(rt: HostRuntime) -> Result<(), Fail> {
         mut one,
         mut other,
     } = make_two(rt.alloc())?;
-    let batch = view_batch(&ONE_RECORD)
-        .ok()
-        .ok_or("the bytes are a batch")?;
+    let batch = view_batch(&ONE_RECORD).ok().ok_or("the bytes are a batch")?;
     logs.put(&rt, &mut one, 0, 0, &batch)?;
     let seen = logs.look(&rt, &mut other, 2, 69, 0)?;
     assert_eq!(rt; (seen.place, seen.numbers), (1, PUT));

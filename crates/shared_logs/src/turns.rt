@@ -149,14 +149,7 @@ impl SharedLogs {
             by: pass.number,
             seq,
         };
-        look_into(
-            rt,
-            &self.parts[at],
-            &mut pass.parts[at],
-            gauge,
-            least,
-            who,
-        )
+        look_into(rt, &self.parts[at], &mut pass.parts[at], gauge, least, who)
     }
 
     /// The same, and reads what the reply to a fetch takes of the partition from the byte place `start` on: the budget is lowered by that.

@@ -38,7 +38,7 @@ returns-clause-asked g c =
       turn = turn;
       entry = subst (λ (by : ℕ). HasEntered by who.seq (fetch_outcome (slice_index name 0) c.args.replica asked c.args.part) found.history left.history f.entered) (sym k.number_is)
           (subst (λ (p : ℕ). HasEntered who.by who.seq (fetch_outcome (slice_index name 0) c.args.replica asked p) found.history left.history f.entered) part
-              (subst (λ (m : ℕ). HasEntered who.by who.seq (fetch_outcome m c.args.replica asked found.part) found.history left.history f.entered) followers e));
+          (subst (λ (m : ℕ). HasEntered who.by who.seq (fetch_outcome m c.args.replica asked found.part) found.history left.history f.entered) followers e));
       numbers_are = n;
     })
 
@@ -57,8 +57,8 @@ returns-clause-read g c =
     subst (BeganPart before key name c.part_turn-turn.result.ticket) (sym c.value_mut.ensures.value) (record { found_is = t.found; begun_is = t.begun; named = t.name; keeps = t.keeps }) in
     let turn = part_turned before key (known c.end.new.pass) name c.args.who.by c.part_turn-turn.result.ticket found left began c.end.ensures.seen k.number_is k.of_lock.1 d.added d.name d.whole in
     let read : IfOk c.fetch_at-fetched.result (λ fetched. IfOk fetched.records (λ records.
-        HasRead c.args.replica c.args.asked.now fetched.entered.became (state_of left.history) fetched.numbers records c.args.budget.now c.fetch_at-fetched.new.budget)) = search rules in
+    HasRead c.args.replica c.args.asked.now fetched.entered.became (state_of left.history) fetched.numbers records c.args.budget.now c.fetch_at-fetched.new.budget)) = search rules in
     subst
     (λ (h : History). IfOk c.fetch_at-fetched.result (λ fetched. IfOk fetched.records (λ records.
-        HasRead c.args.replica c.args.asked.now fetched.entered.became (state_of h) fetched.numbers records c.args.budget.now c.fetch_at-fetched.new.budget)))
+    HasRead c.args.replica c.args.asked.now fetched.entered.became (state_of h) fetched.numbers records c.args.budget.now c.fetch_at-fetched.new.budget)))
     (sym (left_seen before (known c.end.new.pass) found left turn)) read

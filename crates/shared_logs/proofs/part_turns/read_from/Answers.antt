@@ -55,8 +55,8 @@ returns-clause-read g c =
     subst (BeganPart before key name c.late_turn-turn.result.ticket) (sym c.value_mut.ensures.value) (record { found_is = t.found; begun_is = t.begun; named = t.name; keeps = t.keeps }) in
     let turn = part_turned before key (known c.end.new.pass) name c.args.who.by c.late_turn-turn.result.ticket found left began c.end.ensures.seen k.2 k.0.1 d.added d.name d.whole in
     let told : IfOk c.read_at-read.result (λ read. IfOk read.records (λ records.
-        HasRead c.args.replica c.args.asked.now (Seen (c.args.gauge / 3) c.args.start) (state_of left.history) read.looked.numbers records c.args.budget.now c.read_at-read.new.budget)) = search rules in
+    HasRead c.args.replica c.args.asked.now (Seen (c.args.gauge / 3) c.args.start) (state_of left.history) read.looked.numbers records c.args.budget.now c.read_at-read.new.budget)) = search rules in
     subst
     (λ (h : History). IfOk c.read_at-read.result (λ read. IfOk read.records (λ records.
-        HasRead c.args.replica c.args.asked.now (Seen (c.args.gauge / 3) c.args.start) (state_of h) read.looked.numbers records c.args.budget.now c.read_at-read.new.budget)))
+    HasRead c.args.replica c.args.asked.now (Seen (c.args.gauge / 3) c.args.start) (state_of h) read.looked.numbers records c.args.budget.now c.read_at-read.new.budget)))
     (sym (left_seen before (known c.end.new.pass) found left turn)) told

@@ -87,8 +87,8 @@ returns-clause-asked g c =
     sym (followers_at p.number p.room p.parts.items p.clock p.moment p.ticked c.pass.invariant s.room s.parts.items s.clock made part lock old less c.index.ensures c.index_mut.ensures.value) ∙ ap (λ (v : SharedView). slice_index (followers_in v) part) c.self.view_is in
     if_ok r asked
     (λ x a. subst (λ (v : LogPassView). HasAsked part c.args.seq (outcome all) v after x.entered x.numbers) c.pass.view_is
-        (part_asked p.number p.room room p.parts.items p.clock p.moment p.ticked part old new step a.found a.left a.turn c.args.seq (outcome all) x.entered x.numbers
-            (subst (λ (n : ℕ). HasEntered (known old).number c.args.seq (outcome n) a.found.history a.left.history x.entered) followers a.entry) a.numbers_are))
+    (part_asked p.number p.room room p.parts.items p.clock p.moment p.ticked part old new step a.found a.left a.turn c.args.seq (outcome all) x.entered x.numbers
+    (subst (λ (n : ℕ). HasEntered (known old).number c.args.seq (outcome n) a.found.history a.left.history x.entered) followers a.entry) a.numbers_are))
 
 pub returns-clause-read : goal.returns-clause-read
 returns-clause-read g c =

@@ -73,7 +73,7 @@ returns-clause-looked g c =
     let after = pass_view p.number room (set p.parts.items part new) p.clock p.ticked in
     if_ok r e.looked
     (λ x a. subst (λ (v : LogPassView). HasLooked part c.args.seq c.args.gauge c.args.least v after x.place x.numbers) c.pass.view_is
-        (part_looked p.number p.room room p.parts.items p.clock p.moment p.ticked part old new step a.found a.left a.turn c.args.seq c.args.gauge c.args.least x.place x.numbers a.entry a.place_is a.numbers_are a.late))
+    (part_looked p.number p.room room p.parts.items p.clock p.moment p.ticked part old new step a.found a.left a.turn c.args.seq c.args.gauge c.args.least x.place x.numbers a.entry a.place_is a.numbers_are a.late))
 
 pub returns-clause-refused : goal.returns-clause-refused
 returns-clause-refused g c =

@@ -73,7 +73,7 @@ returns-clause-asked g c =
     let outcome = append_outcome part (count_of c.args.batch.now) c.args.batch.now in
     if_ok r e.asked
     (λ x a. subst (λ (v : LogPassView). HasAsked part c.args.seq outcome v after x.entered x.numbers) c.pass.view_is
-        (part_asked p.number p.room room p.parts.items p.clock p.moment p.ticked part old new step a.found a.left a.turn c.args.seq outcome x.entered x.numbers a.entry a.numbers_are))
+    (part_asked p.number p.room room p.parts.items p.clock p.moment p.ticked part old new step a.found a.left a.turn c.args.seq outcome x.entered x.numbers a.entry a.numbers_are))
 
 pub returns-clause-refused : goal.returns-clause-refused
 returns-clause-refused g c =

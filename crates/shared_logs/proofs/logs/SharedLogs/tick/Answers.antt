@@ -67,7 +67,7 @@ returns-then-branch-clause-ticked g c =
     let d = ok_is _ c.tick_to-rose.result.0 c.in_ok-rose.field-0 c.in_ok-rose.was e.told in
     subst (λ (b : Bool). HasTicked c.args.t c.args.pass.now (pass_view p.number c.tick_to-rose.new.pass p.parts.items new (cond b c.args.t p.ticked))) c.if-branch.true
     (subst (λ (v : LogPassView). HasTicked c.args.t v (pass_view p.number c.tick_to-rose.new.pass p.parts.items new (cond c.in_ok-rose.field-0 c.args.t p.ticked))) c.pass.view_is
-        (clock_ticked p.number p.room c.tick_to-rose.new.pass p.parts.items p.clock new p.moment p.ticked c.tick_to-rose.result.1 step e.moment c.args.t c.in_ok-rose.field-0 d))
+    (clock_ticked p.number p.room c.tick_to-rose.new.pass p.parts.items p.clock new p.moment p.ticked c.tick_to-rose.result.1 step e.moment c.args.t c.in_ok-rose.field-0 d))
 
 pub invariant_of-pass-else-branch : goal.invariant_of-pass-else-branch
 invariant_of-pass-else-branch g c =
@@ -92,4 +92,4 @@ returns-else-branch-clause-ticked g c =
     let d = ok_is _ c.tick_to-rose.result.0 c.in_ok-rose.field-0 c.in_ok-rose.was e.told in
     subst (λ (b : Bool). HasTicked c.args.t c.args.pass.now (pass_view p.number c.tick_to-rose.new.pass p.parts.items new (cond b c.args.t p.ticked))) c.if-branch.false
     (subst (λ (v : LogPassView). HasTicked c.args.t v (pass_view p.number c.tick_to-rose.new.pass p.parts.items new (cond c.in_ok-rose.field-0 c.args.t p.ticked))) c.pass.view_is
-        (clock_ticked p.number p.room c.tick_to-rose.new.pass p.parts.items p.clock new p.moment p.ticked c.tick_to-rose.result.1 step e.moment c.args.t c.in_ok-rose.field-0 d))
+    (clock_ticked p.number p.room c.tick_to-rose.new.pass p.parts.items p.clock new p.moment p.ticked c.tick_to-rose.result.1 step e.moment c.args.t c.in_ok-rose.field-0 d))
