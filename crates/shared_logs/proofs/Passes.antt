@@ -164,6 +164,7 @@ module _ (number : ℕ) (room after : PassView) (parts : List (TurnPass PartView
   part_left = record {
     same = part_same;
     others = part_others;
+    alone = λ p ne. get_set_other histories part p found.history ne;
     parts = parts_after ∙ sym (set_twice histories part found.history left.history);
     clock = refl;
     ticked = refl;

@@ -1,5 +1,5 @@
 -- A turn of a partition's lock, or of the clock's, in which a call of the pass left its entry.
-use Rattle.std.specs.Prelude.{◌≡◌, ℕ, ◌≤◌, ◌<◌, ℤ, List, [], ◌∷◌, ◌++◌, length, slice_set}
+use Rattle.std.specs.Prelude.{◌≡◌, ◌≢◌, ℕ, ◌≤◌, ◌<◌, ℤ, List, [], ◌∷◌, ◌++◌, length, slice_get, slice_set}
 use Rattle.partlog.specs.declared.clock_event.ClockEvent.{ClockEvent}
 use Rattle.partlog.specs.declared.clock_event.ClockEvent.TheVariants as clocks
 use Rattle.partlog.specs.declared.clock_event.TheConstants.{MOST_MOMENT}
@@ -23,11 +23,12 @@ use Rattle.plain_broker.specs.Board.{history_at}
 use Rattle.shared_logs.specs.Coming.{IsSamePass, OthersCame}
 use Rattle.shared_logs.specs.Shared.{LogPassView}
 
--- The pass found these histories, to which others alone had added, and then left one entry in that of the partition; the others, the
--- clock's and its ticks are as they were found.
+-- The pass found these histories, to which others alone had added: of this partition, and as it had seen them of all others. Then it left
+-- one entry in that of the partition; the clock's and its ticks are as they were.
 pub record LeftOne (part : ℕ) (old new : LogPassView) (found : List History) (left : History) : Type 0 where
   pub same : IsSamePass old new
   pub others : OthersCame old.number old.parts old.clock found old.clock
+  pub alone : (p : ℕ) → p ≢ part → slice_get found p ≡ slice_get old.parts p
   pub parts : new.parts ≡ slice_set found part left
   pub clock : new.clock ≡ old.clock
   pub ticked : new.ticked ≡ old.ticked

@@ -1,8 +1,5 @@
 //! Logs are made and closed, on one thread.
 use super::*;
-use kbytes::List;
-use opcond::{Need, Op};
-use purgatory::Registered;
 use std::test::*;
 
 #[test]
