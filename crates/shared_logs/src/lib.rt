@@ -29,6 +29,4 @@ pub use pass::LogPass;
 pub use turns::{Fetched, Looked, Put, Read};
 
 #[cfg(test)]
-mod closing_tests;
-#[cfg(test)]
 mod tests;
