@@ -49,10 +49,10 @@ module _ (passes left : List LogPassView) (pass : LogPassView) (seats seats_more
   pub apart_step : (all : List LogPassView) → AreJoined seats hands → all ≡ passes ++ gathered seats hands → (all ≡ left ++ gathered seats_more hands_more) × AreJoined seats_more hands_more
   apart_step all j e = (
     e ∙ ap (λ (l : List LogPassView). l ++ gathered seats hands) p ∙ append_assoc left (pass ∷ []) (gathered seats hands)
-    ∙ ap (λ (x : LogPassView). left ++ (x ∷ gathered seats hands)) is
-    ∙ ap (λ (l : List LogPassView). left ++ l) (sym (gathered_more seats hands seat hand j))
-    ∙ ap (λ (l : List PassView). left ++ gathered l (hands ++ hand ∷ [])) (sym s)
-    ∙ ap (λ (l : List Hand). left ++ gathered seats_more l) (sym h),
+        ∙ ap (λ (x : LogPassView). left ++ (x ∷ gathered seats hands)) is
+        ∙ ap (λ (l : List LogPassView). left ++ l) (sym (gathered_more seats hands seat hand j))
+        ∙ ap (λ (l : List PassView). left ++ gathered l (hands ++ hand ∷ [])) (sym s)
+        ∙ ap (λ (l : List Hand). left ++ gathered seats_more l) (sym h),
     subst (λ (l : List PassView). AreJoined l hands_more) (sym s) (subst (λ (l : List Hand). AreJoined (seats ++ seat ∷ []) l) (sym h) (joined_more seats hands seat hand j whole)),
   )
 

@@ -87,8 +87,7 @@ firsts_of lock locks (hand ∷ hands) (first ∷ firsts) (rest ∷ rests) is all
     let views : lock_of first ∷ map lock_of rest.parts.items ≡ part_lock lock ∷ map part_lock locks = ap (map lock_of) (sym is.0.parts) ∙ here.locks_are in
     let same : lock_of first ≡ part_lock lock = ap (first_lock (part_lock lock)) views in
     let others = ap rest_locks views in
-    let ready = subst (All (IsHand entry_by hand.number)) is.0.parts here.hands_are in
-    (
+    let ready = subst (All (IsHand entry_by hand.number)) is.0.parts here.hands_are in (
       All-cons P first firsts ((ap (λ (l : LockView). l.id) same, ap (λ (l : LockView). l.name) same), (All-head (IsHand entry_by hand.number) first rest.parts.items ready).ready) more.0,
       All-cons (IsOfLocks locks) rest rests
           (record { locks_are = others; hands_are = subst (λ n. All (IsHand entry_by n) rest.parts.items) (sym is.0.number) (All-tail (IsHand entry_by hand.number) first rest.parts.items ready) }) more.1,

@@ -33,7 +33,10 @@ pub struct ClosedLogs {
 pub enum LogsEnd {
     Closed(ClosedLogs),
     /// More was won than the passes have taken. The logs and the passes are handed back as they were.
-    Untaken { logs: SharedLogs, passes: List<LogPass> },
+    Untaken {
+        logs: SharedLogs,
+        passes: List<LogPass>,
+    },
     /// No memory was left. Nothing is handed back.
     NoMemory,
 }

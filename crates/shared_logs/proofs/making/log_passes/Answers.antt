@@ -24,7 +24,7 @@ invariant_of-push c =
     (into_iter_items c.loop-room.clocks_left) (into_iter_items c.next-in-loop-room-2.new.self) c.in-Some-next-2.clock
     c.in-Some.ensures.steps.0 c.in-Some-next.ensures.cases.0 c.in-Some-next-2.ensures.cases.0 dealt in
     subst (λ n. IsLogPass n c.in-Some.room c.in-Some-next.parts.items c.in-Some-next-2.clock 0 0) (sym c.len-number.ensures)
-        (new_pass shared (length c.loop-room.passes) c.in-Some.room c.in-Some-next.parts c.in-Some-next-2.clock first.0 first.1 first.2 dealt.shared_is)
+    (new_pass shared (length c.loop-room.passes) c.in-Some.room c.in-Some-next.parts c.in-Some-next-2.clock first.0 first.1 first.2 dealt.shared_is)
 
 pub loop-room-preserved : goal.loop-room-preserved
 loop-room-preserved c =

@@ -58,8 +58,8 @@ loop-part-preserved c =
           let name : part_name desk ≡ slice_index followers part ∷ desk_name table part =
           ap part_name c.in_ok-desk.ensures ∙ ap (λ (source : SourceView). slice_index followers part ∷ desk_name source.table part) a.0 in
           subst (AreFrom (IsPartLock table followers c.args.passes) 0) (sym more)
-              (from_push (IsPartLock table followers c.args.passes) 0 locks lock (i.locks table first)
-              (subst (λ n. IsPartLock table followers c.args.passes n lock) (omega (arith, count)) (record { name = made.lock.0 ∙ name; passes_are = made.lock.1 })));
+          (from_push (IsPartLock table followers c.args.passes) 0 locks lock (i.locks table first)
+          (subst (λ n. IsPartLock table followers c.args.passes n lock) (omega (arith, count)) (record { name = made.lock.0 ∙ name; passes_are = made.lock.1 })));
       rows_count = c.in_ok-rows-2.ensures.len ∙ i.rows_count;
       rows = rows_more locks c.push.new.self.items lock c.in_ok-rows-2.rows more
           (c.in_ok-rows-2.ensures.rows (map part_lock locks) (part_lock lock) i.rows

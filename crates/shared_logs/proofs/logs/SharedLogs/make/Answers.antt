@@ -36,7 +36,7 @@ invariant_of-logs c =
     let e = c.in_ok-room.ensures in
     let first = (sources_dealt room.room c.args.followers.now c.args.passes e.shape room.sources c.pop.new.self c.in-Some.last e.sources c.in-Some.ensures.items).0 in
     shared_made room.room c.args.followers.now c.args.passes e.shape room.sources c.pop.new.self c.in-Some.last e.sources c.in-Some.ensures.items
-        c.in_ok-parts.parts.items c.in_ok-clock.clock c.make-desk.result c.in_ok-parts.ensures.count (c.in_ok-parts.ensures.locks room.room.table first) c.make-desk.ensures c.in_ok-clock.ensures.lock.0 c.in_ok-clock.ensures.lock.1
+    c.in_ok-parts.parts.items c.in_ok-clock.clock c.make-desk.result c.in_ok-parts.ensures.count (c.in_ok-parts.ensures.locks room.room.table first) c.make-desk.ensures c.in_ok-clock.ensures.lock.0 c.in_ok-clock.ensures.lock.1
 
 pub returns-clause-followers : goal.returns-clause-followers
 returns-clause-followers c =
@@ -44,7 +44,7 @@ returns-clause-followers c =
     let e = c.in_ok-room.ensures in
     let first = (sources_dealt room.room c.args.followers.now c.args.passes e.shape room.sources c.pop.new.self c.in-Some.last e.sources c.in-Some.ensures.items).0 in
     followers_made room.room c.args.followers.now c.args.passes e.shape room.sources c.pop.new.self c.in-Some.last e.sources c.in-Some.ensures.items
-        c.in_ok-parts.parts.items c.in_ok-clock.clock c.make-desk.result c.in_ok-parts.ensures.count (c.in_ok-parts.ensures.locks room.room.table first) c.make-desk.ensures c.in_ok-clock.ensures.lock.0 c.in_ok-clock.ensures.lock.1
+    c.in_ok-parts.parts.items c.in_ok-clock.clock c.make-desk.result c.in_ok-parts.ensures.count (c.in_ok-parts.ensures.locks room.room.table first) c.make-desk.ensures c.in_ok-clock.ensures.lock.0 c.in_ok-clock.ensures.lock.1
 
 pub returns-clause-passes : goal.returns-clause-passes
 returns-clause-passes c =
@@ -56,10 +56,10 @@ returns-clause-passes c =
     let shared = shared_view room.room parts clock in
     let named = c.in_ok-parts.ensures.locks room.room.table first in
     c.in_ok-passes.ensures shared
-        (made_dealt room.room c.args.followers.now c.args.passes e.shape room.sources c.pop.new.self c.in-Some.last e.sources c.in-Some.ensures.items
-        parts clock c.make-desk.result c.in_ok-parts.ensures.count named c.make-desk.ensures c.in_ok-clock.ensures.lock.0 c.in_ok-clock.ensures.lock.1
-        room.passes c.in_ok-parts.rows c.in_ok-clock.keys e.passes c.in_ok-parts.ensures.rows.0 c.in_ok-parts.ensures.rows.1 c.in_ok-clock.ensures.passes.0 c.in_ok-clock.ensures.passes.1)
+    (made_dealt room.room c.args.followers.now c.args.passes e.shape room.sources c.pop.new.self c.in-Some.last e.sources c.in-Some.ensures.items
+    parts clock c.make-desk.result c.in_ok-parts.ensures.count named c.make-desk.ensures c.in_ok-clock.ensures.lock.0 c.in_ok-clock.ensures.lock.1
+    room.passes c.in_ok-parts.rows c.in_ok-clock.keys e.passes c.in_ok-parts.ensures.rows.0 c.in_ok-parts.ensures.rows.1 c.in_ok-clock.ensures.passes.0 c.in_ok-clock.ensures.passes.1)
     ∙ ap (fresh_log_passes shared)
-        (seats_count room.room c.args.followers.now c.args.passes e.shape room.sources c.pop.new.self c.in-Some.last e.sources c.in-Some.ensures.items
-        parts clock c.make-desk.result c.in_ok-parts.ensures.count named c.make-desk.ensures c.in_ok-clock.ensures.lock.0 c.in_ok-clock.ensures.lock.1
-        room.passes c.in_ok-parts.rows c.in_ok-clock.keys e.passes c.in_ok-parts.ensures.rows.0 c.in_ok-parts.ensures.rows.1 c.in_ok-clock.ensures.passes.0 c.in_ok-clock.ensures.passes.1)
+    (seats_count room.room c.args.followers.now c.args.passes e.shape room.sources c.pop.new.self c.in-Some.last e.sources c.in-Some.ensures.items
+    parts clock c.make-desk.result c.in_ok-parts.ensures.count named c.make-desk.ensures c.in_ok-clock.ensures.lock.0 c.in_ok-clock.ensures.lock.1
+    room.passes c.in_ok-parts.rows c.in_ok-clock.keys e.passes c.in_ok-parts.ensures.rows.0 c.in_ok-parts.ensures.rows.1 c.in_ok-clock.ensures.passes.0 c.in_ok-clock.ensures.passes.1)
