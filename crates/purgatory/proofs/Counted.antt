@@ -25,66 +25,68 @@ busy_one Stage.Checking n = refl
 busy_one Stage.Waiting n = refl
 busy_one (Stage.Over how by) n = refl
 
-one_at_most : (stage : Stage) → untaken stage ≤ 1
-one_at_most Stage.Idle = omega arith
-one_at_most Stage.Listing = omega arith
-one_at_most Stage.Checking = omega arith
-one_at_most Stage.Waiting = omega arith
-one_at_most (Stage.Over how by) = omega arith
-
 checks_or : (b : Bool) (other : Stage) → unsettled other ≤ 1 → unsettled (cond b Stage.Checking other) ≤ 1
 checks_or true other h = omega arith
 checks_or false other h = h
 
--- a pass that looks at its word is no longer unsettled than before
+checks_busy : (b : Bool) (other : Stage) → untaken other ≡ 1 → untaken (cond b Stage.Checking other) ≡ 1
+checks_busy true other h = refl
+checks_busy false other h = h
+
+-- a pass that looks at its word is no longer unsettled than before, and has an operation as before
 peeks_less : (phase : Phase) (stage : Stage) → unsettled (peeked phase stage) ≤ unsettled stage
 unfolding peeked
 peeks_less Phase.Idle stage = omega arith
 peeks_less Phase.Open stage = omega arith
 peeks_less (Phase.Won how by) stage = omega arith
 
+peeks_busy : (phase : Phase) (stage : Stage) → untaken stage ≡ 1 → untaken (peeked phase stage) ≡ 1
+unfolding peeked
+peeks_busy Phase.Idle stage h = h
+peeks_busy Phase.Open stage h = h
+peeks_busy (Phase.Won how by) stage h = refl
+
 module _ (wins taken : ℕ) (caller : Caller) (h : IsCounted wins taken caller) where
   -- it opens an operation
-  pub counts_open : IsCounted wins taken (caller_opens caller)
-  counts_open =
+  pub counts_open : caller.stage ≡ Stage.Idle → IsCounted wins taken (caller_opens caller)
+  counts_open e =
       let few = h.few_wins in
-      let less = h.few_taken in
-      record { wins_are = h.wins_are; taken_are = h.taken_are; few_wins = omega (arith, few); few_taken = omega (arith, less) }
+      let all = subst (λ s. taken + untaken s ≡ caller.generation) e h.all_taken in
+      record { wins_are = h.wins_are; taken_are = h.taken_are; few_wins = omega (arith, few); all_taken = omega (arith, all) }
 
   pub counts_mark : (at mark : ℕ) → caller.stage ≡ Stage.Listing → IsCounted wins taken (caller_sees_mark caller at mark)
   counts_mark at mark e =
-      let new = caller_sees_mark caller at mark in
       let few = subst (λ s. wins + unsettled s ≤ caller.generation) e h.few_wins in
-      let less = subst (λ s. taken + untaken s ≤ caller.generation) e h.few_taken in
+      let all = subst (λ s. taken + untaken s ≡ caller.generation) e h.all_taken in
       record {
         wins_are = h.wins_are;
         taken_are = h.taken_are;
         few_wins = omega (arith, few, checks_or (all_seen caller.description (seen_with caller at mark)) Stage.Listing (omega arith));
-        few_taken = omega (arith, less, one_at_most new.stage);
+        all_taken = omega (arith, all, checks_busy (all_seen caller.description (seen_with caller at mark)) Stage.Listing refl);
       }
 
   pub counts_leave : (shape : Shape) (gauge value : ℕ) → caller.stage ≡ Stage.Checking → IsCounted wins taken (caller_leaves shape caller gauge value)
   counts_leave shape gauge value e =
-      let new = caller_leaves shape caller gauge value in
       let few = subst (λ s. wins + unsettled s ≤ caller.generation) e h.few_wins in
-      let less = subst (λ s. taken + untaken s ≤ caller.generation) e h.few_taken in
+      let all = subst (λ s. taken + untaken s ≡ caller.generation) e h.all_taken in
       record {
         wins_are = h.wins_are;
         taken_are = h.taken_are;
         few_wins = omega (arith, few, checks_or (is_satisfied caller.description (put caller.readings gauge (Some value)) || is_overdue shape caller.description (put caller.readings gauge (Some value))) Stage.Waiting (omega arith));
-        few_taken = omega (arith, less, one_at_most new.stage);
+        all_taken = omega (arith, all, checks_busy (is_satisfied caller.description (put caller.readings gauge (Some value)) || is_overdue shape caller.description (put caller.readings gauge (Some value))) Stage.Waiting refl);
       }
 
   -- it looks at its word
   pub counts_peek : (phase : Phase) → caller.stage ≢ Stage.Idle → IsCounted wins taken (caller_peeks caller phase)
   counts_peek phase n =
       let few = h.few_wins in
-      let less = h.few_taken in
+      let all = h.all_taken in
+      let busy = busy_one caller.stage n in
       record {
         wins_are = h.wins_are;
         taken_are = h.taken_are;
         few_wins = omega (arith, few, peeks_less phase caller.stage);
-        few_taken = omega (arith, less, busy_one caller.stage n, one_at_most (peeked phase caller.stage));
+        all_taken = omega (arith, all, busy, peeks_busy phase caller.stage busy);
       }
 
 one_taken : (stage : Stage) (generation : ℕ) → IsOver stage → (length (taken_of stage generation) ≡ 1) × (untaken stage ≡ 1)
@@ -100,13 +102,13 @@ pub counts_idle : (wins taken : ℕ) (caller : Caller) → IsCounted wins taken 
 counts_idle wins taken caller h over =
     let one = one_taken caller.stage caller.generation over in
     let few = h.few_wins in
-    let less = h.few_taken in
+    let all = h.all_taken in
     let before = h.taken_are in
     record {
       wins_are = h.wins_are;
       taken_are = omega (arith, before, length-append caller.taken (taken_of caller.stage caller.generation), one.0);
       few_wins = omega (arith, few);
-      few_taken = omega (arith, less, one.1);
+      all_taken = omega (arith, all, one.1);
     }
 
 -- an exchange that wasn't made found the word not open at the generation
@@ -125,14 +127,17 @@ module _ (wins taken : ℕ) (caller : Caller) (h : IsCounted wins taken caller) 
   few : wins + 1 ≤ caller.generation
   few = subst (λ s. wins + unsettled s ≤ caller.generation) e h.few_wins
 
-  fewer : taken + 1 ≤ caller.generation
-  fewer = subst (λ s. taken + untaken s ≤ caller.generation) e h.few_taken
+  all : taken + 1 ≡ caller.generation
+  all = subst (λ s. taken + untaken s ≡ caller.generation) e h.all_taken
 
   at_most : unsettled new.stage ≤ 1
   at_most =
       let less = peeks_less (exchanged found caller.generation how (scanner_numbers + pass)).phase caller.stage in
       let one : unsettled caller.stage ≡ 1 = ap unsettled e in
       omega (arith, less, one)
+
+  busy : untaken new.stage ≡ 1
+  busy = peeks_busy (exchanged found caller.generation how (scanner_numbers + pass)).phase caller.stage (ap untaken e)
 
   over_settled : (w : Session) → w.phase ≡ Phase.Won how (scanner_numbers + pass) → unsettled (peeked w.phase caller.stage) ≡ 0
   unfolding peeked
@@ -155,7 +160,7 @@ module _ (wins taken : ℕ) (caller : Caller) (h : IsCounted wins taken caller) 
         wins_are = omega (arith, before, ap (λ xs. length xs) (prize_made found caller.generation caller.wins prize live), length_push caller.wins prize);
         taken_are = h.taken_are;
         few_wins = omega (arith, few, settled live);
-        few_taken = omega (arith, fewer, one_at_most new.stage);
+        all_taken = omega (arith, all, busy);
       }
 
   pub counts_miss : is_live found caller.generation ≡ false → IsCounted wins taken new
@@ -163,5 +168,5 @@ module _ (wins taken : ℕ) (caller : Caller) (h : IsCounted wins taken caller) 
     wins_are = h.wins_are ∙ sym (ap (λ xs. length xs) (no_prize found caller.generation caller.wins prize dead));
     taken_are = h.taken_are;
     few_wins = omega (arith, few, at_most);
-    few_taken = omega (arith, fewer, one_at_most new.stage);
+    all_taken = omega (arith, all, busy);
   }

@@ -34,7 +34,7 @@ counts_kept wins taken a b generation stage won took h = record {
   wins_are = h.wins_are ∙ sym (ap (λ xs. length xs) won);
   taken_are = h.taken_are ∙ sym (ap (λ xs. length xs) took);
   few_wins = subst (λ n. wins + unsettled b.stage ≤ n) (sym generation) (subst (λ s. wins + unsettled s ≤ a.generation) (sym stage) h.few_wins);
-  few_taken = subst (λ n. taken + untaken b.stage ≤ n) (sym generation) (subst (λ s. taken + untaken s ≤ a.generation) (sym stage) h.few_taken);
+  all_taken = subst (λ n. taken + untaken b.stage ≡ n) (sym generation) (subst (λ s. taken + untaken s ≡ a.generation) (sym stage) h.all_taken);
 }
 
 counts_step : (wins taken : ℕ) (a b : CallerView) (step : CallerStep) → b ≡ caller_did a step → IsCounted wins taken (caller_now (caller_did a step)) → IsCounted wins taken (caller_now b)

@@ -1,5 +1,6 @@
 -- How a room ends: what its winners won, and of how much its passes have taken the end.
-use Rattle.std.specs.Prelude.{◌≡◌, ℕ, ◌+◌, ◌≤◌, ◌<◌, List, length, map, sum_by}
+use Rattle.std.specs.Prelude.{◌≡◌, ℕ, ◌+◌, ◌≤◌, ◌<◌, Any, List, length, map, sum_by}
+use Rattle.room_core.specs.declared.parts.Stage.TheVariants.{Waiting}
 use Rattle.room_core.specs.Numbers.{scanner_numbers}
 use Rattle.room_core.specs.Scans.{HasNoDuty}
 use Rattle.room_table.specs.Seats.{CallerView, ScanView, TableView, caller_now, scanner_now}
@@ -23,6 +24,10 @@ taken_of seats = sum_by (λ (seat : CallerView). length (caller_now seat).taken)
 
 abbrev pub seats_of : List PassView → List CallerView
 seats_of passes = map (λ (pass : PassView). pass.seat) passes
+
+-- the pass's operation waits
+abbrev pub IsWaiting : PassView → Type 0
+IsWaiting pass = (caller_now pass.seat).stage ≡ Waiting
 
 -- a pass of the room that owes nothing
 pub record IsSettled (room : RoomView) (pass : PassView) : Type 0 where
@@ -53,8 +58,9 @@ pub record IsStill (room : RoomView) (passes : List PassView) (still : StillView
   pub scanners : AreAllScanners room.table still.scanners
   pub taken : exchanges_of still.scanners still.callers ≤ taken_of still.callers
 
--- More was won than these passes have taken.
+-- More was won than these passes have taken, and one of them waits.
 pub record IsUntaken (room : RoomView) (passes : List PassView) : Type 0 where
   pub seats : List ScanView
   pub scanners : AreAllScanners room.table seats
   pub more : taken_of (seats_of passes) < exchanges_of seats (seats_of passes)
+  pub waits : Any IsWaiting passes

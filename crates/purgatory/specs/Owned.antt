@@ -21,12 +21,12 @@ unsettled Stage.Checking = 1
 unsettled Stage.Waiting = 0
 unsettled (Stage.Over how by) = 0
 
--- how many it won and how many it has taken, each generation at most once
+-- how many it won, each generation at most once, and how many it has taken: all but the one that it has
 pub record IsCounted (wins taken : ℕ) (caller : Caller) : Type 0 where
   pub wins_are : wins ≡ length caller.wins
   pub taken_are : taken ≡ length caller.taken
   pub few_wins : wins + unsettled caller.stage ≤ caller.generation
-  pub few_taken : taken + untaken caller.stage ≤ caller.generation
+  pub all_taken : taken + untaken caller.stage ≡ caller.generation
 
 -- its number, the generation of its operation, how many it won and took, and by gauge what it owes
 pub record IsOwner (number generation wins taken : ℕ) (owed : List ℕ) (seat : CallerView) : Type 0 where

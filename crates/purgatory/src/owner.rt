@@ -89,6 +89,13 @@ impl Owner {
         self.taken
     }
 
+    /// Whether it has no operation. It has taken the end of each that it has opened.
+    pub(crate) fn is_idle(&self) -> bool
+        ensures { IsTrue result ↔ ((caller_now self.now).stage ≡ Idle) }
+    {
+        self.taken == self.generation
+    }
+
     /// The pass's seat, for the close of the table.
     pub(crate) fn into_seat(self) -> CallerSeat
         ensures { result ≡ self }

@@ -23,9 +23,10 @@ impl Model for RoomPass {
 }
 
 impl RoomPass {
-    ghost use Rattle.std.specs.Prelude.{◌≡◌};
+    ghost use Rattle.std.specs.Prelude.{◌≡◌, ◌↔◌, IsTrue};
     ghost use Rattle.room_core.specs.Gauges.{IsPass};
     ghost use Rattle.room_table.specs.Seats.{caller_now};
+    ghost use Rattle.purgatory.specs.Ends.{IsWaiting};
     ghost use Rattle.purgatory.specs.Going.{IsAtRest};
 
     /// The pass's number, counted from 0.
@@ -35,5 +36,12 @@ impl RoomPass {
         ensures rests { IsAtRest (caller_now self.now.seat).stage }
     {
         self.owner.number()
+    }
+
+    /// Whether its operation waits. Else it has none.
+    pub fn waits(&self) -> bool
+        ensures { IsTrue result ↔ IsWaiting self.now }
+    {
+        !self.owner.is_idle()
     }
 }

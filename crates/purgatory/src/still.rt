@@ -1,8 +1,8 @@
 //! Whether everything that was won was taken. Then nobody can act on the room any more.
-ghost use Rattle.std.specs.Prelude.{◌≡◌, ◌-◌, ◌<◌, ◌≤◌, ◌^◌, All, length};
+ghost use Rattle.std.specs.Prelude.{◌≡◌, ◌-◌, ◌<◌, ◌≤◌, ◌^◌, ◌↔◌, All, Any, IsTrue, length};
 ghost use Rattle.room_core.specs.Numbers.{scanner_numbers};
 ghost use Rattle.purgatory.specs.Ended.{HasEnded};
-ghost use Rattle.purgatory.specs.Ends.{IsSettled, seats_of, taken_of, won_by_passes};
+ghost use Rattle.purgatory.specs.Ends.{IsSettled, IsWaiting, seats_of, taken_of, won_by_passes};
 ghost use Rattle.purgatory.specs.Holding.{IfUntaken, WereHeld};
 ghost use Rattle.purgatory.specs.Rooms.{IsRoom};
 
@@ -20,8 +20,8 @@ use std::sync::Wait;
 pub enum RoomEnd {
     /// Everything that was won was taken. Nobody can act on the room any more.
     Still(StillRoom),
-    /// More was won than the passes have taken: one that waits has yet to look at its operation, by `Room::poll`. The room and the passes
-    /// are handed back as they were.
+    /// More was won than the passes have taken, and one of them waits: it has yet to look at its operation, by `Room::poll`. The room and
+    /// the passes are handed back as they were.
     Untaken { room: Room, passes: List<RoomPass> },
 }
 
@@ -40,6 +40,26 @@ fn counted(passes: &[RoomPass]) -> Count
         taken += u64::from(pass.owner.taken());
     }
     Count { won, taken }
+}
+
+// Whether the operation of one of them waits.
+fn one_waits(passes: &[RoomPass]) -> bool
+    ensures { IsTrue result ↔ Any IsWaiting passes.now }
+{
+    passes.iter().any(|pass| pass.waits())
+}
+
+// Goes on where one of the passes waits, and else waits for ever. Where more was won than they have taken, the room's rule lets it never
+// come to be that none waits, but no clause of the table shows that.
+fn wait_till_one_waits(rt: &impl Wait, passes: &[RoomPass])
+    ensures { Any IsWaiting passes.now }
+{
+    for _ in rt.forever() {
+        if one_waits(passes) {
+            return;
+        }
+    }
+    unreachable!()
 }
 
 // All turns are held, by the first pass.
@@ -82,15 +102,18 @@ impl Room {
         } = self;
         let count = counted(passes.as_slice());
         match hold_all(rt, &locks, &mut passes, table, &mut wins, count) {
-            Held::Untaken(table) => RoomEnd::Untaken {
-                room: Room {
-                    table,
-                    locks,
-                    shape,
-                    wins,
-                },
-                passes,
-            },
+            Held::Untaken(table) => {
+                wait_till_one_waits(rt, passes.as_slice());
+                RoomEnd::Untaken {
+                    room: Room {
+                        table,
+                        locks,
+                        shape,
+                        wins,
+                    },
+                    passes,
+                }
+            }
             Held::Still(closing) => RoomEnd::Still(StillRoom::of(closing, passes, wins)),
         }
     }

@@ -1,9 +1,11 @@
 //! The room's calls on one thread, and what threads come to that share it.
 mod crew;
+mod ends;
 mod held;
 mod many;
 mod race;
 mod shards;
+mod whole;
 
 use super::*;
 use crew::{Crew, start};

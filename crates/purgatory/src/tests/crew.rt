@@ -2,6 +2,7 @@
 ghost use Rattle.std.specs.Prelude.{◌≡◌, ◌<◌, ◌≤◌, All, IfOk, IsTrue};
 ghost use Rattle.room_core.specs.Gauges.{clock_of};
 ghost use Rattle.room_table.specs.Seats.{caller_now};
+ghost use Rattle.purgatory.specs.Ends.{IsSettled};
 ghost use Rattle.purgatory.specs.Ready.{HasOnlyRead, IsCrewOf, IsReady, IsUnraised};
 ghost use Rattle.purgatory.specs.Rooms.{IsOfRoom, IsSourceOf};
 
@@ -164,7 +165,7 @@ pub(super) struct Counts {
     pub(super) wrong: u32,
 }
 
-pub(super) const NOTHING: Counts = Counts {
+const NOTHING: Counts = Counts {
     parked: 0,
     won: 0,
     ended: 0,
@@ -267,7 +268,89 @@ pub(super) fn halves(room: &Room, crew: Crew) -> Result<(Crew, Crew), NoMemory>
     ))
 }
 
+fn both(one: Counts, other: Counts) -> Counts {
+    Counts {
+        parked: one.parked.saturating_add(other.parked),
+        won: one.won.saturating_add(other.won),
+        ended: one.ended.saturating_add(other.ended),
+        wrong: one.wrong.saturating_add(other.wrong),
+    }
+}
+
+// One crew of two.
+pub(super) fn joined(room: &Room, one: Crew, other: Crew) -> Result<Crew, NoMemory>
+    requires { IsCrewOf room.now one × IsCrewOf room.now other }
+    ensures { IfOk result (λ crew. IsCrewOf room.now crew) }
+{
+    let Crew {
+        mut hands,
+        mut taps,
+        counts,
+    } = one;
+    let Crew {
+        hands: mut others,
+        taps: mut rest,
+        counts: more,
+    } = other;
+    hands.append(&mut others)?;
+    taps.append(&mut rest)?;
+    Ok(Crew {
+        hands,
+        taps,
+        counts: both(counts, more),
+    })
+}
+
+fn passes_of(alloc: Global, room: &Room, hands: Vec<Hand>) -> Result<List<RoomPass>, NoMemory>
+    requires { All (IsOfRoom room.now) hands.items }
+    ensures { IfOk result (λ passes. All (IsSettled room.now) passes) }
+{
+    let mut passes = List::new(alloc);
+    for hand in hands {
+        let Hand {
+            pass,
+            waits: _,
+            opened: _,
+            op: _,
+        } = hand;
+        passes.push(pass)?;
+    }
+    Ok(passes)
+}
+
+fn sources_of(alloc: Global, room: &Room, taps: Vec<Tap>) -> Result<List<Source>, NoMemory>
+    requires { All (IsSourceOf room.now) taps.items }
+    ensures { IfOk result (λ sources. All (IsSourceOf room.now) sources) }
+{
+    let mut sources = List::new(alloc);
+    for tap in taps {
+        let Tap { source, stored: _ } = tap;
+        sources.push(source)?;
+    }
+    Ok(sources)
+}
+
 impl Crew {
+    // Its passes and sources, out of hand.
+    pub(super) fn into_parts(
+        self,
+        alloc: Global,
+        room: &Room,
+    ) -> Result<(List<RoomPass>, List<Source>), NoMemory>
+        requires { IsCrewOf room.now self }
+        ensures passes { IfOk result (λ parts. All (IsSettled room.now) parts.0) }
+        ensures sources { IfOk result (λ parts. All (IsSourceOf room.now) parts.1) }
+    {
+        let Crew {
+            hands,
+            taps,
+            counts: _,
+        } = self;
+        let passes = passes_of(alloc, room, hands)?;
+        let sources = sources_of(alloc, room, taps)?;
+        Ok((passes, sources))
+    }
+
     // How many passes it has.
     pub(super) fn size(&self) -> usize {
         self.hands.len()
@@ -310,6 +393,16 @@ impl Crew {
         let tap = tap % self.taps.len();
         let value = self.taps[tap].stored.saturating_add(more);
         self.raise(rt, room, hand, tap, value);
+    }
+
+    // The first pass raises all gauges by so much.
+    pub(super) fn raise_all(&mut self, rt: &impl Wait, room: &Room, more: u64)
+        requires { IsCrewOf room.now self.old }
+        ensures { IsCrewOf room.now self.new }
+    {
+        for tap in 0..self.taps.len() {
+            self.raise_by(rt, room, 0, tap, more);
+        }
     }
 
     // A pass registers an operation. None where it has one that waits.

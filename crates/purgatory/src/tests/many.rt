@@ -1,10 +1,12 @@
 //! Eight threads with sixty passes on one room.
-ghost use Rattle.std.specs.Prelude.{◌≡◌, ◌<◌, All, IfOk};
+ghost use Rattle.std.specs.Prelude.{◌≡◌, ◌<◌, All, IfOk, IfSome};
 ghost use Rattle.std.specs.Thread.{IsSync};
 ghost use Rattle.purgatory.specs.Ready.{IsCrewOf};
 
 use super::add_need;
-use super::crew::{Counts, Crew, NOTHING, halves, start};
+use super::crew::{Counts, Crew, halves, joined, start};
+use super::ends::sum_of;
+use super::whole::Whole;
 use crate::room::Room;
 use kbytes::NoMemory;
 use opcond::Op;
@@ -144,26 +146,18 @@ fn ended(room: &Room, crew: &mut Crew) -> Option<(Counts, u32)>
     Some((crew.counts(), waiting))
 }
 
-fn both(one: Counts, other: Counts) -> Counts {
-    Counts {
-        parked: one.parked.saturating_add(other.parked),
-        won: one.won.saturating_add(other.won),
-        ended: one.ended.saturating_add(other.ended),
-        wrong: one.wrong.saturating_add(other.wrong),
-    }
-}
-
-fn all_ended(room: &Room, mut crews: Vec<Crew>) -> Option<(Counts, u32)>
+// One crew of all.
+fn gathered(room: &Room, mut crews: Vec<Crew>) -> Result<Option<Crew>, NoMemory>
     requires { All (IsCrewOf room.now) crews.items }
+    ensures { IfOk result (λ crew. IfSome crew (IsCrewOf room.now)) }
 {
-    let mut counts = NOTHING;
-    let mut waiting = 0u32;
-    while let Some(mut crew) = crews.pop() {
-        let (of_crew, still) = ended(room, &mut crew)?;
-        counts = both(counts, of_crew);
-        waiting = waiting.saturating_add(still);
+    let Some(mut all) = crews.pop() else {
+        return Ok(None);
+    };
+    while let Some(crew) = crews.pop() {
+        all = joined(room, all, crew)?;
     }
-    Some((counts, waiting))
+    Ok(Some(all))
 }
 
 // Eight crews.
@@ -178,13 +172,52 @@ fn dealt(alloc: Global, room: &Room, crew: Crew) -> Result<Vec<Crew>, NoMemory>
     halved(alloc, room, four)
 }
 
-// A thread for each, and then the end of each.
+// What is so of the room once all threads are joined.
+#[derive(Drop)]
+struct Outcome {
+    counts: Counts,
+    // how many operations still waited, none of which was answerable
+    waiting: u32,
+    // how many ends of operations were taken once the clock had come to every deadline
+    taken: u32,
+    // what all winners have won together
+    sum: u64,
+}
+
+// Nobody is forgotten. Then the clock comes to every deadline, and the room is closed.
+fn judged(
+    rt: &impl Wait,
+    alloc: Global,
+    room: Room,
+    mut crew: Crew,
+) -> Result<Option<Outcome>, NoMemory>
+    requires { IsCrewOf room crew }
+{
+    let Some((counts, waiting)) = ended(&room, &mut crew) else {
+        return Ok(None);
+    };
+    crew.raise_all(rt, &room, 1_000);
+    let Some(whole) = Whole::of(alloc, room, crew)? else {
+        return Ok(None);
+    };
+    let Some((numbers, taken)) = whole.close_in_time(rt) else {
+        return Ok(None);
+    };
+    Ok(Some(Outcome {
+        counts,
+        waiting,
+        taken,
+        sum: sum_of(&numbers),
+    }))
+}
+
+// A thread for each, and then the end of all.
 fn run_all<R: Threads + Wait + Clock + Sync>(
     rt: &R,
     alloc: Global,
     room: Room,
     crews: Vec<Crew>,
-) -> Result<Option<(Counts, u32)>, NoMemory>
+) -> Result<Option<Outcome>, NoMemory>
     requires { All (IsCrewOf room) crews.items }
 {
     let done = map_vec(
@@ -195,13 +228,16 @@ fn run_all<R: Threads + Wait + Clock + Sync>(
             ensures { IsCrewOf room result }
         { runs(rt, alloc, &room, crew) },
     )?;
-    Ok(all_ended(&room, done))
+    let Some(crew) = gathered(&room, done)? else {
+        return Ok(None);
+    };
+    judged(rt, alloc, room, crew)
 }
 
 fn run_in_threads<R: Threads + Wait + Clock + Sync>(
     rt: &R,
     alloc: Global,
-) -> Result<Option<(Counts, u32)>, NoMemory> {
+) -> Result<Option<Outcome>, NoMemory> {
     let (room, crew) = start(alloc, GAUGES, PASSES)?;
     let crews = dealt(alloc, &room, crew)?;
     run_all(rt, alloc, room, crews)
@@ -209,9 +245,12 @@ fn run_in_threads<R: Threads + Wait + Clock + Sync>(
 
 #[test]
 fn eight_threads_with_sixty_passes(rt: HostRuntime) -> Result<(), Fail> {
-    let (counts, waiting) = run_in_threads(&rt, rt.alloc())?.ok_or("nobody forgotten")?;
+    let run = run_in_threads(&rt, rt.alloc())?.ok_or("nobody forgotten, and a room that is still")?;
+    let counts = run.counts;
     assert!(rt; counts.parked > 0 && counts.won > 0);
-    assert_eq!(rt; counts.parked, counts.ended.saturating_add(waiting));
+    assert_eq!(rt; counts.parked, counts.ended.saturating_add(run.waiting));
     assert_eq!(rt; counts.wrong, 0);
+    assert_eq!(rt; run.taken, run.waiting);
+    assert_eq!(rt; run.sum, u64::from(counts.parked) + u64::from(counts.won));
     Ok(())
 }
