@@ -1,12 +1,11 @@
 -- The closed logs go on from what each pass saw, and it left nothing behind that.
-use Rattle.std.proofs.Common.{◌≡◌, ◌≢◌, ◌∙◌, ℕ, zero, suc, ◌+◌, List, [], ◌∷◌, ◌++◌, Option, Some, None, drop, length, map, ap, refl, subst, sym, arith, append-nil}
+use Rattle.std.proofs.Common.{◌≡◌, ◌≢◌, ◌∙◌, ℕ, zero, suc, List, [], ◌∷◌, Some, length, map, ap, refl, subst, sym}
 use Rattle.std.specs.Prelude.{All, slice_get, slice_index, unwrap_or}
 use Rattle.std.specs.List.{AllByRecursion, flat_map}
 use Rattle.std.proofs.lemmas.Grind.{flat_map-append}
 use Rattle.std.proofs.lemmas.List.{length-map, map-append}
 use Rattle.std.proofs.lemmas.List.Elements.{All-head, All-tail}
 use Rattle.partlog.specs.declared.clock_event.ClockEvent.{ClockEvent}
-use Rattle.partlog.specs.declared.event.PartEvent.{PartEvent}
 use Rattle.partlog.specs.History.{History}
 use Rattle.partlog.specs.Kept.{IsKept}
 use Rattle.audit.specs.Histories.{clock_owner_of, owner_of}
@@ -20,7 +19,7 @@ use Rattle.log_desks.specs.declared.entries.ClockEntry.{ClockEntry}
 use Rattle.log_desks.specs.declared.entries.LogEntry.{LogEntry}
 use Rattle.log_desks.specs.Desks.{MomentView, PartView}
 use Rattle.log_desks.specs.Entries.{clock_by, clock_entries, entry_by, log_entries}
-use Rattle.log_desks.specs.Histories.{events_of, history_of}
+use Rattle.log_desks.specs.Histories.{events_of}
 use Rattle.log_desks.proofs.Beside.{bytes_in, entries_bytes, entries_events, event_in}
 use Rattle.room_table.specs.Seats.{SourceView}
 use Rattle.shared_logs.specs.Coming.{OthersCame}

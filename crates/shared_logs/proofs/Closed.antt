@@ -1,6 +1,7 @@
 -- Logs that were closed.
-use Rattle.std.proofs.Common.{◌≡◌, ◌∙◌, ℕ, suc, ◌+◌, ◌*◌, ◌<◌, ◌≤◌, Bool, true, false, cond, eqb, List, [], ◌∷◌, ◌++◌, Option, Some, None, append-nil, get_or, length, length-append, map, max, fold, ap, refl, subst, sym, arith}
-use Rattle.std.specs.Prelude.{All, count_by, slice_get, slice_index, sum_by, unwrap_or, ◌==◌, ⊤}
+use Rattle.std.proofs.Common.{◌≡◌, ◌∙◌, ℕ, ◌+◌, ◌*◌, ◌<◌, ◌≤◌, Bool, true, false, cond, eqb, List, [], ◌∷◌, ◌++◌, Option, Some, None, append-nil, length, length-append, map, ap, refl, subst, sym, arith}
+use Rattle.std.specs.Prelude.{◌↔◌, All, Any, Contains, count_by, slice_get, slice_index, sum_by, ◌==◌}
+use Rattle.std.specs.List.Sorted.{IsStrictlyIncreasing}
 use Rattle.std.proofs.lemmas.List.{length-map}
 use Rattle.std.proofs.lemmas.List.Elements.{All-get_or, All-head, All-nil, All-push, All-tail}
 use Rattle.std.proofs.lemmas.List.Sums.{sum_by-cons}
@@ -9,16 +10,16 @@ use Rattle.partlog.specs.declared.clock_event.ClockEvent.{ClockEvent}
 use Rattle.partlog.specs.History.{History}
 use Rattle.partlog.specs.Kept.{IsKept}
 use Rattle.partlog.specs.Moment.{moment_of}
-use Rattle.audit.specs.Histories.{clock_owner_of, owner_of}
+use Rattle.audit.specs.Histories.{clock_owner_of, ticks_of}
 use Rattle.plain_broker.specs.GoesOn.{AllWhole, the_owner}
-use Rattle.plain_broker.specs.Kept.{owners_at, owners_here}
+use Rattle.plain_broker.specs.Kept.{owners_here}
 use Rattle.turn_lock.specs.declared.lock.TurnLock.{TurnLock}
 use Rattle.turn_lock.specs.declared.pass.TurnPass.{TurnPass}
-use Rattle.turn_lock.specs.Locks.{known, lock_name}
+use Rattle.turn_lock.specs.Locks.{known}
 use Rattle.turn_lock.specs.OfPass.{of_pass}
 use Rattle.log_desks.specs.declared.entries.ClockEntry.{ClockEntry}
 use Rattle.log_desks.specs.declared.entries.LogEntry.{LogEntry}
-use Rattle.log_desks.specs.Desks.{MomentView, PartView, part_name}
+use Rattle.log_desks.specs.Desks.{MomentView, PartView}
 use Rattle.log_desks.specs.Entries.{clock_by, clock_entries, entry_by, log_entries}
 use Rattle.log_desks.specs.Histories.{events_of}
 use Rattle.log_desks.proofs.Beside.{clock_events}
@@ -32,16 +33,15 @@ use Rattle.shared_logs.specs.declared.hands.Hand.{Hand}
 use Rattle.shared_logs.specs.Apart.{AreJoined, IsJoined, gathered, joined}
 use Rattle.shared_logs.specs.Closing.{AreClosed, IsUnanswerable, taken_from}
 use Rattle.shared_logs.specs.Coming.{OthersCame}
-use Rattle.shared_logs.specs.Gone.{AreAllOut, AreTold, HasGone, HaveGone, IsTold, followers_named}
+use Rattle.shared_logs.specs.Gone.{AreAllOut, AreTold, HasGone, HaveGone, IsTold}
 use Rattle.shared_logs.specs.Locked.{lock_of, part_lock, seen_part, shared_view}
-use Rattle.shared_logs.specs.Shared.{AreShared, LogPassView, SharedView, followers_in}
+use Rattle.shared_logs.specs.Shared.{LogPassView, SharedView}
 use Rattle.shared_logs.proofs.Came.{others_told, told_count}
 use Rattle.shared_logs.proofs.Gathered.{ByPairs, gathered_count, hand_sum, of_pairs, pairs_of, seat_sum}
 use Rattle.shared_logs.proofs.Gone.{logs_count}
-use Rattle.shared_logs.proofs.Latest.{latest}
-use Rattle.shared_logs.proofs.Moments.{own_moment}
+use Rattle.shared_logs.proofs.Added.{added, latest}
 use Rattle.shared_logs.proofs.Unmet.{unmet}
-use Rattle.shared_logs.proofs.Wins.{wins_taken}
+use Rattle.shared_logs.proofs.Wins.{none_taken, wins_taken}
 
 none_left : {A : Type 0} (xs ys zs : List A) → xs ≡ ys ++ zs → length xs ≡ length ys → xs ≡ ys
 none_left xs ys [] e size = e ∙ append-nil ys
@@ -148,8 +148,15 @@ module _ (room : RoomView) (parts : List (TurnLock PartView LogEntry)) (clock : 
       let counts = gathered_count seats hands all in
       let ticked = ticked_pairs seats hands pairs out.clock.told in
       let table = is_still.table in
-      let M : List ClockEntry → ℕ = λ es. moment_of (events_of es) in
-      let moments : M entries ≡ moment_of events = ap moment_of (clock_events events out.clock.tickers) in
+      let happened = clock_events events out.clock.tickers in
+      let own =
+      of_pairs (λ (pass : LogPassView). pass.ticked ≡ ticks_of (events_of (of_pass clock_by pass.number entries))) (λ seat hand. (of_pass clock_by hand.number entries ≡ (known hand.clock).mine) × IsJoined seat hand) seats hands ticked
+      (λ seat hand is. ap (λ (es : List ClockEntry). ticks_of (events_of es)) (sym is.0)) in
+      let whose : (i : ℕ) (entry : ClockEntry) → slice_get entries i ≡ Some entry → clock_by entry < length hands = λ i entry at. entry_below clock_by (length hands) entries out.clock.whose i entry at in
+      let one : (number : ℕ) → number < length hands → count_by (λ (pass : LogPassView). pass.number == number) (gathered seats hands) ≡ 1 =
+      λ number less.
+      hand_sum (λ (pass : LogPassView). cond (pass.number == number) 1 0) (λ (hand : Hand). cond (hand.number == number) 1 0) seats hands all (λ seat hand. refl)
+      ∙ out.clock.one number less in
       record {
         logs = record {
           whole = whole;
@@ -160,9 +167,7 @@ module _ (room : RoomView) (parts : List (TurnLock PartView LogEntry)) (clock : 
             (λ seat hand. OthersCame hand.number (map seen_part hand.parts.items) (events_of (known hand.clock).seen) logs events) seats hands
             (came_pairs seats hands out.rests pairs out.gone out.clock.told) (λ seat hand is. is);
         known = λ part place by seq at. subst (λ n. by < n) (sym counts.1) (owner_known (eqb part 64) part place by seq at);
-        one = λ number less.
-            hand_sum (λ (pass : LogPassView). cond (pass.number == number) 1 0) (λ (hand : Hand). cond (hand.number == number) 1 0) seats hands all (λ seat hand. refl)
-            ∙ out.clock.one number (subst (λ n. number < n) counts.1 less);
+        one = λ number less. one number (subst (λ n. number < n) counts.1 less);
         still = seats_unmet;
         size = out.closed.size ∙ ap winners table;
         wins = λ by less.
@@ -170,14 +175,12 @@ module _ (room : RoomView) (parts : List (TurnLock PartView LogEntry)) (clock : 
             ∙ ap (sum_by (taken_from by)) is_still.callers
             ∙ sum_of_map (λ (seat : PassView). seat.seat) (taken_from by) seats
             ∙ sym (seat_sum (λ (pass : LogPassView). taken_from by pass.seat) (λ (seat : PassView). taken_from by seat.seat) seats hands all (λ seat hand. refl));
-        moment = sym moments
-            ∙ latest entries (gathered seats hands) (length hands)
-            (of_pairs (λ (pass : LogPassView). pass.ticked ≡ M (of_pass clock_by pass.number entries)) (λ seat hand. (of_pass clock_by hand.number entries ≡ (known hand.clock).mine) × IsJoined seat hand) seats hands ticked
-            (λ seat hand is. is.1.ticked_is ∙ ap M (sym is.0)))
-            (of_pairs (λ (pass : LogPassView). pass.ticked ≤ M entries) (λ seat hand. (of_pass clock_by hand.number entries ≡ (known hand.clock).mine) × IsJoined seat hand) seats hands ticked
-            (λ seat hand is. subst (λ t. t ≤ M entries) (sym is.1.ticked_is) (own_moment hand.number entries (known hand.clock).mine is.0)))
-            (λ i entry at. entry_below clock_by (length hands) entries out.clock.whose i entry at)
-            (λ number less.
-            hand_sum (λ (pass : LogPassView). cond (pass.number == number) 1 0) (λ (hand : Hand). cond (hand.number == number) 1 0) seats hands all (λ seat hand. refl)
-            ∙ out.clock.one number less);
+        others = λ by more.
+            seat_sum (λ (pass : LogPassView). taken_from by pass.seat) (λ (seat : PassView). taken_from by seat.seat) seats hands all (λ seat hand. refl)
+            ∙ sym (sum_of_map (λ (seat : PassView). seat.seat) (taken_from by) seats)
+            ∙ sym (ap (sum_by (taken_from by)) is_still.callers)
+            ∙ none_taken still (out.sources ++ out.source ∷ []) numbers out.closed by (subst (λ (t : TableView). winners t ≤ by) (sym table) more);
+        ticks = λ t. subst (λ (es : List ClockEvent). Contains (ticks_of es) t ↔ Any (λ (pass : LogPassView). Contains pass.ticked t) (gathered seats hands)) happened (added entries (gathered seats hands) (length hands) own whose one t);
+        rising = of_pairs (λ (pass : LogPassView). IsStrictlyIncreasing (0 ∷ pass.ticked)) (λ seat hand. (of_pass clock_by hand.number entries ≡ (known hand.clock).mine) × IsJoined seat hand) seats hands ticked (λ seat hand is. is.1.seen.rising);
+        moment = ap moment_of (sym happened) ∙ latest entries (gathered seats hands) (length hands) own whose one;
       }

@@ -1,8 +1,9 @@
 -- How shared logs end.
 use Rattle.std.proofs.Common.{◌≡◌, ◌∙◌, ℕ, zero, suc, ◌+◌, ◌*◌, ◌<◌, List, [], ◌∷◌, ◌++◌, get_or, length, map, ap, refl, subst, sym, arith}
-use Rattle.std.specs.Prelude.{All, slice_index, sum_by}
-use Rattle.std.proofs.lemmas.List.{get_or-map, length-map}
+use Rattle.std.specs.Prelude.{All, Any, slice_index, sum_by}
+use Rattle.std.proofs.lemmas.List.{get_or_append_left, get_or-map, length-map, length_push, map-append}
 use Rattle.std.proofs.lemmas.List.Elements.{All-weaker}
+use Rattle.std.proofs.lemmas.List.Quantifiers.{Any-push}
 use Rattle.turn_lock.specs.declared.lock.TurnLock.{TurnLock}
 use Rattle.turn_lock.specs.Locks.{lock_name, lock_passes}
 use Rattle.log_desks.specs.declared.entries.ClockEntry.{ClockEntry}
@@ -10,11 +11,11 @@ use Rattle.log_desks.specs.declared.entries.LogEntry.{LogEntry}
 use Rattle.log_desks.specs.Desks.{MomentView, PartView, part_name}
 use Rattle.room_scans.specs.Desks.{desk_name}
 use Rattle.room_table.specs.Seats.{CallerView, caller_now}
-use Rattle.purgatory.specs.Ends.{IsUntaken, exchanges_of, seats_of, taken_of, won_by_passes}
+use Rattle.purgatory.specs.Ends.{IsUntaken, IsWaiting, seats_of}
 use Rattle.purgatory.specs.Making.{AreFrom}
 use Rattle.purgatory.specs.Rooms.{LockView, PassView, RoomView}
 use Rattle.shared_logs.specs.declared.hands.Hand.{Hand}
-use Rattle.shared_logs.specs.Apart.{AreJoined, gathered}
+use Rattle.shared_logs.specs.Apart.{AreJoined, gathered, joined}
 use Rattle.shared_logs.specs.Closing.{in_room}
 use Rattle.shared_logs.specs.Gone.{AreOfRoom, IsNamed}
 use Rattle.shared_logs.specs.Locked.{part_lock, shared_view}
@@ -48,6 +49,22 @@ of_shared room parts clock is =
       clock_named = is.clock ∙ ap (λ n. desk_name room.table (3 * n)) size;
     }
 
+-- who waits still does
+any_before : {A : Type 0} (P : A → Type 0) (xs : List A) (y : A) → Any P xs → Any P (xs ++ y ∷ [])
+any_before P xs y a =
+    let less = a.2 in
+    (a.0, a.1, omega (arith, less, length_push xs y), get_or_append_left xs (y ∷ []) a.1 a.0 less ∙ a.3, a.4)
+
+waiting_at : (seats : List PassView) (hands : List Hand) → AreJoined seats hands → (k : ℕ) (seat : PassView) → k < length seats → get_or seats k seat ≡ seat → IsWaiting seat → Any IsWaiting (map in_room (gathered seats hands))
+waiting_at [] hands all k seat less at waits = absurd (omega (arith, less))
+waiting_at (s ∷ seats) [] all k seat less at waits = absurd all
+waiting_at (s ∷ seats) (hand ∷ hands) all zero seat less at waits =
+    subst (Any IsWaiting) (sym (map-append in_room (gathered seats hands) (joined s hand ∷ [])))
+    (Any-push IsWaiting (map in_room (gathered seats hands)) (in_room (joined s hand)) (subst IsWaiting (sym at) waits))
+waiting_at (s ∷ seats) (hand ∷ hands) all (suc k) seat less at waits =
+    subst (Any IsWaiting) (sym (map-append in_room (gathered seats hands) (joined s hand ∷ [])))
+    (any_before IsWaiting (map in_room (gathered seats hands)) (in_room (joined s hand)) (waiting_at seats hands all.1 k seat (omega (arith, less)) at waits))
+
 module _ (seats : List PassView) (hands : List Hand) (all : AreJoined seats hands) where
   sums : (g : CallerView → ℕ) → sum_by g (seats_of (map in_room (gathered seats hands))) ≡ sum_by g (seats_of seats)
   sums g =
@@ -56,12 +73,15 @@ module _ (seats : List PassView) (hands : List Hand) (all : AreJoined seats hand
       ∙ seat_sum (λ (pass : LogPassView). g pass.seat) (λ (seat : PassView). g seat.seat) seats hands all (λ seat hand. refl)
       ∙ sym (sum_of_map (λ (pass : PassView). pass.seat) g seats)
 
+  waiting : Any IsWaiting seats → Any IsWaiting (map in_room (gathered seats hands))
+  waiting w = waiting_at seats hands all w.0 w.1 w.2 w.3 w.4
+
   pub untaken : (room : RoomView) → IsUntaken room seats → IsUntaken room (map in_room (gathered seats hands))
   untaken room was =
       let taken = sums (λ (seat : CallerView). length (caller_now seat).taken) in
       let won = sums (λ (seat : CallerView). length (caller_now seat).wins) in
       let more = was.more in
-      record { seats = was.seats; scanners = was.scanners; more = omega (arith, taken, won, more) }
+      record { seats = was.seats; scanners = was.scanners; more = omega (arith, taken, won, more); waits = waiting was.waits }
 
 pub passes_so : (room : RoomView) (parts : List (TurnLock PartView LogEntry)) (n : ℕ) → n ≡ room.table.shape.passes → All (λ (lock : TurnLock PartView LogEntry). lock_passes lock ≡ room.table.shape.passes) parts
     → All (λ (lock : TurnLock PartView LogEntry). lock_passes lock ≡ n) parts

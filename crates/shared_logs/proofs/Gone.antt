@@ -1,5 +1,5 @@
 -- Locks that are closed with all their passes.
-use Rattle.std.proofs.Common.{append-nil, cond, ◌≡◌, ◌∙◌, ℕ, zero, suc, ◌+◌, ◌*◌, ◌<◌, ◌≤◌, List, [], ◌∷◌, ◌++◌, Option, Some, length, map, ap, refl, subst, sym, arith, append_assoc}
+use Rattle.std.proofs.Common.{append-nil, cond, ◌≡◌, ◌∙◌, ℕ, zero, suc, ◌<◌, List, [], ◌∷◌, ◌++◌, Some, length, map, ap, refl, subst, sym, arith, append_assoc}
 use Rattle.std.specs.Prelude.{All, count_by, slice_get, slice_index, unwrap_or, ◌==◌}
 use Rattle.std.proofs.lemmas.List.{length-map, length_push, map_push}
 use Rattle.std.proofs.lemmas.List.Elements.{All-cons, All-head, All-map, All-nil, All-pop, All-push, All-tail, All-weaker}
@@ -11,7 +11,7 @@ use Rattle.partlog.specs.Kept.{IsKept}
 use Rattle.partlog.specs.State.{state_of}
 use Rattle.turn_lock.specs.declared.lock.TurnLock.{TurnLock}
 use Rattle.turn_lock.specs.declared.pass.TurnPass.{TurnPass}
-use Rattle.turn_lock.specs.Locks.{IsPassOf, IsReady, known, lock_id, lock_name, lock_passes}
+use Rattle.turn_lock.specs.Locks.{IsPassOf, IsReady, known, lock_name, lock_passes}
 use Rattle.turn_lock.specs.OfPass.{of_pass}
 use Rattle.turn_lock.specs.StartsWith.{StartsWith}
 use Rattle.log_desks.specs.declared.entries.ClockEntry.{ClockEntry}

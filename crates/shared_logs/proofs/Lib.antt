@@ -4,6 +4,10 @@ pub mod Telling
 pub mod Keys
 -- a pass after a turn of a lock
 pub mod Passes
+-- numbers that rise
+pub mod Rising
+-- the ticks of a history, and those that one pass added
+pub mod Ticks
 -- a pass after a turn of the clock's lock
 pub mod Moments
 -- a pass whose seat in the room went on
@@ -26,9 +30,11 @@ pub mod Gathered
 pub mod Came
 -- what waits, by the closed logs
 pub mod Unmet
--- the greatest moment that a pass ticked
-pub mod Latest
+-- which pass added a tick
+pub mod Added
 -- logs that were closed
 pub mod Closed
 -- how shared logs end
 pub mod Ending
+-- what the crates above may cite
+pub mod Laws

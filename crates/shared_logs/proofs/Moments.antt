@@ -1,5 +1,5 @@
 -- A pass after a turn of the clock's lock.
-use Rattle.std.proofs.Common.{◌≡◌, ℕ, ◌≤◌, ◌<◌, Bool, true, false, cond, eqb, inl, inr, List, [], ◌∷◌, ◌++◌, drop, filter, length, map, max, refl, sym, ap, subst, ◌∙◌, arith, append-nil}
+use Rattle.std.proofs.Common.{◌≡◌, ℕ, ◌≤◌, ◌<◌, Bool, true, false, cond, inl, inr, List, [], ◌∷◌, ◌++◌, drop, length, map, max, refl, sym, ap, subst, ◌∙◌, arith, append-nil}
 use Rattle.std.proofs.Math.Seq.{drop-append_seam}
 use Rattle.std.proofs.lemmas.Bool.{cases_lt, le-ltb}
 use Rattle.std.proofs.lemmas.List.{drop-map, map-append}
@@ -17,14 +17,12 @@ use Rattle.audit.specs.Histories.{clock_owner_of, ticks_of}
 use Rattle.room_core.specs.Gauges.{IsPass}
 use Rattle.room_table.specs.Seats.{TableView, caller_now}
 use Rattle.plain_broker.specs.GoesOn.{Longer}
-use Rattle.plain_broker.proofs.Laws.{looked_moment}
 use Rattle.pass_books.specs.Owned.{NotOf, OthersAlone}
 use Rattle.pass_books.proofs.Laws.{clock_came}
 use Rattle.turn_lock.specs.declared.known.Known.{Known}
 use Rattle.turn_lock.specs.declared.pass.TurnPass.{TurnPass}
 use Rattle.turn_lock.specs.declared.lock.TurnLock.{TurnLock}
 use Rattle.turn_lock.specs.Locks.{IsPassOf, IsReady, known}
-use Rattle.turn_lock.specs.OfPass.{of_pass}
 use Rattle.purgatory.specs.Going.{GoesOn, IsAtRest, KeepsOperation}
 use Rattle.purgatory.specs.Rooms.{IsOfRoom, PassView, RoomView}
 use Rattle.purgatory.proofs.Goes.{kept_same, stays}
@@ -38,51 +36,15 @@ use Rattle.log_desks.proofs.Ticking.{ticked_above}
 use Rattle.shared_logs.specs.Asked.{HasLookedAtClock, HasTicked}
 use Rattle.shared_logs.specs.Coming.{HasCaughtUp, IsSamePass, OthersCame}
 use Rattle.shared_logs.specs.Locked.{IsHand, IsLogPass, lock_of, pass_view, seen_part, shared_view}
-use Rattle.shared_logs.specs.Seen.{HasSeen}
 use Rattle.shared_logs.specs.Shared.{AreShared, LogPassView, followers_in}
 use Rattle.shared_logs.specs.Turned.{HasLeft, LookedAtClock, SawClock, ToldClock, WasClockTurn, moment_entries}
 use Rattle.shared_logs.proofs.Passes.{came_of, hand_after, of_room, opens_clock, own_of, same_lock}
 use Rattle.shared_logs.proofs.Telling.{clock_found, clock_left_seen, clock_more, clock_others}
+use Rattle.shared_logs.proofs.Ticks.{own_moment, own_rising, own_ticks, ticks_append}
 
 -- ---- moments
 
--- the moment with one event more
-abbrev pub later : ℕ → ClockEvent → ℕ
-later n (Tick t) = max n t
-later n (Look by seq) = n
-
-abbrev pub most : ℕ → List ClockEvent → ℕ
-most n events = fold max n (filter_map tick_of events)
-
-pub most_later : (n : ℕ) (event : ClockEvent) (events : List ClockEvent) → most n (event ∷ events) ≡ most (later n event) events
-most_later n (Tick t) events = refl
-most_later n (Look by seq) events = refl
-
-pub later_least : (n m : ℕ) (event : ClockEvent) → n ≤ m → n ≤ later m event
-later_least n m (Tick t) le = omega (arith, le)
-later_least n m (Look by seq) le = le
-
-later_both : (n m : ℕ) (event : ClockEvent) → n ≤ m → later n event ≤ later m event
-later_both n m (Tick t) le = omega (arith, le)
-later_both n m (Look by seq) le = le
-
--- some of the entries have no later moment
-some_test : (p : ClockEntry → Bool) (n m : ℕ) (e : ClockEntry) (es : List ClockEntry) (b : Bool) → n ≤ m → ((i j : ℕ) → i ≤ j → most i (events_of (filter p es)) ≤ most j (events_of es))
-    → most n (events_of (cond b (e ∷ filter p es) (filter p es))) ≤ most m (e.event ∷ events_of es)
-some_test p n m e es true le on =
-    rw (most_later n e.event (events_of (filter p es)), most_later m e.event (events_of es)) (on (later n e.event) (later m e.event) (later_both n m e.event le))
-some_test p n m e es false le on = rw (most_later m e.event (events_of es)) (on n (later m e.event) (later_least n m e.event le))
-
-some_most : (p : ClockEntry → Bool) (n m : ℕ) (es : List ClockEntry) → n ≤ m → most n (events_of (filter p es)) ≤ most m (events_of es)
-some_most p n m [] le = le
-some_most p n m (e ∷ es) le = some_test p n m e es (p e) le (λ i j less. some_most p i j es less)
-
--- a pass's own ticks are no later than the clock
-pub own_moment : (number : ℕ) (seen mine : List ClockEntry) → of_pass clock_by number seen ≡ mine → moment_of (events_of mine) ≤ moment_of (events_of seen)
-own_moment number seen mine own =
-    subst (λ (es : List ClockEntry). moment_of (events_of es) ≤ moment_of (events_of seen)) own (some_most (λ (e : ClockEntry). eqb (clock_by e) number) 0 0 seen (omega arith))
-
-pub tick_moment : (events : List ClockEvent) (t : ℕ) → moment_of (events ++ Tick t ∷ []) ≡ max (moment_of events) t
+tick_moment : (events : List ClockEvent) (t : ℕ) → moment_of (events ++ Tick t ∷ []) ≡ max (moment_of events) t
 tick_moment events t = ap (fold max 0) (filter_map-append tick_of events (Tick t ∷ [])) ∙ fold_push max 0 (filter_map tick_of events) t
 
 was_false : (b : Bool) → (IsTrue b → ⊥) → b ≡ false
@@ -90,7 +52,10 @@ was_false true never = absurd (never refl)
 was_false false never = refl
 
 -- later events lower no moment
-pub most_least : (n : ℕ) (events : List ClockEvent) → n ≤ most n events
+abbrev most : ℕ → List ClockEvent → ℕ
+most n events = fold max n (filter_map tick_of events)
+
+most_least : (n : ℕ) (events : List ClockEvent) → n ≤ most n events
 most_least n [] = omega arith
 most_least n (Tick t ∷ events) = omega (arith, most_least (max n t) events)
 most_least n (Look by seq ∷ events) = most_least n events
@@ -147,12 +112,12 @@ pub record IsClockStep (number : ℕ) (room after : PassView) (parts : List (Tur
 
 module _ (number : ℕ) (room after : PassView) (parts : List (TurnPass PartView LogEntry)) (old new : TurnPass MomentView ClockEntry) (moment ticked : ℕ)
     (step : IsClockStep number room after parts old new moment ticked) (found left : MomentView) (turn : WasClockTurn (known old) (known new) found left) (moment_after ticked_after : ℕ)
-    (moment_is : moment_after ≡ moment_of (events_of (known new).seen)) (ticked_is : ticked_after ≡ moment_of (events_of (known new).mine)) where
+    (moment_is : moment_after ≡ moment_of (events_of (known new).seen)) (ticked_is : ticked_after ≡ fold max 0 (ticks_of (events_of (known new).mine))) where
   abbrev before_view : LogPassView
-  before_view = pass_view number room parts old ticked
+  before_view = pass_view number room parts old
 
   abbrev after_view : LogPassView
-  after_view = pass_view number after parts new ticked_after
+  after_view = pass_view number after parts new
 
   hand : IsHand clock_by number new
   hand = hand_after moment_entries clock_by number old new found left turn.turn step.is.clock_is step.ready
@@ -182,6 +147,7 @@ module _ (number : ℕ) (room after : PassView) (parts : List (TurnPass PartView
   pub clock_pass : IsLogPass number after parts new moment_after ticked_after
   clock_pass =
       let s = step.is.seen in
+      let rising : IsStrictlyIncreasing (0 ∷ ticks_of after_view.clock) = subst (λ (es : List ClockEvent). IsStrictlyIncreasing (0 ∷ ticks_of es)) (sym clock_after) turn.keeps_left.ticks in
       record {
         seen = record {
           shared = subst AreShared (sym made) s.shared;
@@ -192,8 +158,9 @@ module _ (number : ℕ) (room after : PassView) (parts : List (TurnPass PartView
           whole = s.whole;
           kept = s.kept;
           followers = s.followers ∙ ap followers_in (sym made);
-          ticks = subst (λ (es : List ClockEvent). IsStrictlyIncreasing (0 ∷ ticks_of es)) (sym clock_after) turn.keeps_left.ticks;
-          ticked = subst (λ (n : ℕ). n ≤ moment_of after_view.clock) (sym ticked_is) (own_moment number (known new).seen (known new).mine hand.own);
+          ticks = rising;
+          rising = own_rising number (known new).seen (known new).mine hand.own rising;
+          ticked = own_ticks number (known new).seen (known new).mine hand.own;
         };
         parts_are = step.is.parts_are;
         clock_is = hand;
@@ -201,51 +168,66 @@ module _ (number : ℕ) (room after : PassView) (parts : List (TurnPass PartView
         ticked_is = ticked_is;
       }
 
--- where the pass added no tick
-pub ticked_still : (number : ℕ) (room after : PassView) (parts : List (TurnPass PartView LogEntry)) (old new : TurnPass MomentView ClockEntry) (moment ticked : ℕ) (found left : MomentView) (more : List ClockEvent)
-    → IsClockStep number room after parts old new moment ticked → WasClockTurn (known old) (known new) found left → left.events ≡ found.events ++ more
-    → ((events : List ClockEvent) → moment_of (events ++ more) ≡ moment_of events) → ticked ≡ moment_of (events_of (known new).mine)
-ticked_still number room after parts old new moment ticked found left more step turn is still =
-    step.is.ticked_is ∙ sym (ap moment_of (mine_events (known old) (known new) found left more turn.turn is) ∙ still (events_of (known old).mine))
+-- the ticks that the pass added, with those of this turn
+own_more : (number : ℕ) (room after : PassView) (parts : List (TurnPass PartView LogEntry)) (old new : TurnPass MomentView ClockEntry) (found left : MomentView) (more : List ClockEvent)
+    → WasClockTurn (known old) (known new) found left → left.events ≡ found.events ++ more → (pass_view number after parts new).ticked ≡ (pass_view number room parts old).ticked ++ ticks_of more
+own_more number room after parts old new found left more turn is = ap ticks_of (mine_events (known old) (known new) found left more turn.turn is) ∙ ticks_append (events_of (known old).mine) more
 
-still_nil : (events : List ClockEvent) → moment_of (events ++ []) ≡ moment_of events
-still_nil events = ap moment_of (append-nil events)
+own_still : (number : ℕ) (room after : PassView) (parts : List (TurnPass PartView LogEntry)) (old new : TurnPass MomentView ClockEntry) (found left : MomentView) (more : List ClockEvent)
+    → WasClockTurn (known old) (known new) found left → left.events ≡ found.events ++ more → ticks_of more ≡ [] → (pass_view number after parts new).ticked ≡ (pass_view number room parts old).ticked
+own_still number room after parts old new found left more turn is none =
+    let was = (pass_view number room parts old).ticked in
+    own_more number room after parts old new found left more turn is ∙ ap (λ (ts : List ℕ). was ++ ts) none ∙ append-nil was
 
 module _ (number : ℕ) (room after : PassView) (parts : List (TurnPass PartView LogEntry)) (old new : TurnPass MomentView ClockEntry) (moment ticked moment_after : ℕ)
     (step : IsClockStep number room after parts old new moment ticked) (moment_is : moment_after ≡ moment_of (events_of (known new).seen)) where
-  saw_ticked : SawClock (known old) (known new) → ticked ≡ moment_of (events_of (known new).mine)
-  saw_ticked saw = ticked_still number room after parts old new moment ticked saw.0 saw.0 [] step saw.1 (sym (append-nil saw.0.events)) still_nil
+  abbrev was : LogPassView
+  was = pass_view number room parts old
+
+  abbrev now : LogPassView
+  now = pass_view number after parts new
+
+  -- where it added none, the greatest is the same
+  still_last : now.ticked ≡ was.ticked → ticked ≡ fold max 0 now.ticked
+  still_last same = step.is.ticked_is ∙ ap (fold max 0) (sym same)
+
+  saw_ticked : SawClock (known old) (known new) → now.ticked ≡ was.ticked
+  saw_ticked saw = own_still number room after parts old new saw.0 saw.0 [] saw.1 (sym (append-nil saw.0.events)) refl
 
   pub saw_pass : SawClock (known old) (known new) → IsLogPass number after parts new moment_after ticked
-  saw_pass saw = clock_pass number room after parts old new moment ticked step saw.0 saw.0 saw.1 moment_after ticked moment_is (saw_ticked saw)
+  saw_pass saw = clock_pass number room after parts old new moment ticked step saw.0 saw.0 saw.1 moment_after ticked moment_is (still_last (saw_ticked saw))
 
-  pub clock_caught_up : SawClock (known old) (known new) → HasCaughtUp (pass_view number room parts old ticked) (pass_view number after parts new ticked)
+  pub clock_caught_up : SawClock (known old) (known new) → HasCaughtUp was now
   clock_caught_up saw =
-      let now = saw_ticked saw in
+      let same = saw_ticked saw in
+      let last = still_last same in
       record {
-        same = clock_same number room after parts old new moment ticked step saw.0 saw.0 saw.1 moment_after ticked moment_is now;
+        same = clock_same number room after parts old new moment ticked step saw.0 saw.0 saw.1 moment_after ticked moment_is last;
         others = subst (OthersCame number (map seen_part parts) (events_of (known old).seen) (map seen_part parts))
-            (sym (clock_after number room after parts old new moment ticked step saw.0 saw.0 saw.1 moment_after ticked moment_is now))
-            (clock_came_to number room after parts old new moment ticked step saw.0 saw.0 saw.1 moment_after ticked moment_is now);
-        ticked = refl;
+            (sym (clock_after number room after parts old new moment ticked step saw.0 saw.0 saw.1 moment_after ticked moment_is last))
+            (clock_came_to number room after parts old new moment ticked step saw.0 saw.0 saw.1 moment_after ticked moment_is last);
+        ticked = same;
       }
 
   module _ (seq least place told : ℕ) (l : LookedAtClock seq least (known old) (known new) place told) where
-    looked_ticked : ticked ≡ moment_of (events_of (known new).mine)
-    looked_ticked = ticked_still number room after parts old new moment ticked l.found l.left (Look (known old).number seq ∷ []) step l.turn l.entry (λ events. looked_moment events (known old).number seq)
+    looked_same : now.ticked ≡ was.ticked
+    looked_same = own_still number room after parts old new l.found l.left (Look (known old).number seq ∷ []) l.turn l.entry refl
+
+    looked_last : ticked ≡ fold max 0 now.ticked
+    looked_last = still_last looked_same
 
     pub looked_pass : IsLogPass number after parts new moment_after ticked
-    looked_pass = clock_pass number room after parts old new moment ticked step l.found l.left l.turn moment_after ticked moment_is looked_ticked
+    looked_pass = clock_pass number room after parts old new moment ticked step l.found l.left l.turn moment_after ticked moment_is looked_last
 
-    pub clock_looked : HasLookedAtClock seq least (pass_view number room parts old ticked) (pass_view number after parts new ticked) place told
+    pub clock_looked : HasLookedAtClock seq least was now place told
     clock_looked = record {
       found = l.found.events;
-      same = clock_same number room after parts old new moment ticked step l.found l.left l.turn moment_after ticked moment_is looked_ticked;
-      others = clock_came_to number room after parts old new moment ticked step l.found l.left l.turn moment_after ticked moment_is looked_ticked;
+      same = clock_same number room after parts old new moment ticked step l.found l.left l.turn moment_after ticked moment_is looked_last;
+      others = clock_came_to number room after parts old new moment ticked step l.found l.left l.turn moment_after ticked moment_is looked_last;
       parts = refl;
-      clock = clock_after number room after parts old new moment ticked step l.found l.left l.turn moment_after ticked moment_is looked_ticked
+      clock = clock_after number room after parts old new moment ticked step l.found l.left l.turn moment_after ticked moment_is looked_last
           ∙ l.entry ∙ ap (λ (n : ℕ). l.found.events ++ Look n seq ∷ []) step.is.clock_is.number_is;
-      ticked = refl;
+      ticked = looked_same;
       place_is = l.place_is;
       moment_is = l.moment_is;
       late = l.late;
@@ -254,35 +236,40 @@ module _ (number : ℕ) (room after : PassView) (parts : List (TurnPass PartView
 
   -- it was told a moment
   module _ (t : ℕ) (rose : Bool) (d : ToldClock t (known old) (known new) rose) where
-    told_ticked : (b : Bool) → rose ≡ b → cond b t ticked ≡ moment_of (events_of (known new).mine)
-    told_ticked true is =
-        let less : moment_of d.found.events < t = d.told.rose_is.0 is in
-        let grown : d.left.events ≡ d.found.events ++ Tick t ∷ [] = d.told.events ∙ ticked_above d.found.events t less in
-        let before : ticked ≤ moment_of (events_of (known old).seen) = step.is.seen.ticked in
-        let on : moment_of (events_of (known old).seen) ≤ moment_of d.found.events =
-        subst (λ (es : List ClockEvent). moment_of (events_of (known old).seen) ≤ moment_of es) (sym (clock_found (known old) d.found d.turn.turn.found_is))
-        (moment_on (events_of (known old).seen) (clock_more (known old) d.found d.turn.turn.found_is)) in
-        let mine = ap moment_of (mine_events (known old) (known new) d.found d.left (Tick t ∷ []) d.turn.turn grown) ∙ tick_moment (events_of (known old).mine) t in
-        let was = step.is.ticked_is in
-        omega (arith, mine, was, before, on, less)
-    told_ticked false is =
+    told_added : moment_of d.found.events < t → now.ticked ≡ was.ticked ++ t ∷ []
+    told_added less = own_more number room after parts old new d.found d.left (Tick t ∷ []) d.turn (d.told.events ∙ ticked_above d.found.events t less)
+
+    told_still : rose ≡ false → now.ticked ≡ was.ticked
+    told_still is =
         let same : d.left.events ≡ d.found.events ++ [] = ap (λ (m : MomentView). m.events) (d.told.still is) ∙ sym (append-nil d.found.events) in
-        ticked_still number room after parts old new moment ticked d.found d.left [] step d.turn same still_nil
+        own_still number room after parts old new d.found d.left [] d.turn same refl
+
+    told_last : (b : Bool) → rose ≡ b → cond b t ticked ≡ fold max 0 now.ticked
+    told_last true is =
+        let less : moment_of d.found.events < t = d.told.rose_is.0 is in
+        let before : fold max 0 was.ticked ≤ moment_of was.clock = own_moment number (known old).seen (known old).mine step.is.clock_is.own in
+        let on : moment_of was.clock ≤ moment_of d.found.events =
+        subst (λ (es : List ClockEvent). moment_of was.clock ≤ moment_of es) (sym (clock_found (known old) d.found d.turn.turn.found_is))
+        (moment_on was.clock (clock_more (known old) d.found d.turn.turn.found_is)) in
+        let last : fold max 0 now.ticked ≡ max (fold max 0 was.ticked) t = ap (fold max 0) (told_added less) ∙ fold_push max 0 was.ticked t in
+        omega (arith, last, before, on, less)
+    told_last false is = still_last (told_still is)
 
     pub told_pass : IsLogPass number after parts new moment_after (cond rose t ticked)
-    told_pass = clock_pass number room after parts old new moment ticked step d.found d.left d.turn moment_after (cond rose t ticked) moment_is (told_ticked rose refl)
+    told_pass = clock_pass number room after parts old new moment ticked step d.found d.left d.turn moment_after (cond rose t ticked) moment_is (told_last rose refl)
 
-    pub clock_ticked : HasTicked t (pass_view number room parts old ticked) (pass_view number after parts new (cond rose t ticked))
+    pub clock_ticked : HasTicked t was now
     clock_ticked =
-        let at = clock_after number room after parts old new moment ticked step d.found d.left d.turn moment_after (cond rose t ticked) moment_is (told_ticked rose refl) ∙ d.told.events in
+        let last = told_last rose refl in
+        let at = clock_after number room after parts old new moment ticked step d.found d.left d.turn moment_after (cond rose t ticked) moment_is last ∙ d.told.events in
         record {
           found = d.found.events;
-          same = clock_same number room after parts old new moment ticked step d.found d.left d.turn moment_after (cond rose t ticked) moment_is (told_ticked rose refl);
-          others = clock_came_to number room after parts old new moment ticked step d.found d.left d.turn moment_after (cond rose t ticked) moment_is (told_ticked rose refl);
+          same = clock_same number room after parts old new moment ticked step d.found d.left d.turn moment_after (cond rose t ticked) moment_is last;
+          others = clock_came_to number room after parts old new moment ticked step d.found d.left d.turn moment_after (cond rose t ticked) moment_is last;
           parts = refl;
           clock = at;
-          added = λ less. ap (λ (b : Bool). cond b t ticked) (d.told.rose_is.1 less);
-          stood = λ most. ap (λ (b : Bool). cond b t ticked) (was_false rose (λ up. let above = d.told.rose_is.0 up in omega (arith, most, above)));
+          added = told_added;
+          stood = λ most. told_still (was_false rose (λ up. let above = d.told.rose_is.0 up in omega (arith, most, above)));
           reached = subst (λ (es : List ClockEvent). t ≤ moment_of es) (sym at) (reaches d.found.events t);
         }
 
@@ -311,7 +298,7 @@ told_before v t past = record {
 
 -- what the clock's lock tells of a pass beside the logs
 pub clock_step : (number : ℕ) (room : PassView) (parts : List (TurnPass PartView LogEntry)) (old : TurnPass MomentView ClockEntry) (moment ticked : ℕ) → IsLogPass number room parts old moment ticked
-    → (its : RoomView) (locks : List (TurnLock PartView LogEntry)) (last : TurnLock MomentView ClockEntry) → (pass_view number room parts old ticked).made ≡ shared_view its locks last
+    → (its : RoomView) (locks : List (TurnLock PartView LogEntry)) (last : TurnLock MomentView ClockEntry) → (pass_view number room parts old).made ≡ shared_view its locks last
     → (after : PassView) (new : TurnPass MomentView ClockEntry) → IsOfRoom its after → GoesOn room.seat after.seat → KeepsOperation (caller_now room.seat) (caller_now after.seat) → IsPassOf moment_name last new → IsReady new
     → IsClockStep number room after parts old new moment ticked
 clock_step number room parts old moment ticked is its locks last made after new of went kept pass ready =

@@ -1,5 +1,5 @@
 -- New logs, from the parts of a room.
-use Rattle.std.proofs.Common.{◌≡◌, ◌∙◌, ℕ, zero, suc, ◌+◌, ◌*◌, ◌<◌, List, [], ◌∷◌, ◌++◌, Global, Vec, length, map, ap, refl, subst, sym, arith}
+use Rattle.std.proofs.Common.{◌≡◌, ◌∙◌, ℕ, zero, suc, ◌+◌, ◌*◌, List, [], ◌∷◌, ◌++◌, Global, Vec, length, map, ap, refl, subst, sym, arith}
 use Rattle.std.specs.List.{range_with_len}
 use Rattle.std.proofs.lemmas.List.{length-map}
 use Rattle.std.proofs.lemmas.List.FromFn.{length-map-range_with_len}
@@ -12,10 +12,10 @@ use Rattle.log_desks.specs.Desks.{MomentView, PartView, moment_name}
 use Rattle.room_core.specs.declared.shape.Shape.{Shape}
 use Rattle.room_scans.specs.Desks.{desk_name}
 use Rattle.room_table.specs.Handed.{fresh_caller, fresh_callers, fresh_source, fresh_sources}
-use Rattle.room_table.specs.Seats.{CallerView, SourceView}
+use Rattle.room_table.specs.Seats.{SourceView}
 use Rattle.purgatory.specs.Making.{AreFrom}
 use Rattle.purgatory.specs.Rooms.{PassView, RoomView, fresh_passes, room_shape, with_locks}
-use Rattle.shared_logs.specs.Dealt.{AreDealt, AreFirst, IsFreshOf, IsFreshRow, IsFreshSeat, IsPartLock}
+use Rattle.shared_logs.specs.Dealt.{AreDealt, AreFirst, IsFreshRow, IsFreshSeat, IsPartLock}
 use Rattle.shared_logs.specs.Locked.{HaveAllPasses, moment_lock, part_lock, shared_view}
 use Rattle.shared_logs.specs.Shared.{AreShared, followers_in}
 use Rattle.shared_logs.proofs.Dealt.{first_sources, fresh_keys, new_followers, new_passes, new_shared}

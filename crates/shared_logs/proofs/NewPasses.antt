@@ -1,16 +1,17 @@
 -- The passes of new logs have seen nothing.
-use Rattle.std.proofs.Common.{◌≡◌, ◌∙◌, ℕ, zero, suc, ◌+◌, ◌≤◌, List, [], ◌∷◌, ◌++◌, Global, Option, Some, None, Vec, length, map, ap, inl, refl, subst, sym, arith}
-use Rattle.std.specs.Prelude.{All, slice_get, slice_index, unwrap_or}
+use Rattle.std.proofs.Common.{◌≡◌, ◌∙◌, ℕ, zero, suc, ◌+◌, List, [], ◌∷◌, Global, Option, Vec, fold, length, map, max, ap, inl, refl, subst, sym, arith}
+use Rattle.std.specs.Prelude.{All, slice_index, unwrap_or}
 use Rattle.std.proofs.lemmas.List.Elements.{All-head, All-nil, All-tail, All-weaker}
 use Rattle.partlog.specs.History.{History}
 use Rattle.partlog.specs.Kept.{IsDense, IsKept}
 use Rattle.partlog.specs.Moment.{moment_of}
+use Rattle.audit.specs.Histories.{ticks_of}
 use Rattle.turn_lock.specs.declared.known.Known.{Known}
 use Rattle.turn_lock.specs.declared.known.Stage.TheVariants.{Idle}
 use Rattle.turn_lock.specs.declared.pass.TurnPass.{TurnPass}
 use Rattle.turn_lock.specs.Locks.{known}
 use Rattle.turn_lock.specs.OfPass.{of_pass}
-use Rattle.turn_lock.specs.Passes.{at_stage, fresh, known_of}
+use Rattle.turn_lock.specs.Passes.{at_stage, known_of}
 use Rattle.log_desks.specs.declared.entries.ClockEntry.{ClockEntry}
 use Rattle.log_desks.specs.declared.entries.LogEntry.{LogEntry}
 use Rattle.log_desks.specs.Desks.{MomentView, PartView}
@@ -25,7 +26,7 @@ use Rattle.shared_logs.specs.Locked.{IsHand, IsLogPass, lock_of, pass_view, seen
 use Rattle.shared_logs.specs.Making.{fresh_pass}
 use Rattle.shared_logs.specs.Seen.{HasSeen}
 use Rattle.shared_logs.proofs.Dealt.{from_next}
-use Rattle.shared_logs.specs.Shared.{AreShared, LogPassView, SharedView, followers_in}
+use Rattle.shared_logs.specs.Shared.{AreShared, SharedView, followers_in}
 
 -- what a seat has
 abbrev Mine : Type 0 → Type 0 → Type 0
@@ -84,23 +85,25 @@ new_seen shared number is there = record {
       subst P (sym e.1) (record { whole = refl; bounded = omega arith; dense = All-nil IsDense });
   followers = empty_followers (followers_in shared);
   ticks = λ k lt. absurd (omega (arith, lt));
-  ticked = omega arith;
+  rising = λ k lt. absurd (omega (arith, lt));
+  ticked = All-nil _;
 }
 
 module _ (shared : SharedView) (number : ℕ) (seat : PassView) (row : Vec (TurnPass PartView LogEntry) Global) (clock : TurnPass MomentView ClockEntry) (of_seat : IsFreshSeat shared.room number seat)
     (of_row : IsFreshRow shared.parts number row) (of_clock : IsFreshOf shared.clock number clock) where
-  pub new_view : pass_view number seat row.items clock 0 ≡ fresh_pass shared number
+  pub new_view : pass_view number seat row.items clock ≡ fresh_pass shared number
   new_view =
       let parts : map seen_part row.items ≡ map empty_history (followers_in shared) =
       row_seen number row.items of_row.fresh_are ∙ ap (λ (locks : List LockView). map empty_history (map (λ (lock : LockView). slice_index lock.name 0) locks)) of_row.locks_are in
       let events = ap events_of (nothing_seen number clock of_clock.fresh_is) in
+      let ticks = ap (λ (entries : List ClockEntry). ticks_of (events_of entries)) (nothing_added number clock of_clock.fresh_is) in
       λ j. record {
         number = number;
         made = record { room = record { table = (of_seat.is j).seat.table; locks = (of_seat.is j).locks }; parts = of_row.locks_are j; clock = of_clock.lock_is j };
         seat = (of_seat.is j).seat;
         parts = parts j;
         clock = events j;
-        ticked = 0;
+        ticked = ticks j;
       }
 
   pub new_pass : AreShared shared → IsLogPass number seat row.items clock 0 0
@@ -109,7 +112,7 @@ module _ (shared : SharedView) (number : ℕ) (seat : PassView) (row : Vec (Turn
     parts_are = All-weaker (IsFreshHand number) (IsHand entry_by number) (new_hand entry_by number) row.items of_row.fresh_are;
     clock_is = new_hand clock_by number clock of_clock.fresh_is;
     moment_is = ap (λ (entries : List ClockEntry). moment_of (events_of entries)) (sym (nothing_seen number clock of_clock.fresh_is));
-    ticked_is = ap (λ (entries : List ClockEntry). moment_of (events_of entries)) (sym (nothing_added number clock of_clock.fresh_is));
+    ticked_is = ap (λ (entries : List ClockEntry). fold max 0 (ticks_of (events_of entries))) (sym (nothing_added number clock of_clock.fresh_is));
   }
 
 -- a seat, a row and a pass of the clock's lock are taken

@@ -1,34 +1,31 @@
 -- A pass after a turn of a lock.
-use Rattle.std.proofs.Common.{◌≡◌, ℕ, zero, suc, ◌*◌, ◌≤◌, ◌<◌, List, [], ◌∷◌, ◌++◌, length, map, set, get_or, Option, Some, refl, sym, ap, subst, ◌∙◌, inl, inr, arith}
+use Rattle.std.proofs.Common.{◌≡◌, ℕ, zero, suc, ◌*◌, ◌≤◌, ◌<◌, List, [], ◌∷◌, length, map, set, get_or, Option, Some, refl, sym, ap, subst, ◌∙◌, inl, inr, arith}
 use Rattle.std.proofs.lemmas.List.{get_or-map, length-map, length-set, map-set}
 use Rattle.std.proofs.lemmas.List.Elements.{All-set}
 use Rattle.std.proofs.lemmas.Option.{slice_get-map, slice_get_read}
 use Rattle.std.specs.List.{AllByRecursion}
-use Rattle.std.specs.List.Sorted.{IsStrictlyIncreasing}
-use Rattle.std.specs.Prelude.{All, option_map, slice_get, slice_index, unwrap_or}
+use Rattle.std.specs.Prelude.{option_map, slice_get, slice_index, unwrap_or}
 use Rattle.partlog.specs.declared.clock_event.ClockEvent.{ClockEvent}
 use Rattle.partlog.specs.declared.numbers.Numbers.{Numbers}
 use Rattle.partlog.specs.Gauges.{numbers_of}
 use Rattle.partlog.specs.History.{History}
 use Rattle.partlog.specs.Kept.{IsKept}
 use Rattle.partlog.specs.Looked.{looked}
-use Rattle.partlog.specs.Moment.{moment_of}
 use Rattle.partlog.specs.State.{PartState, state_of}
 use Rattle.kanswer.specs.Decisions.{Outcome}
 use Rattle.kanswer.specs.Waiting.{gauge_value}
 use Rattle.acceptance.specs.declared.entered.Entered.{Entered}
 use Rattle.acceptance.specs.Entered.{HasEntered}
-use Rattle.audit.specs.Histories.{owner_of, ticks_of}
+use Rattle.audit.specs.Histories.{owner_of}
 use Rattle.audit.proofs.Laws.{get_set_other, get_set_same, same_or_not}
 use Rattle.room_core.specs.Gauges.{IsPass}
 use Rattle.room_table.specs.Seats.{TableView, caller_now}
 use Rattle.room_scans.specs.Desks.{desk_name}
 use Rattle.plain_broker.specs.Board.{empty_history, history_at}
-use Rattle.plain_broker.specs.GoesOn.{AllWhole, Longer}
+use Rattle.plain_broker.specs.GoesOn.{AllWhole}
 use Rattle.plain_broker.proofs.Laws.{set_same, set_whole}
 use Rattle.pass_books.specs.Owned.{NotOf, OthersAlone}
 use Rattle.pass_books.proofs.Laws.{others_grown, others_within, part_came}
-use Rattle.turn_lock.specs.declared.known.Known.{Known}
 use Rattle.turn_lock.specs.declared.pass.TurnPass.{TurnPass}
 use Rattle.turn_lock.specs.declared.lock.TurnLock.{TurnLock}
 use Rattle.turn_lock.specs.Locks.{IsPassOf, IsReady, known, lock_name}
@@ -37,7 +34,7 @@ use Rattle.purgatory.specs.Going.{GoesOn, IsAtRest, KeepsOperation}
 use Rattle.purgatory.specs.Rooms.{IsOfRoom, LockView, PassView, RoomView}
 use Rattle.log_desks.specs.declared.entries.ClockEntry.{ClockEntry}
 use Rattle.log_desks.specs.declared.entries.LogEntry.{LogEntry}
-use Rattle.log_desks.specs.Desks.{MomentView, PartView, moment_name, part_name}
+use Rattle.log_desks.specs.Desks.{MomentView, PartView, part_name}
 use Rattle.log_desks.specs.Entries.{entry_by}
 use Rattle.log_desks.specs.Histories.{events_of}
 use Rattle.shared_logs.specs.Asked.{HasAsked, HasLooked, LeftOne}
@@ -120,10 +117,10 @@ pub record IsPartStep (number : ℕ) (room after : PassView) (parts : List (Turn
 module _ (number : ℕ) (room after : PassView) (parts : List (TurnPass PartView LogEntry)) (clock : TurnPass MomentView ClockEntry) (moment ticked part : ℕ)
     (old new : TurnPass PartView LogEntry) (step : IsPartStep number room after parts clock moment ticked part old new) (found left : PartView) (turn : WasPartTurn (known old) (known new) found left) where
   abbrev before_view : LogPassView
-  before_view = pass_view number room parts clock ticked
+  before_view = pass_view number room parts clock
 
   abbrev after_view : LogPassView
-  after_view = pass_view number after (set parts part new) clock ticked
+  after_view = pass_view number after (set parts part new) clock
 
   abbrev pub histories : List History
   histories = map seen_part parts
@@ -189,6 +186,7 @@ module _ (number : ℕ) (room after : PassView) (parts : List (TurnPass PartView
             ∙ set_same (λ (h : History). h.followers) histories part (seen_part old) left.history there_seen followers
             ∙ s.followers ∙ ap followers_in (sym made);
         ticks = s.ticks;
+        rising = s.rising;
         ticked = s.ticked;
       }
 
@@ -237,7 +235,7 @@ module _ (number : ℕ) (room after : PassView) (parts : List (TurnPass PartView
 -- a turn that left nothing
 pub part_caught_up : (number : ℕ) (room after : PassView) (parts : List (TurnPass PartView LogEntry)) (clock : TurnPass MomentView ClockEntry) (moment ticked part : ℕ)
     (old new : TurnPass PartView LogEntry) → IsPartStep number room after parts clock moment ticked part old new → SawPart (known old) (known new)
-    → HasCaughtUp (pass_view number room parts clock ticked) (pass_view number after (set parts part new) clock ticked)
+    → HasCaughtUp (pass_view number room parts clock) (pass_view number after (set parts part new) clock)
 part_caught_up number room after parts clock moment ticked part old new step saw =
     let clock_events = events_of (known clock).seen in
     record {
@@ -256,7 +254,7 @@ within its locks last shared part is there =
     omega (arith, here, length-map locks part_lock)
 
 module _ (number : ℕ) (room : PassView) (parts : List (TurnPass PartView LogEntry)) (clock : TurnPass MomentView ClockEntry) (moment ticked : ℕ) (is : IsLogPass number room parts clock moment ticked)
-    (its : RoomView) (locks : List (TurnLock PartView LogEntry)) (last : TurnLock MomentView ClockEntry) (made : (pass_view number room parts clock ticked).made ≡ shared_view its locks last) where
+    (its : RoomView) (locks : List (TurnLock PartView LogEntry)) (last : TurnLock MomentView ClockEntry) (made : (pass_view number room parts clock).made ≡ shared_view its locks last) where
   pub of_room : IsOfRoom its room
   of_room = record { table = ap (λ (s : SharedView). s.room.table) made; locks = ap (λ (s : SharedView). s.room.locks) made }
 
@@ -279,7 +277,7 @@ module _ (number : ℕ) (room : PassView) (parts : List (TurnPass PartView LogEn
     pub opens : OpensPart its.table part number lock old
     opens =
         let hand = subst (IsHand entry_by number) (sym at) (is.parts_are part old less_parts) in
-        let f = slice_index (followers_in (pass_view number room parts clock ticked).made) part in
+        let f = slice_index (followers_in (pass_view number room parts clock).made) part in
         let size : part < length (map lock_of parts) = omega (arith, less_parts, length-map parts lock_of) in
         let table : room.seat.table ≡ its.table = ap (λ (s : SharedView). s.room.table) made in
         let name : lock_name part_name lock ≡ f ∷ desk_name its.table part =

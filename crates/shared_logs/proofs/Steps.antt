@@ -15,9 +15,9 @@ use Rattle.log_desks.specs.Desks.{MomentView, PartView}
 use Rattle.shared_logs.specs.Coming.{HasStepped}
 use Rattle.shared_logs.specs.Locked.{lock_of, pass_view}
 
-pub stepped : (number : ℕ) (room after : PassView) (parts : List (TurnPass PartView LogEntry)) (clock : TurnPass MomentView ClockEntry) (ticked : ℕ) → GoesOn room.seat after.seat → after.locks ≡ room.locks
-    → HasStepped (pass_view number room parts clock ticked) (pass_view number after parts clock ticked)
-stepped number room after parts clock ticked went locks = record {
+pub stepped : (number : ℕ) (room after : PassView) (parts : List (TurnPass PartView LogEntry)) (clock : TurnPass MomentView ClockEntry) → GoesOn room.seat after.seat → after.locks ≡ room.locks
+    → HasStepped (pass_view number room parts clock) (pass_view number after parts clock)
+stepped number room after parts clock went locks = record {
   number = refl;
   made = λ i. record { room = record { table = went.table i; locks = locks i }; parts = map lock_of parts; clock = lock_of clock };
   went = went;

@@ -1,5 +1,5 @@
 -- What a whole turn of a lock tells of the histories.
-use Rattle.std.proofs.Common.{◌≡◌, ◌≢◌, ℕ, ◌+◌, Bool, true, cond, eqb, eq-eqb, List, [], ◌∷◌, ◌++◌, drop, filter, length, map, Option, Some, None, Result, Ok, Err, refl, sym, ap, subst, ◌∙◌}
+use Rattle.std.proofs.Common.{◌≡◌, ◌≢◌, ℕ, Bool, cond, eqb, eq-eqb, List, [], ◌∷◌, ◌++◌, drop, length, map, Option, Some, None, Result, Ok, Err, refl, sym, ap, subst, ◌∙◌}
 use Rattle.std.proofs.Math.Seq.{drop-append_seam}
 use Rattle.std.proofs.lemmas.Grind.{flat_map-append}
 use Rattle.std.proofs.lemmas.List.{map-append}
@@ -10,7 +10,6 @@ use Rattle.partlog.specs.declared.clock_event.ClockEvent.{ClockEvent}
 use Rattle.partlog.specs.declared.clock_event.ClockEvent.TheVariants as clocks
 use Rattle.partlog.specs.declared.event.PartEvent.{PartEvent}
 use Rattle.partlog.specs.declared.event.PartEvent.TheVariants.{Append, Follow, Look}
-use Rattle.partlog.specs.History.{History}
 use Rattle.partlog.specs.Kept.{IsKept}
 use Rattle.audit.specs.Histories.{Owner, clock_owner_of, owner_of}
 use Rattle.plain_broker.specs.GoesOn.{Longer, the_owner}
@@ -21,11 +20,10 @@ use Rattle.room_scans.specs.Desks.{desk_name}
 use Rattle.room_scans.proofs.Laws.{name_number, name_table}
 use Rattle.turn_lock.specs.declared.known.Known.{Known}
 use Rattle.turn_lock.specs.OfPass.{of_pass}
-use Rattle.turn_lock.specs.StartsWith.{StartsWith}
 use Rattle.log_desks.specs.declared.entries.ClockEntry.{ClockEntry}
 use Rattle.log_desks.specs.declared.entries.LogEntry.{LogEntry}
 use Rattle.log_desks.specs.Desks.{MomentView, PartView, moment_name, part_name}
-use Rattle.log_desks.specs.Entries.{clock_by, clock_entries, entry_by, event_by, log_entries}
+use Rattle.log_desks.specs.Entries.{clock_by, clock_entries, entry_by, event_by}
 use Rattle.log_desks.specs.Histories.{events_of, history_of}
 use Rattle.log_desks.proofs.Beside.{bytes_in, clock_events, entries_bytes, entries_events, event_in, history_told}
 use Rattle.shared_logs.specs.Turned.{HasFound, HasLeft, WasClockTurn, WasPartTurn, moment_entries, part_entries}

@@ -1,9 +1,8 @@
 -- What waits in a room that was closed isn't answerable by the closed logs.
-use Rattle.std.proofs.Common.{⊎_elim, ◌≡◌, ◌≢◌, ◌∙◌, ℕ, zero, suc, ◌+◌, ◌*◌, ◌/◌, ◌%◌, ◌<◌, ◌≤◌, Bool, true, false, List, [], ◌∷◌, ◌++◌, Option, Some, get_or, length, map, ap, refl, subst, sym, arith}
+use Rattle.std.proofs.Common.{⊎_elim, ◌≡◌, ◌≢◌, ◌∙◌, ℕ, ◌+◌, ◌*◌, ◌/◌, ◌%◌, ◌<◌, Bool, false, List, [], ◌∷◌, ◌++◌, Some, get_or, length, map, ap, refl, subst, sym, arith}
 use Rattle.std.specs.Prelude.{All, slice_get, unwrap_or, ◌==◌, if◌then◌else◌}
-use Rattle.std.specs.List.{range_with_len}
 use Rattle.std.proofs.lemmas.Bool.{cases_eq, eq-eqb, ne_eqb}
-use Rattle.std.proofs.lemmas.List.Elements.{All-head, All-pop, All-tail, All-weaker}
+use Rattle.std.proofs.lemmas.List.Elements.{All-head, All-pop, All-tail}
 use Rattle.std.proofs.lemmas.List.FromFn.{get_or-map-range_with_len, length-map-range_with_len}
 use Rattle.std.proofs.lemmas.Option.{slice_get-get_or}
 use Rattle.partlog.specs.declared.clock_event.ClockEvent.{ClockEvent}
@@ -21,9 +20,9 @@ use Rattle.room_core.specs.declared.shape.Shape.{Shape}
 use Rattle.room_core.specs.Described.{needs_in, operation_of, values_in}
 use Rattle.room_core.specs.Description.{IsOperation, need_of, needs_of}
 use Rattle.room_core.specs.Gauges.{clock_of}
-use Rattle.room_core.specs.State.{Caller, State}
+use Rattle.room_core.specs.State.{Caller}
 use Rattle.room_table.specs.Seats.{CallerView, SourceView, caller_now, source_now}
-use Rattle.purgatory.specs.Closed.{IsClosed, IsLeftOpen, stored_in}
+use Rattle.purgatory.specs.Closed.{IsClosed, stored_in}
 use Rattle.purgatory.specs.Ends.{StillView}
 use Rattle.shared_logs.specs.Closing.{IsUnanswerable, value_in}
 use Rattle.shared_logs.specs.Gone.{HaveStored, TellOf}

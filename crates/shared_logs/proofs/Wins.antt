@@ -1,12 +1,16 @@
 -- What the passes have taken, added up over the passes and over their numbers.
-use Rattle.std.proofs.Common.{⊎_elim, ◌≡◌, ◌≢◌, ◌∙◌, ℕ, zero, suc, ◌+◌, ◌<◌, ◌≤◌, Bool, true, false, cond, List, [], ◌∷◌, ap, refl, sym, arith}
+use Rattle.std.proofs.Common.{⊎_elim, ◌≡◌, ◌≢◌, ◌∙◌, ℕ, zero, suc, ◌+◌, ◌-◌, ◌<◌, ◌≤◌, Bool, cond, List, [], ◌∷◌, length, ap, refl, sym, arith}
 use Rattle.std.specs.Prelude.{All, count_by, slice_index, sum_by, ◌==◌}
 use Rattle.std.proofs.lemmas.Bool.{cases_eq, eq-eqb, ne_eqb}
 use Rattle.std.proofs.lemmas.List.Elements.{All-head, All-tail, All-weaker}
 use Rattle.std.proofs.lemmas.List.Sums.{sum_by-cons}
 use Rattle.room_core.specs.declared.parts.Taken.{Taken}
 use Rattle.room_core.specs.declared.shape.Shape.{Shape}
-use Rattle.room_core.specs.Counts.{sum_below}
+use Rattle.room_core.specs.Counts.{sum_below, taken_by}
+use Rattle.room_core.specs.declared.parts.Prize.{Prize}
+use Rattle.room_core.specs.Wins.{wins_of}
+use Rattle.room_core.proofs.Counts.{wins_counted}
+use Rattle.room_core.proofs.Prizes.{wins_of-pass}
 use Rattle.room_core.specs.State.{Caller}
 use Rattle.room_table.specs.Seats.{CallerView, SourceView, caller_now}
 use Rattle.purgatory.specs.Closed.{IsClosed}
@@ -110,18 +114,33 @@ sum_agrees {A = A} f g (x ∷ xs) all =
     let P : A → Type 0 = λ y. f y ≡ g y in
     omega (arith, sum_by-cons f x xs, sum_by-cons g x xs, All-head P x xs all, sum_agrees f g xs (All-tail P x xs all))
 
--- what a winner has won is what all passes have taken from it
-pub wins_taken : (still : StillView) (sources : List SourceView) (numbers : List ℕ) (closed : IsClosed still sources numbers) (by : ℕ) → by < winners still.table
-    → slice_index numbers by ≡ sum_by (λ (seat : CallerView). taken_from by seat) still.callers
-wins_taken still sources numbers closed by less =
-    let state = closed.shown.state in
-    let f : ℕ → ℕ = λ pass. count_by (λ (item : Taken). item.by == by) (state.caller pass).taken in
-    let key : CallerView → ℕ = λ seat. seat.pass in
-    let size = ap (λ (s : Shape). s.passes) closed.shown.shape in
-    let n = still.table.shape.passes in
-    let same : All (λ (seat : CallerView). f seat.pass ≡ taken_from by seat) still.callers =
-    All-weaker (λ (seat : CallerView). state.caller seat.pass ≡ caller_now seat) (λ (seat : CallerView). f seat.pass ≡ taken_from by seat) (λ seat is. ap (λ (c : Caller). count_by (λ (item : Taken). item.by == by) c.taken) is) still.callers closed.shown.caller in
-    closed.taken by less
-    ∙ ap (sum_below f) size
-    ∙ sym (over_numbers key f n still.callers closed.shown.passes closed.shown.one_caller)
-    ∙ sum_agrees (λ (seat : CallerView). f seat.pass) (λ (seat : CallerView). taken_from by seat) still.callers same
+module _ (still : StillView) (sources : List SourceView) (numbers : List ℕ) (closed : IsClosed still sources numbers) (by : ℕ) where
+  -- what all passes have taken from a winner, by their seats
+  all_taken : taken_by closed.shown.state by ≡ sum_by (λ (seat : CallerView). taken_from by seat) still.callers
+  all_taken =
+      let state = closed.shown.state in
+      let f : ℕ → ℕ = λ pass. count_by (λ (item : Taken). item.by == by) (state.caller pass).taken in
+      let key : CallerView → ℕ = λ seat. seat.pass in
+      let size = ap (λ (s : Shape). s.passes) closed.shown.shape in
+      let n = still.table.shape.passes in
+      let same : All (λ (seat : CallerView). f seat.pass ≡ taken_from by seat) still.callers =
+      All-weaker (λ (seat : CallerView). state.caller seat.pass ≡ caller_now seat) (λ (seat : CallerView). f seat.pass ≡ taken_from by seat) (λ seat is. ap (λ (c : Caller). count_by (λ (item : Taken). item.by == by) c.taken) is) still.callers closed.shown.caller in
+      ap (sum_below f) size
+      ∙ sym (over_numbers key f n still.callers closed.shown.passes closed.shown.one_caller)
+      ∙ sum_agrees (λ (seat : CallerView). f seat.pass) (λ (seat : CallerView). taken_from by seat) still.callers same
+
+  -- it is what the winner has won
+  pub wins_taken : by < winners still.table → slice_index numbers by ≡ sum_by (λ (seat : CallerView). taken_from by seat) still.callers
+  wins_taken less = closed.taken by less ∙ all_taken
+
+  -- who is no winner has won nothing
+  pub none_taken : winners still.table ≤ by → sum_by (λ (seat : CallerView). taken_from by seat) still.callers ≡ 0
+  none_taken more =
+      let state = closed.shown.state in
+      let p : ℕ = by - 17 in
+      let is : by ≡ 17 + p = omega (arith, more) in
+      let size = ap (λ (s : Shape). s.passes) closed.shown.shape in
+      let idle = closed.shown.carried.within.passes.caller p (omega (arith, more, size, is)) in
+      let none : length (wins_of state.scanner state.caller by) ≡ 0 =
+      ap (λ (w : ℕ). length (wins_of state.scanner state.caller w)) is ∙ ap (λ (l : List Prize). length l) (wins_of-pass state.scanner state.caller p) ∙ ap (λ (c : Caller). length c.wins) idle in
+      omega (arith, none, wins_counted state closed.shown.carried by, all_taken)

@@ -13,7 +13,7 @@ use Rattle.shared_logs.specs.Shared.{LogPassView}
 
 -- the pass of a seat and a hand
 abbrev pub joined : PassView → Hand → LogPassView
-joined seat hand = pass_view hand.number seat hand.parts.items hand.clock hand.ticked
+joined seat hand = pass_view hand.number seat hand.parts.items hand.clock
 
 abbrev pub IsJoined : PassView → Hand → Type 0
 IsJoined seat hand = IsLogPass hand.number seat hand.parts.items hand.clock hand.moment hand.ticked

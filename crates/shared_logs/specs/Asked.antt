@@ -74,6 +74,6 @@ pub record HasTicked (t : ℕ) (old new : LogPassView) : Type 0 where
   pub others : OthersCame old.number old.parts old.clock old.parts found
   pub parts : new.parts ≡ old.parts
   pub clock : new.clock ≡ ticked found t
-  pub added : moment_of found < t → new.ticked ≡ t
+  pub added : moment_of found < t → new.ticked ≡ old.ticked ++ t ∷ []
   pub stood : t ≤ moment_of found → new.ticked ≡ old.ticked
   pub reached : t ≤ moment_of new.clock

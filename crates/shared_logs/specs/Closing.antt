@@ -1,5 +1,6 @@
 -- The logs as they are closed: what each pass saw, with all that came later.
-use Rattle.std.specs.Prelude.{◌≡◌, ℕ, ◌<◌, ◌/◌, ◌==◌, List, ◌∷◌, All, Some, count_by, fold, length, map, max, slice_get, slice_index, sum_by}
+use Rattle.std.specs.Prelude.{◌≡◌, ℕ, ◌<◌, ◌≤◌, ◌/◌, ◌==◌, ◌↔◌, List, ◌∷◌, All, Any, Contains, Some, count_by, fold, length, map, max, slice_get, slice_index, sum_by}
+use Rattle.std.specs.List.{flat_map}
 use Rattle.std.specs.List.Sorted.{IsStrictlyIncreasing}
 use Rattle.partlog.specs.declared.clock_event.ClockEvent.{ClockEvent}
 use Rattle.partlog.specs.History.{History}
@@ -51,8 +52,13 @@ pub record AreClosed (shared : SharedView) (passes : List LogPassView) (parts : 
   -- each winner's number is that of the ends that the passes have taken from it
   pub size : length numbers ≡ winners shared.room.table
   pub wins : (by : ℕ) → by < winners shared.room.table → slice_index numbers by ≡ sum_by (λ (pass : LogPassView). taken_from by pass.seat) passes
-  -- the moment is the greatest that a pass has ticked
-  pub moment : moment_of clock ≡ fold max 0 (map (λ (pass : LogPassView). pass.ticked) passes)
+  -- and nobody else has won any
+  pub others : (by : ℕ) → winners shared.room.table ≤ by → sum_by (λ (pass : LogPassView). taken_from by pass.seat) passes ≡ 0
+  -- a tick is in the clock's history exactly where a pass added it, each pass added its own in their order, and the moment is the greatest
+  -- of all
+  pub ticks : (t : ℕ) → Contains (ticks_of clock) t ↔ Any (λ (pass : LogPassView). Contains pass.ticked t) passes
+  pub rising : All (λ (pass : LogPassView). IsStrictlyIncreasing (0 ∷ pass.ticked)) passes
+  pub moment : moment_of clock ≡ fold max 0 (flat_map (λ (pass : LogPassView). pass.ticked) passes)
 
 -- the passes, as those of the room
 abbrev pub in_room : LogPassView → PassView

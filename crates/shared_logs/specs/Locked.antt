@@ -1,7 +1,8 @@
 -- How the logs and a pass are seen behind their locks.
-use Rattle.std.specs.Prelude.{◌≡◌, ℕ, List, All, length, map, slice_index}
+use Rattle.std.specs.Prelude.{◌≡◌, ℕ, List, All, fold, map, max, slice_index}
 use Rattle.partlog.specs.History.{History}
 use Rattle.partlog.specs.Moment.{moment_of}
+use Rattle.audit.specs.Histories.{ticks_of}
 use Rattle.turn_lock.specs.declared.lock.TurnLock.{TurnLock}
 use Rattle.turn_lock.specs.declared.pass.TurnPass.{TurnPass}
 use Rattle.turn_lock.specs.Locks.{IsReady, known, lock_id, lock_name, lock_passes}
@@ -33,14 +34,14 @@ module _ {T E : Type 0} where
 abbrev pub seen_part : TurnPass PartView LogEntry → History
 seen_part pass = history_of (slice_index (known pass).name 0) (known pass).seen
 
-abbrev pub pass_view : ℕ → PassView → List (TurnPass PartView LogEntry) → TurnPass MomentView ClockEntry → ℕ → LogPassView
-pass_view number room parts clock ticked = record {
+abbrev pub pass_view : ℕ → PassView → List (TurnPass PartView LogEntry) → TurnPass MomentView ClockEntry → LogPassView
+pass_view number room parts clock = record {
   number = number;
   made = record { room = record { table = room.seat.table; locks = room.locks }; parts = map lock_of parts; clock = lock_of clock };
   seat = room.seat;
   parts = map seen_part parts;
   clock = events_of (known clock).seen;
-  ticked = ticked;
+  ticked = ticks_of (events_of (known clock).mine);
 }
 
 -- the pass of a lock has this number and no turn out, and knows which entries are its own
@@ -50,14 +51,13 @@ module _ {T E : Type 0} where
     pub number_is : (known pass).number ≡ number
     pub own : of_pass by number (known pass).seen ≡ (known pass).mine
 
--- Its hands have its number. The moment is that of the clock as it was seen, and `ticked` that of the pass's own entries alone: a look
--- has no moment, so it is the greatest of the ticks that the pass added.
+-- Its hands have its number. The moment is that of the clock as it was seen, and `ticked` the greatest whose tick the pass added itself.
 pub record IsLogPass (number : ℕ) (room : PassView) (parts : List (TurnPass PartView LogEntry)) (clock : TurnPass MomentView ClockEntry) (moment ticked : ℕ) : Type 0 where
-  pub seen : HasSeen (pass_view number room parts clock ticked)
+  pub seen : HasSeen (pass_view number room parts clock)
   pub parts_are : All (IsHand entry_by number) parts
   pub clock_is : IsHand clock_by number clock
   pub moment_is : moment ≡ moment_of (events_of (known clock).seen)
-  pub ticked_is : ticked ≡ moment_of (events_of (known clock).mine)
+  pub ticked_is : ticked ≡ fold max 0 (ticks_of (events_of (known clock).mine))
 
 -- every lock has as many passes as the room
 pub record HaveAllPasses (room : RoomView) (parts : List (TurnLock PartView LogEntry)) (clock : TurnLock MomentView ClockEntry) : Type 0 where

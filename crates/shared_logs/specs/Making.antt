@@ -1,5 +1,5 @@
 -- The passes of new logs.
-use Rattle.std.specs.Prelude.{◌≡◌, ℕ, List, [], map}
+use Rattle.std.specs.Prelude.{ℕ, List, [], map}
 use Rattle.std.specs.List.{range_with_len}
 use Rattle.plain_broker.specs.Board.{empty_history}
 use Rattle.room_table.specs.Handed.{fresh_caller}
@@ -13,7 +13,7 @@ fresh_pass shared number = record {
   seat = fresh_caller shared.room.table number;
   parts = map empty_history (followers_in shared);
   clock = [];
-  ticked = 0;
+  ticked = [];
 }
 
 -- by their numbers

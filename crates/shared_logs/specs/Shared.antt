@@ -17,14 +17,14 @@ abbrev pub followers_in : SharedView → List ℕ
 followers_in shared = map (λ (lock : LockView). slice_index lock.name 0) shared.parts
 
 -- A pass: its number, with what it was made, its seat in the room; of each partition's history and of the clock's the front that it saw
--- last; and the greatest moment whose tick it added, or 0.
+-- last; and the moments whose ticks it added, in their order.
 pub record LogPassView : Type 0 where
   pub number : ℕ
   pub made : SharedView
   pub seat : CallerView
   pub parts : List History
   pub clock : List ClockEvent
-  pub ticked : ℕ
+  pub ticked : List ℕ
 
 -- what is so of all shared logs: the room has the three gauges of each partition, and the clock's as the last; each lock has the name
 -- of its desk

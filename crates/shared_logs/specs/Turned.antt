@@ -1,6 +1,5 @@
 -- A turn of a lock, by what the pass knew before it and knows after it.
 use Rattle.std.specs.Prelude.{◌≡◌, ℕ, ◌≤◌, Bool, List, [], ◌∷◌, ◌++◌, length, slice_index}
-use Rattle.partlog.specs.declared.clock_event.ClockEvent.{ClockEvent}
 use Rattle.partlog.specs.declared.clock_event.ClockEvent.TheVariants as clocks
 use Rattle.partlog.specs.declared.clock_event.TheConstants.{MOST_MOMENT}
 use Rattle.partlog.specs.declared.numbers.Numbers.{Numbers}

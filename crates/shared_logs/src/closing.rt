@@ -32,7 +32,7 @@ pub struct ClosedLogs {
 #[derive(Drop)]
 pub enum LogsEnd {
     Closed(ClosedLogs),
-    /// More was won than the passes have taken. The logs and the passes are handed back as they were.
+    /// More was won than the passes have taken, and an operation of one of them waits. The logs and the passes are handed back as they were.
     Untaken {
         logs: SharedLogs,
         passes: List<LogPass>,

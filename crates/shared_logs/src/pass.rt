@@ -1,4 +1,4 @@
-ghost use Rattle.std.specs.Prelude.{◌≡◌};
+ghost use Rattle.std.specs.Prelude.{◌≡◌, fold, max};
 ghost use Rattle.partlog.specs.Moment.{moment_of};
 ghost use Rattle.shared_logs.specs.Seen.{HasSeen};
 
@@ -17,7 +17,7 @@ pub struct LogPass {
     pub(crate) clock: TurnPass<MomentDesk>,
     // the moment of the clock's history as it was seen last
     pub(crate) moment: u64,
-    // the greatest moment whose tick this pass added
+    // the greatest moment whose tick this pass added, or 0
     pub(crate) ticked: u64,
 }
 
@@ -27,7 +27,7 @@ impl Model for LogPass {
 
     ghost Value = { LogPassView };
 
-    ghost view = { λ p. pass_view p.number p.room p.parts.items p.clock p.ticked };
+    ghost view = { λ p. pass_view p.number p.room p.parts.items p.clock };
 
     ghost invariant = { λ p. IsLogPass p.number p.room p.parts.items p.clock p.moment p.ticked };
 }
@@ -42,7 +42,7 @@ impl LogPass {
 
     /// The greatest moment, in milliseconds, whose tick this pass added; 0 before the first.
     pub fn ticked(&self) -> u64
-        ensures { result ≡ self.now.ticked }
+        ensures { result ≡ fold max 0 self.now.ticked }
     {
         self.ticked
     }

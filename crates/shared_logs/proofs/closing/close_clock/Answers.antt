@@ -1,6 +1,4 @@
-use Rattle.std.proofs.Common.{◌≡◌, ◌∙◌, List, [], ap, map, subst, sym}
-use Rattle.std.specs.Prelude.{All, length}
-use Rattle.log_desks.specs.Desks.{MomentView}
+use Rattle.std.proofs.Common.{◌∙◌, sym}
 use Rattle.shared_logs.proofs.Gone.{clock_out, clock_passes, clocks_all}
 use Rattle.shared_logs.proofs.closing.close_clock.Goals as goal
 

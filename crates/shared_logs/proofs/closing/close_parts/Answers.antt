@@ -1,8 +1,8 @@
-use Rattle.std.proofs.Common.{◌≡◌, ◌∙◌, List, [], ◌∷◌, ◌++◌, ap, arith, length, map, refl, subst, sym}
+use Rattle.std.proofs.Common.{◌≡◌, ◌∙◌, List, [], ◌∷◌, ◌++◌, ap, arith, length, map, subst, sym}
 use Rattle.std.specs.Prelude.{All}
 use Rattle.std.specs.Vec.Iter.{into_iter_items}
 use Rattle.std.proofs.lemmas.List.{length_push}
-use Rattle.std.proofs.lemmas.List.Elements.{All-head, All-nil, All-tail}
+use Rattle.std.proofs.lemmas.List.Elements.{All-head, All-tail}
 use Rattle.partlog.specs.History.{History}
 use Rattle.turn_lock.specs.declared.lock.TurnLock.{TurnLock}
 use Rattle.turn_lock.specs.Locks.{lock_passes}
@@ -13,7 +13,7 @@ use Rattle.purgatory.specs.Making.{AreFrom}
 use Rattle.shared_logs.specs.Apart.{IsOfLocks}
 use Rattle.shared_logs.specs.Gone.{HaveGone, IsNamed, followers_named}
 use Rattle.shared_logs.proofs.Dealt.{from_next}
-use Rattle.shared_logs.proofs.Gone.{firsts_of, followers_more, gone_more, gone_none, out_more, sources_more, tell_none, told_firsts}
+use Rattle.shared_logs.proofs.Gone.{firsts_of, followers_more, gone_more, out_more, sources_more, told_firsts}
 use Rattle.shared_logs.proofs.closing.close_parts.Goals as goal
 
 pub close-requires-clause-all : goal.close-requires-clause-all

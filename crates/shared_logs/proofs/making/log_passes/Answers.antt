@@ -1,5 +1,4 @@
-use Rattle.std.proofs.Common.{◌≡◌, ◌∙◌, ◌+◌, ◌++◌, ℕ, List, [], ◌∷◌, Global, Vec, ap, arith, length, map, subst, sym}
-use Rattle.std.specs.List.{range_with_len}
+use Rattle.std.proofs.Common.{◌≡◌, ◌∙◌, ◌+◌, ◌++◌, List, [], ◌∷◌, Global, Vec, ap, arith, length, subst, sym}
 use Rattle.std.specs.Vec.Iter.{into_iter_items}
 use Rattle.std.proofs.lemmas.List.{length_push}
 use Rattle.std.proofs.lemmas.List.FromFn.{map-range_with_len_more}
@@ -65,6 +64,6 @@ loop-room-preserved c =
           ap (λ (l : List LogPassView). l ++ fresh_pass shared n ∷ []) now.1 ∙ sym (map-range_with_len_more (fresh_pass shared) 0 n n (omega arith)) in (
             subst (λ k. AreDealt shared k seats_left rows_left clocks_left) (sym longer)
                 (rest_dealt shared n seats seats_left c.in-Some.room rows rows_left c.in-Some-next.parts clocks clocks_left c.in-Some-next-2.clock seat row clock now.0),
-            more ∙ ap (λ (p : LogPassView). passes ++ p ∷ []) (ap (λ k. pass_view k c.in-Some.room c.in-Some-next.parts.items c.in-Some-next-2.clock 0) c.len-number.ensures ∙ view) ∙ front ∙ ap (fresh_log_passes shared) (sym longer),
+            more ∙ ap (λ (p : LogPassView). passes ++ p ∷ []) (ap (λ k. pass_view k c.in-Some.room c.in-Some-next.parts.items c.in-Some-next-2.clock) c.len-number.ensures ∙ view) ∙ front ∙ ap (fresh_log_passes shared) (sym longer),
           );
     }

@@ -80,7 +80,7 @@ returns-clause-asked g c =
     let step = part_step p.number p.room p.parts.items p.clock p.moment p.ticked c.pass.invariant s.room s.parts.items s.clock made part lock old less c.index.ensures c.index_mut.ensures.value room new e.room e.went e.kept e.key.of_lock e.key.ready in
     let a = c.args in
     let asked : IfOk r (λ (f : Fetched). AskedPart a.seq (fetch_outcome (slice_index (lock_name part_name lock) 0) a.replica a.asked.now part) (known old) (known new) f.entered f.numbers) = search rules in
-    let after = pass_view p.number room (set p.parts.items part new) p.clock p.ticked in
+    let after = pass_view p.number room (set p.parts.items part new) p.clock in
     let outcome = λ (n : ℕ). fetch_outcome n c.args.replica c.args.asked.now part in
     let all = slice_index (followers_in c.args.self.now) part in
     let followers : slice_index (lock_name part_name lock) 0 ≡ all =
@@ -123,5 +123,5 @@ returns-clause-refused g c =
     let room = c.fetch_from.new.pass in
     let new = c.fetch_from.new.key in
     let step = part_step p.number p.room p.parts.items p.clock p.moment p.ticked c.pass.invariant s.room s.parts.items s.clock made part lock old less c.index.ensures c.index_mut.ensures.value room new e.room e.went e.kept e.key.of_lock e.key.ready in
-    let after = pass_view p.number room (set p.parts.items part new) p.clock p.ticked in
+    let after = pass_view p.number room (set p.parts.items part new) p.clock in
     on_err r e.refused (λ saw. subst (λ (v : LogPassView). HasCaughtUp v after) c.pass.view_is (part_caught_up p.number p.room room p.parts.items p.clock p.moment p.ticked part old new step saw))

@@ -14,5 +14,5 @@ returns-clause-stepped c =
     let after = c.gauge.new.pass in
     let step = c.gauge.ensures.step in
     let went = one_step p.room.seat after.seat (Read c.args.gauge c.gauge.result) (ap (λ (v : PassView). v.seat) step) in
-    subst (λ (v : LogPassView). HasStepped v (pass_view p.number after p.parts.items p.clock p.ticked)) c.pass.view_is
-    (stepped p.number p.room after p.parts.items p.clock p.ticked went (ap (λ (v : PassView). v.locks) step))
+    subst (λ (v : LogPassView). HasStepped v (pass_view p.number after p.parts.items p.clock)) c.pass.view_is
+    (stepped p.number p.room after p.parts.items p.clock went (ap (λ (v : PassView). v.locks) step))

@@ -70,7 +70,7 @@ returns-clause-looked g c =
     let room = p.room in
     let new = c.look_into.new.key in
     let step = part_step p.number p.room p.parts.items p.clock p.moment p.ticked c.pass.invariant s.room s.parts.items s.clock made part lock old less c.index.ensures c.index_mut.ensures.value room new (of_room p.number p.room p.parts.items p.clock p.moment p.ticked c.pass.invariant s.room s.parts.items s.clock made) (stays p.room.seat) (kept_same (caller_now p.room.seat)) e.key.0 e.key.1 in
-    let after = pass_view p.number room (set p.parts.items part new) p.clock p.ticked in
+    let after = pass_view p.number room (set p.parts.items part new) p.clock in
     if_ok r e.looked
     (λ x a. subst (λ (v : LogPassView). HasLooked part c.args.seq c.args.gauge c.args.least v after x.place x.numbers) c.pass.view_is
     (part_looked p.number p.room room p.parts.items p.clock p.moment p.ticked part old new step a.found a.left a.turn c.args.seq c.args.gauge c.args.least x.place x.numbers a.entry a.place_is a.numbers_are a.late))
@@ -89,5 +89,5 @@ returns-clause-refused g c =
     let room = p.room in
     let new = c.look_into.new.key in
     let step = part_step p.number p.room p.parts.items p.clock p.moment p.ticked c.pass.invariant s.room s.parts.items s.clock made part lock old less c.index.ensures c.index_mut.ensures.value room new (of_room p.number p.room p.parts.items p.clock p.moment p.ticked c.pass.invariant s.room s.parts.items s.clock made) (stays p.room.seat) (kept_same (caller_now p.room.seat)) e.key.0 e.key.1 in
-    let after = pass_view p.number room (set p.parts.items part new) p.clock p.ticked in
+    let after = pass_view p.number room (set p.parts.items part new) p.clock in
     on_err r e.refused (λ saw. subst (λ (v : LogPassView). HasCaughtUp v after) c.pass.view_is (part_caught_up p.number p.room room p.parts.items p.clock p.moment p.ticked part old new step saw))

@@ -30,7 +30,7 @@ returns-in_err-place-clause-refused g c =
     let new = c.look_up-place.new.key in
     let step = clock_step p.number p.room p.parts.items p.clock p.moment p.ticked c.pass.invariant s.room s.parts.items s.clock made p.room new (of_room p.number p.room p.parts.items p.clock p.moment p.ticked c.pass.invariant s.room s.parts.items s.clock made) (stays p.room.seat) (kept_same (caller_now p.room.seat)) e.key.0 e.key.1 in
     let saw = err_is c.look_up-place.result.0 c.in_err-place.field-0.0 c.in_err-place.was e.refused in
-    any_err c.from_residual.result (subst (λ (v : LogPassView). HasCaughtUp v (pass_view p.number p.room p.parts.items new p.ticked)) c.pass.view_is (clock_caught_up p.number p.room p.room p.parts.items p.clock new p.moment p.ticked c.look_up-place.result.1 step e.moment saw))
+    any_err c.from_residual.result (subst (λ (v : LogPassView). HasCaughtUp v (pass_view p.number p.room p.parts.items new)) c.pass.view_is (clock_caught_up p.number p.room p.room p.parts.items p.clock new p.moment p.ticked c.look_up-place.result.1 step e.moment saw))
 
 pub invariant_of-pass-2 : goal.invariant_of-pass-2
 invariant_of-pass-2 g c =
@@ -54,5 +54,5 @@ returns-clause-looked g c =
     let step = clock_step p.number p.room p.parts.items p.clock p.moment p.ticked c.pass.invariant s.room s.parts.items s.clock made p.room new (of_room p.number p.room p.parts.items p.clock p.moment p.ticked c.pass.invariant s.room s.parts.items s.clock made) (stays p.room.seat) (kept_same (caller_now p.room.seat)) e.key.0 e.key.1 in
     let place = c.in_ok-place.field-0 in
     let told = c.look_up-place.result.1 in
-    subst (λ (v : LogPassView). HasLookedAtClock c.args.seq c.args.least v (pass_view p.number p.room p.parts.items new p.ticked) place told) c.pass.view_is
+    subst (λ (v : LogPassView). HasLookedAtClock c.args.seq c.args.least v (pass_view p.number p.room p.parts.items new) place told) c.pass.view_is
     (clock_looked p.number p.room p.room p.parts.items p.clock new p.moment p.ticked c.look_up-place.result.1 step e.moment c.args.seq c.args.least place told (ok_is _ c.look_up-place.result.0 place c.in_ok-place.was e.looked))

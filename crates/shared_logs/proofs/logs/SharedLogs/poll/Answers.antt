@@ -13,5 +13,5 @@ returns-clause-stepped c =
     let after = c.poll.new.pass in
     let made = ap (λ (v : LogPassView). v.made) c.pass.view_is ∙ c.requires.made ∙ sym c.self.view_is in
     let was = of_room p.number p.room p.parts.items p.clock p.moment p.ticked c.pass.invariant s.room s.parts.items s.clock made in
-    subst (λ (v : LogPassView). HasStepped v (pass_view p.number after p.parts.items p.clock p.ticked)) c.pass.view_is
-    (stepped p.number p.room after p.parts.items p.clock p.ticked (polled_goes c.poll.result p.room.seat after.seat c.poll.ensures.step) (c.poll.ensures.made.locks ∙ sym was.locks))
+    subst (λ (v : LogPassView). HasStepped v (pass_view p.number after p.parts.items p.clock)) c.pass.view_is
+    (stepped p.number p.room after p.parts.items p.clock (polled_goes c.poll.result p.room.seat after.seat c.poll.ensures.step) (c.poll.ensures.made.locks ∙ sym was.locks))

@@ -69,7 +69,7 @@ returns-clause-asked g c =
     let room = c.put_into.new.pass in
     let new = c.put_into.new.key in
     let step = part_step p.number p.room p.parts.items p.clock p.moment p.ticked c.pass.invariant s.room s.parts.items s.clock made part lock old less c.index.ensures c.index_mut.ensures.value room new e.room e.went e.kept e.key.of_lock e.key.ready in
-    let after = pass_view p.number room (set p.parts.items part new) p.clock p.ticked in
+    let after = pass_view p.number room (set p.parts.items part new) p.clock in
     let outcome = append_outcome part (count_of c.args.batch.now) c.args.batch.now in
     if_ok r e.asked
     (λ x a. subst (λ (v : LogPassView). HasAsked part c.args.seq outcome v after x.entered x.numbers) c.pass.view_is
@@ -89,5 +89,5 @@ returns-clause-refused g c =
     let room = c.put_into.new.pass in
     let new = c.put_into.new.key in
     let step = part_step p.number p.room p.parts.items p.clock p.moment p.ticked c.pass.invariant s.room s.parts.items s.clock made part lock old less c.index.ensures c.index_mut.ensures.value room new e.room e.went e.kept e.key.of_lock e.key.ready in
-    let after = pass_view p.number room (set p.parts.items part new) p.clock p.ticked in
+    let after = pass_view p.number room (set p.parts.items part new) p.clock in
     on_err r e.refused (λ saw. subst (λ (v : LogPassView). HasCaughtUp v after) c.pass.view_is (part_caught_up p.number p.room room p.parts.items p.clock p.moment p.ticked part old new step saw))

@@ -42,7 +42,7 @@ returns-in_err-rose-clause-refused g c =
     let new = c.tick_to-rose.new.key in
     let step = clock_step p.number p.room p.parts.items p.clock p.moment p.ticked c.pass.invariant s.room s.parts.items s.clock made c.tick_to-rose.new.pass new e.room e.went e.kept e.key.of_lock e.key.ready in
     let saw = err_is c.tick_to-rose.result.0 c.in_err-rose.field-0.0 c.in_err-rose.was e.refused in
-    any_err c.from_residual.result (subst (λ (v : LogPassView). HasCaughtUp v (pass_view p.number c.tick_to-rose.new.pass p.parts.items new p.ticked)) c.pass.view_is (clock_caught_up p.number p.room c.tick_to-rose.new.pass p.parts.items p.clock new p.moment p.ticked c.tick_to-rose.result.1 step e.moment saw))
+    any_err c.from_residual.result (subst (λ (v : LogPassView). HasCaughtUp v (pass_view p.number c.tick_to-rose.new.pass p.parts.items new)) c.pass.view_is (clock_caught_up p.number p.room c.tick_to-rose.new.pass p.parts.items p.clock new p.moment p.ticked c.tick_to-rose.result.1 step e.moment saw))
 
 pub invariant_of-pass-then-branch : goal.invariant_of-pass-then-branch
 invariant_of-pass-then-branch g c =
@@ -65,9 +65,8 @@ returns-then-branch-clause-ticked g c =
     let new = c.tick_to-rose.new.key in
     let step = clock_step p.number p.room p.parts.items p.clock p.moment p.ticked c.pass.invariant s.room s.parts.items s.clock made c.tick_to-rose.new.pass new e.room e.went e.kept e.key.of_lock e.key.ready in
     let d = ok_is _ c.tick_to-rose.result.0 c.in_ok-rose.field-0 c.in_ok-rose.was e.told in
-    subst (λ (b : Bool). HasTicked c.args.t c.args.pass.now (pass_view p.number c.tick_to-rose.new.pass p.parts.items new (cond b c.args.t p.ticked))) c.if-branch.true
-    (subst (λ (v : LogPassView). HasTicked c.args.t v (pass_view p.number c.tick_to-rose.new.pass p.parts.items new (cond c.in_ok-rose.field-0 c.args.t p.ticked))) c.pass.view_is
-    (clock_ticked p.number p.room c.tick_to-rose.new.pass p.parts.items p.clock new p.moment p.ticked c.tick_to-rose.result.1 step e.moment c.args.t c.in_ok-rose.field-0 d))
+    subst (λ (v : LogPassView). HasTicked c.args.t v (pass_view p.number c.tick_to-rose.new.pass p.parts.items new)) c.pass.view_is
+    (clock_ticked p.number p.room c.tick_to-rose.new.pass p.parts.items p.clock new p.moment p.ticked c.tick_to-rose.result.1 step e.moment c.args.t c.in_ok-rose.field-0 d)
 
 pub invariant_of-pass-else-branch : goal.invariant_of-pass-else-branch
 invariant_of-pass-else-branch g c =
@@ -90,6 +89,5 @@ returns-else-branch-clause-ticked g c =
     let new = c.tick_to-rose.new.key in
     let step = clock_step p.number p.room p.parts.items p.clock p.moment p.ticked c.pass.invariant s.room s.parts.items s.clock made c.tick_to-rose.new.pass new e.room e.went e.kept e.key.of_lock e.key.ready in
     let d = ok_is _ c.tick_to-rose.result.0 c.in_ok-rose.field-0 c.in_ok-rose.was e.told in
-    subst (λ (b : Bool). HasTicked c.args.t c.args.pass.now (pass_view p.number c.tick_to-rose.new.pass p.parts.items new (cond b c.args.t p.ticked))) c.if-branch.false
-    (subst (λ (v : LogPassView). HasTicked c.args.t v (pass_view p.number c.tick_to-rose.new.pass p.parts.items new (cond c.in_ok-rose.field-0 c.args.t p.ticked))) c.pass.view_is
-    (clock_ticked p.number p.room c.tick_to-rose.new.pass p.parts.items p.clock new p.moment p.ticked c.tick_to-rose.result.1 step e.moment c.args.t c.in_ok-rose.field-0 d))
+    subst (λ (v : LogPassView). HasTicked c.args.t v (pass_view p.number c.tick_to-rose.new.pass p.parts.items new)) c.pass.view_is
+    (clock_ticked p.number p.room c.tick_to-rose.new.pass p.parts.items p.clock new p.moment p.ticked c.tick_to-rose.result.1 step e.moment c.args.t c.in_ok-rose.field-0 d)
