@@ -1,6 +1,6 @@
 -- Decisions that are carried out one after the other.
-use Rattle.std.proofs.Common.{◌≡◌, ℕ, ◌<◌, List, [], ◌∷◌, ◌++◌, length, get_or, set, Option, Some, None, Result, Ok, Err, unwrap_or, refl, sym, ap, subst, ◌∙◌, append_assoc, append-nil}
-use Rattle.std.proofs.lemmas.List.{map-append, set-get_or}
+use Rattle.std.proofs.Common.{◌≡◌, ℕ, ◌<◌, List, [], ◌∷◌, ◌++◌, length, get_or, set, Option, Some, None, Result, Ok, Err, unwrap_or, refl, sym, ap, ◌∙◌, append_assoc, append-nil}
+use Rattle.std.proofs.lemmas.List.{map-append}
 use Rattle.std.proofs.lemmas.List.Elements.{filter_map-append}
 use Rattle.std.proofs.lemmas.Option.{slice_get-get_or}
 use Rattle.std.specs.Prelude.{OnOk}
@@ -19,7 +19,7 @@ use Rattle.plain_broker.specs.Board.{history_at, empty_history}
 use Rattle.plain_broker.specs.Entering.{Noted, entered, accept_all, steps_of, shown_of}
 use Rattle.acceptance.specs.declared.entered.Entered.{Entered}
 use Rattle.acceptance.specs.Entered.{HasEntered}
-use Rattle.broker.specs.Carried.{Came, IsEntered, IsSettled, IsCarried}
+use Rattle.broker.specs.Carried.{Came, IsEntered, IsCarried}
 
 pub on_ok : {T E : Type 0} {P Q : Type 0} (r : Result T E) → OnOk r P → (P → Q) → OnOk r Q
 on_ok (Ok x) p f = f p
@@ -120,11 +120,3 @@ entered_carried by seq part parts after h left outcome came later lt at e is =
       accepted = e.accepted ∙ ap (λ (x : History). came.accepted ++ (outcome (state_of x)).result ∷ []) same;
       points = e.points ∙ ap (λ (x : History). came.points ++ record { part = part; place = length x.events } ∷ []) same;
     }
-
-pub settled_carried : (by seq part : ℕ) (decision : Decision) (parts after : List History) (h left : History) (came later : Came) → part < length parts → h ≡ get_or parts part h
-    → IsSettled by seq part decision h left came later → after ≡ set parts part left → IsCarried by seq (decision ∷ []) parts after came later
-settled_carried by seq part (Refuse code) parts after h left came later lt at s is =
-    let none : after ≡ parts = is ∙ ap (set parts part) (s.0 ∙ at) ∙ set-get_or parts part h in
-    subst (λ (ps : List History). IsCarried by seq (Refuse code ∷ []) parts ps came later) (sym none) (refusal_carried by seq code parts came later s.1)
-settled_carried by seq part (AskLog number outcome) parts after h left came later lt at s is =
-    subst (λ (n : ℕ). IsCarried by seq (AskLog n outcome ∷ []) parts after came later) (sym s.0) (entered_carried by seq part parts after h left outcome came later lt at s.1 is)

@@ -4,16 +4,12 @@ pub mod DecisionSteps
 pub mod ProduceParts
 -- no partition's followers change
 pub mod Followers
--- a request asks no log twice
-pub mod NamedOnce
 -- what became of the partitions of a request stands for logs that are there
 pub mod ResultsStand
 -- what is read of the logs for a reply, and how many bytes of records that are
 pub mod ReadForReply
 -- the reply to a request comes from what became of its partitions and their logs
 pub mod Alike
--- the reply to a request that was read has a frame
-pub mod Spellable
 -- logs without entries, one after the other
 pub mod Openings
 -- the parts of an account, one after the other, and the whole

@@ -1,45 +1,21 @@
 -- What is decided of the partitions of a produce or a fetch, one after the other.
-use Rattle.std.proofs.Common.{◌≡◌, ℕ, ◌+◌, ◌<◌, ℤ, pos, Bool, true, false, List, [], ◌∷◌, ◌++◌, length, get_or, map, take, Option, Some, None, unwrap_or, refl, sym, ap, subst, ◌∙◌, append-nil}
+use Rattle.std.proofs.Common.{◌≡◌, ℕ, ◌+◌, ◌<◌, ℤ, List, [], ◌∷◌, ◌++◌, length, get_or, map, take, sym, ap, subst, ◌∙◌, append-nil}
 use Rattle.std.proofs.lemmas.List.{map-append, take_more}
 use Rattle.std.proofs.lemmas.Grind.{flat_map-append}
-use Rattle.std.specs.Prelude.{MatchOption, MatchBool, is_some}
 use Rattle.std.specs.List.{AllZip, flat_map}
 use Rattle.partlog.specs.History.{History}
 use Rattle.broker.specs.Carried.{Came}
-use Rattle.broker.specs.declared.accept.Terms.{Terms}
+use Rattle.decided_parts.specs.declared.terms.Terms.{Terms}
+use Rattle.decided_parts.specs.OnTerms.{OnTerms}
 use Rattle.kwire.specs.declared.request.ProducePart.{ProducePart}
 use Rattle.kwire.specs.declared.request.ProduceTopic.{ProduceTopic}
 use Rattle.kwire.specs.declared.request.FetchPart.{FetchPart}
 use Rattle.kwire.specs.declared.request.FetchTopic.{FetchTopic}
 use Rattle.kwire.specs.Configuration.{Configuration, part_of}
-use Rattle.kanswer.specs.Decisions.{Decision, Refuse, BatchDecides, ProduceDecides, is_acks, produce_parts, fetch_parts, fetch_decision}
-use Rattle.broker.specs.Carried.{IsCarried, OnTerms, HasProduced, fetch_decisions}
+use Rattle.kanswer.specs.Decisions.{Decision, ProduceDecides, produce_parts, fetch_parts, fetch_decision}
+use Rattle.broker.specs.Carried.{IsCarried, HasProduced, fetch_decisions}
 use Rattle.broker.proofs.DecisionSteps.{carried_on, carried_none, all_zip_append}
 use Rattle.broker.proofs.ResultsStand.{accepted_size}
-
-pub produce_with_id : (config : Configuration) (acks : ℤ) (named : List ℕ × ProducePart) (id : Option (List ℕ)) → is_some id ≡ true → ProduceDecides config id acks named (Refuse (pos 42))
-produce_with_id config acks named None e = absurd cc
-produce_with_id config acks named (Some id) e = refl
-
-pub produce_unknown : (config : Configuration) (acks : ℤ) (named : List ℕ × ProducePart) (id : Option (List ℕ)) → is_some id ≡ false → part_of config named.0 named.1.index ≡ None
-    → ProduceDecides config id acks named (Refuse (pos 3))
-produce_unknown config acks named (Some id) e none = absurd cc
-produce_unknown config acks named None e none =
-    subst (λ (o : Option ℕ). MatchOption o (Refuse (pos 3) ≡ Refuse (pos 3)) (λ part. MatchBool (is_acks acks) (BatchDecides part (unwrap_or named.1.records []) (Refuse (pos 3))) (Refuse (pos 3) ≡ Refuse (pos 21)))) (sym none) refl
-
-pub produce_bad_acks : (config : Configuration) (acks : ℤ) (named : List ℕ × ProducePart) (id : Option (List ℕ)) (part : ℕ) → is_some id ≡ false → part_of config named.0 named.1.index ≡ Some part
-    → is_acks acks ≡ false → ProduceDecides config id acks named (Refuse (pos 21))
-produce_bad_acks config acks named (Some id) part e some bad = absurd cc
-produce_bad_acks config acks named None part e some bad =
-    subst (λ (o : Option ℕ). MatchOption o (Refuse (pos 21) ≡ Refuse (pos 3)) (λ part. MatchBool (is_acks acks) (BatchDecides part (unwrap_or named.1.records []) (Refuse (pos 21))) (Refuse (pos 21) ≡ Refuse (pos 21)))) (sym some)
-    (subst (λ (b : Bool). MatchBool b (BatchDecides part (unwrap_or named.1.records []) (Refuse (pos 21))) (Refuse (pos 21) ≡ Refuse (pos 21))) (sym bad) refl)
-
-pub produce_batch : (config : Configuration) (acks : ℤ) (named : List ℕ × ProducePart) (id : Option (List ℕ)) (part : ℕ) (decision : Decision) → is_some id ≡ false → part_of config named.0 named.1.index ≡ Some part
-    → is_acks acks ≡ true → BatchDecides part (unwrap_or named.1.records []) decision → ProduceDecides config id acks named decision
-produce_batch config acks named (Some id) part decision e some good d = absurd cc
-produce_batch config acks named None part decision e some good d =
-    subst (λ (o : Option ℕ). MatchOption o (decision ≡ Refuse (pos 3)) (λ part. MatchBool (is_acks acks) (BatchDecides part (unwrap_or named.1.records []) decision) (decision ≡ Refuse (pos 21)))) (sym some)
-    (subst (λ (b : Bool). MatchBool b (BatchDecides part (unwrap_or named.1.records []) decision) (decision ≡ Refuse (pos 21))) (sym good) d)
 
 -- no partition yet
 pub produced_none : (config : Configuration) (terms : Terms) (by seq : ℕ) (topics : List ProduceTopic) (parts : List History) (came : Came) → produce_parts topics ≡ []

@@ -1,17 +1,17 @@
 -- Decisions were carried out: the histories are those that accepting leaves, and its results and points stand after those
 -- that came before.
-use Rattle.std.specs.Prelude.{◌≡◌, ℕ, ℤ, List, [], ◌∷◌, ◌++◌, length, map, Option, is_some}
+use Rattle.std.specs.Prelude.{◌≡◌, ℕ, ℤ, List, [], ◌∷◌, ◌++◌, length, map}
 use Rattle.std.specs.List.{AllZip}
 use Rattle.partlog.specs.History.{History}
 use Rattle.audit.specs.declared.account.Point.{Point}
 use Rattle.kanswer.specs.declared.accepted.Accepted.{Accepted}
-use Rattle.broker.specs.declared.accept.Terms.{Terms}
+use Rattle.decided_parts.specs.declared.terms.Terms.{Terms}
+use Rattle.decided_parts.specs.OnTerms.{OnTerms}
 use Rattle.kwire.specs.declared.request.ProduceTopic.{ProduceTopic}
 use Rattle.kwire.specs.declared.request.FetchTopic.{FetchTopic}
 use Rattle.kwire.specs.Configuration.{Configuration, part_of}
-use Rattle.kanswer.specs.declared.accepted.Accepted.TheVariants.{Refused}
 use Rattle.partlog.specs.State.{PartState as State, state_of}
-use Rattle.kanswer.specs.Decisions.{Outcome, Decision, Refuse, AskLog, ProduceDecides, produce_parts, fetch_parts, fetch_decision}
+use Rattle.kanswer.specs.Decisions.{Outcome, Decision, ProduceDecides, produce_parts, fetch_parts, fetch_decision}
 use Rattle.plain_broker.specs.Entering.{entered, accept_all, steps_of, shown_of}
 use Rattle.kanswer.specs.Waiting.{results_of}
 use Rattle.audit.specs.LawfulCall.{step_points}
@@ -27,20 +27,10 @@ pub record IsEntered (by seq part : ℕ) (outcome : State → Outcome) (before a
   pub accepted : later.accepted ≡ came.accepted ++ (outcome (state_of before)).result ∷ []
   pub points : later.points ≡ came.points ++ record { part = part; place = length before.events } ∷ []
 
--- what was decided of one partition, which has this number and this history, was carried out
-abbrev pub IsSettled : ℕ → ℕ → ℕ → Decision → History → History → Came → Came → Type 0
-IsSettled by seq part (Refuse code) before after came later =
-    (after ≡ before) × (later ≡ record { accepted = came.accepted ++ Refused code ∷ []; points = came.points })
-IsSettled by seq part (AskLog number outcome) before after came later = (number ≡ part) × IsEntered by seq part outcome before after came later
-
 pub record IsCarried (by seq : ℕ) (decisions : List Decision) (before after : List History) (came later : Came) : Type 0 where
   pub histories : after ≡ (accept_all by seq decisions before).1
   pub accepted : later.accepted ≡ came.accepted ++ results_of (shown_of (accept_all by seq decisions before).0)
   pub points : later.points ≡ came.points ++ step_points (steps_of (accept_all by seq decisions before).0)
-
--- for each transactional id that a produce on these terms may have
-abbrev pub OnTerms : Terms → (Option (List ℕ) → Type 0) → Type 0
-OnTerms terms P = (id : Option (List ℕ)) → is_some id ≡ terms.is_transactional → P id
 
 -- the partitions that these topics name were decided and carried out
 pub record HasProduced (config : Configuration) (terms : Terms) (by seq : ℕ) (topics : List ProduceTopic) (before after : List History) (came later : Came) : Type 0 where

@@ -1,6 +1,6 @@
 -- What is read of the named partitions as their logs are: of one that was appended its numbers, of one that is seen its numbers and
 -- the batches that the reply takes of it, of the others nothing.
-use Rattle.std.specs.Prelude.{ℕ, ◌+◌, ℤ, List, [], ◌∷◌, length, sum_by, map, if◌then◌else◌}
+use Rattle.std.specs.Prelude.{ℤ, List, [], ◌∷◌, map}
 use Rattle.partlog.specs.History.{History}
 use Rattle.partlog.specs.State.{PartState as State, state_of}
 use Rattle.partlog.specs.Gauges.{numbers_of}
@@ -70,11 +70,3 @@ left_behind parts replica [] accepted budget = budget
 left_behind parts replica (asked ∷ more) [] budget = budget
 left_behind parts replica (asked ∷ more) (became ∷ accepted) budget =
     left_behind parts replica more accepted (left_now parts replica asked became budget)
-
--- the bytes of records that were read
-abbrev pub bytes_read : List Reading → ℕ
-bytes_read readings = sum_by (λ reading. length reading.records) readings
-
--- the most that a reply may still take: what is left, and the first batch of a log whatever its length
-abbrev pub most_left : Budget → ℕ
-most_left budget = budget.left + (if budget.any then 0 else 67108864)

@@ -1,15 +1,17 @@
 //! Accepting a request: each partition that it names is decided in order, and where its log is asked it gets an entry.
 
-ghost use Rattle.std.specs.Prelude.{◌≡◌, ◌∷◌, [], List as Items, length, map, OnOk, unwrap_or};
+ghost use Rattle.std.specs.Prelude.{◌≡◌, ◌∷◌, [], List as Items, length, map, OnOk};
 ghost use Rattle.kbatch.specs.Kept.{count_of};
 ghost use Rattle.kwire.specs.Configuration.{followers_of, partitions_of, part_of};
-ghost use Rattle.kanswer.specs.Decisions.{Decision, append_outcome, BatchDecides, ProduceDecides, fetch_outcome, fetch_decision, is_acks, Decides};
-ghost use Rattle.broker.specs.Carried.{IsEntered, IsSettled, IsCarried, OnTerms, HasProduced, fetch_decisions};
+ghost use Rattle.kanswer.specs.Decisions.{Decision, append_outcome, ProduceDecides, fetch_outcome, fetch_decision, Decides};
+ghost use Rattle.decided_parts.specs.OnTerms.{OnTerms};
+ghost use Rattle.broker.specs.Carried.{IsEntered, IsCarried, HasProduced, fetch_decisions};
 
 use crate::came::Came;
 use acceptance::{enter_batch, enter_fetch};
-use kanswer::{Accepted, code_of};
-use kbatch::{BatchView, view_batch};
+use decided_parts::{Terms, decide_put};
+use kanswer::Accepted;
+use kbatch::BatchView;
 use kbytes::NoMemory;
 use kwire::{
     AskView, Config, FetchPart, FetchTopicView, ProducePartView, ProduceTopicView, RequestView,
@@ -30,56 +32,11 @@ fn put(
     came.note_at(entered.became, part, entered.place)
 }
 
-/// Accepts what a produce puts into one partition, over its log alone: the bytes go to the end of the log, where they are a
-/// batch and there is room. After want of memory the log may have its entry.
-pub fn accept_produce_part(
-    log: &mut PartLog,
-    who: Who,
-    part: u32,
-    bytes: &[u8],
-    came: &mut Came,
-) -> Result<(), NoMemory>
-    ensures { OnOk result ((decision : Decision) × BatchDecides part bytes.now decision
-        × IsSettled who.by who.seq part decision log.old log.new came.old came.new) }
-{
-    match view_batch(bytes) {
-        Ok(batch) => put(log, who, part, &batch, came),
-        Err(fault) => came.note(Accepted::Refused {
-            code: code_of(&fault),
-        }),
-    }
-}
-
 /// Which call asks, and of what topics.
 #[derive(Clone, Copy, Debug)]
 pub struct Asking<'a> {
     pub config: &'a Config,
     pub who: Who,
-}
-
-fn records_of<'a>(part: &ProducePartView<'a>) -> &'a [u8]
-    ensures { result.now ≡ unwrap_or part.now.records [] }
-{
-    match part.records {
-        None => &[],
-        Some(records) => records,
-    }
-}
-
-/// On what terms a produce is asked: whether it has a transactional id, and which acks.
-#[derive(Clone, Copy, Debug, PartialEq, Eq)]
-pub struct Terms {
-    pub is_transactional: bool,
-    pub acks: i16,
-}
-
-impl Terms {
-    // The acks are -1, 0 or 1.
-    fn has_known_acks(&self) -> bool
-        ensures { result ≡ is_acks self.now.acks }
-    {
-        self.acks == -1 || self.acks == 0 || self.acks == 1
-    }
 }
 
 // Decides one partition of a produce, and asks its log where nothing refuses it before.
@@ -95,17 +52,13 @@ fn produce_one(
     ensures { OnOk result ((decision : Decision) × OnTerms terms (λ id. ProduceDecides call.now.config.now id terms.acks (topic.now, part.now) decision)
         × IsCarried call.now.who.by call.now.who.seq (decision ∷ []) parts.old parts.new came.old came.new) }
 {
-    if terms.is_transactional {
-        return came.note(Accepted::Refused { code: 42 });
+    match decide_put(call.config, terms, topic, part) {
+        Ok((number, batch)) => {
+            let log = &mut parts[number as usize];
+            put(log, call.who, number, &batch, came)
+        }
+        Err(code) => came.note(Accepted::Refused { code }),
     }
-    let Some(number) = call.config.part_of(topic, part.index) else {
-        return came.note(Accepted::Refused { code: 3 });
-    };
-    if !terms.has_known_acks() {
-        return came.note(Accepted::Refused { code: 21 });
-    }
-    let log = &mut parts[number as usize];
-    accept_produce_part(log, call.who, number, records_of(part), came)
 }
 
 // One topic of a produce.

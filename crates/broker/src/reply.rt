@@ -7,13 +7,14 @@ ghost use Rattle.kanswer.specs.Answer.{answer};
 ghost use Rattle.kanswer.specs.LogReadings.{AreReadings, IsCarriable, HasCarriable, named_count, budget_of};
 ghost use Rattle.kwire.specs.IsRequest.{IsRequest};
 ghost use Rattle.plain_broker.specs.Declared.{AreDeclared};
-ghost use Rattle.broker.specs.Gathered.{numbers_now, reading_now, left_now, readings_now, left_behind, bytes_read, most_left, shown_in_logs, numbers_in, part_numbers};
+ghost use Rattle.reply_frames.specs.BytesRead.{bytes_read, most_left};
+ghost use Rattle.broker.specs.Gathered.{numbers_now, reading_now, left_now, readings_now, left_behind, shown_in_logs, numbers_in, part_numbers};
 ghost use Rattle.kwire.specs.Spelling.{spelling};
 ghost use Rattle.broker.specs.Replying.{HasLog, ShowsLogs};
 
-use kanswer::{Accepted, Budget, Reading, answer, read_asked, read_nothing, read_numbers};
+use kanswer::{Accepted, Budget, Reading, read_asked, read_nothing, read_numbers};
 use kbytes::{Bytes, List, NoMemory};
-use kwire::{AskView, Config, FetchPart, FetchTopicView, RequestView, reply_bytes};
+use kwire::{AskView, Config, FetchPart, FetchTopicView, RequestView};
 use partlog::{Numbers, PartLog};
 use std::alloc::Global;
 
@@ -173,8 +174,7 @@ pub fn reply_frame(
         → frame ≡ spelling (answer config.now request.now shown)) }
 {
     let readings = gather(alloc, parts, request, accepted)?;
-    let reply = answer(alloc, config, request, accepted, readings.as_slice())?;
-    reply_bytes(alloc, &reply)
+    reply_frames::reply_frame(alloc, config, request, accepted, readings.as_slice())
 }
 
 const NO_NUMBERS: Numbers = Numbers {

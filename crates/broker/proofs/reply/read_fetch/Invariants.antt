@@ -1,7 +1,8 @@
 use Rattle.std.proofs.Common.{◌≡◌, ◌≤◌, ◌+◌, ◌++◌, drop, length, sum_by, All}
 use Rattle.std.specs.List.{flat_map}
 use Rattle.kanswer.specs.LogReadings.{HasCarriable}
-use Rattle.broker.specs.Gathered.{readings_now, bytes_read, most_left}
+use Rattle.reply_frames.specs.BytesRead.{bytes_read, most_left}
+use Rattle.broker.specs.Gathered.{readings_now}
 use Rattle.broker.proofs.reply.read_fetch.Given as goal
 
 abbrev pub invariant-loop-topic : goal.invariant-loop-topic

@@ -4,8 +4,9 @@ use Rattle.std.specs.Int.{w32}
 use Rattle.partlog.specs.State.{PartState, state_of}
 use Rattle.partlog.specs.Gauges.{bytes_in}
 use Rattle.acceptance.proofs.Laws.{log_bytes}
+use Rattle.reply_frames.proofs.Laws.{seen_room}
 use Rattle.broker.proofs.DecisionSteps.{on_ok}
-use Rattle.broker.proofs.ReadForReply.{if_ok_two, if_ok_both, seen_read, seen_left, seen_room}
+use Rattle.broker.proofs.ReadForReply.{if_ok_two, if_ok_both, seen_read, seen_left}
 use Rattle.broker.proofs.reply.read_one.Goals as goal
 
 pub returns-in-Seen-clause-left : goal.returns-in-Seen-clause-left

@@ -1,6 +1,7 @@
 use Rattle.std.proofs.Common.{◌≡◌, ◌≤◌, ◌+◌, ◌++◌, drop, All}
 use Rattle.kanswer.specs.LogReadings.{HasCarriable}
-use Rattle.broker.specs.Gathered.{readings_now, left_behind, bytes_read, most_left}
+use Rattle.reply_frames.specs.BytesRead.{bytes_read, most_left}
+use Rattle.broker.specs.Gathered.{readings_now, left_behind}
 use Rattle.broker.proofs.reply.read_topic.Given as goal
 
 abbrev pub invariant-loop-at : goal.invariant-loop-at

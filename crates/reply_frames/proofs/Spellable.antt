@@ -28,7 +28,7 @@ use Rattle.kanswer.specs.Answer.{produced_parts, produced_topics, first_budget, 
 use Rattle.kanswer.specs.LogReadings.{AreReadings, budget_of}
 use Rattle.kwire.specs.Configuration.{Configuration, partitions_of}
 use Rattle.kanswer.specs.Waiting.{Shown}
-use Rattle.broker.specs.Gathered.{bytes_read, most_left}
+use Rattle.reply_frames.specs.BytesRead.{bytes_read, most_left}
 use Rattle.kwire.specs.IsRequest.{IsRequest, Named, named_of, topics_named, ask_fields, produce_part_fields, produce_topic_fields, fetch_part_fields, fetch_topic_fields}
 use Rattle.kwire.specs.IsSpellable.{IsSpellable}
 use Rattle.kanswer.specs.ToldParts.{parts_by, fetched_part, fetched_topic, fetched_of}

@@ -19,6 +19,7 @@ use Rattle.kwire.specs.Configuration.{Configuration, part_from, part_of, partiti
 use Rattle.kwire.specs.IsRequest.{IsRequest, Named, named_of}
 use Rattle.kanswer.specs.Decisions.{Decision, Refuse, AskLog, Decides, BatchDecides, ProduceDecides, fetch_decision, is_acks, produce_parts, fetch_parts}
 use Rattle.audit.proofs.Laws.{some_is}
+use Rattle.decided_parts.specs.Deciding.{AsksOther, AskOnce, AsksWithin}
 
 -- ---- a partition has one name
 
@@ -90,16 +91,6 @@ part_within before (topic ∷ topics) name (pos n) p e =
 
 -- ---- decisions that ask no log twice
 
--- it asks another log than that of this partition
-abbrev pub AsksOther : ℕ → Decision → Type 0
-AsksOther part (Refuse code) = Unit {0}
-AsksOther part (AskLog other outcome) = other ≢ part
-
-abbrev pub AskOnce : List Decision → Type 0
-AskOnce [] = Unit {0}
-AskOnce (Refuse code ∷ decisions) = AskOnce decisions
-AskOnce (AskLog part outcome ∷ decisions) = AllByRecursion (AsksOther part) decisions × AskOnce decisions
-
 -- where a log is asked, it is that of the named partition
 abbrev Asks : Configuration → Named → Decision → Type 0
 Asks config named (Refuse code) = Unit {0}
@@ -166,7 +157,7 @@ module _ {P : Type 0} (index : P → ℤ) where
         ∙ ap (λ (ns : List Named). map named_by here ++ ns) (all_names topics)
         ∙ sym (map-append named_by here later)
 
-pub asks_named : (config : Configuration) (ask : Ask) (decisions : List Decision) → Decides config ask decisions → AllZip (Asks config) (named_of ask) decisions
+asks_named : (config : Configuration) (ask : Ask) (decisions : List Decision) → Decides config ask decisions → AllZip (Asks config) (named_of ask) decisions
 asks_named config (Produce transactional acks timeout topics) decisions d =
     subst (λ (ns : List Named). AllZip (Asks config) ns decisions) (sym (all_names (λ (part : ProducePart). part.index) (λ (t : ProduceTopic). t.name) (λ (t : ProduceTopic). t.parts) topics))
     (produces_ask config transactional acks (produce_parts topics) decisions d)
@@ -224,11 +215,6 @@ request_asks_once config request body decisions asked d =
       | inl whole ↦ once_asked config (named_of request.ask) decisions (pairs_once (named_of request.ask) whole.once) (asks_named config request.ask decisions d)
       | inr other ↦ nothing_named config request decisions (ap named_of other.asked) (asks_named config request.ask decisions d)
     ]
-
--- the log that is asked is one of so many
-abbrev pub AsksWithin : ℕ → Decision → Type 0
-AsksWithin n (Refuse code) = Unit {0}
-AsksWithin n (AskLog part outcome) = part < n
 
 asks_within : (config : Configuration) (name : Named) (decision : Decision) → Asks config name decision → AsksWithin (partitions_of config.topics) decision
 asks_within config name (Refuse code) asks = tt
