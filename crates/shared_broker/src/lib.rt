@@ -1,0 +1,44 @@
+//! The broker that threads share: produce and fetch requests over partitions behind locks, and a room in which those wait that can't be
+//! answered yet.
+//!
+//! # The calls
+//!
+//! ```text
+//! let (broker, passes) = Broker::make(alloc, config, count)?;      // a pass for each thread or session
+//!
+//! broker.begin(pass, number);                                      // a session begins
+//! match broker.handle(rt, pass, frame) {                           // one request, without its size
+//!     Handled::Reply(frame) => ..                                  // the whole frame of the reply
+//!     Handled::Quiet => ..                                         // it asks for none
+//!     Handled::Parked { deadline } => ..                           // it waits
+//!     Handled::Ended(end) => ..                                    // it is no request; the session is to be finished so
+//!     Handled::NoMemory => ..
+//! }
+//! broker.wait(rt, pass, most);                                     // sleeps while it waits
+//! broker.collect(rt, pass)                                         // NotYet while it waits, and then the reply
+//! broker.tick(rt, pass, t)?;                                       // the clock comes to t
+//! broker.finish(pass, end)?;
+//!
+//! match broker.close(rt, passes) { BrokerEnd::Closed(account) => .. }
+//! ```
+//!
+//! However the threads interleave, the account of `close` is lawful (`HasClosed`): each pass keeps a book of what it saw and did
+//! (`pass_books`), and the books of all passes come to one account.
+#![tactic(auto)]
+
+mod broker;
+mod calling;
+mod closing;
+mod collecting;
+mod completing;
+mod crossing;
+mod parked;
+mod pass;
+mod sessions;
+
+pub use broker::Broker;
+pub use calling::Handled;
+pub use closing::BrokerEnd;
+pub use collecting::Collected;
+pub use parked::Parked;
+pub use pass::Pass;

@@ -1,0 +1,12 @@
+//! What is kept of a request that waits.
+
+use kanswer::Accepted;
+use kbytes::List;
+use opcond::Op;
+
+/// What became of each partition that a request names, and its operation.
+#[derive(Debug, Drop)]
+pub struct Parked {
+    pub(crate) accepted: List<Accepted>,
+    pub(crate) op: Op,
+}

@@ -1,0 +1,94 @@
+//! A pass's sessions, and the clock.
+ghost use Rattle.std.specs.Prelude.{◌≡◌, ◌≤◌, IfOk, IsSome, None, OnErr, OnOk};
+ghost use Rattle.partlog.specs.declared.clock_event.TheConstants.{MOST_MOMENT};
+ghost use Rattle.shared_broker.specs.Moved.{HasFewCalls, HasMoved};
+ghost use Rattle.shared_broker.specs.Passes.{made_with};
+ghost use Rattle.shared_broker.specs.Sessions.{HasEnded, HasOnlySeen, HasToldClock, MayEnd, with_begun};
+
+use crate::broker::Broker;
+use crate::pass::Pass;
+use audit::{SessionEnd, Transcript};
+use kbytes::{List, NoMemory};
+use std::alloc::Global;
+use std::sync::Wait;
+use std::time::Duration;
+
+impl Broker {
+    /// Begins the transcript of a session of this number. It takes no memory.
+    pub fn begin(&self, pass: &mut Pass, number: u64)
+        requires made { made_with pass.old ≡ self.now }
+        requires none { pass.old.going ≡ None }
+        ensures { pass.new ≡ with_begun pass.old number }
+    {
+        pass.going = Some(Transcript {
+            number,
+            first: pass.first,
+            calls: List::new(self.alloc),
+            end: None,
+        });
+    }
+
+    /// Ends the transcript that is going. Its request, if one waited, has been collected; and where its last call met want of memory, it ends so.
+    /// After want of memory the transcript goes on.
+    pub fn finish(&self, pass: &mut Pass, end: SessionEnd) -> Result<(), NoMemory>
+        requires made { made_with pass.old ≡ self.now }
+        requires begun { IsSome pass.old.going }
+        requires none { pass.old.waits ≡ None }
+        requires cut { MayEnd pass.old.going end }
+        ensures ended { OnOk result (HasEnded end pass.old pass.new) }
+        ensures refused { OnErr result (pass.new ≡ pass.old) }
+    {
+        let calls = end_going(self.alloc, &mut pass.ended, &mut pass.going, end)?;
+        pass.first += calls;
+        Ok(())
+    }
+
+    /// Tells the clock a moment in milliseconds. Where it is above the clock's, the clock comes to it, and all whose deadline that is are won;
+    /// else nothing changes. A request of the pass may wait meanwhile. After want of memory the clock is as it was.
+    pub fn tick(&self, rt: &impl Wait, pass: &mut Pass, t: u64) -> Result<(), NoMemory>
+        requires made { made_with pass.old ≡ self.now }
+        requires limit { t ≤ MOST_MOMENT }
+        ensures told { OnOk result (HasToldClock t pass.old pass.new) }
+        ensures refused { OnErr result (HasOnlySeen pass.old pass.new) }
+    {
+        let told = self.logs.tick(rt, &mut pass.logs, t);
+        self.logs.settle(rt, &mut pass.logs);
+        pass.logs.keeps();
+        told
+    }
+
+    /// Sleeps while the pass's request waits, for no longer than `most`. It may also return for no reason: `collect` tells.
+    pub fn wait(&self, rt: &impl Wait, pass: &Pass, most: Duration)
+        requires { made_with pass.now ≡ self.now }
+    {
+        self.logs.wait(rt, &pass.logs, most);
+    }
+}
+
+// The transcript that is going is ended, and stands behind the others. Answers how many calls it has. After want of memory both are as they were.
+fn end_going(
+    alloc: Global,
+    ended: &mut List<Transcript>,
+    going: &mut Option<Transcript>,
+    end: SessionEnd,
+) -> Result<u32, NoMemory>
+    requires begun { IsSome going.old }
+    requires few { HasFewCalls going.old }
+    ensures moved { IfOk result (λ calls. HasMoved end calls ended.old going.old ended.new going.new) }
+    ensures refused { OnErr result ((ended.new ≡ ended.old) × (going.new ≡ going.old)) }
+{
+    ended.push(Transcript {
+        number: 0,
+        first: 0,
+        calls: List::new(alloc),
+        end: None,
+    })?;
+    let Some(mut transcript) = going.take() else {
+        unreachable!()
+    };
+    let calls = transcript.calls.len() as u32;
+    transcript.end = Some(end);
+    let last = ended.len() - 1;
+    ended.as_mut_slice()[last] = transcript;
+    Ok(calls)
+}
