@@ -23,7 +23,7 @@ use Rattle.workers.proofs.Moments.{latest_from, risen, stayed}
 
 -- ---- the ticks of a history
 
-ticks_after : (xs ys : List ClockEvent) → ticks_of (xs ++ ys) ≡ ticks_of xs ++ ticks_of ys
+pub ticks_after : (xs ys : List ClockEvent) → ticks_of (xs ++ ys) ≡ ticks_of xs ++ ticks_of ys
 ticks_after [] ys = refl
 ticks_after (Tick t ∷ xs) ys = ap (λ (ts : List ℕ). t ∷ ts) (ticks_after xs ys)
 ticks_after (Look by seq ∷ xs) ys = ticks_after xs ys
@@ -33,11 +33,11 @@ told_ticks [] = refl
 told_ticks (Tick t ∷ events) = ap (λ (ts : List ℕ). t ∷ ts) (told_ticks events)
 told_ticks (Look by seq ∷ events) = told_ticks events
 
-moment_is : (events : List ClockEvent) → moment_of events ≡ fold max 0 (ticks_of events)
+pub moment_is : (events : List ClockEvent) → moment_of events ≡ fold max 0 (ticks_of events)
 moment_is events = ap (fold max 0) (told_ticks events)
 
 -- numbers that rise, of which each stands in a front, are that front
-none_more : (front more : List ℕ) → IsStrictlyIncreasing (0 ∷ front ++ more) → All (Contains front) (front ++ more) → more ≡ []
+pub none_more : (front more : List ℕ) → IsStrictlyIncreasing (0 ∷ front ++ more) → All (Contains front) (front ++ more) → more ≡ []
 none_more front [] up all = refl
 none_more front (m ∷ ms) up all =
     let whole = front ++ m ∷ ms in
@@ -49,7 +49,7 @@ none_more front (m ∷ ms) up all =
     absurd (omega (arith, rises, before, get_or-append_seam front m ms 0))
 
 -- a history that only others went on with has no ticks but the pass's own only where it had none before
-own_alone : (seen more : List ClockEvent) (own : List ℕ) → IsStrictlyIncreasing (0 ∷ own) → All (Contains (ticks_of seen)) own → ticks_of (seen ++ more) ≡ own → ticks_of seen ≡ own
+pub own_alone : (seen more : List ClockEvent) (own : List ℕ) → IsStrictlyIncreasing (0 ∷ own) → All (Contains (ticks_of seen)) own → ticks_of (seen ++ more) ≡ own → ticks_of seen ≡ own
 own_alone seen more own up all same =
     let parts : ticks_of seen ++ ticks_of more ≡ own = sym (ticks_after seen more) ∙ same in
     let none : ticks_of more ≡ [] = none_more (ticks_of seen) (ticks_of more)

@@ -10,3 +10,5 @@ mod Lanes
 mod Clocks
 -- a worker may do each line that is its own
 mod Taking
+-- what the crates above may cite
+pub mod Laws

@@ -1,0 +1,83 @@
+//! Lines are run.
+ghost use Rattle.std.specs.Prelude.{◌≡◌, ◌≤◌, ◌<◌, ℕ, [], false, IfOk, length};
+ghost use Rattle.trace_file.specs.Contents.{sessions_of};
+ghost use Rattle.workers.specs.Lanes.{HasAll, HasDone, IsSameLane};
+ghost use Rattle.workers.specs.Playable.{AreTraced};
+ghost use Rattle.worker_runs.specs.Dealt.{AreDealt, AreWorked};
+ghost use Rattle.worker_runs.specs.WorkerRun.{IsWorkerRun};
+
+use crate::dealing::{deal, gather};
+use audit::Account;
+use kbytes::NoMemory;
+use shared_broker::Broker;
+use std::alloc::Global;
+use std::sync::Wait;
+use std::thread;
+use std::thread::Threads;
+use trace_file::{Line, config_of};
+use workers::{Gate, Lane};
+
+// One more than the greatest session that is named, or 0.
+fn sessions_of(lines: &[Line]) -> u32
+    requires { AreTraced lines.now }
+    ensures { result ≡ sessions_of lines.now }
+{
+    let mut count = 0;
+    for line in lines {
+        match line {
+            Line::Feed { session, .. } | Line::Shut { session } => count = count.max(*session + 1),
+            Line::Topic { .. } | Line::Clock { .. } | Line::End => {}
+        }
+    }
+    count
+}
+
+// Each worker does its lines, in a thread of its own where one can be started.
+fn work_all<R: Threads + Wait + Sync, G: Gate + Sync>(
+    rt: &R,
+    broker: &Broker,
+    gate: &G,
+    lines: &[Line],
+    lanes: &mut [Lane],
+)
+    requires traced { AreTraced lines.now }
+    requires some { 1 ≤ length lanes.old }
+    requires dealt { AreDealt broker.now (sessions_of lines.now) (length lanes.old) lanes.old }
+    ensures { AreWorked broker.now lines.now (sessions_of lines.now) (length lanes.old) lanes.new }
+{
+    let threads = lanes.len();
+    let work = |_at: usize, lane: &mut Lane|
+        requires traced { AreTraced lines.now }
+        requires begun { HasDone broker.now [] lane.old }
+        requires all { HasAll (sessions_of lines.now) lane.old }
+        requires running { lane.old.is_stopped ≡ false }
+        ensures same { IsSameLane lane.old lane.new }
+        ensures done { lane.new.is_stopped ≡ false → HasDone broker.entry.now lines.entry.now lane.new }
+    { lane.work(rt, broker, gate, lines) };
+    thread::for_each_mut(rt, lanes, threads, &work);
+}
+
+/// Plays the lines on so many workers, from 1 to 16, with this port in what Metadata tells, and answers the account of that. Where `drain` is true, the clock
+/// goes on by the second behind the lines, until no request waits. Each worker passes the gate before each line that it does. It is refused where no memory
+/// is left, or where a session met that.
+pub fn run_lines<R: Threads + Wait + Sync, G: Gate + Sync>(
+    rt: &R,
+    alloc: Global,
+    lines: &[Line],
+    port: u16,
+    workers: u32,
+    drain: bool,
+    gate: &G,
+) -> Result<Account, NoMemory>
+    requires traced { AreTraced lines.now }
+    requires workers { (1 ≤ workers) × (workers ≤ 16) }
+    ensures { IfOk result (IsWorkerRun lines.now port drain) }
+{
+    let config = config_of(alloc, lines, port)?;
+    let count = sessions_of(lines);
+    let (broker, passes) = Broker::make(alloc, config, count + 1)?;
+    let mut lanes = deal(alloc, passes, workers)?;
+    work_all(rt, &broker, gate, lines, lanes.as_mut_slice());
+    let hall = gather(alloc, lanes)?;
+    hall.close(rt, alloc, broker, drain)
+}
