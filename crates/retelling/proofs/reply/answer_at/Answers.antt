@@ -1,4 +1,4 @@
-use Rattle.std.proofs.Common.{List, sym, ap, subst, ◌∙◌}
+use Rattle.std.proofs.Common.{List, sym, subst}
 use Rattle.kanswer.specs.declared.accepted.Reading.{Reading}
 use Rattle.kanswer.specs.LogReadings.{AreReadings}
 use Rattle.kwire.specs.IsSpellable.{IsSpellable}
