@@ -1,7 +1,6 @@
 -- A pass may go to another thread. Its snapshot has no proof of that by itself, so this puts together what is so of its fields.
 use denote.Param.Send.{IsSend, AllSend, view_send, recorded_send, struct_send, sendable}
 use denote.Struct.Declared as declared
-use Rattle.core.proofs.option.Option.TheSendSync as option
 use Rattle.std.proofs.Crossing.{crosses}
 use Rattle.audit.proofs.account.Transcript.TheSendSync as transcript
 use Rattle.audit.specs.contracts.account.Transcript as Transcript
@@ -19,7 +18,7 @@ fields = (
     log_pass.the_send,
     (
       list.the_send Transcript.the_row transcript.the_send,
-      (option.the_field_send Transcript.the_row transcript.the_send, (option.the_field_send Parked.the_row parked.the_send, (search sendable, tt))),
+      (search (transcript.the_send, crosses, sendable), (search (parked.the_send, crosses, sendable), (search sendable, tt))),
     ),
   ),
 )
