@@ -163,6 +163,16 @@ def beside(requests, waiting):
     yield b"end\n"
 
 
+def apart(requests):
+    """64 sessions, each at a partition of its own: in turns a record is produced, and the newest is fetched."""
+    one = batch(b"value")
+    yield b"topic t 64 0\n"
+    for number in range(requests):
+        turn, session = divmod(number, 64)
+        yield fed(session, fetch(number, session, turn // 2) if turn % 2 else produce(number, session, one))
+    yield b"end\n"
+
+
 def large(count):
     """One partition: batches of 1,048,576 bytes."""
     one = batch(bytes(1048504))
@@ -261,6 +271,21 @@ def show_beside(program, folder, requests):
         print(f"  while {waiting} others wait elsewhere: {seconds:.3f} s", flush=True)
 
 
+def show_workers(program, folder, name, lines, requests):
+    """Beside the replay on one thread. With workers a trace's clock and sessions go on beside each other, so how many are answered can differ from run to run."""
+    trace, out = folder / "trace", folder / "out"
+    write(folder, lines)
+    alone, _ = least([str(program), "replay"], trace, out)
+    print(f"workers: {name}, {requests} requests; on one thread {alone:.3f} s", flush=True)
+    first = None
+    for workers in (1, 2, 4):
+        seconds, _ = least([str(program), "replay", "--workers", str(workers)], trace, out)
+        replies, waiting, _ = told(out)
+        first = first or seconds
+        print(f"  {workers} workers: {seconds:.3f} s, {seconds / alone:.2f} times one thread, {first / seconds:.2f} times as fast as one worker;"
+              f" {replies} answered, {waiting} wait", flush=True)
+
+
 def show_growth(program, folder, name, lines_of, produces_of, first):
     print(f"growth: {name}", flush=True)
     before = None
@@ -296,6 +321,8 @@ def main():
                 show(title, requests, *measured(chosen.program, folder, lines, requests, produces))
             show_beside(chosen.program, folder, chosen.small)
             show_lines(chosen.program, folder, chosen.lines)
+            show_workers(chosen.program, folder, "requests that wait", storm(chosen.small), chosen.small)
+            show_workers(chosen.program, folder, "64 sessions apart", apart(5 * chosen.small), 5 * chosen.small)
             show_growth(chosen.program, folder, "one partition", lambda requests: small(requests, 1), lambda requests: requests // 2,
                         chosen.growth)
             show_growth(chosen.program, folder, "requests that wait", storm, storm_produces, chosen.growth)
