@@ -2,7 +2,7 @@
 //! has that.
 //!
 //! The layer above may hand a lane all lines of a trace: it does those that are its own, in their order, and after each lets its sessions go on until
-//! none can. Dealing the sessions to the workers, their threads and the close of the broker are to stand above it.
+//! none can. Dealing the sessions to the workers, their threads and the close of the broker stand above it (`worker_runs`).
 #![tactic(auto)]
 
 mod crossing;
