@@ -34,3 +34,7 @@ mod WrittenDown
 mod ServedPass
 -- a pass whose request waits
 mod KeptPass
+-- a pass may go to another thread
+mod SentPass
+-- what the crates above may cite
+pub mod Laws

@@ -8,3 +8,5 @@ pub use Rattle.workers.proofs.Clocks.{ticks_after, moment_is, none_more, own_alo
 pub use Rattle.workers.proofs.Untouched.{taken_on, taken_past, clock_past}
 -- only sessions below the count are named
 pub use Rattle.workers.proofs.Traced.{named_below}
+-- a lane may go to another thread
+pub use Rattle.workers.proofs.SentLane.{lane_is_send}

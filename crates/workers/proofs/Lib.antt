@@ -10,5 +10,7 @@ mod Lanes
 mod Clocks
 -- a worker may do each line that is its own
 mod Taking
+-- a lane may go to another thread
+mod SentLane
 -- what the crates above may cite
 pub mod Laws

@@ -5,6 +5,7 @@
 //! none can. Dealing the sessions to the workers, their threads and the close of the broker are to stand above it.
 #![tactic(auto)]
 
+mod crossing;
 mod gate;
 mod lane;
 
