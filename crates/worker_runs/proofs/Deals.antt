@@ -1,9 +1,9 @@
 -- Sessions that are dealt to workers one after the other, and the clock behind them.
-use Rattle.std.proofs.Common.{◌≡◌, ◌≢◌, ◌∙◌, ℕ, zero, suc, ◌+◌, ◌*◌, ◌/◌, ◌%◌, ◌<◌, ◌≤◌, List, [], ◌∷◌, ◌++◌, add-one, drop, get_or, length, map, set, take, refl, sym, ap, subst, arith, inl, inr}
+use Rattle.std.proofs.Common.{◌≡◌, ◌≢◌, ◌∙◌, ℕ, zero, suc, ◌+◌, ◌*◌, ◌/◌, ◌%◌, ◌<◌, ◌≤◌, List, [], ◌∷◌, ◌++◌, add-one, get_or, length, map, set, refl, sym, ap, subst, arith, inl, inr}
 use Rattle.std.specs.Prelude.{All, Bool, MatchBool, None, Option, Some}
 use Rattle.std.specs.List.{range_with_len}
 use Rattle.std.proofs.lemmas.Bool.{cases_eq, cases_lt, ne_eqb}
-use Rattle.std.proofs.lemmas.List.{get_or-set_other, get_or-set_same, get_or_append_left, get_or_push, length_push, length-set, take_at}
+use Rattle.std.proofs.lemmas.List.{get_or-set_other, get_or-set_same, get_or_append_left, get_or_push, length_push, length-set}
 use Rattle.std.proofs.lemmas.List.FromFn.{get_or-map-range_with_len, length-map-range_with_len, sum_by-map-range_with_len_more}
 use Rattle.std.proofs.lemmas.List.Sums.{sum_by-set}
 use Rattle.std.proofs.Math.Nat.{mul-le-mul_right}
@@ -116,7 +116,7 @@ other_dealt : (broker : BrokerView) (dealt workers k : ℕ) (lane : LaneView) �
 other_dealt broker dealt workers k lane some less other h =
     let size = length lane.sessions in
     let apart : k + size * workers ≢ dealt = λ (e : k + size * workers ≡ dealt).
-        other (sym (mod-mul-add size workers k less) ∙ ap (λ (n : ℕ). n % workers) (omega (arith, e))) in
+    other (sym (mod-mul-add size workers k less) ∙ ap (λ (n : ℕ). n % workers) (omega (arith, e))) in
     record {
       number = h.number;
       among = h.among;
@@ -202,12 +202,7 @@ clock_dealt broker count workers lanes lane d some is h =
       sessions = omega (arith, sum_by-set (λ (l : LaneView). length l.sessions) lanes 0 lane d there, same, h.sessions);
     }
 
--- ---- as the workers are lent out and come back
-
-pub written : {A : Type 0} (old new : List A) → length new ≡ length old → take (length old) (new ++ drop (length new) old) ≡ new
-written old new size = take_at new (drop (length new) old) (length old) size
-
--- the same workers, as many as they are
+-- ---- the same workers, as many as they are
 pub as_many : (broker : BrokerView) (dealt workers : ℕ) (lanes others : List LaneView) → lanes ≡ others → AreDealing broker dealt workers lanes → AreDealing broker dealt (length others) others
 as_many broker dealt workers lanes others same h =
     subst (λ (ls : List LaneView). AreDealing broker dealt (length ls) ls) same (subst (λ (w : ℕ). AreDealing broker dealt w lanes) (sym h.size) h)

@@ -63,10 +63,11 @@ all_sessions P (lane ∷ lanes) each =
 session_there : (lanes : List LaneView) (k at : ℕ) (d : LaneView) (s : SessionView) → k < length lanes → at < length (get_or lanes k d).sessions
     → (i : ℕ) × (i < length (flat_map sessions_in lanes)) × (get_or (flat_map sessions_in lanes) i s ≡ get_or (get_or lanes k d).sessions at s)
 session_there lanes k at d s less there =
-    let before = length (flat_map sessions_in (take k lanes)) in
-    (before + at,
+    let before = length (flat_map sessions_in (take k lanes)) in (
+      before + at,
       omega (arith, there, length-flat_map sessions_in (take k lanes), length-flat_map sessions_in lanes, sum_by_more_le (λ (l : LaneView). length l.sessions) lanes k d less),
-      get_or-flat_map sessions_in lanes k at d s less there)
+      get_or-flat_map sessions_in lanes k at d s less there,
+    )
 
 any_numbered : (number : ℕ) (lanes : List LaneView) (k at : ℕ) (d : LaneView) (s : SessionView) → k < length lanes → at < length (get_or lanes k d).sessions → (get_or (get_or lanes k d).sessions at s).number ≡ number
     → Any (λ (x : SessionView). x.number ≡ number) (flat_map sessions_in lanes)

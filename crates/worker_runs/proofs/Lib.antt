@@ -8,3 +8,5 @@ mod Working
 mod Gathering
 -- how many sessions lines name
 mod Counting
+-- a run whose lines are all done
+mod Begun

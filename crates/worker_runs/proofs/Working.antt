@@ -1,7 +1,7 @@
 -- Workers that have worked are those to whom the sessions were dealt.
-use Rattle.std.proofs.Common.{◌≡◌, ◌≢◌, ◌∙◌, ℕ, ◌+◌, ◌/◌, ◌%◌, ◌<◌, Bool, true, false, eqb, List, [], ◌∷◌, get_or, length, map, suc, refl, sym, ap, subst, arith, inl, inr}
+use Rattle.std.proofs.Common.{◌≡◌, ◌≢◌, ◌∙◌, ℕ, ◌+◌, ◌/◌, ◌%◌, ◌<◌, Bool, true, false, eqb, List, [], ◌∷◌, ◌++◌, drop, get_or, length, map, take, suc, refl, sym, ap, subst, arith, inl, inr}
 use Rattle.std.specs.Prelude.{MatchBool, None, Option, Some, sum_by}
-use Rattle.std.proofs.lemmas.List.{length-map}
+use Rattle.std.proofs.lemmas.List.{length-map, take_at}
 use Rattle.std.proofs.lemmas.List.Sums.{sum_by-cons}
 use Rattle.shared_broker.specs.Passes.{BrokerView, PassView}
 use Rattle.trace_file.specs.declared.line.Line.{Line}
@@ -54,12 +54,27 @@ pub record IsPlayed (broker : BrokerView) (lines : List Line) (old new : LaneVie
   pub same : IsSameLane old new
   pub done : new.is_stopped ≡ false → HasDone broker lines new
 
+pub played : (broker : BrokerView) (lines : List Line) (old new was now : LaneView) → was ≡ old → now ≡ new → IsSameLane was now → (now.is_stopped ≡ false → HasDone broker lines now) → IsPlayed broker lines old new
+played broker lines old new was now old_is new_is same done =
+    subst (λ (o : LaneView). IsPlayed broker lines o new) old_is (subst (IsPlayed broker lines was) new_is (record { same = same; done = done }))
+
 pub all_worked : (broker : BrokerView) (lines : List Line) (count workers : ℕ) (olds news : List LaneView) → length news ≡ length olds
     → ((k : ℕ) (d : LaneView) → k < length olds → IsPlayed broker lines (get_or olds k d) (get_or news k d)) → AreDealt broker count workers olds → AreWorked broker lines count workers news
-all_worked broker lines count workers olds news size played h = record {
+all_worked broker lines count workers olds news size each h = record {
   size = size ∙ h.size;
   each = λ k d less.
-      let p = played k d (omega (arith, less, h.size)) in
+      let p = each k d (omega (arith, less, h.size)) in
       worked_lane broker lines count workers k (get_or olds k d) (get_or news k d) p.same p.done (h.each k d less);
-  sessions = same_sum (λ (l : LaneView). length l.sessions) olds news size (λ k d less. as_many_sessions (get_or olds k d) (get_or news k d) (played k d less).same) ∙ h.sessions;
+  sessions = same_sum (λ (l : LaneView). length l.sessions) olds news size (λ k d less. as_many_sessions (get_or olds k d) (get_or news k d) (each k d less).same) ∙ h.sessions;
 }
+
+-- ---- as the workers are lent out and come back
+
+pub written : {A : Type 0} (old new : List A) → length new ≡ length old → take (length old) (new ++ drop (length new) old) ≡ new
+written old new size = take_at new (drop (length new) old) (length old) size
+
+pub worked_again : (broker : BrokerView) (lines : List Line) (count workers : ℕ) (lanes lent new : List LaneView) → length lanes ≡ workers → lent ≡ lanes → length new ≡ length lent
+    → AreWorked broker lines count (length lent) new → AreWorked broker lines count workers (take (length lanes) (new ++ drop (length new) lanes))
+worked_again broker lines count workers lanes lent new many is size h =
+    subst (AreWorked broker lines count workers) (sym (written lanes new (size ∙ ap length is)))
+    (subst (λ (w : ℕ). AreWorked broker lines count w new) (ap length is ∙ many) h)

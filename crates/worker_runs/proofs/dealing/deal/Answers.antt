@@ -2,8 +2,9 @@ use Rattle.std.proofs.Common.{◌≡◌, ◌∙◌, ◌+◌, ◌++◌, ℕ, List
 use Rattle.workers.specs.Lanes.{LaneView}
 use Rattle.worker_runs.specs.Dealing.{empty_lanes}
 use Rattle.worker_runs.specs.Dealt.{AreDealt}
-use Rattle.worker_runs.proofs.Deals.{as_many, at_first, written}
+use Rattle.worker_runs.proofs.Deals.{as_many, at_first}
 use Rattle.worker_runs.proofs.NewPasses.{as_many_passes, last_pass}
+use Rattle.worker_runs.proofs.Working.{written}
 use Rattle.worker_runs.proofs.dealing.deal.Goals as goal
 
 pub deal_sessions-requires-clause-few : goal.deal_sessions-requires-clause-few

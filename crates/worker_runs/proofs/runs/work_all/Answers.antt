@@ -1,7 +1,6 @@
-use Rattle.std.proofs.Common.{◌≡◌, get_or, length, subst}
+use Rattle.std.proofs.Common.{get_or, length}
 use Rattle.trace_file.specs.Contents.{sessions_of}
-use Rattle.workers.specs.Lanes.{LaneView}
-use Rattle.worker_runs.proofs.Working.{IsPlayed, all_worked}
+use Rattle.worker_runs.proofs.Working.{all_worked, played}
 use Rattle.worker_runs.proofs.runs.work_all.Goals as goal
 
 pub returns : goal.returns
@@ -13,6 +12,5 @@ returns g c =
     all_worked broker lines (sessions_of lines) (length before) before after c.for_each_mut.auto.s
     (λ k d less.
     let at = (c.for_each_mut.ensures k d less).1 in
-    let played : IsPlayed broker lines at.argument.now at.after_call.now = record { same = at.call.0; done = at.call.1 } in
-    subst (IsPlayed broker lines (get_or before k d)) at.left (subst (λ (old : LaneView). IsPlayed broker lines old at.after_call.now) at.argument_is played))
+    played broker lines (get_or before k d) (get_or after k d) at.argument.now at.after_call.now at.argument_is at.left at.call.0 at.call.1)
     c.requires.dealt
