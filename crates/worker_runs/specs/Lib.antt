@@ -6,7 +6,9 @@ pub mod WorkerRun
 
 -- all sessions and the clock in one hand
 pub mod Halls
--- sessions and clock as they are dealt to workers
+-- sessions and clock as they were dealt to workers
 pub mod Dealt
+-- sessions as they are dealt, one after the other
+pub mod Dealing
 -- a hall that is closed
 pub mod Closed

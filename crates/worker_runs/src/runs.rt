@@ -1,5 +1,5 @@
 //! Lines are run.
-ghost use Rattle.std.specs.Prelude.{◌≡◌, ◌≤◌, ◌<◌, ℕ, [], false, IfOk, length};
+ghost use Rattle.std.specs.Prelude.{◌≡◌, ◌≤◌, ◌∷◌, [], false, IfOk, length};
 ghost use Rattle.trace_file.specs.Contents.{sessions_of};
 ghost use Rattle.workers.specs.Lanes.{HasAll, HasDone, IsSameLane};
 ghost use Rattle.workers.specs.Playable.{AreTraced};
@@ -17,6 +17,17 @@ use std::thread::Threads;
 use trace_file::{Line, config_of};
 use workers::{Gate, Lane};
 
+// One more than the session that the line names, or 0.
+fn session_past(line: &Line) -> u32
+    requires { sessions_of (line.now ∷ []) ≤ 64 }
+    ensures { result ≡ sessions_of (line.now ∷ []) }
+{
+    match line {
+        Line::Feed { session, .. } | Line::Shut { session } => *session + 1,
+        Line::Topic { .. } | Line::Clock { .. } | Line::End => 0,
+    }
+}
+
 // One more than the greatest session that is named, or 0.
 fn sessions_of(lines: &[Line]) -> u32
     requires { AreTraced lines.now }
@@ -24,10 +35,7 @@ fn sessions_of(lines: &[Line]) -> u32
 {
     let mut count = 0;
     for line in lines {
-        match line {
-            Line::Feed { session, .. } | Line::Shut { session } => count = count.max(*session + 1),
-            Line::Topic { .. } | Line::Clock { .. } | Line::End => {}
-        }
+        count = count.max(session_past(line));
     }
     count
 }

@@ -1,0 +1,80 @@
+-- Workers that have worked are those to whom the sessions were dealt.
+use Rattle.std.proofs.Common.{◌≡◌, ◌≢◌, ◌∙◌, ℕ, ◌+◌, ◌/◌, ◌%◌, ◌<◌, Bool, true, false, eqb, List, [], ◌∷◌, ◌++◌, drop, get_or, length, map, take, suc, refl, sym, ap, subst, arith, inl, inr}
+use Rattle.std.specs.Prelude.{MatchBool, None, Option, Some, sum_by}
+use Rattle.std.proofs.lemmas.List.{length-map, take_at}
+use Rattle.std.proofs.lemmas.List.Sums.{sum_by-cons}
+use Rattle.shared_broker.specs.Passes.{BrokerView, PassView}
+use Rattle.trace_file.specs.declared.line.Line.{Line}
+use Rattle.trace_sessions.specs.Sessions.{SessionView}
+use Rattle.workers.specs.Lanes.{HasAll, HasDone, IsSameClock, IsSameLane, LaneView}
+use Rattle.worker_runs.specs.Dealt.{AreDealt, AreWorked, HasClockOf, IsDealt, IsWorked}
+
+as_many_sessions : (old new : LaneView) → IsSameLane old new → length new.sessions ≡ length old.sessions
+as_many_sessions old new same =
+    sym (length-map new.sessions (λ (s : SessionView). s.number)) ∙ ap length same.sessions ∙ length-map old.sessions (λ (s : SessionView). s.number)
+
+has_all_still : (count : ℕ) (old new : LaneView) → IsSameLane old new → HasAll count old → HasAll count new
+has_all_still count old new same all session less own =
+    let own_before : session % old.workers ≡ old.number = ap (λ (w : ℕ). session % w) (sym same.workers) ∙ own ∙ same.number in
+    let place : session / new.workers ≡ session / old.workers = ap (λ (w : ℕ). session / w) same.workers in
+    omega (arith, all session less own_before, place, as_many_sessions old new same)
+
+ClockOf : ℕ → Bool → Option PassView → Type 0
+ClockOf number has clock = MatchBool has ((pass : PassView) × (clock ≡ Some pass) × (pass.logs.number ≡ number)) (clock ≡ None)
+
+clock_still : (number : ℕ) (has : Bool) (old new : Option PassView) → IsSameClock old new → ClockOf number has old → ClockOf number has new
+unfolding ClockOf
+clock_still number true None new same h = absurd cc
+clock_still number false None new same h = same
+clock_still number true (Some pass) new same h = let is : h.0 ≡ pass = cc in (same.0, same.1, same.2 ∙ ap (λ (p : PassView). p.logs.number) (sym is) ∙ h.2)
+clock_still number false (Some pass) new same h = absurd cc
+
+worked_lane : (broker : BrokerView) (lines : List Line) (count workers k : ℕ) (old new : LaneView) → IsSameLane old new → (new.is_stopped ≡ false → HasDone broker lines new) → IsDealt broker count workers k old
+    → IsWorked broker lines count workers k new
+unfolding ClockOf
+worked_lane broker lines count workers k old new same done h = record {
+  number = same.number ∙ h.number;
+  among = same.workers ∙ h.among;
+  done = done;
+  all = has_all_still count old new same h.all;
+  clock = clock_still count (eqb k 0) old.clock new.clock same.clock h.clock;
+}
+
+-- as much in all where there is as much at each place
+same_sum : {A : Type 0} (f : A → ℕ) (xs ys : List A) → length ys ≡ length xs → ((k : ℕ) (d : A) → k < length xs → f (get_or ys k d) ≡ f (get_or xs k d)) → sum_by f ys ≡ sum_by f xs
+same_sum f [] [] size each = refl
+same_sum f [] (y ∷ ys) size each = absurd (omega (arith, size))
+same_sum f (x ∷ xs) [] size each = absurd (omega (arith, size))
+same_sum f (x ∷ xs) (y ∷ ys) size each =
+    let rest = same_sum f xs ys (omega (arith, size)) (λ k d less. each (suc k) d (omega (arith, less))) in
+    omega (arith, sum_by-cons f x xs, sum_by-cons f y ys, rest, each 0 x (omega arith))
+
+-- what a worker's part did of the lines
+pub record IsPlayed (broker : BrokerView) (lines : List Line) (old new : LaneView) : Type 0 where
+  pub same : IsSameLane old new
+  pub done : new.is_stopped ≡ false → HasDone broker lines new
+
+pub played : (broker : BrokerView) (lines : List Line) (old new was now : LaneView) → was ≡ old → now ≡ new → IsSameLane was now → (now.is_stopped ≡ false → HasDone broker lines now) → IsPlayed broker lines old new
+played broker lines old new was now old_is new_is same done =
+    subst (λ (o : LaneView). IsPlayed broker lines o new) old_is (subst (IsPlayed broker lines was) new_is (record { same = same; done = done }))
+
+pub all_worked : (broker : BrokerView) (lines : List Line) (count workers : ℕ) (olds news : List LaneView) → length news ≡ length olds
+    → ((k : ℕ) (d : LaneView) → k < length olds → IsPlayed broker lines (get_or olds k d) (get_or news k d)) → AreDealt broker count workers olds → AreWorked broker lines count workers news
+all_worked broker lines count workers olds news size each h = record {
+  size = size ∙ h.size;
+  each = λ k d less.
+      let p = each k d (omega (arith, less, h.size)) in
+      worked_lane broker lines count workers k (get_or olds k d) (get_or news k d) p.same p.done (h.each k d less);
+  sessions = same_sum (λ (l : LaneView). length l.sessions) olds news size (λ k d less. as_many_sessions (get_or olds k d) (get_or news k d) (each k d less).same) ∙ h.sessions;
+}
+
+-- ---- as the workers are lent out and come back
+
+pub written : {A : Type 0} (old new : List A) → length new ≡ length old → take (length old) (new ++ drop (length new) old) ≡ new
+written old new size = take_at new (drop (length new) old) (length old) size
+
+pub worked_again : (broker : BrokerView) (lines : List Line) (count workers : ℕ) (lanes lent new : List LaneView) → length lanes ≡ workers → lent ≡ lanes → length new ≡ length lent
+    → AreWorked broker lines count (length lent) new → AreWorked broker lines count workers (take (length lanes) (new ++ drop (length new) lanes))
+worked_again broker lines count workers lanes lent new many is size h =
+    subst (AreWorked broker lines count workers) (sym (written lanes new (size ∙ ap length is)))
+    (subst (λ (w : ℕ). AreWorked broker lines count w new) (ap length is ∙ many) h)

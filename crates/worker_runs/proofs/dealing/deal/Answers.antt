@@ -1,0 +1,35 @@
+use Rattle.std.proofs.Common.{◌≡◌, ◌∙◌, ◌+◌, ◌++◌, ℕ, List, arith, ap, drop, length, subst, sym, take}
+use Rattle.workers.specs.Lanes.{LaneView}
+use Rattle.worker_runs.specs.Dealing.{empty_lanes}
+use Rattle.worker_runs.specs.Dealt.{AreDealt}
+use Rattle.worker_runs.proofs.Deals.{as_many, at_first}
+use Rattle.worker_runs.proofs.NewPasses.{as_many_passes, last_pass}
+use Rattle.worker_runs.proofs.Working.{written}
+use Rattle.worker_runs.proofs.dealing.deal.Goals as goal
+
+pub deal_sessions-requires-clause-few : goal.deal_sessions-requires-clause-few
+deal_sessions-requires-clause-few c =
+    let f = c.requires.fresh in
+    let parts = last_pass f.0 f.1 c.pop.new.self c.in-Some.clock (sym c.in-Some.ensures.items ∙ f.2) in
+    omega (arith, as_many_passes f.0 f.1 c.pop.new.self parts.0, f.3)
+
+pub returns : goal.returns
+returns c broker count fresh =
+    let workers = c.args.workers in
+    let lanes = c.in_ok-lanes.lanes in
+    let lent = c.as_mut_slice.result.now in
+    let dealt = c.deal_sessions.new.lanes in
+    let whole = take (length lanes) (dealt ++ drop (length dealt) lanes) in
+    let again = c.as_mut_slice-2.result.now in
+    let clocked = c.deal_clock.new.lanes in
+    let parts = last_pass broker count c.pop.new.self c.in-Some.clock (sym c.in-Some.ensures.items ∙ fresh) in
+    let new = at_first broker workers in
+    let lent_is = c.as_mut_slice.ensures.value ∙ c.in_ok-lanes.ensures in
+    let many = ap length lent_is ∙ new.size in
+    let sessions = c.in_ok-deal_sessions.ensures broker count parts.0 (as_many broker 0 workers (empty_lanes workers) lent (sym lent_is) new) in
+    let whole_is : whole ≡ dealt = written lanes dealt (c.deal_sessions.auto.lanes ∙ ap length c.as_mut_slice.ensures.value) in
+    let again_is = c.as_mut_slice-2.ensures.value ∙ whole_is in
+    let clock = c.deal_clock.ensures broker count parts.1 (as_many broker count (length lent) dealt again (sym again_is) sessions) in
+    let last_is = written whole clocked (c.deal_clock.auto.lanes ∙ ap length c.as_mut_slice-2.ensures.value) in
+    subst (AreDealt broker count workers) (sym last_is)
+    (subst (λ (w : ℕ). AreDealt broker count w clocked) (ap length again_is ∙ c.deal_sessions.auto.lanes ∙ many) clock)
