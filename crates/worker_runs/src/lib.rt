@@ -16,6 +16,8 @@
 
 mod dealing;
 mod hall;
+mod promises;
 mod runs;
 
+pub use promises::hall_accounts_are_runs;
 pub use runs::run_lines;
