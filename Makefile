@@ -1,4 +1,4 @@
-.PHONY: run build test check fmt bench compare definitions explain clean
+.PHONY: run build test check fmt bench compare definitions workers explain clean
 
 # Without a proof: proving the program takes longer than a first look should. `make build` proves it.
 run:
@@ -35,6 +35,14 @@ compare:
 # Runs the definitions, transcribed, on random traces and on small changes of their accounts: 100 traces, or COUNT.
 definitions:
 	python3 -B model/check_definitions.py $(COUNT)
+
+# Plays random traces on 1, 2, 3 and 16 workers, and checks the account of each run: 200 traces, or COUNT. With UNPROVED=yes it is played
+# by a build that proves nothing; else the proved program is built first.
+workers:
+ifndef UNPROVED
+	cd crates/tell_account && rt run -- 1 < stdin > /dev/null
+endif
+	python3 -B model/check_workers.py $(if $(COUNT),--count $(COUNT)) $(if $(UNPROVED),--unproved)
 
 # Tells a trace and what it prints in words: `make explain TRACE=examples/fetch.trace`.
 explain:

@@ -16,3 +16,9 @@ pub mod Reread
 pub mod Answered
 -- the replies of calls and of sessions, one after the other
 pub mod Tellings
+-- the account of a run, and the numbers of its sessions
+pub mod Printing
+-- the account of a trace's run can be told again
+pub mod Runs
+-- what the crates above may cite
+pub mod Laws

@@ -1,0 +1,38 @@
+//! What the words of the command line ask for.
+
+ghost use Rattle.std.specs.Prelude.{◌≤◌, IfOk};
+
+use crate::fault::Fault;
+
+/// How many workers play, and whether the run is drained.
+#[derive(Clone, Copy, Debug)]
+pub struct Order {
+    pub workers: u32,
+    pub drain: bool,
+}
+
+fn workers_of(word: &str) -> Result<u32, Fault>
+    ensures { IfOk result (λ workers. (1 ≤ workers) × (workers ≤ 16)) }
+{
+    match word.parse::<u32>() {
+        Ok(workers) if (1..=16).contains(&workers) => Ok(workers),
+        _ => Err(Fault::Usage),
+    }
+}
+
+/// The order of the words: a number of workers, and nothing or `drain` behind it.
+pub fn order_of(words: &[String]) -> Result<Order, Fault>
+    ensures { IfOk result (λ order. (1 ≤ order.workers) × (order.workers ≤ 16)) }
+{
+    match words {
+        [number] => Ok(Order {
+            workers: workers_of(number.as_str())?,
+            drain: false,
+        }),
+        [number, word] if word.as_str() == "drain" => Ok(Order {
+            workers: workers_of(number.as_str())?,
+            drain: true,
+        }),
+        _ => Err(Fault::Usage),
+    }
+}

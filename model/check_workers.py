@@ -1,0 +1,250 @@
+#!/usr/bin/env python3
+"""Plays random traces on workers, by `tell_account`, and checks the account that it tells and what is printed of it.
+
+The account has to be lawful, that of a run of the trace, and to tell what is printed, by the definitions as they are transcribed. And
+apart from these a slow broker does each partition's history again, entry by entry, gives each call's reply from what it sees at the
+call's points, and looks whether anything that still waits could have been answered. It stops at the first trace that fails, and leaves
+it in the folder that is named, with what was told of it.
+"""
+
+import argparse
+import collections
+import dataclasses
+import pathlib
+import re
+import subprocess
+import sys
+import tempfile
+import time
+
+import broker
+import compare
+import definitions_of_accounts as accounts
+import generate
+import slow_reading
+import told_account
+import traces
+import wire
+
+ROOT = pathlib.Path(__file__).resolve().parent.parent
+CRATE = ROOT / "crates" / "tell_account"
+PROGRAM = CRATE / "out" / "tell_account"
+KINDS = ["waiting", "mixed"]
+WORKERS = [1, 2, 3, 16]
+DRAIN_STEP = 1000
+# How long a request may wait in a trace that is drained, in milliseconds.
+MOST_DRAINED = 100_000
+# How often a trace is played again to see whether it fails without one of its lines.
+TRIES = 10
+
+
+class Wrong(Exception):
+    pass
+
+
+WRONG = (Wrong, slow_reading.Wrong, told_account.Unreadable)
+
+
+def need(holds, what):
+    if not holds:
+        raise Wrong(what)
+
+
+# ---- runs
+
+
+@dataclasses.dataclass(frozen=True)
+class Case:
+    """A run: a trace, on so many workers."""
+    trace: str
+    workers: int
+    drain: bool
+    text: bytes
+
+    @property
+    def words(self):
+        return [str(self.workers), *["drain"] * self.drain]
+
+    @property
+    def name(self):
+        return "_".join([self.trace, *self.words])
+
+
+def ran(program, case):
+    """What is told of a run, as bytes, or what is wrong with it."""
+    try:
+        done = subprocess.run([program, *case.words], input=case.text, capture_output=True, timeout=60)
+    except subprocess.TimeoutExpired:
+        return Wrong("the run comes to no end")
+    if done.returncode != 0 or done.stderr:
+        return Wrong(f"the run ends with {done.returncode}: {done.stderr.decode(errors='replace').strip()}")
+    return done.stdout
+
+
+def ran_unproved(cases):
+    """The same of each run, by a build that `rt try` makes for all of them without a proof."""
+    with tempfile.TemporaryDirectory() as folder:
+        for case in cases:
+            (pathlib.Path(folder) / case.name).write_bytes(case.text)
+            (pathlib.Path(folder) / f"{case.name}.args").write_text("".join(f"{word}\n" for word in case.words))
+        done = subprocess.run(["rt", "try", "--cases", folder], cwd=CRATE, capture_output=True)
+    _, *pieces = re.split(rb"^== (\S+)\n", done.stdout, flags=re.MULTILINE)
+    told = dict(zip(pieces[0::2], pieces[1::2]))
+    fine = set(re.findall(rb"^case=(\S+) run=ended status=0 ", done.stderr, re.MULTILINE))
+    for case in cases:
+        name = case.name.encode()
+        yield told[name] if name in fine else Wrong(f"the run fails: {done.stderr.decode(errors='replace')[-1000:]}")
+
+
+# ---- what has to hold
+
+
+def inputs_of(lines):
+    """By session that a line names: what it received, and whether its input ended."""
+    return {session: (accounts.input_of(session, lines), accounts.is_shut(session, lines))
+            for session in range(accounts.MOST_SESSIONS) if accounts.is_named(session, lines)}
+
+
+def check_drained(lines, account, added):
+    moments = (max(accounts.rising_from(0, lines), default=0),) + added
+    need(all(later == before + DRAIN_STEP for before, later in zip(moments, moments[1:])), "the clock doesn't go on by the second")
+    need(not any(call.how == accounts.Parked() for call in accounts.all_calls(account)), "a request waits where the run is drained")
+
+
+def check(case, told):
+    """Checks what was told of a run, and answers the account."""
+    if isinstance(told, Wrong):
+        raise told
+    lines, (account, printed) = traces.read(case.text), told_account.read(told)
+    added = accounts.ticks_of(account.clock)[len(accounts.rising_from(0, lines)):]
+    need(case.drain or added == (), "the clock goes on behind the lines")
+    # Behind the passes of the sessions stands that of the clock, without a transcript.
+    need(accounts.IsRunOf(lines, broker.PORT, ((),), added, account), "the account isn't that of a run of the trace")
+    need(accounts.IsLawful(account), "the account isn't lawful")
+    need(accounts.IsPrintOf(account) == printed, "the account tells something else than what is printed")
+    need(slow_reading.SlowReading(account).told(inputs_of(lines)) == printed, "the slow broker prints something else")
+    if case.drain:
+        check_drained(lines, account, added)
+    return account
+
+
+# ---- traces
+
+
+def requests_in(data):
+    """The requests at the front of what a session receives."""
+    while True:
+        kind, body = wire.next_frame(data)
+        if kind != "whole":
+            return
+        try:
+            yield wire.read_request(body)
+        except wire.Refused:
+            return
+        data = data[4 + len(body):]
+
+
+def is_drainable(lines):
+    """Whether a drained run of these lines ends soon. Past the last moment a clock has nowhere to go."""
+    waits = [request.fields.get("timeout", request.fields.get("wait", 0))
+             for data, _ in inputs_of(lines).values() for request in requests_in(data)]
+    last = max(accounts.rising_from(0, lines), default=0)
+    return max(waits, default=0) <= MOST_DRAINED and last + 2 * MOST_DRAINED * (1 + len(waits)) <= traces.MOST_MOMENT
+
+
+def cases_of(chosen):
+    for seed in range(chosen.first, chosen.first + chosen.count):
+        kind = KINDS[seed % len(KINDS)]
+        text = generate.made(kind, seed)
+        for drain in [False, True] if is_drainable(traces.read(text)) else [False]:
+            for workers in chosen.workers or WORKERS:
+                yield Case(f"{kind}_{seed}", workers, drain, text)
+
+
+# ---- what fails
+
+
+def fails(program, case, text):
+    """Whether one of some runs on this text fails too."""
+    try:
+        traces.read(text)
+    except traces.Bad:
+        return False
+    case = dataclasses.replace(case, text=text)
+    for _ in range(TRIES):
+        try:
+            check(case, ran(program, case))
+        except WRONG:
+            return True
+    return False
+
+
+def tell_failure(chosen, case, told, wrong):
+    left = chosen.folder / f"{case.name}.trace"
+    left.write_bytes(case.text)
+    if isinstance(told, bytes):
+        left.with_suffix(".told").write_bytes(told)
+    print(f"{left} fails on {case.workers} workers{', drained' * case.drain}: {wrong}")
+    if chosen.unproved:
+        return
+    small = compare.shrunk(case.text, lambda fewer: fails(chosen.program, case, fewer))
+    left.with_suffix(".small.trace").write_bytes(small)
+    print(f"Of its lines these do, left in {left.with_suffix('.small.trace')}:")
+    for line in small.split(b"\n"):
+        print("  " + (line if len(line) <= 100 else line[:97] + b"...").decode("ascii", "replace"))
+
+
+# ---- the whole
+
+
+class Counted:
+    """What was met in all runs."""
+
+    def __init__(self):
+        self.runs, self.drained = 0, 0
+        self.hows, self.ends = collections.Counter(), collections.Counter()
+        # by trace, what its runs came to, but for the winners
+        self.came = {}
+
+    def add(self, case, account):
+        self.runs += 1
+        self.drained += case.drain
+        self.hows.update(type(call.how).__name__ for _, _, call in accounts.each_call(account))
+        self.ends.update(transcript.end.kind if transcript.end else "none" for transcript in accounts.transcripts_of(account))
+        if not case.drain:
+            self.came.setdefault(case.trace, set()).add(hash((account.parts, account.clock)))
+
+    def told(self):
+        names = lambda counts: ", ".join(f"{count} {name}" for name, count in sorted(counts.items()))
+        unlike = sum(len(histories) > 1 for histories in self.came.values())
+        return (f"{self.runs} runs, {self.drained} of them drained, with {sum(self.hows.values())} calls ({names(self.hows)}) and "
+                f"{sum(self.ends.values())} sessions ({names(self.ends)}): each account is lawful, is that of its trace, and is printed as "
+                f"the slow broker prints it. The runs of {unlike} traces came to other histories than one another")
+
+
+def main():
+    options = argparse.ArgumentParser(description=__doc__)
+    options.add_argument("program", nargs="?", type=pathlib.Path, default=PROGRAM)
+    options.add_argument("--count", type=int, default=200, metavar="N", help="traces")
+    options.add_argument("--first", type=int, default=0, metavar="SEED", help="the seed of the first")
+    options.add_argument("--workers", type=int, action="append", metavar="W", help=f"only on so many workers; else on each of {WORKERS}")
+    options.add_argument("--unproved", action="store_true", help="plays all by one build of `rt try`, which proves nothing")
+    options.add_argument("--folder", type=pathlib.Path, default=pathlib.Path(tempfile.gettempdir()), help="where a trace that fails is left")
+    chosen = options.parse_args()
+    if not chosen.unproved and not chosen.program.is_file():
+        print(f"{chosen.program} isn't there: `rt run -- 1` in crates/tell_account makes it", file=sys.stderr)
+        return 2
+    counted, began, cases = Counted(), time.time(), list(cases_of(chosen))
+    runs = ran_unproved(cases) if chosen.unproved else (ran(chosen.program, case) for case in cases)
+    for case, told in zip(cases, runs):
+        try:
+            counted.add(case, check(case, told))
+        except WRONG as wrong:
+            tell_failure(chosen, case, told, wrong)
+            return 1
+    print(f"{chosen.count} traces in {time.time() - began:.0f} s: {counted.told()}")
+    return 0
+
+
+if __name__ == "__main__":
+    sys.exit(main())
