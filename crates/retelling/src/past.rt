@@ -95,6 +95,7 @@ impl Past {
     pub fn at(&self, place: u64) -> Numbers
         ensures numbers { result ≡ numbers_of (state_at self.now place) }
         ensures high { result.high ≤ MOST_LOG_BYTES }
+        ensures bytes { result.bytes ≤ MOST_LOG_BYTES }
         ensures kept { IsKept self.now.log self.now.events }
     {
         numbers_never_fall();

@@ -2,10 +2,13 @@
 
 ghost use Rattle.std.specs.Prelude.{ℕ, ◌≡◌, ◌<◌, ◌≤◌, ◌+◌, ◌^◌, ◌∷◌, true, drop, length, map, List as Items, All, IfOk};
 ghost use Rattle.std.specs.List.{AllByRecursion};
+ghost use Rattle.kwire.specs.IsRequest.{IsRequest};
+ghost use Rattle.kwire.specs.IsSpellable.{IsSpellable};
 ghost use Rattle.kanswer.specs.Answer.{answer};
 ghost use Rattle.kanswer.specs.LogReadings.{IsCarriable, named_count};
 ghost use Rattle.kanswer.specs.Waiting.{Shown};
 ghost use Rattle.kanswer.specs.declared.accepted.Accepted.{Accepted as TheAccepted};
+ghost use Rattle.plain_broker.specs.Declared.{AreDeclared};
 ghost use Rattle.audit.specs.Fits.{IsReplyOf, is_answered};
 ghost use Rattle.audit.specs.Histories.{history_of};
 ghost use Rattle.audit.specs.IsLawful.{HasLogs};
@@ -93,14 +96,18 @@ fn answer_at(
     requires places { length places.now ≡ length accepted.now }
     requires pasts { AllByRecursion (HasPast (length pasts.now)) accepted.now }
     requires carried { All IsCarriable accepted.now }
-    ensures { IfOk result (λ reply. (shown : Items Shown) → AreShown pasts.now accepted.now places.now shown
+    requires asked { (body : Items ℕ) × IsRequest body request.now }
+    requires declared { AreDeclared config.now.topics }
+    ensures reply { IfOk result (λ reply. (shown : Items Shown) → AreShown pasts.now accepted.now places.now shown
         → reply ≡ answer config.now request.now shown) }
+    ensures framed { IfOk result (λ reply. (shown : Items Shown) → AreShown pasts.now accepted.now places.now shown
+        → IsSpellable reply) }
 {
     let readings = reread(alloc, pasts, request, accepted, places)?;
     answer(alloc, config, request, accepted, readings.as_slice())
 }
 
-/// The reply that an answered call of an account was given. `pasts` are those of the account's partitions.
+/// The reply that an answered call of an account was given, which has a frame. `pasts` are those of the account's partitions.
 pub fn reply_to(
     alloc: Global,
     account: &Account,
@@ -111,7 +118,9 @@ pub fn reply_to(
     requires answered { is_answered call.now.how ≡ true }
     requires logs { HasLogs account.now }
     requires pasts { pasts.now ≡ map history_of account.now.parts }
-    ensures { IfOk result (IsReplyOf account.now call.now) }
+    requires declared { AreDeclared account.now.config.topics }
+    ensures reply { IfOk result (IsReplyOf account.now call.now) }
+    ensures framed { IfOk result IsSpellable }
 {
     // the frame of a call is a request, so that nothing but memory can be wanting
     let Ok(request) = view_request(alloc, call.frame.as_slice()) else {

@@ -8,6 +8,7 @@ ghost use Rattle.partlog.specs.Taken.{joined};
 ghost use Rattle.kanswer.specs.Waiting.{Shown, at_least_zero};
 ghost use Rattle.kanswer.specs.Answer.{asked_parts, batches_as, budget_after, read_of};
 ghost use Rattle.kanswer.specs.LogReadings.{AreReadings, FetchReadings, HasCarriable, HasNumbers, HasRecords, ProduceReadings, budget_of, named_count};
+ghost use Rattle.reply_frames.specs.BytesRead.{bytes_read, most_left};
 ghost use Rattle.retelling.specs.WasShown.{AreShown, HasPast, IsShownAt};
 
 use crate::past::Past;
@@ -47,6 +48,7 @@ fn read_at(
     ensures records { IfOk result (λ reading. reading.records ≡ joined (read_of replica asked.now start (state_at past.now place) budget.old)) }
     ensures offset { IfOk result HasCarriable }
     ensures lowered { OnOk result (budget.new ≡ budget_after (read_of replica asked.now start (state_at past.now place) budget.old) budget.old) }
+    ensures room { IfOk result (λ reading. length reading.records + most_left budget.new ≤ most_left budget.old) }
 {
     let numbers = past.at(place);
     let limit = limit_of(asked, budget.left);
@@ -72,6 +74,7 @@ fn read_seen(
     ensures left { OnOk result ((state : PartState) → IsShownAt pasts.now became.now place state
         → budget.new ≡ budget_after (batches_as replica asked.now became.now state budget.old) budget.old) }
     ensures offset { IfOk result HasCarriable }
+    ensures room { IfOk result (λ reading. length reading.records + most_left budget.new ≤ most_left budget.old) }
 {
     match *became {
         Accepted::Refused { .. } | Accepted::Appended { .. } => Ok(read_nothing(alloc)),
@@ -123,6 +126,7 @@ fn read_fetch(
         → FetchReadings replica (map (λ asked. asked.now) asked.now) accepted.now readings shown budget) }
     ensures size { IfOk result (λ readings. length readings ≡ length accepted.now) }
     ensures offsets { IfOk result (All HasCarriable) }
+    ensures room { IfOk result (λ readings. bytes_read readings ≤ most_left budget) }
 {
     let mut budget = budget;
     let mut readings = List::new(alloc);
@@ -169,6 +173,7 @@ fn read_numbers(
         → ProduceReadings accepted.now readings shown) }
     ensures size { IfOk result (λ readings. length readings ≡ length accepted.now) }
     ensures offsets { IfOk result (All HasCarriable) }
+    ensures none { IfOk result (λ readings. bytes_read readings ≡ 0) }
 {
     let mut readings = List::new(alloc);
     for at in 0..accepted.len() {
@@ -192,6 +197,7 @@ pub fn reread(
         → AreReadings request.now.ask accepted.now readings shown) }
     ensures size { IfOk result (λ readings. length readings ≡ length accepted.now) }
     ensures offsets { IfOk result (All HasCarriable) }
+    ensures room { IfOk result (λ readings. bytes_read readings ≤ most_left (budget_of request.now.ask)) }
 {
     match &request.ask {
         AskView::Fetch {

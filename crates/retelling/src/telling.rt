@@ -4,12 +4,13 @@ ghost use Rattle.std.specs.Prelude.{ℕ, ◌≡◌, ◌<◌, ◌^◌, ◌∷◌,
 ghost use Rattle.std.specs.List.{AllByRecursion, AllZip, flat_map, zip};
 ghost use Rattle.kwire.specs.declared.reply.Reply.{Reply as TheReply};
 ghost use Rattle.trace_file.specs.PrintedLine.{reply_line};
+ghost use Rattle.plain_broker.specs.Declared.{AreDeclared};
 ghost use Rattle.audit.specs.Fits.{HasReplies, is_answered};
 ghost use Rattle.audit.specs.Histories.{history_of};
 ghost use Rattle.audit.specs.IsLawful.{HasLogs};
 ghost use Rattle.audit.specs.LawfulCall.{IsLawfulCall};
 ghost use Rattle.audit.specs.Printed.{IsPrintOf, session_text, transcripts_of};
-ghost use Rattle.retelling.specs.Tellable.{AreFramed, IsTellable, IsTold};
+ghost use Rattle.retelling.specs.Tellable.{IsTellable, IsTold};
 
 use crate::past::{Past, pasts_of};
 use crate::reply::reply_to;
@@ -40,7 +41,7 @@ fn put_reply(
     requires lawful { IsLawfulCall account.now call.now }
     requires logs { HasLogs account.now }
     requires pasts { pasts.now ≡ map history_of account.now.parts }
-    requires framed { AreFramed account.now }
+    requires declared { AreDeclared account.now.config.topics }
     ensures { OnOk result ((replies : Items TheReply) × HasReplies account.now (call.now ∷ []) replies
         × (out.new ≡ out.old ++ flat_map (reply_line session) replies)) }
 {
@@ -64,7 +65,7 @@ fn put_replies(
     requires lawful { AllByRecursion (IsLawfulCall account.now) calls.now }
     requires logs { HasLogs account.now }
     requires pasts { pasts.now ≡ map history_of account.now.parts }
-    requires framed { AreFramed account.now }
+    requires declared { AreDeclared account.now.config.topics }
     ensures { OnOk result ((replies : Items TheReply) × HasReplies account.now calls.now replies
         × (out.new ≡ out.old ++ flat_map (reply_line session) replies)) }
 {
@@ -85,7 +86,7 @@ fn put_session(
     requires told { IsTold account.now transcript.now }
     requires logs { HasLogs account.now }
     requires pasts { pasts.now ≡ map history_of account.now.parts }
-    requires framed { AreFramed account.now }
+    requires declared { AreDeclared account.now.config.topics }
     ensures { OnOk result ((replies : Items TheReply) × HasReplies account.now transcript.now.calls replies
         × (out.new ≡ out.old ++ session_text (transcript.now, replies))) }
 {
@@ -115,7 +116,7 @@ fn put_pass(
     requires told { AllByRecursion (IsTold account.now) transcripts.now }
     requires logs { HasLogs account.now }
     requires pasts { pasts.now ≡ map history_of account.now.parts }
-    requires framed { AreFramed account.now }
+    requires declared { AreDeclared account.now.config.topics }
     ensures { OnOk result ((all : Items (Items TheReply)) × AllZip (λ transcript sent. HasReplies account.now transcript.calls sent) transcripts.now all
         × (out.new ≡ out.old ++ flat_map session_text (zip transcripts.now all))) }
 {
@@ -135,7 +136,7 @@ fn put_passes(
     requires told { AllByRecursion (IsTold account.now) (transcripts_of account.now) }
     requires logs { HasLogs account.now }
     requires pasts { pasts.now ≡ map history_of account.now.parts }
-    requires framed { AreFramed account.now }
+    requires declared { AreDeclared account.now.config.topics }
     ensures { OnOk result ((all : Items (Items TheReply)) × AllZip (λ transcript sent. HasReplies account.now transcript.calls sent) (transcripts_of account.now) all
         × (out.new ≡ out.old ++ flat_map session_text (zip (transcripts_of account.now) all))) }
 {

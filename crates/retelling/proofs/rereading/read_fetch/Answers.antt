@@ -10,6 +10,8 @@ use Rattle.kanswer.specs.Answer.{budget_behind}
 use Rattle.kanswer.specs.declared.accepted.Accepted.{Accepted}
 use Rattle.kanswer.specs.declared.accepted.Reading.{Reading}
 use Rattle.kanswer.specs.LogReadings.{FetchReadings, HasCarriable}
+use Rattle.reply_frames.proofs.Laws.{bytes_push}
+use Rattle.reply_frames.specs.BytesRead.{bytes_read}
 use Rattle.retelling.proofs.Reread.{fetch_next, shown_long}
 use Rattle.retelling.proofs.rereading.read_fetch.Goals as goal
 
@@ -28,6 +30,7 @@ loop-at-preserved c =
           (slice_get-map (λ asked. asked.now) c.args.asked.now i ∙ ap (option_map (λ asked. asked.now)) (slice_get-get_or c.args.asked.now i _ lt)) (slice_get-get_or accepted i _ (omega (arith, lt, c.requires.results))) (slice_get-get_or places i _ (omega (arith, lt, c.requires.places))) shown are);
       size = omega (arith, ap length pushed, length-append c.loop-at.readings (c.in_ok-read_seen.field-0 ∷ []), c.loop-at.invariant.size);
       offsets = subst (All HasCarriable) (sym pushed) (All-push HasCarriable c.loop-at.readings c.in_ok-read_seen.field-0 c.loop-at.invariant.offsets c.in_ok-read_seen.ensures.offset);
+      room = omega (arith, ap bytes_read pushed, bytes_push c.loop-at.readings c.in_ok-read_seen.field-0, c.loop-at.invariant.room, c.in_ok-read_seen.ensures.room);
     }
 
 pub returns-clause-read : goal.returns-clause-read

@@ -1,7 +1,8 @@
-use Rattle.std.proofs.Common.{◌≡◌, List, length, map, take, All}
+use Rattle.std.proofs.Common.{◌≡◌, ◌≤◌, ◌+◌, List, length, map, take, All}
 use Rattle.kanswer.specs.Waiting.{Shown}
 use Rattle.kanswer.specs.Answer.{budget_behind}
 use Rattle.kanswer.specs.LogReadings.{FetchReadings, HasCarriable}
+use Rattle.reply_frames.specs.BytesRead.{bytes_read, most_left}
 use Rattle.retelling.specs.WasShown.{AreShown}
 use Rattle.retelling.proofs.rereading.read_fetch.Given as goal
 
@@ -12,4 +13,5 @@ invariant-loop-at l = record {
       × (l.budget ≡ budget_behind l.replica (take l.at (map (λ asked. asked.now) l.asked)) (take l.at shown) l.fn.budget);
   size : length l.readings ≡ l.at;
   offsets : All HasCarriable l.readings;
+  room : bytes_read l.readings + most_left l.budget ≤ most_left l.fn.budget;
 }

@@ -6,6 +6,8 @@ use Rattle.kanswer.specs.Waiting.{Shown}
 use Rattle.kanswer.specs.declared.accepted.Accepted.{Accepted}
 use Rattle.kanswer.specs.declared.accepted.Reading.{Reading}
 use Rattle.kanswer.specs.LogReadings.{HasCarriable, ProduceReadings}
+use Rattle.reply_frames.proofs.Laws.{bytes_push}
+use Rattle.reply_frames.specs.BytesRead.{bytes_read}
 use Rattle.retelling.proofs.Reread.{produce_next, shown_long}
 use Rattle.retelling.proofs.rereading.read_numbers.Goals as goal
 
@@ -21,6 +23,7 @@ loop-at-preserved c =
           (produce_next c.args.pasts.now accepted places c.loop-at.readings i _ _ c.read_appended.result c.loop-at.invariant.read c.read_appended.ensures.read (slice_get-get_or accepted i _ lt) (slice_get-get_or places i _ (omega (arith, lt, c.requires.places))) shown are);
       size = omega (arith, ap length pushed, length-append c.loop-at.readings (c.read_appended.result ∷ []), c.loop-at.invariant.size);
       offsets = subst (All HasCarriable) (sym pushed) (All-push HasCarriable c.loop-at.readings c.read_appended.result c.loop-at.invariant.offsets c.read_appended.ensures.offset);
+      none = omega (arith, ap bytes_read pushed, bytes_push c.loop-at.readings c.read_appended.result, c.loop-at.invariant.none, c.read_appended.ensures.none);
     }
 
 pub returns-clause-read : goal.returns-clause-read

@@ -1,6 +1,7 @@
 use Rattle.std.proofs.Common.{◌≡◌, List, length, take, All}
 use Rattle.kanswer.specs.Waiting.{Shown}
 use Rattle.kanswer.specs.LogReadings.{HasCarriable, ProduceReadings}
+use Rattle.reply_frames.specs.BytesRead.{bytes_read}
 use Rattle.retelling.specs.WasShown.{AreShown}
 use Rattle.retelling.proofs.rereading.read_numbers.Given as goal
 
@@ -9,4 +10,5 @@ invariant-loop-at l = record {
   read : (shown : List Shown) → AreShown l.pasts l.accepted l.places shown → ProduceReadings (take l.at l.accepted) l.readings (take l.at shown);
   size : length l.readings ≡ l.at;
   offsets : All HasCarriable l.readings;
+  none : bytes_read l.readings ≡ 0;
 }

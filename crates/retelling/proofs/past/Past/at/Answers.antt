@@ -22,6 +22,16 @@ returns-in-Some-clause-high c =
     let low = not_above h (c.args.place + 1) c.in-Some.numbers.now c.numbers-whole.result (sym kept.whole) (c.numbers_never_fall.ensures.along h (c.args.place + 1) (length h.events) kept f.0) f.1 c.numbers-whole.ensures.numbers in
     omega (arith, low.high, c.numbers-whole.ensures.high, c.numbers-whole.ensures.end)
 
+pub returns-in-Some-clause-bytes : goal.returns-in-Some-clause-bytes
+returns-in-Some-clause-bytes c =
+    let h : History = c.self.inside.log in
+    let kept = c.numbers-whole.ensures.kept in
+    let look = c.in-Some.ensures.lookup in
+    let is = behind_first c.as_slice.result.now c.self.inside.numbers c.args.place c.in-Some.numbers.now c.as_slice.ensures look.3.0 look.1 in
+    let f = found_before h c.self.inside.numbers (c.args.place + 1) c.in-Some.numbers.now c.self.invariant is in
+    let low = not_above h (c.args.place + 1) c.in-Some.numbers.now c.numbers-whole.result (sym kept.whole) (c.numbers_never_fall.ensures.along h (c.args.place + 1) (length h.events) kept f.0) f.1 c.numbers-whole.ensures.numbers in
+    omega (arith, low.bytes, c.numbers-whole.ensures.bytes)
+
 pub returns-in-None-clause-numbers : goal.returns-in-None-clause-numbers
 returns-in-None-clause-numbers c =
     let h : History = c.self.inside.log in
