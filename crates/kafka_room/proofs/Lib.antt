@@ -4,3 +4,5 @@ pub mod Writes
 pub mod Replays
 -- the account of a run may be printed
 pub mod Printing
+-- what a replay on workers comes to
+pub mod Workings

@@ -1,6 +1,6 @@
 use Rattle.std.proofs.Common.{◌≡◌, ◌<◌, ◌≤◌, ℕ, Bool, true, false, List, [], ◌∷◌, length, get_or, codes, IsTrue, nat_eq, refl, sym, ap, arith}
 use Rattle.std.specs.Cmp.Lexicographic.{pointwise, same_text, other_text}
-use Rattle.kafka_room.proofs.run.is_replay.Goals as goal
+use Rattle.kafka_room.proofs.command.is_replay.Goals as goal
 
 only_item : {X : Type 0} (xs : List X) (x : X) → 1 ≤ length xs → length xs < 2 → x ≡ get_or xs 0 x → xs ≡ x ∷ []
 only_item [] x least below e = absurd (omega (arith, least))
