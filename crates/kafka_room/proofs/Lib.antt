@@ -1,3 +1,5 @@
+-- the words of the command line, as they are matched
+pub mod Spellings
 -- writing a part piece by piece
 pub mod Writes
 -- what a replay comes to, from what was read and what was played
