@@ -19,3 +19,6 @@ pub use promises::lawful_parts_play_again;
 pub use reply::reply_to;
 pub use retold::Retold;
 pub use telling::print_workers;
+
+#[cfg(test)]
+mod tests;

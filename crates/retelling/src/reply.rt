@@ -107,7 +107,8 @@ fn answer_at(
     answer(alloc, config, request, accepted, readings.as_slice())
 }
 
-/// The reply that an answered call of an account was given, which has a frame. `pasts` are those of the account's partitions.
+/// The reply that an answered call of an account was given. The topics are such as may be declared, so that it has a frame. `pasts`
+/// are those of the account's partitions.
 pub fn reply_to(
     alloc: Global,
     account: &Account,

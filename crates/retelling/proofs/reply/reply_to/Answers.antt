@@ -51,6 +51,9 @@ answer_at-requires-clause-pasts c =
     let accepted : c.as_slice-accepted.result.now ≡ after.accepted = c.as_slice-accepted.ensures ∙ c.into_parts-accepted.ensures.accepted in
     subst (AllByRecursion (HasPast (length pasts))) (sym accepted) told.past
 
+pub answer_at-requires-clause-asked : goal.answer_at-requires-clause-asked
+answer_at-requires-clause-asked c = (c.as_slice.result.now, c.in-Ok.ensures.request)
+
 pub returns : goal.returns
 returns c =
     let account = c.args.account.now in
@@ -65,9 +68,12 @@ returns c =
     ∙ ap (λ (l : List Accepted). told_places call.how l c.into_parts-accepted.result.1 call.finish) accepted
     ∙ ap (λ (l : List ℕ). told_places call.how after.accepted l call.finish) c.into_parts-accepted.ensures.places in
     let are = subst (λ (l : List Accepted). AreShown pasts l c.as_slice-3.result.now told.shown) (sym accepted) (subst (λ (l : List ℕ). AreShown pasts after.accepted l told.shown) (sym places) told.are) in
-    if_ok_then c.answer_at.result c.answer_at.ensures (λ reply e. record {
-      whole = told.whole;
-      shown = told.shown;
-      shows = told.shows;
-      answered = e told.shown are ∙ ap (λ (r : Request). answer account.config r told.shown) told.asked;
-    })
+    record {
+      reply = if_ok_then c.answer_at.result c.answer_at.ensures.reply (λ reply e. record {
+        whole = told.whole;
+        shown = told.shown;
+        shows = told.shows;
+        answered = e told.shown are ∙ ap (λ (r : Request). answer account.config r told.shown) told.asked;
+      });
+      framed = if_ok_then c.answer_at.result c.answer_at.ensures.framed (λ reply f. f told.shown are);
+    }
