@@ -1,6 +1,6 @@
 //! The replay of a trace, on one thread.
 
-ghost use Rattle.std.specs.Prelude.{◌≡◌, ◌≤◌, ◌++◌, [], ℕ, false, List as Items, Some, IfOk, IfErr, OnOk, OnErr, IsErrOf, IfSome, IsSome, ◌⊎◌};
+ghost use Rattle.std.specs.Prelude.{◌≡◌, ◌≤◌, ℕ, List as Items, Some, IfOk, IfErr, OnOk, OnErr, IsErrOf, IfSome, IsSome, ◌⊎◌};
 ghost use Rattle.std.specs.List.{AllByRecursion};
 ghost use Rattle.std.specs.Io.KnownBytes.{Appends, Keeps, IsAtEnd};
 ghost use Rattle.outside.specs.Causes.{Rose};
