@@ -36,9 +36,9 @@ def tell(teller):
 
 
 def is_printed_so(name, teller):
-    """Whether the output beside the trace, where there is one, is what the model prints."""
+    """Whether the output beside the trace, where there is one, is what the model prints. It prints that of `replay` alone."""
     beside = pathlib.Path(name).with_suffix(".out")
-    if name == "-" or not beside.is_file():
+    if name == "-" or not beside.is_file() or beside.with_suffix(".args").is_file():
         return True
     teller.broker.summary()
     return beside.read_bytes() == b"".join(teller.broker.out)

@@ -133,7 +133,7 @@ play_of lines last account played is = record { last = last; played = played; ac
 pub printable_play : (text : List ℕ) (lines : List Line) (account : Account) (printed : List ℕ) → IsTrace text lines → IsPlay (configuration_of REPLAY_PORT lines) lines account printed → IsPrintable account
 printable_play text lines account printed trace played =
     let came = replayed text lines account printed trace played in
-    printable lines REPLAY_PORT account came.lawful came.run
+    printable lines REPLAY_PORT [] [] account came.lawful came.run tt
 
 -- all that the lines up to here print stands written
 pub front_of_lines : (start : Board) (lines done more : List Line) (last : Turned) → lines ≡ done ++ more → Plays start done last → IsLinesFront start lines last.text
@@ -151,7 +151,7 @@ front_of_text text lines written trace f =
     let k = front_of_play config lines f.done f.more f.last f.count play.0 play.1 f.parts f.played play.2 in
     record { lines = lines; trace = trace; account = play.0; text = play.1; played = play.2; count = k.0; front = f.front ∙ k.1 }
 
-told_trace : (left : Option (List ℕ)) (text : List ℕ) (lines : List Line) → IsTrace text lines → IfSome left (λ had. had ≡ text) → IfSome left (λ had. IsTrace had lines)
+pub told_trace : (left : Option (List ℕ)) (text : List ℕ) (lines : List Line) → IsTrace text lines → IfSome left (λ had. had ≡ text) → IfSome left (λ had. IsTrace had lines)
 told_trace None text lines trace told = tt
 told_trace (Some had) text lines trace told = subst (λ (t : List ℕ). IsTrace t lines) (sym told) trace
 

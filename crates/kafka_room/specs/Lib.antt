@@ -1,9 +1,13 @@
 -- ==== the words of public contracts
 
+-- what the words of the command line say
+pub mod Commands
 -- the exit code of what stopped a run
 pub mod Codes
 -- what a replay comes to
 pub mod Replay
+-- what a replay on workers comes to
+pub mod Worked
 -- ==== the words of private functions
 
 -- what is written of lines that weren't played to the last

@@ -2,7 +2,8 @@
 
 ghost use Rattle.std.specs.Prelude.{◌≡◌, Some, None};
 ghost use Rattle.kafka_room.specs.declared.exit.Stop.TheVariants.{WriteFault, NoMemory as OutOfMemory};
-ghost use Rattle.kafka_room.specs.Codes.{exit_code_of, bad_line_of, stop_of};
+ghost use Rattle.kafka_room.specs.declared.exit.Unfinished.TheVariants.{Stopped};
+ghost use Rattle.kafka_room.specs.Codes.{exit_code_of, bad_line_of, stop_of, stop_in, account_in};
 
 use audit::Account;
 use kbytes::NoMemory;
@@ -85,6 +86,31 @@ impl From<Failed> for Stop {
     }
 }
 
+/// Why a replay on workers isn't finished.
+#[derive(Debug, Drop)]
+pub enum Unfinished {
+    /// This stopped it before anything was written.
+    Stopped(Stop),
+    /// The run was done and has this account, and a write failed: only a front of its text was written.
+    Unwritten(Account),
+}
+
+impl From<Stop> for Unfinished {
+    ghost from_gives = { λ stop e. e ≡ Stopped stop };
+
+    fn from(stop: Stop) -> Unfinished {
+        Unfinished::Stopped(stop)
+    }
+}
+
+impl From<NoMemory> for Unfinished {
+    ghost from_gives = { λ _ e. e ≡ Stopped OutOfMemory };
+
+    fn from(_refused: NoMemory) -> Unfinished {
+        Unfinished::Stopped(Stop::NoMemory)
+    }
+}
+
 /// What a run answers. The port and the clock are those that were handed in.
 #[derive(Debug, Drop)]
 pub struct Exit<P: Drop, C: Drop> {
@@ -92,6 +118,7 @@ pub struct Exit<P: Drop, C: Drop> {
     pub code: u8,
     /// The first bad line, with code 2 alone.
     pub line: Option<LineFault>,
+    /// With code 0, and with 4 where the run was done on workers before it was written.
     pub account: Option<Account>,
     pub port: Option<P>,
     pub clock: Option<C>,
@@ -121,6 +148,29 @@ impl<P: Drop, C: Drop> Exit<P, C> {
             account: None,
             port: Some(port),
             clock: Some(clock),
+        }
+    }
+
+    /// All was done, and then a write failed.
+    pub fn unwritten(account: Account, port: P, clock: C) -> Exit<P, C>
+        ensures { result ≡ record { code = 4; line = None; account = Some account; port = Some port; clock = Some clock } }
+    {
+        Exit {
+            code: Stop::WriteFault.code(),
+            line: None,
+            account: Some(account),
+            port: Some(port),
+            clock: Some(clock),
+        }
+    }
+
+    /// The run wasn't finished.
+    pub fn unfinished(why: Unfinished, port: P, clock: C) -> Exit<P, C>
+        ensures { result ≡ record { code = exit_code_of (stop_in why); line = bad_line_of (stop_in why); account = account_in why; port = Some port; clock = Some clock } }
+    {
+        match why {
+            Unfinished::Stopped(stop) => Exit::stopped(stop, port, clock),
+            Unfinished::Unwritten(account) => Exit::unwritten(account, port, clock),
         }
     }
 }

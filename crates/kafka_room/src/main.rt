@@ -1,13 +1,16 @@
-//! The request purgatory of a Kafka broker: `kafka_room replay` replays a recorded trace.
+//! The request purgatory of a Kafka broker: `kafka_room replay` replays a recorded trace, on one thread or on several.
 #![tactic(auto)]
 
+mod command;
 mod exit;
 mod nothing;
+mod on_workers;
 mod replay;
 mod run;
 mod streams;
 #[cfg(test)]
 mod tests;
+mod trace;
 
 use exit::{Stop, exit_text};
 use nothing::{NoClock, NoPort};
@@ -21,9 +24,10 @@ const HELP: &str = "\
 kafka_room: the request purgatory of a Kafka broker
 
 Usage:
-  kafka_room replay     replays the trace on standard input
-  kafka_room --help     prints this text
-  kafka_room --version  prints the version
+  kafka_room replay              replays the trace on standard input
+  kafka_room replay --workers W  replays it on W threads, 1 to 16
+  kafka_room --help              prints this text
+  kafka_room --version           prints the version
 
 A trace has topics first and its end last, one space between two words, and
 numbers without sign or leading zeros. It has at most 67108864 bytes.
@@ -48,6 +52,8 @@ and after the last, for each partition and each session that a line named:
   part P end LOG_END high HIGH_WATERMARK batches COUNT bytes BYTES
   session S calls COUNT replies COUNT parked 1-OR-0, which is 1 where it waits
   done
+With --workers nothing is printed before all is done: then session by session,
+in rising number, its replies in order and its end, and behind them the summary.
 
 Exit codes:
   0  all was done and written        3  the input can't be read
@@ -57,6 +63,7 @@ Exit codes:
 
 Examples: kafka_room replay < examples/produce.trace
           kafka_room replay < examples/acks_all.trace
+          kafka_room replay --workers 4 < examples/two_sessions.trace
 ";
 
 const VERSION: &str = "kafka_room 0.1.0\n";

@@ -1,6 +1,6 @@
 //! The replay of a trace, on one thread.
 
-ghost use Rattle.std.specs.Prelude.{◌≡◌, ◌≤◌, ◌++◌, [], ℕ, false, List as Items, Some, IfOk, IfErr, OnOk, OnErr, IsErrOf, IfSome, IsSome, ◌⊎◌};
+ghost use Rattle.std.specs.Prelude.{◌≡◌, ◌≤◌, ℕ, List as Items, Some, IfOk, IfErr, OnOk, OnErr, IsErrOf, IfSome, IsSome, ◌⊎◌};
 ghost use Rattle.std.specs.List.{AllByRecursion};
 ghost use Rattle.std.specs.Io.KnownBytes.{Appends, Keeps, IsAtEnd};
 ghost use Rattle.outside.specs.Causes.{Rose};
@@ -12,26 +12,14 @@ ghost use Rattle.kafka_room.specs.LinesFront.{LinesPlayed, LinesFront};
 ghost use Rattle.kafka_room.specs.Replay.{IsReplayOf, IsReplay, IsReplayFront, IsFirstBadOf};
 
 use crate::exit::Stop;
-use crate::streams::{read_all, write_all};
+use crate::streams::write_all;
+use crate::trace::read_lines;
 use audit::{Account, print_replay};
 use broker::Lone;
-use kbytes::{Bytes, List};
+use kbytes::Bytes;
 use outside::{Sink, Source};
 use std::alloc::Global;
-use trace_file::{Line, REPLAY_PORT, config_of, read_trace};
-
-// Reads the lines of the source's trace. Its text isn't kept.
-fn read_lines<S: Source>(alloc: Global, source: &mut S) -> Result<List<Line>, Stop>
-    ensures trace { IfOk result (λ lines. (text : Items ℕ) × IsTrace text lines × IfSome (S.left source.old) (λ t. t ≡ text)) }
-    ensures end { OnOk result (IsAtEnd (S.left source.new)) }
-    ensures read_fault { IsErrOf result Stop.ReadFault → Rose (S.faults source.old) (S.faults source.new) }
-    ensures bad_line { IfErr result (λ stop. IfSome (bad_line_of stop) (IsFirstBadOf (S.left source.old))) }
-    ensures only { IfErr result (λ stop. (stop ≡ Stop.ReadFault) ⊎ (stop ≡ Stop.NoMemory) ⊎ IsSome (bad_line_of stop)) }
-{
-    let text = read_all(alloc, source)?;
-    let lines = read_trace(alloc, text.as_slice(), false)?;
-    Ok(lines)
-}
+use trace_file::{Line, REPLAY_PORT, config_of};
 
 // Plays the lines one after the other, and writes what each prints before the next.
 fn play_lines<K: Sink>(

@@ -1,32 +1,28 @@
 //! The whole program, above the outside that it is handed.
 
-ghost use Rattle.std.specs.Prelude.{◌≡◌, ◌∷◌, [], ◌↔◌, ◌⊎◌, ℕ, List, Some, map, codes, IfSome, IsSome, IsTrue};
+ghost use Rattle.std.specs.Prelude.{◌≡◌, ◌∷◌, [], ◌↔◌, ◌⊎◌, ℕ, List, Some, take, codes, IfSome, IsSome};
 ghost use Rattle.std.specs.Io.KnownBytes.{Appends, Keeps, IsAtEnd};
-ghost use Rattle.std.specs.String.{string_bytes};
 ghost use Rattle.outside.specs.Causes.{Rose};
 ghost use Rattle.audit.specs.IsLawful.{IsLawful};
+ghost use Rattle.audit.specs.Printed.{IsPrintOf};
+ghost use Rattle.kafka_room.specs.Commands.{IsCommand, IsThreaded, said};
 ghost use Rattle.kafka_room.specs.Replay.{IsReplay, IsReplayFront, IsFirstBadOf, HasTrace, IsSilent, IsNewPort};
+ghost use Rattle.kafka_room.specs.Worked.{IsWorked};
+ghost use Rattle.kafka_room.specs.declared.command.Command.{Command as TheCommand};
 
+use crate::command::Command;
 use crate::exit::{Exit, Stop};
+use crate::on_workers::replay_on_workers;
 use crate::replay::replay;
 use outside::{Clock, Port, Sink, Source};
 use std::alloc::Global;
 use std::sync::Wait;
 use std::thread::Threads;
 
-fn is_replay(words: &[String]) -> bool
-    ensures { IsTrue result ↔ (map (λ word. string_bytes word) words.now ≡ codes "replay" ∷ []) }
-{
-    match words {
-        [word] => word.as_str() == "replay",
-        _ => false,
-    }
-}
-
 /// Does what the words of the command line say, with the source, the sink, the port and the clock that are handed in. The
 /// port is new: it was never opened, it gave and got back no link, and it didn't tell that none come.
 pub fn run<R, S, K, P, C>(
-    _rt: &R,
+    rt: &R,
     alloc: Global,
     words: &[String],
     source: &mut S,
@@ -42,29 +38,38 @@ where
     P::Link: Send + Drop,
     C: Clock + Send + Drop,
     requires { IsNewPort (P.opened_with port) (P.given port) (P.is_ended port) (P.retired_count port) }
-    // The account of the run is lawful: it is there exactly where all was done and written.
-    ensures account { IsSome result.account ↔ (result.code ≡ 0) }
+    // The account of the run is lawful. It is there exactly where all was done and written, and where a run on workers was done and not written.
+    ensures account { IsSome result.account ↔ ((result.code ≡ 0) ⊎ ((result.code ≡ 4) × IsThreaded (said words.now))) }
     ensures lawful { IfSome result.account IsLawful }
-    // It is that of the trace, and exactly its printed lines were written.
-    ensures printed { IfSome result.account (λ account. (text : List ℕ) × IsReplay (S.left source.old) account text
+    // On one thread it is that of the trace, and exactly its printed lines were written.
+    ensures printed { said words.now ≡ codes "replay" ∷ [] → IfSome result.account (λ account. (text : List ℕ) × IsReplay (S.left source.old) account text
         × Appends (K.written sink.old) (K.written sink.new) text) }
     // After a write fault the front of such lines stands written.
-    ensures prefix { result.code ≡ 4 → (written : List ℕ) × IsReplayFront (S.left source.old) written
+    ensures prefix { said words.now ≡ codes "replay" ∷ [] → result.code ≡ 4 → (written : List ℕ) × IsReplayFront (S.left source.old) written
         × Appends (K.written sink.old) (K.written sink.new) written }
     // Where no memory was left, nothing was written, or the front of such lines.
-    ensures stopped { result.code ≡ 6 → Keeps (K.written sink.old) (K.written sink.new)
+    ensures stopped { said words.now ≡ codes "replay" ∷ [] → result.code ≡ 6 → Keeps (K.written sink.old) (K.written sink.new)
         ⊎ ((written : List ℕ) × IsReplayFront (S.left source.old) written × Appends (K.written sink.old) (K.written sink.new) written) }
+    // On workers it is that of a run of the trace.
+    ensures worked { IsThreaded (said words.now) → IfSome result.account (IsWorked (S.left source.old)) }
+    // Exactly what is printed of it was written, and after a write fault a front of that.
+    ensures told { IsThreaded (said words.now) → result.code ≡ 0 → IfSome result.account (λ account. (text : List ℕ) × IsPrintOf account text
+        × Appends (K.written sink.old) (K.written sink.new) text) }
+    ensures told_in_part { IsThreaded (said words.now) → result.code ≡ 4 → IfSome result.account (λ account. (text : List ℕ) × (count : ℕ)
+        × IsPrintOf account text × Appends (K.written sink.old) (K.written sink.new) (take count text)) }
+    // Where no memory was left, nothing was written.
+    ensures untold { IsThreaded (said words.now) → result.code ≡ 6 → Keeps (K.written sink.old) (K.written sink.new) }
     // The source was read to its end.
     ensures end { (result.code ≡ 0) ⊎ (result.code ≡ 4) → IsAtEnd (S.left source.new) }
     // With any other code nothing was written.
     ensures silent { IsSilent result.code → Keeps (K.written sink.old) (K.written sink.new) }
     // When each code comes. With 0 and 4 the text is a trace, by what was printed, and a trace has no bad line.
     ensures codes { (result.code ≡ 1) ⊎ (result.code ≡ 2) ⊎ (result.code ≡ 0) ⊎ (result.code ≡ 4) ⊎ (result.code ≡ 3) ⊎ (result.code ≡ 6) }
-    ensures usage { (result.code ≡ 1) ↔ (map (λ word. string_bytes word) words.now ≡ codes "replay" ∷ [] → ⊥) }
+    ensures usage { (result.code ≡ 1) ↔ ((command : TheCommand) → IsCommand (said words.now) command → ⊥) }
     ensures read_fault { result.code ≡ 3 → Rose (S.faults source.old) (S.faults source.new) }
     ensures write_fault { result.code ≡ 4 → Rose (K.faults sink.old) (K.faults sink.new) }
     // A trace is replayed to its end, unless a fault of the source or the sink or want of memory stops it.
-    ensures complete { map (λ word. string_bytes word) words.now ≡ codes "replay" ∷ [] → HasTrace (S.left source.old)
+    ensures complete { (command : TheCommand) → IsCommand (said words.now) command → HasTrace (S.left source.old)
         → (Rose (S.faults source.old) (S.faults source.new) → ⊥) → (Rose (K.faults sink.old) (K.faults sink.new) → ⊥)
         → (result.code ≡ 0) ⊎ (result.code ≡ 6) }
     // A bad line is told exactly with code 2: it is the first of the text.
@@ -74,11 +79,17 @@ where
     ensures port { result.port ≡ Some port }
     ensures clock { result.clock ≡ Some clock }
 {
-    if !is_replay(words) {
+    let Some(command) = Command::of(words) else {
         return Exit::stopped(Stop::Usage, port, clock);
-    }
-    match replay(alloc, source, sink) {
-        Ok(account) => Exit::done(account, port, clock),
-        Err(stop) => Exit::stopped(stop, port, clock),
+    };
+    match command {
+        Command::Replay => match replay(alloc, source, sink) {
+            Ok(account) => Exit::done(account, port, clock),
+            Err(stop) => Exit::stopped(stop, port, clock),
+        },
+        Command::Workers(count) => match replay_on_workers(rt, alloc, source, sink, count) {
+            Ok(account) => Exit::done(account, port, clock),
+            Err(why) => Exit::unfinished(why, port, clock),
+        },
     }
 }

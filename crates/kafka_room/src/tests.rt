@@ -50,6 +50,8 @@ const THREE_LINES_PRINTED: &[&[&str]] = &[
     &["part 0 end 2 high 2 batches 2 bytes 138\nsession 0 calls 3 replies 3 parked 0\ndone\n"],
 ];
 
+const ON_ONE_WORKER: &[&str] = &["replay", "--workers", "1"];
+
 // What a run answered, and what it wrote.
 #[derive(Drop)]
 struct Ran {
@@ -65,20 +67,21 @@ fn numbers(alloc: Global, items: &[u64]) -> Result<List<u64>, NoMemory> {
     Ok(list)
 }
 
-fn run_with<R: Threads + Wait + Sync>(
+// Runs these words on a trace, with a source whose reads of these numbers fail.
+fn run_into<R: Threads + Wait + Sync>(
     rt: &R,
     alloc: Global,
     words: &[&str],
     text: Bytes,
     reads: &[u64],
-    writes: &[u64],
+    sink: MemSink,
 ) -> Result<Ran, Fail> {
     let mut line = Vec::new(alloc);
     for word in words {
         line.push(String::from_str(alloc, word)?)?;
     }
     let mut source = MemSource::new(text, numbers(alloc, reads)?);
-    let mut sink = MemSink::new(alloc, 4096, numbers(alloc, writes)?)?;
+    let mut sink = sink;
     let exit = run(
         rt,
         alloc,
@@ -91,10 +94,32 @@ fn run_with<R: Threads + Wait + Sync>(
     Ok(Ran { exit, sink })
 }
 
+// The same with a sink of much room, whose writes of these numbers fail.
+fn run_with<R: Threads + Wait + Sync>(
+    rt: &R,
+    alloc: Global,
+    words: &[&str],
+    text: Bytes,
+    reads: &[u64],
+    writes: &[u64],
+) -> Result<Ran, Fail> {
+    let sink = MemSink::new(alloc, 4096, numbers(alloc, writes)?)?;
+    run_into(rt, alloc, words, text, reads, sink)
+}
+
 fn joined(alloc: Global, pieces: &[&str]) -> Result<Bytes, NoMemory> {
     let mut text = Bytes::new(alloc);
     for piece in pieces {
         text.extend(piece.as_bytes())?;
+    }
+    Ok(text)
+}
+
+// All that is printed of the three lines. They are of one session, so that it is the same on one worker.
+fn all_printed(alloc: Global) -> Result<Bytes, NoMemory> {
+    let mut text = Bytes::new(alloc);
+    for pieces in THREE_LINES_PRINTED {
+        text.extend(joined(alloc, pieces)?.as_slice())?;
     }
     Ok(text)
 }
@@ -145,7 +170,18 @@ fn a_trace_is_replayed_and_accounted_for(rt: HostRuntime) -> Result<(), Fail> {
 #[test]
 fn faulty_words_write_nothing(rt: HostRuntime) -> Result<(), Fail> {
     let alloc = rt.alloc();
-    let lines: [&[&str]; 4] = [&[], &["replay", "--workers"], &["serve"], &["Replay"]];
+    let lines: [&[&str]; 10] = [
+        &[],
+        &["serve"],
+        &["Replay"],
+        &["replay", "--workers"],
+        &["replay", "--workers", "0"],
+        &["replay", "--workers", "17"],
+        &["replay", "--workers", "01"],
+        &["replay", "--workers", "x"],
+        &["replay", "--Workers", "1"],
+        &["replay", "--workers", "1", "1"],
+    ];
     for words in lines {
         let refused = run_with(&rt, alloc, words, joined(alloc, THREE_LINES)?, &[], &[])?;
         assert_eq!(rt; refused.exit.code, 1);
@@ -221,6 +257,62 @@ fn each_write_that_fails_leaves_the_front_of_the_output(rt: HostRuntime) -> Resu
     let done = run_with(&rt, alloc, &["replay"], trace, &[], &[4])?;
     assert_eq!(rt; done.exit.code, 0);
     assert_eq!(rt; done.sink.bytes(), front.as_slice());
+    Ok(())
+}
+
+#[test]
+fn one_worker_tells_each_session_at_the_end(rt: HostRuntime) -> Result<(), Fail> {
+    let alloc = rt.alloc();
+    let trace = joined(alloc, THREE_LINES)?;
+    let done = run_with(&rt, alloc, ON_ONE_WORKER, trace, &[], &[])?;
+    assert_eq!(rt; done.exit.code, 0);
+    let account = done.exit.account.ok_or("an account")?;
+    assert_eq!(rt; account.parts.len(), 1);
+    assert_eq!(rt; account.passes.len(), 2);
+    assert_eq!(rt; done.sink.bytes(), all_printed(alloc)?.as_slice());
+    Ok(())
+}
+
+#[test]
+fn each_read_that_fails_on_one_worker_leaves_nothing_written(rt: HostRuntime) -> Result<(), Fail> {
+    let alloc = rt.alloc();
+    for read in 0..3 {
+        let trace = long_trace(alloc)?;
+        let failed = run_with(&rt, alloc, ON_ONE_WORKER, trace, &[read], &[])?;
+        assert_eq!(rt; failed.exit.code, 3, "at read {read}");
+        assert!(rt; failed.sink.bytes().is_empty(), "at read {read}");
+        assert!(rt; failed.exit.account.is_none(), "at read {read}");
+    }
+    Ok(())
+}
+
+#[test]
+fn a_write_that_fails_on_one_worker_leaves_the_account_and_a_front(
+    rt: HostRuntime,
+) -> Result<(), Fail> {
+    let alloc = rt.alloc();
+    let printed = all_printed(alloc)?;
+    for room in [0, 1, 60, printed.len() - 1] {
+        let sink = MemSink::new(alloc, room as u64, List::new(alloc))?;
+        let trace = joined(alloc, THREE_LINES)?;
+        let failed = run_into(&rt, alloc, ON_ONE_WORKER, trace, &[], sink)?;
+        assert_eq!(rt; failed.exit.code, 4, "with room {room}");
+        assert_eq!(rt;
+            failed.sink.bytes(),
+            &printed.as_slice()[..room],
+            "with room {room}"
+        );
+        assert!(rt; failed.exit.account.is_some(), "with room {room}");
+    }
+    let trace = joined(alloc, THREE_LINES)?;
+    let failed = run_with(&rt, alloc, ON_ONE_WORKER, trace, &[], &[0])?;
+    assert_eq!(rt; failed.exit.code, 4);
+    assert!(rt; failed.sink.bytes().is_empty());
+    assert!(rt; failed.exit.account.is_some());
+    let trace = joined(alloc, THREE_LINES)?;
+    let done = run_with(&rt, alloc, ON_ONE_WORKER, trace, &[], &[1])?;
+    assert_eq!(rt; done.exit.code, 0);
+    assert_eq!(rt; done.sink.bytes(), printed.as_slice());
     Ok(())
 }
 

@@ -2,7 +2,7 @@ use Rattle.std.proofs.Common.{List, ℕ, false, subst}
 use Rattle.std.proofs.lemmas.Result.{err_from_is_err_and}
 use Rattle.trace_file.specs.FirstBad.{TellsFirstBad}
 use Rattle.kafka_room.proofs.Replays.{bad_line_told}
-use Rattle.kafka_room.proofs.replay.read_lines.Goals as goal
+use Rattle.kafka_room.proofs.trace.read_lines.Goals as goal
 
 pub returns-in_err-lines-clause-bad_line : goal.returns-in_err-lines-clause-bad_line
 returns-in_err-lines-clause-bad_line g c =

@@ -1,0 +1,33 @@
+-- The words of the command line, as they are matched.
+use Rattle.std.proofs.Common.{◌≡◌, ◌<◌, ◌≤◌, ℕ, Bool, true, false, List, [], ◌∷◌, length, get_or, Option, Some, None, IfSome, IsTrue, codes, nat_eq, refl, ap, sym, ◌∙◌, arith}
+use Rattle.std.specs.Cmp.Lexicographic.{pointwise, same_text, other_text}
+use Rattle.std.specs.Fmt.{decimal}
+use Rattle.kafka_room.specs.Commands.{IsCommand}
+use Rattle.kafka_room.specs.declared.command.Command.TheVariants.{Workers}
+use Rattle.kafka_room.specs.declared.command.TheConstants.{MOST_WORKERS}
+
+pub only_item : {X : Type 0} (xs : List X) (x : X) → 1 ≤ length xs → length xs < 2 → x ≡ get_or xs 0 x → xs ≡ x ∷ []
+only_item [] x least below e = absurd (omega (arith, least))
+only_item (y ∷ []) x least below e = ap (λ z. z ∷ []) (sym e)
+only_item (y ∷ z ∷ ys) x least below e = absurd (omega (arith, below))
+
+pub three_items : {X : Type 0} (xs : List X) (x y z : X) → 3 ≤ length xs → length xs < 4 → x ≡ get_or xs 0 x → y ≡ get_or xs 1 y → z ≡ get_or xs 2 z → xs ≡ x ∷ y ∷ z ∷ []
+three_items [] x y z least below first second third = absurd (omega (arith, least))
+three_items (a ∷ []) x y z least below first second third = absurd (omega (arith, least))
+three_items (a ∷ b ∷ []) x y z least below first second third = absurd (omega (arith, least))
+three_items (a ∷ b ∷ c ∷ []) x y z least below first second third = cc
+three_items (a ∷ b ∷ c ∷ d ∷ xs) x y z least below first second third = absurd (omega (arith, below))
+
+first_of_one : (a b : List ℕ) → a ∷ [] ≡ b ∷ [] → a ≡ b
+first_of_one a b e = cc
+
+-- one word is compared
+pub is_word : (bytes want : List ℕ) (b : Bool) → b ≡ pointwise nat_eq bytes want → (IsTrue b → bytes ∷ [] ≡ want ∷ []) × (bytes ∷ [] ≡ want ∷ [] → IsTrue b)
+is_word bytes want true e = (λ _. ap (λ (x : List ℕ). x ∷ []) (same_text bytes want e), λ _. refl)
+is_word bytes want false e = (λ h. absurd cc, λ h. absurd (other_text bytes want e (first_of_one bytes want h)))
+
+-- three words with the number of workers as the last
+pub workers_said : (number : Option ℕ) (words : List (List ℕ)) (word option count : List ℕ) → words ≡ word ∷ option ∷ count ∷ [] → word ≡ codes "replay" → option ≡ codes "--workers"
+    → IfSome number (λ n. count ≡ decimal n) → IfSome number (λ n. (1 ≤ n) × (n ≤ MOST_WORKERS)) → IfSome number (λ n. IsCommand words (Workers n))
+workers_said None words word option count is first second third range = tt
+workers_said (Some n) words word option count is first second third range = (is ∙ rw (first, second, third) refl, range.0, range.1)
