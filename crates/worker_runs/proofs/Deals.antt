@@ -48,9 +48,12 @@ empty_dealing broker workers k less = record {
   clock = refl;
 }
 
+pub empty_size : (workers : ℕ) → length (empty_lanes workers) ≡ workers
+empty_size workers = length-map-range_with_len (empty_lane workers) 0 workers
+
 pub at_first : (broker : BrokerView) (workers : ℕ) → AreDealing broker 0 workers (empty_lanes workers)
 at_first broker workers = record {
-  size = length-map-range_with_len (empty_lane workers) 0 workers;
+  size = empty_size workers;
   each = λ k d less. subst (IsDealing broker 0 workers k) (sym (get_or-map-range_with_len (empty_lane workers) 0 workers k k d less (omega arith))) (empty_dealing broker workers k less);
   sessions = none_dealt workers workers;
 }

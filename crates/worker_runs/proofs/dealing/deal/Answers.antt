@@ -2,16 +2,30 @@ use Rattle.std.proofs.Common.{◌≡◌, ◌∙◌, ◌+◌, ◌++◌, ℕ, List
 use Rattle.workers.specs.Lanes.{LaneView}
 use Rattle.worker_runs.specs.Dealing.{empty_lanes}
 use Rattle.worker_runs.specs.Dealt.{AreDealt}
-use Rattle.worker_runs.proofs.Deals.{as_many, at_first}
+use Rattle.worker_runs.proofs.Deals.{as_many, at_first, empty_size}
 use Rattle.worker_runs.proofs.NewPasses.{as_many_passes, last_pass}
 use Rattle.worker_runs.proofs.Working.{written}
 use Rattle.worker_runs.proofs.dealing.deal.Goals as goal
+
+pub deal_sessions-requires-clause-some : goal.deal_sessions-requires-clause-some
+deal_sessions-requires-clause-some c =
+    let many = ap length (c.as_mut_slice.ensures.value ∙ c.in_ok-lanes.ensures) in
+    omega (arith, many, empty_size c.args.workers, c.requires.workers.0)
 
 pub deal_sessions-requires-clause-few : goal.deal_sessions-requires-clause-few
 deal_sessions-requires-clause-few c =
     let f = c.requires.fresh in
     let parts = last_pass f.0 f.1 c.pop.new.self c.in-Some.clock (sym c.in-Some.ensures.items ∙ f.2) in
     omega (arith, as_many_passes f.0 f.1 c.pop.new.self parts.0, f.3)
+
+pub deal_clock-requires : goal.deal_clock-requires
+deal_clock-requires c =
+    let lanes = c.in_ok-lanes.lanes in
+    let dealt = c.deal_sessions.new.lanes in
+    let size = c.deal_sessions.auto.lanes ∙ ap length c.as_mut_slice.ensures.value in
+    let many = size ∙ ap length c.in_ok-lanes.ensures in
+    let again = ap length (c.as_mut_slice-2.ensures.value ∙ written lanes dealt size) in
+    record { some = omega (arith, again, many, empty_size c.args.workers, c.requires.workers.0) }
 
 pub returns : goal.returns
 returns c broker count fresh =

@@ -1,7 +1,13 @@
 use Rattle.std.proofs.Common.{get_or, length}
+use denote.Exit.{no}
+use denote.Param.Send.{arg_send, param_send}
 use Rattle.trace_file.specs.Contents.{sessions_of}
+use Rattle.workers.proofs.Laws.{lane_is_send}
 use Rattle.worker_runs.proofs.Working.{all_worked, played}
 use Rattle.worker_runs.proofs.runs.work_all.Goals as goal
+
+pub for_each_mut-requires-send-T : goal.for_each_mut-requires-send-T
+for_each_mut-requires-send-T g c κs _ = param_send 1 _ (arg_send _ no _ lane_is_send)
 
 pub returns : goal.returns
 returns g c =
