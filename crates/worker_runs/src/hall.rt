@@ -1,7 +1,6 @@
 //! All sessions of a run and the clock, in one hand, once the workers have done their lines.
-ghost use Rattle.std.specs.Prelude.{◌≡◌, ◌≢◌, ◌<◌, ◌+◌, ◌++◌, ◌∷◌, [], ℕ, true, false, All, List as Items, IfOk, OnOk, is_some, length, map, slice_index_or};
+ghost use Rattle.std.specs.Prelude.{◌≡◌, ◌≢◌, ◌≤◌, ◌<◌, ◌+◌, ℕ, true, false, All, List as Items, IfOk, OnOk, is_some, length, map, slice_index_or};
 ghost use Rattle.std.specs.List.{list_any};
-ghost use Rattle.shared_broker.specs.Passes.{made_with};
 ghost use Rattle.trace_file.specs.declared.line.Line.{Line as TheLine};
 ghost use Rattle.trace_sessions.specs.Resting.{Rests};
 ghost use Rattle.trace_sessions.specs.Sessions.{SessionView, desk_of};
@@ -43,12 +42,45 @@ pub enum Closing {
     Again { broker: Broker, hall: Hall },
 }
 
+// The moment that is a second behind this one. Where the clock has none it waits for ever.
+fn later(rt: &impl Wait, ticked: u64) -> u64
+    ensures second { result ≡ ticked + DRAIN_STEP }
+    ensures limit { result ≤ MOST_MOMENT }
+{
+    if ticked > MOST_MOMENT - DRAIN_STEP {
+        for _ in rt.forever() {}
+        unreachable!()
+    }
+    ticked + DRAIN_STEP
+}
+
+// The sessions of these desks, each with its pass again.
+fn seat_all(
+    alloc: Global,
+    passes: List<Pass>,
+    desks: List<Desk>,
+) -> Result<List<TraceSession>, NoMemory>
+    requires { (sessions : Items SessionView) × (passes ≡ map (λ (s : SessionView). s.pass) sessions) × (desks ≡ map desk_of sessions) }
+    ensures { IfOk result (λ back. (sessions : Items SessionView) → passes ≡ map (λ (s : SessionView). s.pass) sessions → desks ≡ map desk_of sessions → back ≡ sessions) }
+{
+    let mut left = desks.into_vec().into_iter();
+    let mut sessions = List::new(alloc);
+    for pass in passes.into_vec() {
+        let Some(desk) = left.next() else {
+            unreachable!()
+        };
+        sessions.push(desk.with(pass))?;
+    }
+    Ok(sessions)
+}
+
 impl Hall {
     // One session does one thing more, where it can. Answers whether it did.
     fn step(&mut self, rt: &impl Wait, broker: &Broker, at: usize) -> Result<bool, NoMemory>
         requires there { at < length self.old.sessions }
         requires whole { (lines : Items TheLine) × (count : ℕ) × HasHall broker.now lines count self.old }
         ensures clock { self.new.clock ≡ self.old.clock }
+        ensures size { length self.new.sessions ≡ length self.old.sessions }
         ensures whole { OnOk result ((lines : Items TheLine) (count : ℕ) → HasHall broker.now lines count self.old → HasHall broker.now lines count self.new) }
         ensures alone { (k : ℕ) (s : SessionView) → k ≢ at → slice_index_or self.new.sessions k s ≡ slice_index_or self.old.sessions k s }
         ensures rests { IfOk result (λ did. did ≡ false → (s : SessionView) → Rests (slice_index_or self.new.sessions at s)) }
@@ -91,7 +123,10 @@ impl Hall {
     fn waits(&self) -> bool
         ensures { result ≡ list_any (λ (s : SessionView). is_some s.pass.waits) self.now.sessions }
     {
-        self.sessions.as_slice().iter().any(|session| session.waits())
+        self.sessions
+            .as_slice()
+            .iter()
+            .any(|session| session.waits())
     }
 
     // The clock goes on by a second. It waits for ever where there are no later moments.
@@ -100,10 +135,7 @@ impl Hall {
         ensures { OnOk result ((lines : Items TheLine) (count : ℕ) → HasRun broker.now lines count true self.old → HasRun broker.now lines count true self.new) }
     {
         self.clock.keeps();
-        let t = self.clock.ticked() + DRAIN_STEP;
-        if t > MOST_MOMENT {
-            for _ in rt.forever() {}
-        }
+        let t = later(rt, self.clock.ticked());
         broker.tick(rt, &mut self.clock, t)
     }
 
@@ -149,24 +181,12 @@ impl Hall {
         let Some(clock) = passes.pop() else {
             unreachable!()
         };
-        let mut left = desks.into_vec().into_iter();
-        let mut sessions = List::new(alloc);
-        for pass in passes.into_vec() {
-            let Some(desk) = left.next() else {
-                unreachable!()
-            };
-            sessions.push(desk.with(pass))?;
-        }
+        let sessions = seat_all(alloc, passes, desks)?;
         Ok(Hall { sessions, clock })
     }
 
     // Closes the broker, or hands all back.
-    fn try_close(
-        self,
-        rt: &impl Wait,
-        alloc: Global,
-        broker: Broker,
-    ) -> Result<Closing, NoMemory>
+    fn try_close(self, rt: &impl Wait, alloc: Global, broker: Broker) -> Result<Closing, NoMemory>
         requires whole { (lines : Items TheLine) × (count : ℕ) × HasHall broker lines count self × IsWhole broker count }
         ensures { IfOk result (HasClosed broker self) }
     {
