@@ -1,5 +1,5 @@
 -- A run whose lines are all done, before its clock goes on.
-use Rattle.std.proofs.Common.{◌≡◌, ℕ, Bool, true, false, List, [], ◌++◌, append-nil, refl, subst, sym}
+use Rattle.std.proofs.Common.{◌≡◌, ℕ, Bool, true, false, List, [], append-nil, refl, subst, sym}
 use Rattle.std.specs.Prelude.{MatchBool}
 use Rattle.kwire.specs.Configuration.{Configuration}
 use Rattle.plain_broker.proofs.Laws.{trace_declared}

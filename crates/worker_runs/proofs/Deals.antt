@@ -7,11 +7,11 @@ use Rattle.std.proofs.lemmas.List.{get_or-set_other, get_or-set_same, get_or_app
 use Rattle.std.proofs.lemmas.List.FromFn.{get_or-map-range_with_len, length-map-range_with_len, sum_by-map-range_with_len_more}
 use Rattle.std.proofs.lemmas.List.Sums.{sum_by-set}
 use Rattle.std.proofs.Math.Nat.{mul-le-mul_right}
-use Rattle.std.proofs.lemmas.Nat.{div-add-mod', mod-mul-add, mod_below, same_from_place}
+use Rattle.std.proofs.lemmas.Nat.{div-add-mod', mod-mul-add, mod_below}
 use Rattle.shared_broker.specs.Making.{fresh_pass}
 use Rattle.shared_broker.specs.Passes.{BrokerView, PassView}
 use Rattle.trace_sessions.specs.Sessions.{SessionView}
-use Rattle.workers.specs.Lanes.{AreNumbered, HasAll, HasDone, HasTaken, HasToldAll, IfClock, LaneView}
+use Rattle.workers.specs.Lanes.{AreNumbered, HasAll, HasTaken, HasToldAll, IfClock, LaneView}
 use Rattle.worker_runs.specs.Dealing.{AreDealing, IsDealing, empty_lane, empty_lanes, fresh_session}
 use Rattle.worker_runs.specs.Dealt.{AreDealt, HasClockOf, IsDealt, sessions_dealt}
 

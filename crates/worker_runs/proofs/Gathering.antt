@@ -1,5 +1,5 @@
 -- All sessions and the clock of the workers, in one hand.
-use Rattle.std.proofs.Common.{◌≡◌, ◌∙◌, ℕ, zero, suc, ◌+◌, ◌-◌, ◌*◌, ◌/◌, ◌%◌, ◌<◌, ◌≤◌, false, List, [], ◌∷◌, ◌++◌, append-nil, get_or, length, take, refl, sym, ap, subst, arith, inl, inr, length-append}
+use Rattle.std.proofs.Common.{◌≡◌, ◌∙◌, ℕ, suc, ◌+◌, ◌-◌, ◌*◌, ◌/◌, ◌%◌, ◌<◌, ◌≤◌, false, List, [], ◌∷◌, ◌++◌, append-nil, get_or, length, take, refl, sym, ap, subst, arith, inl, inr, length-append}
 use Rattle.std.specs.Prelude.{All, Any, None, Option, Some}
 use Rattle.std.specs.List.{flat_map}
 use Rattle.std.specs.Option.{option_or}
@@ -11,10 +11,10 @@ use Rattle.std.proofs.lemmas.Nat.{div-add-mod', mod_below}
 use Rattle.shared_broker.specs.Passes.{BrokerView, PassView}
 use Rattle.trace_file.specs.declared.line.Line.{Line}
 use Rattle.trace_sessions.specs.Sessions.{SessionView}
-use Rattle.workers.specs.Lanes.{HasDone, HasTaken, HasToldAll, IfClock, LaneView}
+use Rattle.workers.specs.Lanes.{HasTaken, HasToldAll, IfClock, LaneView}
 use Rattle.worker_runs.specs.Dealing.{empty_lane, fresh_session}
-use Rattle.worker_runs.specs.Dealt.{AreWorked, IsWorked}
-use Rattle.worker_runs.specs.Halls.{HallView, HasHall}
+use Rattle.worker_runs.specs.Dealt.{AreWorked}
+use Rattle.worker_runs.specs.Halls.{HasHall}
 
 abbrev pub sessions_in : LaneView → List SessionView
 sessions_in lane = lane.sessions

@@ -1,7 +1,5 @@
 -- The passes of a new broker, as they are taken one after the other.
-use Rattle.std.proofs.Common.{◌≡◌, ◌∙◌, ℕ, ◌+◌, ◌<◌, List, [], ◌∷◌, ◌++◌, get_or, length, map, refl, sym, ap, arith, length-append}
-use Rattle.std.specs.Prelude.{None, Option, Some, option_to_list}
-use Rattle.std.specs.List.{range_with_len}
+use Rattle.std.proofs.Common.{◌≡◌, ◌∙◌, ℕ, ◌+◌, ◌<◌, List, [], ◌∷◌, ◌++◌, get_or, length, refl, sym, ap, arith, length-append}
 use Rattle.std.proofs.lemmas.List.{append-nil, get_or_at, same_from_push}
 use Rattle.std.proofs.lemmas.List.FromFn.{get_or-map-range_with_len, length-map-range_with_len, map-range_with_len_more}
 use Rattle.shared_broker.specs.Making.{fresh_pass, fresh_passes}

@@ -1,5 +1,5 @@
 -- Workers that have worked are those to whom the sessions were dealt.
-use Rattle.std.proofs.Common.{◌≡◌, ◌≢◌, ◌∙◌, ℕ, ◌+◌, ◌/◌, ◌%◌, ◌<◌, Bool, true, false, eqb, List, [], ◌∷◌, ◌++◌, drop, get_or, length, map, take, suc, refl, sym, ap, subst, arith, inl, inr}
+use Rattle.std.proofs.Common.{◌≡◌, ◌∙◌, ℕ, ◌/◌, ◌%◌, ◌<◌, Bool, true, false, eqb, List, [], ◌∷◌, ◌++◌, drop, get_or, length, take, suc, refl, sym, ap, subst, arith}
 use Rattle.std.specs.Prelude.{MatchBool, None, Option, Some, sum_by}
 use Rattle.std.proofs.lemmas.List.{length-map, take_at}
 use Rattle.std.proofs.lemmas.List.Sums.{sum_by-cons}
@@ -7,7 +7,7 @@ use Rattle.shared_broker.specs.Passes.{BrokerView, PassView}
 use Rattle.trace_file.specs.declared.line.Line.{Line}
 use Rattle.trace_sessions.specs.Sessions.{SessionView}
 use Rattle.workers.specs.Lanes.{HasAll, HasDone, IsSameClock, IsSameLane, LaneView}
-use Rattle.worker_runs.specs.Dealt.{AreDealt, AreWorked, HasClockOf, IsDealt, IsWorked}
+use Rattle.worker_runs.specs.Dealt.{AreDealt, AreWorked, IsDealt, IsWorked}
 
 as_many_sessions : (old new : LaneView) → IsSameLane old new → length new.sessions ≡ length old.sessions
 as_many_sessions old new same =

@@ -1,5 +1,4 @@
-use Rattle.std.proofs.Common.{◌≡◌, ◌∙◌, ◌+◌, ◌++◌, ℕ, List, arith, ap, drop, length, subst, sym, take}
-use Rattle.workers.specs.Lanes.{LaneView}
+use Rattle.std.proofs.Common.{◌≡◌, ◌∙◌, ◌++◌, ℕ, arith, ap, drop, length, subst, sym, take}
 use Rattle.worker_runs.specs.Dealing.{empty_lanes}
 use Rattle.worker_runs.specs.Dealt.{AreDealt}
 use Rattle.worker_runs.proofs.Deals.{as_many, at_first, empty_size}

@@ -2,7 +2,7 @@ use Rattle.std.proofs.Common.{◌≡◌, ◌∙◌, ◌%◌, get_or, length, ref
 use Rattle.std.proofs.lemmas.Result.{on_ok_weaker}
 use Rattle.shared_broker.specs.Making.{fresh_pass}
 use Rattle.shared_broker.specs.Passes.{BrokerView, PassView}
-use Rattle.worker_runs.specs.Dealing.{AreDealing, fresh_session}
+use Rattle.worker_runs.specs.Dealing.{fresh_session}
 use Rattle.worker_runs.proofs.Deals.{session_dealt, with_more}
 use Rattle.worker_runs.proofs.dealing.deal_session.Goals as goal
 
