@@ -1,10 +1,9 @@
 -- What a replay on workers comes to, from what was read and how it was run.
-use Rattle.std.proofs.Common.{◌≡◌, ◌<◌, ◌≤◌, ◌^◌, ℕ, false, List, [], ◌∷◌, Option, IfSome, refl, sym, subst, arith}
-use Rattle.std.specs.List.{AllByRecursion}
+use Rattle.std.proofs.Common.{◌≡◌, ◌^◌, ℕ, false, List, [], ◌∷◌, Option, IfSome, refl, sym, subst, arith}
 use Rattle.audit.specs.declared.account.Account.{Account}
 use Rattle.kwire.specs.Configuration.{Configuration}
 use Rattle.trace_file.specs.declared.line.Line.{Line}
-use Rattle.trace_file.specs.declared.line.TheConstants.{MOST_SESSIONS, REPLAY_PORT}
+use Rattle.trace_file.specs.declared.line.TheConstants.{REPLAY_PORT}
 use Rattle.trace_file.specs.Trace.{IsTrace}
 use Rattle.trace_file.proofs.Laws.{few_sessions}
 use Rattle.plain_broker.specs.Declared.{AreDeclared}
