@@ -18,6 +18,8 @@ mod dealing;
 mod hall;
 mod promises;
 mod runs;
+#[cfg(test)]
+mod tests;
 
 pub use promises::hall_accounts_are_runs;
 pub use runs::run_lines;
