@@ -1,5 +1,6 @@
 #!/usr/bin/env python3
-"""Plays random traces on workers, by `tell_account`, and checks the account that it tells and what is printed of it.
+"""Plays the traces of the rows and examples, and random ones, on workers, by `tell_account`, and checks the account that it tells and
+what is printed of it.
 
 The account has to be lawful, that of a run of the trace, and to tell what is printed, by the definitions as they are transcribed. And
 apart from these a slow broker does each partition's history again, entry by entry, gives each call's reply from what it sees at the
@@ -29,7 +30,7 @@ import wire
 ROOT = pathlib.Path(__file__).resolve().parent.parent
 CRATE = ROOT / "crates" / "tell_account"
 PROGRAM = CRATE / "out" / "tell_account"
-KINDS = ["waiting", "mixed"]
+KINDS = ["waiting", "mixed", "waiting", "mixed", "crowded"]
 WORKERS = [1, 2, 3, 16]
 DRAIN_STEP = 1000
 # How long a request may wait in a trace that is drained, in milliseconds.
@@ -152,13 +153,23 @@ def is_drainable(lines):
     return max(waits, default=0) <= MOST_DRAINED and last + 2 * MOST_DRAINED * (1 + len(waits)) <= traces.MOST_MOMENT
 
 
-def cases_of(chosen):
-    for seed in range(chosen.first, chosen.first + chosen.count):
+def files():
+    """Each trace that stands in the repository, by its name."""
+    for trace in sorted([*ROOT.glob("crates/kafka_room/rows/*.trace"), *ROOT.glob("examples/*.trace")]):
+        if not trace.with_suffix(".status").exists():
+            yield f"{trace.parent.name}_{trace.stem}", trace.read_bytes()
+
+
+def made(first, count):
+    """Random traces, by their names."""
+    for seed in range(first, first + count):
         kind = KINDS[seed % len(KINDS)]
-        text = generate.made(kind, seed)
-        for drain in [False, True] if is_drainable(traces.read(text)) else [False]:
-            for workers in chosen.workers or WORKERS:
-                yield Case(f"{kind}_{seed}", workers, drain, text)
+        yield f"{kind}_{seed}", generate.made(kind, seed)
+
+
+def cases_of(named, workers):
+    return [Case(name, each, drain, text) for name, text in named
+            for drain in ([False, True] if is_drainable(traces.read(text)) else [False]) for each in workers]
 
 
 # ---- what fails
@@ -225,7 +236,7 @@ class Counted:
 def main():
     options = argparse.ArgumentParser(description=__doc__)
     options.add_argument("program", nargs="?", type=pathlib.Path, default=PROGRAM)
-    options.add_argument("--count", type=int, default=200, metavar="N", help="traces")
+    options.add_argument("--count", type=int, default=200, metavar="N", help="random traces")
     options.add_argument("--first", type=int, default=0, metavar="SEED", help="the seed of the first")
     options.add_argument("--workers", type=int, action="append", metavar="W", help=f"only on so many workers; else on each of {WORKERS}")
     options.add_argument("--unproved", action="store_true", help="plays all by one build of `rt try`, which proves nothing")
@@ -234,7 +245,8 @@ def main():
     if not chosen.unproved and not chosen.program.is_file():
         print(f"{chosen.program} isn't there: `rt run -- 1` in crates/tell_account makes it", file=sys.stderr)
         return 2
-    counted, began, cases = Counted(), time.time(), list(cases_of(chosen))
+    counted, began = Counted(), time.time()
+    cases = cases_of([*files(), *made(chosen.first, chosen.count)], chosen.workers or WORKERS)
     runs = ran_unproved(cases) if chosen.unproved else (ran(chosen.program, case) for case in cases)
     for case, told in zip(cases, runs):
         try:
@@ -242,7 +254,7 @@ def main():
         except WRONG as wrong:
             tell_failure(chosen, case, told, wrong)
             return 1
-    print(f"{chosen.count} traces in {time.time() - began:.0f} s: {counted.told()}")
+    print(f"{len(counted.came)} traces in {time.time() - began:.0f} s: {counted.told()}")
     return 0
 
 

@@ -2,6 +2,7 @@
 
 import random
 
+import generate_crowded
 import generate_requests
 import generate_waiting
 
@@ -75,10 +76,12 @@ def spoiled(random_, whole):
 
 def made(kind, seed):
     """The text of a kind: `plain`, whose requests mostly wait for nothing, `mixed`, in which all may come, `waiting`, in which what
-    comes just meets or just misses what waits, or `spoiled`."""
+    comes just meets or just misses what waits, `crowded`, in which many sessions wait for the same, or `spoiled`."""
     random_ = random.Random(f"{kind} {seed}")
     if kind in ("plain", "mixed"):
         return text(random_, waits=kind == "mixed")
     if kind == "waiting":
         return generate_waiting.Maker(random_).made()
+    if kind == "crowded":
+        return generate_crowded.Crowd(random_).made()
     return spoiled(random_, text(random_, waits=random_.random() < 0.5))

@@ -1,0 +1,2 @@
+-- the account of a run on workers can be told again
+mod Tellable
