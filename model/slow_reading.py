@@ -139,7 +139,7 @@ class SlowReading:
         return parts, asked
 
     def answer(self, owner, call):
-        """Whether a call was answered: its reply is among what is told then, from the states at its points."""
+        """Tells a call's reply from the partitions at its points, where they ask that it was answered."""
         request = self.requests[owner]
         parts, asked = self.parts_of(owner, request)
         how = kind_of(call.how)
@@ -150,20 +150,22 @@ class SlowReading:
             is_quiet = request.key == 0 and request.fields["acks"] == 0
             need(how == ("Quiet" if is_quiet else "AtOnce"), f"a call that needn't wait is {how}")
             need(call.accept == entries and call.finish == (), "a call that needn't wait has more points")
-            return not is_quiet and self.reply(owner, request, parts)
+            if not is_quiet:
+                self.broker.reply(owner[0], request, parts)
+            return
         need([point.part for point in call.accept[len(asked):]] == [CLOCK], "a call that waits didn't look at the clock once")
         wait = request.fields["timeout"] if request.key == 0 else request.fields["wait"]
         deadline = self.moments[call.accept[-1].place] + max(0, wait)
-        return self.end_of_wait(owner, call, parts, asked, deadline)
+        self.end_wait(owner, call, parts, asked, deadline)
 
-    def end_of_wait(self, owner, call, parts, asked, deadline):
+    def end_wait(self, owner, call, parts, asked, deadline):
         request, how, finish = self.requests[owner], kind_of(call.how), call.finish
         if how == "Parked":
             need(finish == (), "a parked call with an end")
             self.broker.partitions = self.final()
             need(not self.broker.is_satisfied(request, parts), "a parked call is satisfied at the end")
             need(self.moment < deadline, "a parked call is overdue at the end")
-            return False
+            return
         need(how in ("Satisfied", "Expired"), f"a call that waits is {how}")
         if how == "Expired":
             need(finish != () and finish[0].part == CLOCK, "an expired call without a look at the clock")
@@ -172,11 +174,7 @@ class SlowReading:
         need([look.part for look in finish] == asked, "a completion that looks at other partitions")
         self.show(finish)
         need(how == "Expired" or self.broker.is_satisfied(request, parts), "a satisfied call that isn't")
-        return self.reply(owner, request, parts)
-
-    def reply(self, owner, request, parts):
         self.broker.reply(owner[0], request, parts)
-        return True
 
     def final(self):
         return [shown[-1] if shown else broker.Partition(part.followers) for shown, part in zip(self.shown, self.account.parts)]
