@@ -66,8 +66,8 @@ fn work_all<R: Threads + Wait + Sync, G: Gate + Sync>(
 }
 
 /// Plays the lines on so many workers, from 1 to 16, with this port in what Metadata tells, and answers the account of that. Where `drain` is true, the clock
-/// goes on by the second behind the lines, until no request waits. Each worker passes the gate before each line that it does. It is refused where no memory
-/// is left, or where a session met that.
+/// goes on by the second behind the lines, until no request waits; where one waits past the greatest moment, that is for ever. Each worker passes the gate
+/// before each line that it does. It is refused where no memory is left, or where a session met that.
 pub fn run_lines<R: Threads + Wait + Sync, G: Gate + Sync>(
     rt: &R,
     alloc: Global,
