@@ -11,7 +11,7 @@ use Rattle.plain_broker.specs.Turns.{Turned}
 use Rattle.kafka_room.specs.LinesFront.{IsLinesFront}
 use Rattle.plain_broker.specs.Play.{Plays, IsPlay}
 use Rattle.audit.specs.Printable.{IsPrintable}
-use Rattle.kafka_room.proofs.Printing.{printable}
+use Rattle.retelling.proofs.Laws.{printable}
 use Rattle.audit.specs.Printed.{summary_of}
 use Rattle.kafka_room.specs.Replay.{IsReplayOf, IsReplay, IsReplayFront, IsFirstBadOf, HasTrace}
 use Rattle.trace_file.specs.Contents.{configuration_of}
