@@ -20,6 +20,8 @@ pub mod Closed
 pub mod Turning
 -- what a pass keeps beside its seat
 pub mod Owned
+-- what a pass owes, by gauge
+pub mod Owing
 -- what is so of every source
 pub mod Sources
 -- a pass that looks whether its debt of a gauge was paid

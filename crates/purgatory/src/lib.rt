@@ -48,6 +48,7 @@
 
 mod closing;
 mod crossing;
+mod debts;
 mod holding;
 mod locks;
 mod making;

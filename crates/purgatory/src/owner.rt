@@ -10,8 +10,11 @@ ghost use Rattle.room_core.specs.Numbers.{clock_mark, description_words};
 ghost use Rattle.room_table.specs.declared.part.CallerStep.TheVariants.{Asked, Described, Left, Opened, Read, SawMark, Won};
 ghost use Rattle.room_table.specs.Seats.{caller_did, caller_now};
 ghost use Rattle.purgatory.specs.Polled.{HasPolled};
+ghost use Rattle.purgatory.specs.Going.{OwesNothing};
+ghost use Rattle.purgatory.specs.Owing.{IsOutside};
 ghost use Rattle.purgatory.specs.Paying.{Pays};
 
+use crate::debts::Debts;
 use crate::locks::Mark;
 use crate::outcome::Done;
 use kbytes::NoMemory;
@@ -31,7 +34,7 @@ pub(crate) struct Owner {
     generation: u32,
     wins: u32,
     taken: u32,
-    owed: Vec<u64>,
+    owed: Debts,
 }
 
 impl Model for Owner {
@@ -42,7 +45,7 @@ impl Model for Owner {
 
     ghost view = { λ o. o.seat };
 
-    ghost invariant = { λ o. IsOwner o.number o.generation o.wins o.taken o.owed.items o.seat };
+    ghost invariant = { λ o. IsOwner o.number o.generation o.wins o.taken o.owed o.seat };
 }
 
 impl Owner {
@@ -57,7 +60,7 @@ impl Owner {
         requires fresh { seat.steps ≡ [] }
         ensures { IfOk result (λ owner. owner ≡ seat) }
     {
-        let owed = vec![in alloc; 0; shape.gauges as usize]?;
+        let owed = Debts::none(alloc, shape.gauges)?;
         Ok(Owner {
             seat,
             number,
@@ -123,12 +126,20 @@ impl Owner {
         }
     }
 
-    /// How many gauges there are. It owes nothing of any other.
-    pub(crate) fn gauges(&self) -> u32
-        ensures is { result ≡ self.now.table.shape.gauges }
-        ensures none { (gauge : ℕ) → result ≤ gauge → (caller_now self.now).owed gauge ≡ 0 }
+    /// The gauges of which it may owe something: from the first up to the second. All of them are there.
+    pub(crate) fn debts(&self) -> (u32, u32)
+        ensures there { result.1 ≤ self.now.table.shape.gauges }
+        ensures others { (gauge : ℕ) → IsOutside result.0 result.1 gauge → (caller_now self.now).owed gauge ≡ 0 }
     {
-        self.owed.len() as u32
+        self.owed.span()
+    }
+
+    /// It owes nothing: the next look at its debts is short.
+    pub(crate) fn close_debts(&mut self)
+        requires { OwesNothing (caller_now self.old) }
+        ensures { self.new ≡ self.old }
+    {
+        self.owed.close();
     }
 
     /// Reads a gauge: no less than it has read of it, or owes.
@@ -150,8 +161,7 @@ impl Owner {
     {
         let value = table.read(&mut self.seat, gauge);
         table.ask(&mut self.seat, gauge, value);
-        let owed = self.owed[gauge as usize];
-        self.owed[gauge as usize] = owed.max(value);
+        self.owed.add(gauge, value);
         value
     }
 
@@ -162,14 +172,14 @@ impl Owner {
         ensures pays { Pays gauge self.old self.new }
         ensures paid { IsTrue result → (caller_now self.new).owed gauge ≡ 0 }
     {
-        let owed = self.owed[gauge as usize];
+        let owed = self.owed.of(gauge);
         if owed == 0 {
             return true;
         }
         if owed > table.relieve(&mut self.seat, gauge) {
             return false;
         }
-        self.owed[gauge as usize] = 0;
+        self.owed.clear(gauge);
         true
     }
 

@@ -40,9 +40,11 @@ impl Room {
         ensures paid { OwesNothing (caller_now owner.new) }
         ensures keys { keys.new ≡ keys.old }
     {
-        for gauge in 0..owner.gauges() {
+        let (from, upto) = owner.debts();
+        for gauge in from..upto {
             self.settle_gauge(rt, owner, keys, gauge);
         }
+        owner.close_debts();
     }
 
     /// Pays what the pass owes: scans each gauge of which it owes a scan, under the lock of the gauge's scanner, unless another scan has

@@ -91,11 +91,11 @@ fn registers(
     crew
 }
 
-// What became of the operations, and whether one was forgotten.
+// What became of the operations: how many still wait, and whether one was forgotten.
 fn race<R: Threads + Wait + Clock + Sync>(
     rt: &R,
     alloc: Global,
-) -> Result<(Counts, bool), NoMemory> {
+) -> Result<(Counts, u32, bool), NoMemory> {
     let (room, crew) = start(alloc, 2, 2)?;
     let (one, other) = halves(&room, crew)?;
     let done = AtomicBool::new(false);
@@ -110,16 +110,18 @@ fn race<R: Threads + Wait + Clock + Sync>(
         { registers(rt, alloc, &room, other, &done) },
     );
     other.look(&room, 0);
+    let waiting = u32::from(other.waits(0));
     let forgotten = other.forgets(&room, 0);
-    Ok((other.counts(), forgotten))
+    Ok((other.counts(), waiting, forgotten))
 }
 
 #[test]
 fn nobody_is_forgotten_while_a_gauge_rises(rt: HostRuntime) -> Result<(), Fail> {
-    let (counts, forgotten) = race(&rt, rt.alloc())?;
+    let (counts, waiting, forgotten) = race(&rt, rt.alloc())?;
     assert!(rt; !forgotten);
     assert!(rt; counts.parked > 0);
-    assert_eq!(rt; counts.ended, counts.parked);
+    // the last may be left waiting where the other thread got no processor for long
+    assert_eq!(rt; counts.parked, counts.ended.saturating_add(waiting));
     assert_eq!(rt; counts.wrong, 0);
     Ok(())
 }

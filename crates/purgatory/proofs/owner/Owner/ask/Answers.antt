@@ -1,7 +1,7 @@
-use Rattle.std.proofs.Common.{◌∙◌, ap, arith}
+use Rattle.std.proofs.Common.{◌∙◌, ap, arith, get_or, refl, subst, sym}
 use Rattle.std.specs.Prelude.{max}
-use Rattle.std.proofs.lemmas.List.{get_or_default}
 use Rattle.room_table.specs.Seats.{CallerView, TableView}
+use Rattle.purgatory.specs.Owned.{IsOwner}
 use Rattle.purgatory.proofs.Owners.{may_ask, owner_asks, owner_reads}
 use Rattle.purgatory.proofs.owner.Owner.ask.Goals as goal
 
@@ -16,13 +16,22 @@ ask-requires-clause-may c =
     let gauges = ap (λ (t : TableView). t.shape.gauges) c.requires.table in
     (omega (arith, there, passes, pass), omega (arith, gauge, gauges), may_ask i.seat c.read-value.new.who c.args.gauge c.read-value.result step)
 
+pub add-requires : goal.add-requires
+add-requires c =
+    let size = c.self.invariant.size in
+    let gauge = c.requires.gauge in
+    let gauges = ap (λ (v : CallerView). v.table.shape.gauges) c.self.view_is in
+    omega (arith, size, gauge, gauges)
+
 pub invariant_of-self : goal.invariant_of-self
 invariant_of-self c =
     let i = c.self.inside in
     let size = c.self.invariant.size in
     let gauge = c.requires.gauge in
     let gauges = ap (λ (v : CallerView). v.table.shape.gauges) c.self.view_is in
-    let owed = c.index-owed.ensures ∙ get_or_default i.owed.items c.args.gauge _ 0 (omega (arith, size, gauge, gauges)) in
-    owner_asks i.number i.generation i.wins i.taken i.owed.items c.read-value.new.who c.ask.new.caller c.args.gauge c.read-value.result c.max.result
-    (owner_reads i.number i.generation i.wins i.taken i.owed.items i.seat c.read-value.new.who c.args.gauge c.read-value.result c.self.invariant c.read-value.ensures.step)
-    c.ask.ensures (c.max.ensures ∙ ap (λ n. max n c.read-value.result) owed) (omega (arith, size, gauge, gauges))
+    let owed = i.owed in
+    let debt = max (get_or owed c.args.gauge 0) c.read-value.result in
+    let asked = owner_asks i.number i.generation i.wins i.taken owed c.read-value.new.who c.ask.new.caller c.args.gauge c.read-value.result debt
+    (owner_reads i.number i.generation i.wins i.taken owed i.seat c.read-value.new.who c.args.gauge c.read-value.result c.self.invariant c.read-value.ensures.step)
+    c.ask.ensures refl (omega (arith, size, gauge, gauges)) in
+    subst (λ debts. IsOwner i.number i.generation i.wins i.taken debts c.ask.new.caller) (sym c.add.ensures) asked

@@ -27,7 +27,7 @@ invariant_of-self c =
     let v = c.self.invariant in
     let found = unpacked c.peek_own-word.result in
     let busy : (caller_now i.seat).stage ≢ Stage.Idle = λ e. c.requires.busy (sym (ap (λ (s : CallerView). (caller_now s).stage) c.self.view_is) ∙ e) in
-    owner_steps i.number i.generation i.wins i.taken i.generation i.wins i.taken i.owed.items i.seat c.peek_own-word.new.caller (CallerStep.Peeked found) v c.peek_own-word.ensures.step v.generation_is refl
+    owner_steps i.number i.generation i.wins i.taken i.generation i.wins i.taken i.owed i.seat c.peek_own-word.new.caller (CallerStep.Peeked found) v c.peek_own-word.ensures.step v.generation_is refl
     (counts_peek i.wins i.taken (caller_now i.seat) v.counts found.phase busy)
 
 pub invariant_of-self-2 : goal.invariant_of-self-2
@@ -38,8 +38,8 @@ invariant_of-self-2 c =
     let seen = c.peek_own-word.new.caller in
     let step = c.peek_own-word.ensures.step in
     let busy : (caller_now i.seat).stage ≢ Stage.Idle = λ e. c.requires.busy (sym (ap (λ (s : CallerView). (caller_now s).stage) c.self.view_is) ∙ e) in
-    let then = owner_steps i.number i.generation i.wins i.taken i.generation i.wins i.taken i.owed.items i.seat seen (CallerStep.Peeked found) v step v.generation_is refl
+    let then = owner_steps i.number i.generation i.wins i.taken i.generation i.wins i.taken i.owed i.seat seen (CallerStep.Peeked found) v step v.generation_is refl
     (counts_peek i.wins i.taken (caller_now i.seat) v.counts found.phase busy) in
     let won = ap (λ (w : Session). w.phase) (sym c.unpacked.ensures) ∙ c.in-Won.is in
-    owner_steps i.number i.generation i.wins i.taken i.generation i.wins (i.taken + 1) i.owed.items seen c.idle.new.caller CallerStep.Idled then c.idle.ensures then.generation_is refl
+    owner_steps i.number i.generation i.wins i.taken i.generation i.wins (i.taken + 1) i.owed seen c.idle.new.caller CallerStep.Idled then c.idle.ensures then.generation_is refl
     (counts_idle i.wins i.taken (caller_now seen) then.counts (won_over i.seat seen found _ _ step won))

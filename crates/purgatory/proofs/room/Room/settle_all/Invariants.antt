@@ -8,6 +8,6 @@ invariant-loop-gauge g l = record {
   went : GoesOn l.initial.owner l.owner;
   kept : KeepsOperation (caller_now l.initial.owner) (caller_now l.owner);
   paid : (gauge : ℕ) → gauge < l.gauge → (caller_now l.owner).owed gauge ≡ 0;
-  none : (gauge : ℕ) → l.gauge-end ≤ gauge → (caller_now l.owner).owed gauge ≡ 0;
+  none : (gauge : ℕ) → l.upto ≤ gauge → (caller_now l.owner).owed gauge ≡ 0;
   keys : l.keys ≡ l.initial.keys;
 }
