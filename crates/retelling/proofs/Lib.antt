@@ -16,6 +16,8 @@ pub mod Reread
 pub mod Answered
 -- the replies of calls and of sessions, one after the other
 pub mod Tellings
+-- sessions that are told in shares
+pub mod Sharing
 -- the account of a run, and the numbers of its sessions
 pub mod Printing
 -- the account of a trace's run can be told again

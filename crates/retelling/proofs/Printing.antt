@@ -19,7 +19,6 @@ use Rattle.kwire.specs.Layouts.{Layout, End, ◌⨾◌, Many, IsFaultAt}
 use Rattle.kwire.specs.Refusal.{IsRefused, NoHead, NoApi, NoVersion, NoField, MoreBytes, NamedTwice}
 use Rattle.trace_file.specs.declared.line.Line.{Line}
 use Rattle.trace_file.specs.Contents.{is_named, is_shut, sessions_of}
-use Rattle.audit.proofs.Laws.{some_is}
 
 -- ---- no fault of a request is want of memory
 

@@ -1,5 +1,5 @@
 -- The account of a trace's run can be told again.
-use Rattle.std.proofs.Common.{◌≡◌, ◌<◌, ◌^◌, ℕ, List, [], sym, subst, arith}
+use Rattle.std.proofs.Common.{◌≡◌, ◌^◌, ℕ, List, [], sym, subst, arith}
 use Rattle.std.specs.List.{AllByRecursion}
 use Rattle.audit.specs.declared.account.Account.{Account}
 use Rattle.audit.specs.declared.account.Transcript.{Transcript}
@@ -11,7 +11,6 @@ use Rattle.plain_broker.proofs.Laws.{trace_declared}
 use Rattle.retelling.specs.Tellable.{IsTellable}
 use Rattle.retelling.proofs.Printing.{printable, numbers_below}
 use Rattle.trace_file.specs.declared.line.Line.{Line}
-use Rattle.trace_file.specs.declared.line.TheConstants.{MOST_SESSIONS}
 use Rattle.trace_file.specs.Trace.{IsTrace}
 use Rattle.trace_file.proofs.Laws.{few_sessions}
 

@@ -15,6 +15,7 @@ use Rattle.audit.specs.LawfulCall.{IsLawfulCall}
 use Rattle.audit.specs.Printed.{session_text, transcripts_of}
 use Rattle.audit.proofs.Laws.{some_is}
 use Rattle.audit.proofs.Prints.{all_lawful}
+use Rattle.retelling.specs.Shares.{sessions_in}
 use Rattle.retelling.specs.Tellable.{IsTold}
 use Rattle.retelling.proofs.LawfulParts.{one_more}
 use Rattle.retelling.proofs.ByPoints.{all_zip_append}
@@ -71,15 +72,12 @@ pub next_session : (account : Account) (transcripts : List Transcript) (i : ℕ)
 next_session account transcripts i transcript a b c at f d =
     subst (λ (ts : List Transcript). HaveTold account ts a c) (sym (one_more transcripts i transcript at)) (told_on account (take i transcripts) (transcript ∷ []) a b c f (told_one account transcript b c d))
 
-abbrev pub flat : List (List Transcript) → List Transcript
-flat passes = flat_map (λ transcripts. transcripts) passes
-
-pub next_pass : (account : Account) (passes : List (List Transcript)) (i : ℕ) (pass : List Transcript) (a b c : List ℕ) → slice_get passes i ≡ Some pass → HaveTold account (flat (take i passes)) a b → HaveTold account pass b c
-    → HaveTold account (flat (take (i + 1) passes)) a c
+pub next_pass : (account : Account) (passes : List (List Transcript)) (i : ℕ) (pass : List Transcript) (a b c : List ℕ) → slice_get passes i ≡ Some pass → HaveTold account (sessions_in (take i passes)) a b → HaveTold account pass b c
+    → HaveTold account (sessions_in (take (i + 1) passes)) a c
 next_pass account passes i pass a b c at f g =
-    let more : flat (take (i + 1) passes) ≡ flat (take i passes) ++ pass =
-    ap flat (one_more passes i pass at) ∙ flat_map-append (λ (ts : List Transcript). ts) (take i passes) (pass ∷ []) ∙ ap (λ (l : List Transcript). flat (take i passes) ++ l) (append-nil pass) in
-    subst (λ (ts : List Transcript). HaveTold account ts a c) (sym more) (told_on account (flat (take i passes)) pass a b c f g)
+    let more : sessions_in (take (i + 1) passes) ≡ sessions_in (take i passes) ++ pass =
+    ap sessions_in (one_more passes i pass at) ∙ flat_map-append (λ (ts : List Transcript). ts) (take i passes) (pass ∷ []) ∙ ap (λ (l : List Transcript). sessions_in (take i passes) ++ l) (append-nil pass) in
+    subst (λ (ts : List Transcript). HaveTold account ts a c) (sym more) (told_on account (sessions_in (take i passes)) pass a b c f g)
 
 -- ---- what may be told
 
@@ -91,11 +89,11 @@ both account (t ∷ transcripts) calls numbers = (record { calls = calls.0; numb
 pub all_told : (account : Account) → IsLawful account → AllByRecursion (λ transcript. transcript.number < 2 ^ 32) (transcripts_of account) → AllByRecursion (IsTold account) (transcripts_of account)
 all_told account lawful numbers = both account (transcripts_of account) (all_lawful account lawful) numbers
 
-part_told : (P : Transcript → Type 0) (xs ys : List Transcript) → AllByRecursion P (xs ++ ys) → AllByRecursion P xs × AllByRecursion P ys
+pub part_told : (P : Transcript → Type 0) (xs ys : List Transcript) → AllByRecursion P (xs ++ ys) → AllByRecursion P xs × AllByRecursion P ys
 part_told P [] ys all = (tt, all)
 part_told P (x ∷ xs) ys all = let rest = part_told P xs ys all.1 in ((all.0, rest.0), rest.1)
 
-pub pass_told : (P : Transcript → Type 0) (passes : List (List Transcript)) (i : ℕ) (pass : List Transcript) → AllByRecursion P (flat passes) → slice_get passes i ≡ Some pass → AllByRecursion P pass
+pub pass_told : (P : Transcript → Type 0) (passes : List (List Transcript)) (i : ℕ) (pass : List Transcript) → AllByRecursion P (sessions_in passes) → slice_get passes i ≡ Some pass → AllByRecursion P pass
 pass_told P [] i pass all at = absurd cc
-pass_told P (p ∷ passes) zero pass all at = subst (AllByRecursion P) (some_is p pass at) (part_told P p (flat passes) all).0
-pass_told P (p ∷ passes) (suc i) pass all at = pass_told P passes i pass (part_told P p (flat passes) all).1 at
+pass_told P (p ∷ passes) zero pass all at = subst (AllByRecursion P) (some_is p pass at) (part_told P p (sessions_in passes) all).0
+pass_told P (p ∷ passes) (suc i) pass all at = pass_told P passes i pass (part_told P p (sessions_in passes) all).1 at

@@ -12,3 +12,5 @@ pub mod Tellable
 pub mod NumbersUpTo
 -- what is shown of the partitions of a call
 pub mod WasShown
+-- what is told of a part of an account's sessions
+pub mod Shares

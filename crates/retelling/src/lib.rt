@@ -11,6 +11,7 @@ mod promises;
 mod reply;
 mod rereading;
 mod retold;
+mod shares;
 mod telling;
 
 pub use accepting::{Scene, retell};
@@ -18,6 +19,7 @@ pub use past::{Past, pasts_of};
 pub use promises::lawful_parts_play_again;
 pub use reply::reply_to;
 pub use retold::Retold;
+pub use shares::print_workers_on;
 pub use telling::print_workers;
 
 #[cfg(test)]

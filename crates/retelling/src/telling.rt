@@ -1,6 +1,6 @@
 //! What is printed of a run with several threads: session by session what it was sent, and then the summary.
 
-ghost use Rattle.std.specs.Prelude.{ℕ, ◌≡◌, ◌<◌, ◌^◌, ◌∷◌, [], ◌++◌, map, List as Items, OnOk, OnErr};
+ghost use Rattle.std.specs.Prelude.{ℕ, ◌≡◌, ◌<◌, ◌^◌, ◌∷◌, [], ◌++◌, map, List as Items, OnOk, OnErr, IfOk};
 ghost use Rattle.std.specs.List.{AllByRecursion, AllZip, flat_map, zip};
 ghost use Rattle.kwire.specs.declared.reply.Reply.{Reply as TheReply};
 ghost use Rattle.trace_file.specs.PrintedLine.{reply_line};
@@ -9,7 +9,9 @@ ghost use Rattle.audit.specs.Fits.{HasReplies, is_answered};
 ghost use Rattle.audit.specs.Histories.{history_of};
 ghost use Rattle.audit.specs.IsLawful.{HasLogs};
 ghost use Rattle.audit.specs.LawfulCall.{IsLawfulCall};
-ghost use Rattle.audit.specs.Printed.{IsPrintOf, session_text, transcripts_of};
+ghost use Rattle.audit.specs.Printable.{IsPrintable};
+ghost use Rattle.audit.specs.Printed.{IsPrintOf, session_text, summary_of};
+ghost use Rattle.retelling.specs.Shares.{IsTextOf, sessions_in};
 ghost use Rattle.retelling.specs.Tellable.{IsTellable, IsTold};
 
 use crate::past::{Past, pasts_of};
@@ -126,24 +128,58 @@ fn put_pass(
     Ok(())
 }
 
-// The same of each session of each pass.
+// The same of each session of these passes.
 fn put_passes(
     alloc: Global,
     account: &Account,
     pasts: &[Past],
+    passes: &[List<Transcript>],
     out: &mut Bytes,
 ) -> Result<(), NoMemory>
-    requires told { AllByRecursion (IsTold account.now) (transcripts_of account.now) }
+    requires told { AllByRecursion (IsTold account.now) (sessions_in passes.now) }
     requires logs { HasLogs account.now }
     requires pasts { pasts.now ≡ map history_of account.now.parts }
     requires declared { AreDeclared account.now.config.topics }
-    ensures { OnOk result ((all : Items (Items TheReply)) × AllZip (λ transcript sent. HasReplies account.now transcript.calls sent) (transcripts_of account.now) all
-        × (out.new ≡ out.old ++ flat_map session_text (zip (transcripts_of account.now) all))) }
+    ensures { OnOk result ((all : Items (Items TheReply)) × AllZip (λ transcript sent. HasReplies account.now transcript.calls sent) (sessions_in passes.now) all
+        × (out.new ≡ out.old ++ flat_map session_text (zip (sessions_in passes.now) all))) }
 {
-    for transcripts in account.passes.as_slice() {
+    for transcripts in passes {
         put_pass(alloc, account, pasts, transcripts.as_slice(), out)?;
     }
     Ok(())
+}
+
+// The lines of each session of these passes.
+pub(crate) fn passes_text(
+    alloc: Global,
+    account: &Account,
+    pasts: &[Past],
+    passes: &[List<Transcript>],
+) -> Result<Bytes, NoMemory>
+    requires told { AllByRecursion (IsTold account.now) (sessions_in passes.now) }
+    requires logs { HasLogs account.now }
+    requires pasts { pasts.now ≡ map history_of account.now.parts }
+    requires declared { AreDeclared account.now.config.topics }
+    ensures { IfOk result (λ text. IsTextOf account.now (sessions_in passes.now) text) }
+{
+    let mut text = Bytes::new(alloc);
+    put_passes(alloc, account, pasts, passes, &mut text)?;
+    Ok(text)
+}
+
+// Puts the lines of all sessions at the end of the bytes, and the summary behind them.
+pub(crate) fn put_with_summary(
+    alloc: Global,
+    account: &Account,
+    mut text: Bytes,
+    out: &mut Bytes,
+) -> Result<(), NoMemory>
+    requires { IsPrintable account.now }
+    ensures ok { OnOk result (out.new ≡ out.old ++ (text ++ summary_of account.now)) }
+    ensures err { OnErr result (out.new ≡ out.old) }
+{
+    print_replay(alloc, account, &mut text)?;
+    out.extend(text.as_slice())
 }
 
 /// Puts what is printed of a run with several threads at the end of the bytes: of each session its replies in order and how it
@@ -154,8 +190,6 @@ pub fn print_workers(alloc: Global, account: &Account, out: &mut Bytes) -> Resul
     ensures err { OnErr result (out.new ≡ out.old) }
 {
     let pasts = pasts_of(alloc, account)?;
-    let mut text = Bytes::new(alloc);
-    put_passes(alloc, account, pasts.as_slice(), &mut text)?;
-    print_replay(alloc, account, &mut text)?;
-    out.extend(text.as_slice())
+    let text = passes_text(alloc, account, pasts.as_slice(), account.passes.as_slice())?;
+    put_with_summary(alloc, account, text, out)
 }

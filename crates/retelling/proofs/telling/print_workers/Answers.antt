@@ -1,5 +1,12 @@
+use Rattle.std.proofs.Common.{List, subst, sym}
+use Rattle.std.specs.List.{AllByRecursion}
+use Rattle.audit.specs.declared.account.Transcript.{Transcript}
+use Rattle.retelling.specs.Shares.{sessions_in}
+use Rattle.retelling.specs.Tellable.{IsTold}
 use Rattle.retelling.proofs.Tellings.{all_told}
 use Rattle.retelling.proofs.telling.print_workers.Goals as goal
 
-pub put_passes-requires-clause-told : goal.put_passes-requires-clause-told
-put_passes-requires-clause-told c = all_told c.args.account.now c.requires.printable.lawful c.requires.numbered
+pub passes_text-requires-clause-told : goal.passes_text-requires-clause-told
+passes_text-requires-clause-told c =
+    let account = c.args.account.now in
+    subst (λ (passes : List (List Transcript)). AllByRecursion (IsTold account) (sessions_in passes)) (sym c.as_slice-2.ensures) (all_told account c.requires.printable.lawful c.requires.numbered)

@@ -1,6 +1,7 @@
 use Rattle.std.proofs.Common.{take}
-use Rattle.retelling.proofs.Tellings.{HaveTold, flat}
+use Rattle.retelling.specs.Shares.{sessions_in}
+use Rattle.retelling.proofs.Tellings.{HaveTold}
 use Rattle.retelling.proofs.telling.put_passes.Given as goal
 
 abbrev pub invariant-loop-transcripts : goal.invariant-loop-transcripts
-invariant-loop-transcripts l = HaveTold l.account (flat (take l.transcripts-index l.account.passes)) l.fn.out l.out
+invariant-loop-transcripts l = HaveTold l.account (sessions_in (take l.transcripts-index l.passes)) l.fn.out l.out

@@ -36,3 +36,9 @@ print_workers-requires g c =
     let one : IsRequest FETCH_ONE fetch_one = c.worked_requests.ensures.one in
     let both : IsRequest FETCH_BOTH fetch_both = c.worked_requests.ensures.both in
     subst IsTellable (sym c.in_ok-account.ensures) (told FETCH_ONE FETCH_BOTH (c.worked_account.ensures.lawful FETCH_ONE FETCH_BOTH one both))
+
+pub loop-threads-init : goal.loop-threads-init
+loop-threads-init g c =
+    let one : IsRequest FETCH_ONE fetch_one = c.worked_requests.ensures.one in
+    let both : IsRequest FETCH_BOTH fetch_both = c.worked_requests.ensures.both in
+    subst IsTellable (sym c.in_ok-account.ensures) (told FETCH_ONE FETCH_BOTH (c.worked_account.ensures.lawful FETCH_ONE FETCH_BOTH one both))
