@@ -20,8 +20,7 @@ cut passes n = ap sessions_in (sym (take-append-drop n passes)) ∙ flat_map-app
 pub share_so : (P : Transcript → Type 0) (passes : List (List Transcript)) (size start : ℕ) → AllByRecursion P (sessions_in passes) → AllByRecursion P (sessions_in (take size (drop start passes)))
 share_so P passes size start all =
     let behind = part_told P (sessions_in (take start passes)) (sessions_in (drop start passes)) (subst (AllByRecursion P) (cut passes start) all) in
-    let share = part_told P (sessions_in (take size (drop start passes))) (sessions_in (drop size (drop start passes))) (subst (AllByRecursion P) (cut (drop start passes) size) behind.1) in
-    share.0
+    (part_told P (sessions_in (take size (drop start passes))) (sessions_in (drop size (drop start passes))) (subst (AllByRecursion P) (cut (drop start passes) size) behind.1)).0
 
 -- ---- the texts
 
