@@ -17,7 +17,7 @@ use nothing::{NoClock, NoPort};
 use outside::{StdSink, StdSource};
 use run::run;
 use std::process::ExitCode;
-use std::{env, io};
+use std::{env, io, mem};
 use trace_file::LineFault;
 
 const HELP: &str = "\
@@ -136,5 +136,8 @@ fn main(rt: HostRuntime) -> ExitCode {
         NoPort::new(),
         NoClock,
     );
-    ended_run(&rt, exit.code, exit.line)
+    let (code, line) = (exit.code, exit.line);
+    // The process ends: the system takes all memory of the account at once.
+    mem::forget(exit);
+    ended_run(&rt, code, line)
 }

@@ -17,7 +17,7 @@ use crate::trace::read_lines;
 use audit::Account;
 use kbytes::{Bytes, NoMemory};
 use outside::{Sink, Source};
-use retelling::print_workers;
+use retelling::print_workers_on;
 use std::alloc::Global;
 use std::sync::Wait;
 use std::thread::Threads;
@@ -25,7 +25,7 @@ use trace_file::{Line, REPLAY_PORT};
 use worker_runs::run_lines;
 use workers::NoGate;
 
-// Plays the lines on so many workers, and tells in a text what came of it.
+// Plays the lines on so many workers, and tells in a text what came of it, on as many threads.
 fn play<R: Threads + Wait + Sync>(
     rt: &R,
     alloc: Global,
@@ -39,7 +39,7 @@ fn play<R: Threads + Wait + Sync>(
 {
     let account = run_lines(rt, alloc, lines, REPLAY_PORT, workers, false, &NoGate)?;
     let mut text = Bytes::new(alloc);
-    print_workers(alloc, &account, &mut text)?;
+    print_workers_on(rt, alloc, &account, workers, &mut text)?;
     Ok((account, text))
 }
 

@@ -17,16 +17,12 @@ use std::alloc::Global;
 use std::thread;
 use std::thread::Threads;
 
-// Into how many shares the passes are cut for each thread: sessions differ in length, and a thread whose share is short would
-// stand still.
-const SHARES_A_THREAD: usize = 4;
-
-// How many passes a share has, the last one perhaps fewer.
+// How many passes a share has, the last one perhaps fewer, where each thread has one share.
 fn share_size(passes: usize, threads: u32) -> usize
     requires { 1 ≤ threads }
     ensures { 0 < result }
 {
-    passes.div_ceil(threads as usize * SHARES_A_THREAD).max(1)
+    passes.div_ceil(threads as usize).max(1)
 }
 
 // Tells each share of so many passes, in a thread of its own where one can be started.
@@ -88,9 +84,9 @@ fn sessions_text<R: Threads + Sync>(
     Ok(text)
 }
 
-/// The same as `print_workers`, the sessions told in several threads. The passes are cut into shares, about four for each of
-/// `threads`, and each share is told in a thread of its own where one can be started. After want of memory, also in one of the
-/// threads, the bytes are as before.
+/// The same as `print_workers`, the sessions told in so many threads, that of the caller among them: the passes are cut into as many
+/// shares, and each is told in a thread of its own where one can be started. After want of memory, also in one of the threads, the
+/// bytes are as before.
 pub fn print_workers_on<R: Threads + Sync>(
     rt: &R,
     alloc: Global,
