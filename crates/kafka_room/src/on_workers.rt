@@ -17,7 +17,7 @@ use crate::trace::read_lines;
 use audit::Account;
 use kbytes::{Bytes, NoMemory};
 use outside::{Sink, Source};
-use retelling::print_workers_on;
+use retelling::workers_text;
 use std::alloc::Global;
 use std::sync::Wait;
 use std::thread::Threads;
@@ -38,8 +38,7 @@ fn play<R: Threads + Wait + Sync>(
     ensures told { IfOk result (λ came. IsPrintOf came.0 came.1) }
 {
     let account = run_lines(rt, alloc, lines, REPLAY_PORT, workers, false, &NoGate)?;
-    let mut text = Bytes::new(alloc);
-    print_workers_on(rt, alloc, &account, workers, &mut text)?;
+    let text = workers_text(rt, alloc, &account, workers)?;
     Ok((account, text))
 }
 

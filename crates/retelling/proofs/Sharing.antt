@@ -24,6 +24,10 @@ share_so P passes size start all =
 
 -- ---- the texts
 
+-- the texts are all told, and are this one behind another
+abbrev pub Joins : List (Result (List ℕ) NoMemory) → List ℕ → Type 0
+Joins texts text = (all : List (List ℕ)) × (texts ≡ map Ok all) × (text ≡ flat_map (λ t. t) all)
+
 -- texts one behind the other
 abbrev pub Together : List (Result (List ℕ) NoMemory) → List ℕ → List ℕ → Type 0
 Together texts before after = (all : List (List ℕ)) × (texts ≡ map Ok all) × (after ≡ before ++ flat_map (λ text. text) all)

@@ -19,7 +19,7 @@ pub use past::{Past, pasts_of};
 pub use promises::lawful_parts_play_again;
 pub use reply::reply_to;
 pub use retold::Retold;
-pub use shares::print_workers_on;
+pub use shares::workers_text;
 pub use telling::print_workers;
 
 #[cfg(test)]

@@ -1,6 +1,6 @@
 //! The sessions of a run told in shares, each share in a thread of its own.
 
-ghost use Rattle.std.specs.Prelude.{ℕ, ◌≡◌, ◌<◌, ◌≤◌, ◌++◌, map, List as Items, Ok, OnOk, OnErr, IfOk};
+ghost use Rattle.std.specs.Prelude.{ℕ, ◌≡◌, ◌<◌, ◌≤◌, ◌++◌, map, List as Items, Ok, OnOk, IfOk};
 ghost use Rattle.std.specs.List.{AllByRecursion, flat_map};
 ghost use Rattle.plain_broker.specs.Declared.{AreDeclared};
 ghost use Rattle.audit.specs.Histories.{history_of};
@@ -10,12 +10,12 @@ ghost use Rattle.retelling.specs.Shares.{AreShares, IsTextOf, sessions_in};
 ghost use Rattle.retelling.specs.Tellable.{IsTellable, IsTold};
 
 use crate::past::{Past, pasts_of};
-use crate::telling::{passes_text, put_with_summary};
-use audit::{Account, Transcript};
+use crate::telling::passes_text;
+use audit::{Account, Transcript, print_replay};
 use kbytes::{Bytes, List, NoMemory};
 use std::alloc::Global;
-use std::thread;
 use std::thread::Threads;
+use std::{mem, thread};
 
 // How many passes a share has, the last one perhaps fewer, where each thread has one share.
 fn share_size(passes: usize, threads: u32) -> usize
@@ -63,6 +63,18 @@ fn put_texts(texts: &[Result<Bytes, NoMemory>], out: &mut Bytes) -> Result<(), N
     Ok(())
 }
 
+// The texts one behind the other, where each was told. The first takes the others in, as it may be all there is.
+fn joined(alloc: Global, texts: &mut [Result<Bytes, NoMemory>]) -> Result<Bytes, NoMemory>
+    ensures { IfOk result (λ text. (all : Items (Items ℕ)) × (texts.old ≡ map Ok all) × (text ≡ flat_map (λ text. text) all)) }
+{
+    let Some((first, others)) = texts.split_first_mut() else {
+        return Ok(Bytes::new(alloc));
+    };
+    let mut text = mem::replace(first, Err(NoMemory))?;
+    put_texts(others, &mut text)?;
+    Ok(text)
+}
+
 // The lines of all sessions, told in shares of so many passes.
 fn sessions_text<R: Threads + Sync>(
     rt: &R,
@@ -78,29 +90,25 @@ fn sessions_text<R: Threads + Sync>(
     requires declared { AreDeclared account.now.config.topics }
     ensures { IfOk result (λ text. IsTextOf account.now (transcripts_of account.now) text) }
 {
-    let texts = share_texts(rt, alloc, account, pasts, size)?;
-    let mut text = Bytes::new(alloc);
-    put_texts(texts.as_slice(), &mut text)?;
-    Ok(text)
+    let mut texts = share_texts(rt, alloc, account, pasts, size)?;
+    joined(alloc, texts.as_mut_slice())
 }
 
-/// The same as `print_workers`, the sessions told in so many threads, that of the caller among them: the passes are cut into as many
-/// shares, and each is told in a thread of its own where one can be started. After want of memory, also in one of the threads, the
-/// bytes are as before.
-pub fn print_workers_on<R: Threads + Sync>(
+/// What `print_workers` puts, the sessions told in so many threads, that of the caller among them: the passes are cut into as many
+/// shares, and each is told in a thread of its own where one can be started.
+pub fn workers_text<R: Threads + Sync>(
     rt: &R,
     alloc: Global,
     account: &Account,
     threads: u32,
-    out: &mut Bytes,
-) -> Result<(), NoMemory>
+) -> Result<Bytes, NoMemory>
     requires tellable { IsTellable account.now }
     requires threads { 1 ≤ threads }
-    ensures ok { OnOk result ((text : Items ℕ) × IsPrintOf account.now text × (out.new ≡ out.old ++ text)) }
-    ensures err { OnErr result (out.new ≡ out.old) }
+    ensures { IfOk result (IsPrintOf account.now) }
 {
     let pasts = pasts_of(alloc, account)?;
     let size = share_size(account.passes.len(), threads);
-    let text = sessions_text(rt, alloc, account, pasts.as_slice(), size)?;
-    put_with_summary(alloc, account, text, out)
+    let mut text = sessions_text(rt, alloc, account, pasts.as_slice(), size)?;
+    print_replay(alloc, account, &mut text)?;
+    Ok(text)
 }

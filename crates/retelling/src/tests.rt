@@ -213,9 +213,8 @@ fn a_worked_account_is_told(rt: HostRuntime) -> Result<(), Fail> {
     print_workers(alloc, &account, &mut out)?;
     assert_eq!(rt; out.as_slice(), PRINTED.as_bytes());
     for threads in 1..5 {
-        let mut out = Bytes::new(alloc);
-        print_workers_on(&rt, alloc, &account, threads, &mut out)?;
-        assert_eq!(rt; out.as_slice(), PRINTED.as_bytes());
+        let text = workers_text(&rt, alloc, &account, threads)?;
+        assert_eq!(rt; text.as_slice(), PRINTED.as_bytes());
     }
     Ok(())
 }

@@ -1,12 +1,17 @@
-use Rattle.std.proofs.Common.{List, ℕ, ◌++◌, ap, subst, sym, ◌∙◌}
-use Rattle.std.specs.List.{flat_map}
+use Rattle.std.proofs.Common.{List, ℕ, subst, sym, ◌∙◌}
+use Rattle.std.proofs.lemmas.Result.{IfOk-weaker}
 use Rattle.retelling.specs.Shares.{IsTextOf, sessions_in}
-use Rattle.retelling.proofs.Sharing.{all_shares_told}
+use Rattle.retelling.proofs.Sharing.{Joins, all_shares_told}
 use Rattle.retelling.proofs.shares.sessions_text.Goals as goal
 
 pub returns : goal.returns
 returns g c =
     let account = c.args.account.now in
-    let put = c.in_ok-put_texts.ensures in
-    subst (λ (text : List ℕ). IsTextOf account (sessions_in account.passes) text) (sym (put.2 ∙ ap (λ (front : List ℕ). front ++ flat_map (λ (text : List ℕ). text) put.0) c.new-text.ensures))
-    (all_shares_told account c.args.size c.in_ok-texts.texts.items put.0 c.in_ok-texts.ensures (sym c.as_slice.ensures.value ∙ put.1))
+    let texts = c.in_ok-texts.texts.items in
+    let shares = c.in_ok-texts.ensures in
+    let same = c.as_mut_slice.ensures.value in
+    IfOk-weaker c.joined.result (Joins c.as_mut_slice.result.now) (IsTextOf account (sessions_in account.passes))
+    (λ (text : List ℕ) (joins : Joins c.as_mut_slice.result.now text).
+    subst (λ (t : List ℕ). IsTextOf account (sessions_in account.passes) t) (sym joins.2)
+    (all_shares_told account c.args.size texts joins.0 shares (sym same ∙ joins.1)))
+    c.joined.ensures
