@@ -10,3 +10,22 @@ pub use Rattle.kanswer.proofs.AnswersAgree.{produced_is, fetched_is}
 pub use Rattle.kanswer.proofs.Values.{values_by_part}
 -- a batch is put only where there is room for it, and has fewer records than bytes
 pub use Rattle.kanswer.proofs.Room.{HasRoom, PutsWithRoom, decided_with_room}
+-- a log's bytes are those of its batches
+pub use Rattle.kanswer.proofs.Putting.{log_bytes}
+-- of every request that was read from bytes something is decided
+pub use Rattle.kanswer.proofs.Decided.{requests_decided}
+-- it asks logs that are there, each once, and its outcomes speak of their own logs
+pub use Rattle.kanswer.proofs.NamedOnce.{decided_within, request_asks_once}
+pub use Rattle.kanswer.proofs.Honest.{sound, decides_honest}
+-- as many results as named partitions, and what stands of them one by one
+pub use Rattle.kanswer.proofs.Sound.{Differs, result_other, all_at, one_more_part, none_paired, zip_length, decided_count, all_bounded, few_named}
+-- what is decided on terms, cause by cause
+pub use Rattle.kanswer.proofs.ProduceDecided.{produce_with_id, produce_unknown, produce_bad_acks, produce_batch}
+-- how many bytes the readings have with one more, and that a partition's readable batches take no more than the reply may still take
+pub use Rattle.kanswer.proofs.ReplyRoom.{bytes_push, seen_room}
+-- the reply to a request that was read has a frame
+pub use Rattle.kanswer.proofs.Spellable.{answer_spellable}
+-- what a body of bytes carries are bytes, and parts of bytes are
+pub use Rattle.kanswer.proofs.RequestBytes.{HasBytes, CarriesBytes, request_bytes, none_are_bytes, front_bytes, back_bytes, both_bytes}
+-- what is read of one partition
+pub use Rattle.kanswer.proofs.PartBatches.{not_not, full_read, some_bytes}

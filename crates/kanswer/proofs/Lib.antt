@@ -18,3 +18,23 @@ pub mod Values
 pub mod Waits
 -- a batch is put only where there is room for it
 pub mod Room
+-- a batch is put into a log, where there is room
+pub mod Putting
+-- what becomes of a partition of a fetch
+pub mod Fetching
+-- what is decided of a named partition of a produce, cause by cause
+mod ProduceDecided
+-- what a body of bytes carries are bytes
+mod RequestBytes
+-- of every request that was read from bytes something is decided
+mod Decided
+-- a request asks no log twice
+mod NamedOnce
+-- the outcomes speak of their own logs
+mod Honest
+-- results of honest decisions
+mod Sound
+-- the reply to a request that was read has a frame
+pub mod Spellable
+-- how many bytes a reply takes of one partition
+pub mod ReplyRoom

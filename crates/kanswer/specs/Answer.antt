@@ -8,6 +8,7 @@ use Rattle.std.specs.Bool.{nat_eq}
 use Rattle.partlog.specs.State.{PartState as State, high_of}
 use Rattle.partlog.specs.Batches.{StoredBatch as Stored, next_offset}
 use Rattle.partlog.specs.Taken.{batches_past, taken, joined}
+use Rattle.kwire.specs.declared.codes.TheConstants.{NONE, UNKNOWN_TOPIC_OR_PARTITION, REQUEST_TIMED_OUT, UNSUPPORTED_VERSION}
 use Rattle.kwire.specs.declared.config.Topic.{Topic}
 use Rattle.kwire.specs.declared.request.Request.{Request}
 use Rattle.kwire.specs.declared.request.Ask.{Ask}
@@ -33,14 +34,14 @@ use Rattle.kanswer.specs.Waiting.{Shown, at_least_zero, reply_limit, is_consumer
 -- with acks -1 every follower has to have the batch; else the time has run out, which is code 7
 abbrev pub produced_code : ℤ → ℕ → State → ℤ
 produced_code acks after state =
-    if int_eq acks (negsuc 0) then (if nat_le after (high_of state) then pos 0 else pos 7) else pos 0
+    if int_eq acks (negsuc 0) then (if nat_le after (high_of state) then NONE else REQUEST_TIMED_OUT) else NONE
 
 -- a refused partition has the base offset -1
 abbrev pub produced_as : ℤ → ℤ → Accepted → State → ProducedPart
 produced_as acks index (Refused code) state = record { index = index; code = code; base = negsuc 0 }
 produced_as acks index (Appended part base count) state =
     record { index = index; code = produced_code acks (base + count) state; base = pos base }
-produced_as acks index (Seen part start) state = record { index = index; code = pos 0; base = negsuc 0 }
+produced_as acks index (Seen part start) state = record { index = index; code = NONE; base = negsuc 0 }
 
 abbrev pub produced_parts : ℤ → List ProducePart → List Shown → List ProducedPart
 produced_parts acks [] shown = []
@@ -92,9 +93,9 @@ batches_as replica asked (Seen part start) state budget = read_of replica asked 
 -- a partition with an error has the high watermark -1
 abbrev pub fetched_as : FetchPart → Accepted → State → List Stored → FetchedPart
 fetched_as asked (Refused code) state batches = record { index = asked.index; code = code; high = negsuc 0; records = [] }
-fetched_as asked (Appended part base count) state batches = record { index = asked.index; code = pos 0; high = negsuc 0; records = [] }
+fetched_as asked (Appended part base count) state batches = record { index = asked.index; code = NONE; high = negsuc 0; records = [] }
 fetched_as asked (Seen part start) state batches =
-    record { index = asked.index; code = pos 0; high = pos (high_of state); records = joined batches }
+    record { index = asked.index; code = NONE; high = pos (high_of state); records = joined batches }
 
 abbrev pub fetched_parts : ℤ → List FetchPart → List Shown → Budget → List FetchedPart
 fetched_parts replica [] shown budget = []
@@ -122,8 +123,8 @@ first_budget max_bytes = record { left = reply_limit max_bytes; any = false }
 
 -- an unknown topic has the code 3 and no partitions
 abbrev pub info_as : List ℕ → Option Topic → TopicInfo
-info_as name None = record { code = pos 3; name = name; partitions = 0; followers = 0 }
-info_as name (Some topic) = record { code = pos 0; name = topic.name; partitions = topic.partitions; followers = topic.followers }
+info_as name None = record { code = UNKNOWN_TOPIC_OR_PARTITION; name = name; partitions = 0; followers = 0 }
+info_as name (Some topic) = record { code = NONE; name = topic.name; partitions = topic.partitions; followers = topic.followers }
 
 abbrev pub info_of : List Topic → List ℕ → TopicInfo
 info_of topics name = info_as name (find (λ topic. pointwise nat_eq topic.name name) topics)
@@ -137,7 +138,7 @@ told_to config (ask.Produce transactional acks timeout topics) shown = told.Prod
 told_to config (ask.Fetch replica max_wait min_bytes max_bytes isolation topics) shown =
     told.Fetched isolation (fetched_topics replica topics shown (first_budget max_bytes))
 told_to config (ask.Metadata topics) shown = told.Metadata config.port (infos_of config.topics topics)
-told_to config (ask.Versions version) shown = told.Versions (if int_eq version (pos 0) then pos 0 else pos 35)
+told_to config (ask.Versions version) shown = told.Versions (if int_eq version (pos 0) then NONE else UNSUPPORTED_VERSION)
 
 abbrev pub answer : Configuration → Request → List Shown → Reply
 answer config request shown = record { correlation = request.correlation; told = told_to config request.ask shown }

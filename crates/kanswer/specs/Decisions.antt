@@ -11,6 +11,7 @@ use Rattle.kbatch.specs.declared.fault.BatchFault.TheVariants.{TooLarge, Short, 
 use Rattle.kbatch.specs.declared.record.Record.{Record}
 use Rattle.kbatch.specs.Batch.{IsBatch}
 use Rattle.kbatch.specs.Fault.{IsFirstFault}
+use Rattle.kwire.specs.declared.codes.TheConstants.{NONE, OFFSET_OUT_OF_RANGE, CORRUPT_MESSAGE, UNKNOWN_TOPIC_OR_PARTITION, NOT_LEADER_OR_FOLLOWER, REPLICA_NOT_AVAILABLE, MESSAGE_TOO_LARGE, INVALID_REQUIRED_ACKS, INVALID_REQUEST, UNSUPPORTED_COMPRESSION_TYPE, INVALID_RECORD}
 use Rattle.kwire.specs.Configuration.{Configuration, followers_of, part_of}
 use Rattle.kwire.specs.declared.request.Ask.{Ask}
 use Rattle.kwire.specs.declared.request.Ask.TheVariants.{Produce, Fetch, Metadata, Versions}
@@ -38,16 +39,16 @@ pub data Decision : Type 0 where
 
 -- the error codes of the protocol
 abbrev pub code_of : BatchFault → ℤ
-code_of (TooLarge len) = pos 10
-code_of Short = pos 87
-code_of (Length kept) = pos 87
-code_of (Magic found) = pos 87
-code_of (Crc kept found) = pos 2
-code_of (Compressed codec) = pos 76
-code_of Control = pos 87
-code_of (Count count last) = pos 87
-code_of (Records at) = pos 87
-code_of NoMemory = pos 0
+code_of (TooLarge len) = MESSAGE_TOO_LARGE
+code_of Short = INVALID_RECORD
+code_of (Length kept) = INVALID_RECORD
+code_of (Magic found) = INVALID_RECORD
+code_of (Crc kept found) = CORRUPT_MESSAGE
+code_of (Compressed codec) = UNSUPPORTED_COMPRESSION_TYPE
+code_of Control = INVALID_RECORD
+code_of (Count count last) = INVALID_RECORD
+code_of (Records at) = INVALID_RECORD
+code_of NoMemory = NONE
 
 abbrev pub look : Accepted → Outcome
 look result = record { result = result; entry = Looked }
@@ -55,7 +56,7 @@ look result = record { result = result; entry = Looked }
 -- a batch is put at the end, where the log can keep it
 abbrev pub append_outcome : ℕ → ℕ → List ℕ → State → Outcome
 append_outcome part count batch state =
-    if nat_lt MOST_LOG_BYTES ((gauges_of state).bytes + length batch) then look (Refused (pos 6))
+    if nat_lt MOST_LOG_BYTES ((gauges_of state).bytes + length batch) then look (Refused NOT_LEADER_OR_FOLLOWER)
     else record { result = Appended part state.log_end count; entry = Put count batch }
 
 abbrev pub is_acks : ℤ → Bool
@@ -68,15 +69,15 @@ BatchDecides part bytes decision =
 
 -- the first cause that applies decides: a transactional id, no such partition, unknown acks, a fault of the batch
 abbrev pub ProduceDecides : Configuration → Option (List ℕ) → ℤ → List ℕ × ProducePart → Decision → Type 0
-ProduceDecides config (Some id) acks named decision = decision ≡ Refuse (pos 42)
+ProduceDecides config (Some id) acks named decision = decision ≡ Refuse INVALID_REQUEST
 ProduceDecides config None acks named decision =
-    MatchOption (part_of config named.0 named.1.index) (decision ≡ Refuse (pos 3)) (λ part.
-    MatchBool (is_acks acks) (BatchDecides part (unwrap_or named.1.records []) decision) (decision ≡ Refuse (pos 21)))
+    MatchOption (part_of config named.0 named.1.index) (decision ≡ Refuse UNKNOWN_TOPIC_OR_PARTITION) (λ part.
+    MatchBool (is_acks acks) (BatchDecides part (unwrap_or named.1.records []) decision) (decision ≡ Refuse INVALID_REQUIRED_ACKS))
 
 abbrev pub in_range_outcome : ℕ → ℤ → Entry → State → Outcome
-in_range_outcome part (negsuc n) entry state = look (Refused (pos 1))
+in_range_outcome part (negsuc n) entry state = look (Refused OFFSET_OUT_OF_RANGE)
 in_range_outcome part (pos offset) entry state =
-    if nat_lt state.log_end offset then look (Refused (pos 1))
+    if nat_lt state.log_end offset then look (Refused OFFSET_OUT_OF_RANGE)
     else record { result = Seen part (start_of offset state); entry = entry }
 
 abbrev pub offset_of : ℤ → ℕ
@@ -88,10 +89,10 @@ abbrev pub fetch_outcome : ℕ → ℤ → FetchPart → ℕ → State → Outco
 fetch_outcome followers (negsuc n) asked part state = in_range_outcome part asked.offset Looked state
 fetch_outcome followers (pos replica) asked part state =
     if nat_lt 0 replica && nat_le replica followers then in_range_outcome part asked.offset (Followed (pos replica) (offset_of asked.offset)) state
-    else look (Refused (pos 9))
+    else look (Refused REPLICA_NOT_AVAILABLE)
 
 abbrev pub fetch_decision : Configuration → ℤ → List ℕ × FetchPart → Option ℕ → Decision
-fetch_decision config replica named None = Refuse (pos 3)
+fetch_decision config replica named None = Refuse UNKNOWN_TOPIC_OR_PARTITION
 fetch_decision config replica named (Some part) =
     AskLog part (fetch_outcome (slice_index (followers_of config.topics) part) replica named.1 part)
 

@@ -2,6 +2,14 @@
 
 -- what becomes of each named partition, and the entry that it leaves
 pub mod Decisions
+-- on what terms a produce is asked
+pub mod OnTerms
+-- decisions that ask logs which are there, each once
+pub mod Deciding
+-- a history with the entry of a call
+pub mod WithEntry
+-- a log that was asked: its entry, what became of the partition, and where the entry stands
+pub mod Entered
 -- whether a request waits, and as what
 pub mod Waiting
 -- what became of the named partitions, as it decides whether the request waits
@@ -14,6 +22,8 @@ pub mod ByPart
 pub mod Answer
 -- what was read of each named partition for a reply
 pub mod LogReadings
+-- how many bytes of records were read for a reply, and how many it may still take
+pub mod BytesRead
 -- ==== the words of private functions
 
 -- what is told of each named partition, from what was read

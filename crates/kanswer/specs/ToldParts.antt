@@ -1,6 +1,7 @@
 -- What is told of the named partitions, from what became of each and what was read of it.
 use Rattle.std.specs.Prelude.{ℕ, ◌+◌, ℤ, pos, negsuc, List, [], ◌∷◌, length, take, drop, nat_le, if◌then◌else◌}
 use Rattle.std.specs.Ordering.{int_eq}
+use Rattle.kwire.specs.declared.codes.TheConstants.{NONE, REQUEST_TIMED_OUT}
 use Rattle.kwire.specs.declared.request.ProducePart.{ProducePart}
 use Rattle.kwire.specs.declared.request.ProduceTopic.{ProduceTopic}
 use Rattle.kwire.specs.declared.request.FetchPart.{FetchPart}
@@ -15,19 +16,19 @@ use Rattle.kanswer.specs.declared.accepted.Reading.{Reading}
 
 -- with acks -1 a batch that every follower has, or else the time ran out
 abbrev pub code_at : ℤ → ℕ → ℕ → ℤ
-code_at acks after high = if int_eq acks (negsuc 0) then (if nat_le after high then pos 0 else pos 7) else pos 0
+code_at acks after high = if int_eq acks (negsuc 0) then (if nat_le after high then NONE else REQUEST_TIMED_OUT) else NONE
 
 abbrev pub produced_part : ℤ → ProducePart → Accepted → Reading → ProducedPart
 produced_part acks asked (Refused code) reading = record { index = asked.index; code = code; base = negsuc 0 }
 produced_part acks asked (Appended part base count) reading =
     record { index = asked.index; code = code_at acks (base + count) reading.numbers.high; base = pos base }
-produced_part acks asked (Seen part start) reading = record { index = asked.index; code = pos 0; base = negsuc 0 }
+produced_part acks asked (Seen part start) reading = record { index = asked.index; code = NONE; base = negsuc 0 }
 
 abbrev pub fetched_part : FetchPart → Accepted → Reading → FetchedPart
 fetched_part asked (Refused code) reading = record { index = asked.index; code = code; high = negsuc 0; records = [] }
-fetched_part asked (Appended part base count) reading = record { index = asked.index; code = pos 0; high = negsuc 0; records = [] }
+fetched_part asked (Appended part base count) reading = record { index = asked.index; code = NONE; high = negsuc 0; records = [] }
 fetched_part asked (Seen part start) reading =
-    record { index = asked.index; code = pos 0; high = pos reading.numbers.high; records = reading.records }
+    record { index = asked.index; code = NONE; high = pos reading.numbers.high; records = reading.records }
 
 -- one partition after the other
 abbrev pub parts_by : {A B : Type 0} → (A → Accepted → Reading → B) → List A → List Accepted → List Reading → List B

@@ -3,7 +3,7 @@ ghost use Rattle.std.specs.Prelude.{◌≡◌, Some, map, option_map, IfOk};
 ghost use Rattle.kanswer.specs.Answer.{info_as, info_of, infos_of};
 
 use kbytes::{List, NoMemory, copied};
-use kwire::{Topic, TopicInfo};
+use kwire::{Topic, TopicInfo, codes};
 use std::alloc::Global;
 
 // A declared topic.
@@ -11,7 +11,7 @@ fn declared(alloc: Global, topic: &Topic) -> Result<TopicInfo, NoMemory>
     ensures { IfOk result (λ info. info ≡ info_as topic.now.name (Some topic.now)) }
 {
     Ok(TopicInfo {
-        code: 0,
+        code: codes::NONE,
         name: copied(alloc, topic.name.as_slice())?,
         partitions: topic.partitions,
         followers: topic.followers,
@@ -28,7 +28,7 @@ fn named(alloc: Global, topics: &[Topic], name: &[u8]) -> Result<TopicInfo, NoMe
         }
     }
     Ok(TopicInfo {
-        code: 3,
+        code: codes::UNKNOWN_TOPIC_OR_PARTITION,
         name: copied(alloc, name)?,
         partitions: 0,
         followers: 0,

@@ -5,7 +5,7 @@ ghost use Rattle.kanswer.specs.ToldParts.{parts_by, fetched_part, fetched_topic,
 
 use crate::accepted::{Accepted, Reading};
 use kbytes::{Bytes, List, NoMemory, copied};
-use kwire::{FetchPart, FetchTopicView, FetchedPart, FetchedTopic};
+use kwire::{FetchPart, FetchTopicView, FetchedPart, FetchedTopic, codes};
 use std::alloc::Global;
 
 // A partition with an error has the high watermark -1 and no records.
@@ -35,7 +35,7 @@ fn fetched_part(
         Accepted::Appended { .. } => Ok(without_records(alloc, index, 0)),
         Accepted::Seen { .. } => Ok(FetchedPart {
             index,
-            code: 0,
+            code: codes::NONE,
             high: reading.numbers.high as i64,
             records: copied(alloc, reading.records.as_slice())?,
         }),

@@ -5,14 +5,18 @@ ghost use Rattle.kanswer.specs.ToldParts.{code_at, parts_by, produced_part, prod
 
 use crate::accepted::{Accepted, Reading};
 use kbytes::{List, NoMemory, copied};
-use kwire::{ProducePartView, ProduceTopicView, ProducedPart, ProducedTopic};
+use kwire::{ProducePartView, ProduceTopicView, ProducedPart, ProducedTopic, codes};
 use std::alloc::Global;
 
 // With acks -1 code 7 where some follower hasn't the whole batch yet.
 fn code_at(acks: i16, after: u64, high: u64) -> i16
     ensures { result ≡ code_at acks after high }
 {
-    if acks == -1 && after > high { 7 } else { 0 }
+    if acks == -1 && after > high {
+        codes::REQUEST_TIMED_OUT
+    } else {
+        codes::NONE
+    }
 }
 
 // A partition that nothing was appended to has the base offset -1.

@@ -10,7 +10,7 @@ use crate::described::described;
 use crate::fetched::fetched_topics;
 use crate::produced::produced_topics;
 use kbytes::NoMemory;
-use kwire::{AskView, Config, Reply, RequestView, Told};
+use kwire::{AskView, Config, Reply, RequestView, Told, codes};
 use std::alloc::Global;
 
 // What is answered to this.
@@ -45,7 +45,11 @@ fn told_to(
             topics: described(alloc, config.topics(), topics)?,
         }),
         AskView::Versions { version } => Ok(Told::Versions {
-            code: if *version == 0 { 0 } else { 35 },
+            code: if *version == 0 {
+                codes::NONE
+            } else {
+                codes::UNSUPPORTED_VERSION
+            },
         }),
     }
 }

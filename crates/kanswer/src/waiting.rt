@@ -8,7 +8,7 @@ ghost use Rattle.kanswer.specs.MayWait.{may_wait};
 ghost use Rattle.kanswer.specs.Numbered.{AreNumbers};
 ghost use Rattle.kanswer.specs.Reached.{reached_by};
 ghost use Rattle.kanswer.specs.Results.{AreResults};
-ghost use Rattle.kanswer.specs.Waiting.{Shown, all_seen, becomes_delayed, is_refused, least_of, needs_by_part, needs_of, operation_of, results_of, wait_of};
+ghost use Rattle.kanswer.specs.Waiting.{Shown, all_seen, becomes_delayed, is_quiet, is_refused, least_of, needs_by_part, needs_of, operation_of, results_of, wait_of};
 
 use crate::accepted::{Accepted, reply_limit};
 use crate::need::{need_at, reached_at};
@@ -145,4 +145,11 @@ pub fn op_of(
         }
     }
     Ok(op)
+}
+
+/// Whether a request asks for no reply: a produce with acks 0.
+pub fn is_quiet(ask: &AskView<'_>) -> bool
+    ensures { result ≡ is_quiet (ask_of ask.now) }
+{
+    matches!(ask, AskView::Produce { acks: 0, .. })
 }

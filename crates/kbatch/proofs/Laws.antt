@@ -1,7 +1,7 @@
 -- What proofs of other crates may cite of batches.
 
--- how many records a batch tells, and the length of a stamped one
-pub use Rattle.kbatch.proofs.Batches.{batch_count, stamped_len}
+-- how many records a batch tells, and a stamped one: its length, and that it is a batch of the same records
+pub use Rattle.kbatch.proofs.Batches.{batch_count, stamped_len, batch_stamped}
 -- bytes are a batch of one list of records at most
 pub use Rattle.kbatch.proofs.Decoding.{batch_once}
 -- a batch has no fault, and other bytes have one first fault

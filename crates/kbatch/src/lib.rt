@@ -30,6 +30,3 @@ pub use stamping::stamp;
 pub use view::BatchView;
 pub use write::write_batch;
 pub use write_fault::WriteFault;
-
-#[cfg(test)]
-mod tests;

@@ -8,3 +8,5 @@ pub mod Sized
 pub mod Written
 pub mod RoundTrips
 pub mod Laws
+-- items of lists, by their places
+mod ListItems

@@ -24,6 +24,3 @@ pub use writing::{
     put_array, put_i8, put_i16, put_i32, put_i64, put_nullable_string, put_records, put_string,
     put_u32, put_varint, put_varlong,
 };
-
-#[cfg(test)]
-mod tests;

@@ -2,6 +2,8 @@
 
 -- the port and the topics
 pub mod Configuration
+-- topics as they may be declared
+pub mod DeclaredTopics
 -- frames of a stream
 pub mod Frames
 -- layouts of fields, and the first fault of bytes

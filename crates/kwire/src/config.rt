@@ -3,6 +3,7 @@
 ghost use Rattle.std.specs.Prelude.{◌≡◌, ◌↔◌, ◌+◌, ◌≤◌, Contains, IsTrue, Some, None, Err, OnOk, OnErr, nat_lt, if◌then◌else◌};
 ghost use Rattle.std.specs.List.{list_all};
 ghost use Rattle.kwire.specs.Configuration.{is_name_byte, IsTopicName, names_of};
+ghost use Rattle.kwire.specs.DeclaredTopics.{AreDeclared};
 ghost use Rattle.kwire.specs.declared.config.ConfigFault.TheVariants.{NoMemory as OutOfMemory};
 
 use kbytes::{Bytes, List, NoMemory, copied};
@@ -73,15 +74,15 @@ pub struct Config {
 }
 
 impl Model for Config {
-    ghost use Rattle.std.specs.Prelude.{◌≡◌, ◌≤◌};
+    ghost use Rattle.std.specs.Prelude.{◌≡◌};
     ghost use Rattle.kwire.specs.Configuration.{Configuration, partitions_of};
-    ghost use Rattle.kwire.specs.declared.config.TheConstants.{MOST_PARTITIONS};
+    ghost use Rattle.kwire.specs.DeclaredTopics.{AreDeclared};
 
     ghost Value = { Configuration };
 
     ghost view = { λ c. record { port = c.port; topics = c.topics } };
 
-    ghost invariant = { λ c. (c.parts ≡ partitions_of c.topics) × (c.parts ≤ MOST_PARTITIONS) };
+    ghost invariant = { λ c. (c.parts ≡ partitions_of c.topics) × AreDeclared c.topics };
 }
 
 // A letter, a digit, `.`, `_` or `-`.
@@ -202,10 +203,11 @@ impl Config {
         self.topics.as_slice()
     }
 
-    /// How many partitions there are over all topics, at most 64.
+    /// How many partitions there are over all topics, at most 64. Each topic is one that may be declared.
     pub fn parts(&self) -> u32
         ensures count { result ≡ partitions_of self.now.topics }
         ensures few { result ≤ MOST_PARTITIONS }
+        ensures declared { AreDeclared self.now.topics }
     {
         self.parts
     }

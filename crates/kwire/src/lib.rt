@@ -6,6 +6,7 @@
 
 mod api;
 mod body;
+pub mod codes;
 mod config;
 mod frame;
 mod framing;
@@ -38,6 +39,3 @@ pub use put_request::request_bytes;
 pub use reply::{FetchedPart, FetchedTopic, ProducedPart, ProducedTopic, Reply, Told, TopicInfo};
 pub use request::{Ask, FetchPart, FetchTopic, MOST_NAMED, ProducePart, ProduceTopic, Request};
 pub use view::{AskView, FetchTopicView, ProducePartView, ProduceTopicView, RequestView};
-
-#[cfg(test)]
-mod tests;

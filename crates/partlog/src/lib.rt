@@ -27,6 +27,3 @@ pub use part_log::{MOST_LOG_BYTES, PartLog};
 pub use placed::Placed;
 pub use promises::{fronts_are_kept, numbers_never_fall, visible_is_readable};
 pub use who::Who;
-
-#[cfg(test)]
-mod tests;

@@ -9,7 +9,7 @@ use Rattle.trace_file.specs.declared.line.TraceFault.TheVariants as fault
 use Rattle.trace_file.specs.declared.refusal.Refusal.{Refusal}
 use Rattle.trace_file.specs.declared.refusal.Refusal.TheVariants.{Bad, NoMemory}
 
--- it tells the kind of a bad line; want of memory tells nothing
+-- it tells the kind of a bad line; running out of memory tells nothing
 abbrev pub Tells : Refusal → (LineKind → Type 0) → Type 0
 Tells (Bad kind) said = said kind
 Tells NoMemory said = Unit {0}

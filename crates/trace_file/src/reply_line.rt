@@ -24,7 +24,7 @@ fn put_part(out: &mut Bytes, part: &[u8]) -> Result<(), NoMemory>
     out.extend(digits)
 }
 
-/// Puts the digits of the bytes at the end. After want of memory some of them may stand there.
+/// Puts the digits of the bytes at the end. If memory runs out, some of them may stand there.
 pub fn put_hex(out: &mut Bytes, bytes: &[u8]) -> Result<(), NoMemory>
     ensures ok { OnOk result (out.new ≡ out.old ++ encode_lower bytes.now) }
     ensures front { OnErr result (take (length out.old) out.new ≡ out.old) }
@@ -35,7 +35,7 @@ pub fn put_hex(out: &mut Bytes, bytes: &[u8]) -> Result<(), NoMemory>
     Ok(())
 }
 
-// Puts the line at the end. After want of memory some of it may stand there.
+// Puts the line at the end. If memory runs out, some of it may stand there.
 fn put_words(out: &mut Bytes, session: u32, frame: &[u8]) -> Result<(), NoMemory>
     ensures ok { OnOk result (out.new ≡ out.old ++ line_of (codes "reply" ∷ decimal session ∷ encode_lower frame.now ∷ [])) }
     ensures front { OnErr result (take (length out.old) out.new ≡ out.old) }
@@ -49,7 +49,7 @@ fn put_words(out: &mut Bytes, session: u32, frame: &[u8]) -> Result<(), NoMemory
     Ok(())
 }
 
-/// Puts the line `reply S HEX` of a whole frame, sent to the session, at the end. After want of memory the bytes are as before.
+/// Puts the line `reply S HEX` of a whole frame, sent to the session, at the end. If memory runs out, the bytes are as before.
 pub fn put_reply_line(out: &mut Bytes, session: u32, frame: &[u8]) -> Result<(), NoMemory>
     ensures ok { OnOk result (out.new ≡ out.old ++ line_of (codes "reply" ∷ decimal session ∷ encode_lower frame.now ∷ [])) }
     ensures err { OnErr result (out.new ≡ out.old) }

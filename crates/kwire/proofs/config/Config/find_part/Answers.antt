@@ -11,8 +11,8 @@ part_in-requires c =
     let topics = c.as_slice-topic-items.result.now in
     let within = sum_within topics c.loop-topic.topic-index c.topic-item.result c.loop-topic-test.true c.topic-item.is in
     let all : partitions_of topics ≡ c.self.inside.parts = ap partitions_of c.as_slice-topic-items.ensures ∙ sym c.self.invariant.0 in
-    let few = c.self.invariant.1 in
-    omega (arith, within, all, few, c.loop-topic.invariant.sum)
+    let few = c.self.invariant.1.few in
+    omega (arith, within, all, few, c.self.invariant.0, c.loop-topic.invariant.sum)
 
 pub loop-topic-preserved : goal.loop-topic-preserved
 loop-topic-preserved c =

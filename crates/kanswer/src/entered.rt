@@ -1,0 +1,9 @@
+use crate::Accepted;
+
+/// What became of a partition whose log was asked, and where the entry that it left stands.
+#[derive(Clone, Copy, Debug, PartialEq, Eq)]
+pub struct Entered {
+    pub became: Accepted,
+    /// The place of the entry in the partition's history, counted from 0.
+    pub place: u64,
+}

@@ -1,0 +1,21 @@
+ghost use Rattle.std.specs.Prelude.{◌≡◌, IfOk, OnErr};
+ghost use Rattle.partlog.specs.State.{PartState, state_of};
+ghost use Rattle.kanswer.specs.Decisions.{Outcome, look};
+ghost use Rattle.kanswer.specs.LogReadings.{IsCarriable};
+ghost use Rattle.kanswer.specs.Entered.{HasEntered};
+
+use crate::Accepted;
+use crate::entered::Entered;
+use kbytes::NoMemory;
+use partlog::{PartLog, Who};
+
+/// The log is looked at, and this became of the partition.
+pub(crate) fn look_at(log: &mut PartLog, who: Who, became: Accepted) -> Result<Entered, NoMemory>
+    requires { IsCarriable became }
+    ensures entered { IfOk result (λ entered. (outcome : PartState → Outcome) → outcome (state_of log.old) ≡ look became
+        → HasEntered who.by who.seq outcome log.old log.new entered) }
+    ensures refused { OnErr result (log.new ≡ log.old) }
+{
+    let place = log.look(who)?;
+    Ok(Entered { became, place })
+}

@@ -1,0 +1,48 @@
+//! What a produce puts into one partition.
+ghost use Rattle.std.specs.Prelude.{◌≡◌, ◌<◌, [], IfErr, IfOk, unwrap_or};
+ghost use Rattle.kbatch.specs.Kept.{count_of};
+ghost use Rattle.kanswer.specs.Decisions.{AskLog, ProduceDecides, Refuse, append_outcome};
+ghost use Rattle.kwire.specs.Configuration.{partitions_of};
+ghost use Rattle.kanswer.specs.OnTerms.{OnTerms};
+
+use crate::code_of;
+use crate::terms::Terms;
+use kbatch::{BatchView, view_batch};
+use kwire::{Config, ProducePartView, codes};
+
+fn records_of<'a>(part: &ProducePartView<'a>) -> &'a [u8]
+    ensures { result.now ≡ unwrap_or part.now.records [] }
+{
+    match part.records {
+        None => &[],
+        Some(records) => records,
+    }
+}
+
+/// The partition whose log is asked, by its number, and the batch that is put there; or the code with which the partition is refused
+/// before: 42 for a transactional id, 3 for an unknown partition, 21 for unknown acks, and else that of the batch's first fault.
+pub fn decide_put<'a>(
+    config: &Config,
+    terms: Terms,
+    topic: &[u8],
+    part: &ProducePartView<'a>,
+) -> Result<(u32, BatchView<'a>), i16>
+    ensures put { IfOk result (λ put. OnTerms terms (λ id. ProduceDecides config.now id terms.acks (topic.now, part.now)
+        (AskLog put.0 (append_outcome put.0 (count_of put.1) put.1)))) }
+    ensures within { IfOk result (λ put. put.0 < partitions_of config.now.topics) }
+    ensures refused { IfErr result (λ code. OnTerms terms (λ id. ProduceDecides config.now id terms.acks (topic.now, part.now) (Refuse code))) }
+{
+    if terms.is_transactional {
+        return Err(codes::INVALID_REQUEST);
+    }
+    let Some(number) = config.part_of(topic, part.index) else {
+        return Err(codes::UNKNOWN_TOPIC_OR_PARTITION);
+    };
+    if !terms.has_known_acks() {
+        return Err(codes::INVALID_REQUIRED_ACKS);
+    }
+    match view_batch(records_of(part)) {
+        Ok(batch) => Ok((number, batch)),
+        Err(fault) => Err(code_of(&fault)),
+    }
+}

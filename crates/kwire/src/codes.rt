@@ -1,0 +1,40 @@
+//! The protocol's error codes, by Kafka's names (Kafka protocol guide, "Error Codes").
+
+/// All is well.
+pub const NONE: i16 = 0;
+
+/// The offset is below the log's start or beyond its end.
+pub const OFFSET_OUT_OF_RANGE: i16 = 1;
+
+/// The batch's checksum isn't that of its bytes.
+pub const CORRUPT_MESSAGE: i16 = 2;
+
+/// There is no such topic, or it has no such partition.
+pub const UNKNOWN_TOPIC_OR_PARTITION: i16 = 3;
+
+/// This broker takes nothing more for the partition: its log is full.
+pub const NOT_LEADER_OR_FOLLOWER: i16 = 6;
+
+/// The followers didn't have the batch in time.
+pub const REQUEST_TIMED_OUT: i16 = 7;
+
+/// The partition has no such follower.
+pub const REPLICA_NOT_AVAILABLE: i16 = 9;
+
+/// The batch has more bytes than one may have.
+pub const MESSAGE_TOO_LARGE: i16 = 10;
+
+/// The produce asks for acks other than 0, 1 and all.
+pub const INVALID_REQUIRED_ACKS: i16 = 21;
+
+/// The api's version isn't one that is answered.
+pub const UNSUPPORTED_VERSION: i16 = 35;
+
+/// The request asks for what isn't offered: here a transaction.
+pub const INVALID_REQUEST: i16 = 42;
+
+/// The batch is compressed.
+pub const UNSUPPORTED_COMPRESSION_TYPE: i16 = 76;
+
+/// The bytes are no batch.
+pub const INVALID_RECORD: i16 = 87;
