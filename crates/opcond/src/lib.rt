@@ -6,13 +6,12 @@
 
 mod laws;
 mod need;
+mod numbers;
 mod op;
 mod reached;
 
 pub use laws::{answerable_stays, one_part_changes, tally_rises};
 pub use need::Need;
+pub use numbers::{CAP_LIMIT, MOST_NEEDS};
 pub use op::Op;
 pub use reached::{is_overdue, is_satisfied, tally};
-
-#[cfg(test)]
-mod tests;

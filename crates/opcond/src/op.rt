@@ -2,6 +2,7 @@ ghost use Rattle.std.specs.Prelude.{◌≡◌, ◌≢◌, ◌+◌, ◌^◌, ◌<
 ghost use Rattle.opcond.specs.Operation.{IsValid};
 
 use crate::need::Need;
+use crate::numbers::{CAP_LIMIT, MOST_NEEDS};
 use kbytes::{List, NoMemory};
 use std::alloc::Global;
 use std::marker::Model;
@@ -27,7 +28,7 @@ impl Model for Op {
 impl Op {
     /// An operation without needs.
     pub fn new(alloc: Global, min: u64, deadline: u64) -> Op
-        requires { min < 2 ^ 31 }
+        requires { min < CAP_LIMIT }
         ensures { result ≡ record { needs = []; least = min; deadline = deadline } }
     {
         Op {
@@ -39,17 +40,20 @@ impl Op {
 
     /// Puts a need at the end, of a gauge that no other need has. After `NoMemory` the operation is as it was.
     pub fn add(&mut self, need: Need) -> Result<(), NoMemory>
-        requires few { length self.old.needs < 64 }
+        requires few { length self.old.needs < MOST_NEEDS }
         requires other { All (λ n. n.gauge ≢ need.gauge) self.old.needs }
-        requires cap { need.cap < 2 ^ 31 }
-        ensures ok { OnOk result (self.new
-            ≡ record { needs = self.old.needs ++ need ∷ []; least = self.old.least; deadline = self.old.deadline }) }
+        requires cap { need.cap < CAP_LIMIT }
+        ensures ok { OnOk result (self.new ≡ record {
+          needs = self.old.needs ++ need ∷ [];
+          least = self.old.least;
+          deadline = self.old.deadline;
+        }) }
         ensures err { OnErr result (self.new ≡ self.old) }
     {
         self.needs.push(need)
     }
 
-    /// The needs, in order: at most 64, of distinct gauges, with caps below 2^31.
+    /// The needs, in order: at most `MOST_NEEDS`, of distinct gauges, with caps below `CAP_LIMIT`.
     pub fn needs(&self) -> &[Need]
         ensures items { result.now ≡ self.now.needs }
         ensures valid { IsValid self.now }

@@ -5,6 +5,7 @@ use Rattle.std.proofs.lemmas.Bool.{cases_eq, eq-eqb, ne_eqb}
 use Rattle.std.proofs.lemmas.List.Elements.{All-head, All-tail}
 use Rattle.std.proofs.lemmas.List.Sums.{sum_by-cons}
 use Rattle.room_core.specs.Counts.{sum_below}
+use Rattle.room_core.proofs.Laws.{sum_same}
 use Rattle.room_table.proofs.Laws.{sum_both}
 use Rattle.purgatory.specs.Making.{AreFrom}
 
@@ -21,11 +22,6 @@ pub terms_le : (f g : ℕ → ℕ) (n : ℕ) → ((i : ℕ) → i < n → f i �
 unfolding sum_below
 terms_le f g zero le = omega arith
 terms_le f g (suc n) le = omega (arith, terms_le f g n (λ i less. le i (omega (arith, less))), le n (omega arith))
-
-pub terms_same : (f g : ℕ → ℕ) (n : ℕ) → ((i : ℕ) → i < n → f i ≡ g i) → sum_below f n ≡ sum_below g n
-unfolding sum_below
-terms_same f g zero is = refl
-terms_same f g (suc n) is = omega (arith, terms_same f g n (λ i less. is i (omega (arith, less))), is n (omega arith))
 
 -- the first terms, and the others
 pub sum_split : (f : ℕ → ℕ) (m n : ℕ) → sum_below f (m + n) ≡ sum_below f m + sum_below (λ i. f (m + i)) n
@@ -141,7 +137,7 @@ module _ {A : Type 0} (key : A → ℕ) (h : ℕ → ℕ) where
 
   -- items of which each number below n has one
   pub sum_keyed : (n : ℕ) (xs : List A) (g : A → ℕ) → All (λ x. key x < n) xs → All (λ x. g x ≡ h (key x)) xs → ((i : ℕ) → i < n → count i xs ≡ 1) → sum_by g xs ≡ sum_below h n
-  sum_keyed n xs g below is one = weighs_all n xs g below is ∙ terms_same (λ i. weigh i xs) h n (λ i less. weighs_one i xs (one i less))
+  sum_keyed n xs g below is one = weighs_all n xs g below is ∙ sum_same (λ i. weigh i xs) h n (λ i less. weighs_one i xs (one i less))
 
 -- what is so by the number of each item is so of a number that an item has
 pub by_number : {A : Type 0} (P : ℕ → Type 0) (key : A → ℕ) (xs : List A) → All (λ x. P (key x)) xs → (i : ℕ) → 1 ≤ count_by (λ x. eqb (key x) i) xs → P i

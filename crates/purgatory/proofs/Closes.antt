@@ -20,12 +20,8 @@ use Rattle.room_core.specs.Sound.{Agree}
 use Rattle.room_core.specs.Start.{idle_caller}
 use Rattle.room_core.specs.State.{Caller, Scanner, State}
 use Rattle.room_core.specs.Wins.{prizes_as, wins_of}
-use Rattle.room_core.proofs.Counts.{wins_counted}
-use Rattle.room_core.proofs.Described.{tally_is}
-use Rattle.room_core.proofs.Once.{stands, taken_stands}
-use Rattle.room_core.proofs.Prizes.{wins_of-pass, wins_of-scanner}
-use Rattle.room_core.proofs.Quiets.{in_time, unsatisfied}
 use Rattle.room_table.specs.Handed.{AreShown}
+use Rattle.room_core.proofs.Laws.{in_time, no_prizes, stands, sum_same, taken_stands, tally_is, unsatisfied, wins_counted, wins_of-pass, wins_of-scanner}
 use Rattle.room_table.specs.Closing.{ClosingView}
 use Rattle.room_table.specs.Seats.{CallerView, ScanView, SourceView, caller_now, scanner_now, source_now}
 use Rattle.room_table.proofs.Laws.{all_counted, sum_both, term_le}
@@ -35,12 +31,8 @@ use Rattle.purgatory.specs.Going.{IsAtRest}
 use Rattle.purgatory.specs.Making.{AreFrom}
 use Rattle.purgatory.specs.Noted.{IsNoted}
 use Rattle.purgatory.specs.Still.{IsKept, IsSettledSeat, still_view}
-use Rattle.purgatory.proofs.Added.{by_number, sum_from, sum_keyed, sum_split, sum_swap, terms_le, terms_same}
+use Rattle.purgatory.proofs.Added.{by_number, sum_from, sum_keyed, sum_split, sum_swap, terms_le}
 use Rattle.purgatory.proofs.Made.{from_at}
-
-none_won : (pass generation : ℕ) (how : How) → prizes_as [] pass generation how ≡ 0
-unfolding prizes_as
-none_won pass generation how = refl
 
 rest_off_duty : (stage : Stage) → IsAtRest stage → IsOnDuty stage → ⊥
 rest_off_duty stage (inl idle) on = subst IsOnDuty idle on
@@ -150,7 +142,7 @@ module _ (closing : ClosingView) (numbers : List ℕ) (k : IsKept closing number
       ⊎_elim
       (λ (less : by < 17 + passes). less)
       (λ (past : 17 + passes ≤ by).
-      let none = ap (λ xs. prizes_as xs pass generation how) (beyond_none by past) ∙ none_won pass generation how in
+      let none = ap (λ xs. prizes_as xs pass generation how) (beyond_none by past) ∙ no_prizes pass generation how in
       absurd (omega (arith, one, none)))
       (cases_lt by (17 + passes))
 
@@ -176,7 +168,7 @@ module _ (closing : ClosingView) (numbers : List ℕ) (k : IsKept closing number
       terms_le taken (λ pass. sum_below (items_of pass) (17 + passes)) passes (λ pass less. all_counted (λ (item : Taken). item.by) (17 + passes) (s.caller pass).taken (items_there pass)) in
       let swapped : sum_below (λ pass. sum_below (items_of pass) (17 + passes)) passes ≡ sum_below (λ by. sum_below (λ pass. items_of pass by) passes) (17 + passes) = sum_swap items_of passes (17 + passes) in
       let same : sum_below (λ by. sum_below (λ pass. items_of pass by) passes) (17 + passes) ≡ sum_below (taken_by s) (17 + passes) =
-      terms_same (λ by. sum_below (λ pass. items_of pass by) passes) (taken_by s) (17 + passes) (λ by less. taken_is by) in
+      sum_same (λ by. sum_below (λ pass. items_of pass by) passes) (taken_by s) (17 + passes) (λ by less. taken_is by) in
       omega (arith, all, each, swapped, same)
 
   -- so no word is won
@@ -275,12 +267,15 @@ module _ (closing : ClosingView) (numbers : List ℕ) (k : IsKept closing number
       let words : s.description seat.pass ≡ (caller_now seat).description = λ i at. (shown.carried.sound.owners.description seat.pass at ∙ ap (λ (x : Caller). x.description at) is) i in
       record { word = λ i. record { generation = generation i; phase = is_open i }; unanswerable = subst (IsUnanswerable s) words (unanswerable seat.pass is_open) }
 
-  pub closed_so : IsClosed (still_view closing) sources numbers
-  closed_so = record {
-    words = words;
-    shown = shown;
-    waiting = λ i d l waits. left_open (get_or closing.callers i d) (shown.caller i d l) (shown.passes i d l) waits;
-    size = k.size;
-    won = won;
-    taken = taken;
-  }
+  pub closed_so : (closed : IsClosed (still_view closing) sources numbers) × (closed.words ≡ words)
+  closed_so = (
+    record {
+      words = words;
+      shown = shown;
+      waiting = λ i d l waits. left_open (get_or closing.callers i d) (shown.caller i d l) (shown.passes i d l) waits;
+      size = k.size;
+      won = won;
+      taken = taken;
+    },
+    refl,
+  )

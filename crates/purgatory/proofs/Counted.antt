@@ -13,8 +13,7 @@ use Rattle.room_core.specs.Numbers.{scanner_numbers}
 use Rattle.room_core.specs.Passes.{IsOver, all_seen, caller_idles, caller_opens, caller_peeks, caller_sees_mark, peeked, seen_with, taken_of}
 use Rattle.room_core.specs.Put.{put}
 use Rattle.room_core.specs.State.{Caller}
-use Rattle.room_core.proofs.Laws.{exchange_cases}
-use Rattle.room_core.proofs.Prizes.{no_prize, prize_made}
+use Rattle.room_core.proofs.Laws.{exchange_cases, no_prize, prize_made}
 use Rattle.room_core.specs.declared.shape.Shape.{Shape}
 use Rattle.purgatory.specs.Owned.{IsCounted, unsettled, untaken}
 

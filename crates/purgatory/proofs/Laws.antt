@@ -8,15 +8,22 @@ use Rattle.room_core.specs.declared.parts.Taken.{Taken}
 use Rattle.room_core.specs.declared.shape.Shape.{Shape}
 use Rattle.room_core.specs.Counts.{sum_below}
 use Rattle.room_core.specs.State.{Caller, Scanner}
-use Rattle.room_core.proofs.Prizes.{wins_of-pass, wins_of-scanner}
 use Rattle.room_core.specs.declared.parts.Source.{Source}
+use Rattle.room_core.proofs.Laws.{wins_of-pass, wins_of-scanner}
 use Rattle.room_table.specs.Handed.{fresh_caller, fresh_callers, fresh_source, fresh_sources}
 use Rattle.room_table.specs.Seats.{CallerView, ScanView, SourceView, caller_now, scanner_now, source_now}
 use Rattle.purgatory.specs.Closed.{IsClosed, IsLeftOpen, stored_in}
 use Rattle.purgatory.specs.Ends.{AreAllScanners, IsScannerSeat, StillView}
+use Rattle.purgatory.specs.Going.{OwesNothing}
 use Rattle.purgatory.specs.Rooms.{IsOfRoom, IsSourceOf, PassView, RoomView, fresh_passes, with_locks}
-use Rattle.purgatory.proofs.Added.{of_number, sum_keyed}
-use Rattle.purgatory.proofs.Made.{from_at}
+-- a pass that goes on, and one that keeps its operation
+pub use Rattle.purgatory.proofs.Goes.{goes_by, goes_far, kept_far, kept_same, one_step, stays}
+-- what a pass finds of its word
+pub use Rattle.purgatory.proofs.Words.{open_stage, polled_owed, took_owed}
+-- items by the numbers from the first one on
+pub use Rattle.purgatory.proofs.Made.{from_at, from_more, from_pop}
+-- a sum over items by their numbers
+pub use Rattle.purgatory.proofs.Added.{by_number, of_number, sum_keyed}
 
 -- the passes of a new room were made with it, and have made no step
 pub passes_of_room : (room : RoomView) → All (λ (pass : PassView). IsOfRoom room pass × (pass.seat.steps ≡ [])) (fresh_passes room)
@@ -25,6 +32,14 @@ passes_of_room room =
     All-map P (with_locks room.locks) (fresh_callers room.table)
     (All-map (λ (seat : CallerView). P (with_locks room.locks seat)) (fresh_caller room.table) (range_with_len 0 room.table.shape.passes)
     (λ k d less. (record { table = refl; locks = refl }, refl)))
+
+-- between two calls each has no operation, and owes nothing
+pub passes_at_rest : (room : RoomView) → All (λ (pass : PassView). IsOfRoom room pass × ((caller_now pass.seat).stage ≡ Stage.Idle) × OwesNothing (caller_now pass.seat)) (fresh_passes room)
+passes_at_rest room =
+    let P : PassView → Type 0 = λ pass. IsOfRoom room pass × ((caller_now pass.seat).stage ≡ Stage.Idle) × OwesNothing (caller_now pass.seat) in
+    All-map P (with_locks room.locks) (fresh_callers room.table)
+    (All-map (λ (seat : CallerView). P (with_locks room.locks seat)) (fresh_caller room.table) (range_with_len 0 room.table.shape.passes)
+    (λ k d less. (record { table = refl; locks = refl }, refl, λ gauge. refl)))
 
 -- so were its sources
 pub sources_of_room : (room : RoomView) → All (λ (source : SourceView). IsSourceOf room source × (source.steps ≡ [])) (fresh_sources room.table)

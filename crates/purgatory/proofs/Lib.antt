@@ -32,9 +32,7 @@ pub mod Made
 pub mod Raises
 -- an operation from its opening to its end
 pub mod Runs
--- sources and passes of an example or a test, between two calls
+-- sources and passes of an example, between two calls
 pub mod Ready
 -- the passes of the locks, as they are dealt out
 pub mod Rings
--- passes and sources of a test by their places
-pub mod Crews

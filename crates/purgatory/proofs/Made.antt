@@ -18,7 +18,7 @@ made_from P f first zero bound size each = tt
 made_from P f first (suc n) bound size each = (each first (omega (arith, size)), made_from P f (first + 1) n bound (omega (arith, size)) each)
 
 -- one more at the end
-from_more : {A : Type 0} (P : ℕ → A → Type 0) (first : ℕ) (xs : List A) (x : A) → AreFrom P first xs → P (first + length xs) x → AreFrom P first (xs ++ x ∷ [])
+pub from_more : {A : Type 0} (P : ℕ → A → Type 0) (first : ℕ) (xs : List A) (x : A) → AreFrom P first xs → P (first + length xs) x → AreFrom P first (xs ++ x ∷ [])
 from_more P first [] x a p = (subst (λ k. P k x) (omega arith) p, tt)
 from_more P first (y ∷ ys) x a p = (a.0, from_more P (first + 1) ys x a.1 (subst (λ k. P k x) (omega arith) p))
 
@@ -32,7 +32,7 @@ from_pop P first (y ∷ ys) x a =
 pub fresh_sources_from : (table : TableView) → IsShape table.shape → AreFrom IsFreshSource 0 (fresh_sources table)
 fresh_sources_from table shape =
     made_from IsFreshSource (fresh_source table) 0 table.shape.gauges table.shape.gauges (omega arith)
-    (λ k less. record { number = refl; there = less; few = shape.few_gauges; fresh = refl })
+    (λ k less. record { number = refl; there = less; few = shape.few_gauges; stored = refl; fresh = refl })
 
 pub fresh_callers_from : (table : TableView) (size : Shape) → size ≡ table.shape → IsShape size → AreFrom (IsFreshCaller size) 0 (fresh_callers table)
 fresh_callers_from table size same shape =

@@ -22,7 +22,7 @@ module _ (number generation wins taken : ℕ) (owed : List ℕ) (a b : CallerVie
       let pass : b.pass ≡ a.pass = ap (λ (v : CallerView). v.pass) e in
       omega (arith, there, passes, pass)
 
-  few_still : b.table.shape.gauges < 194
+  few_still : b.table.shape.gauges ≤ 193
   few_still =
       let few = i.few in
       let same : b.table.shape.gauges ≡ a.table.shape.gauges = ap (λ (v : CallerView). v.table.shape.gauges) e in

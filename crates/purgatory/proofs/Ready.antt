@@ -1,4 +1,4 @@
--- Sources and passes of an example or a test, between two calls.
+-- Sources and passes of an example, between two calls.
 use Rattle.std.proofs.Common.{◌≡◌, ◌∙◌, ℕ, ◌≤◌, List, [], ◌++◌, Option, Some, get_or, map, ap, refl, sym, subst, arith}
 use Rattle.std.specs.Prelude.{All, IfSome, option_to_list}
 use Rattle.std.specs.List.{range_with_len}

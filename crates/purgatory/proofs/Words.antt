@@ -1,41 +1,23 @@
 -- A pass's own session word.
-use Rattle.std.proofs.Common.{inl, inr, ◌≡◌, ◌≢◌, ◌∙◌, ℕ, ◌+◌, ◌*◌, ◌^◌, ◌<◌, Option, Some, None, ap, refl, subst, sym, arith}
+use Rattle.std.proofs.Common.{inl, inr, ◌≡◌, ◌≢◌, ◌∙◌, ℕ, Option, Some, None, ap, refl, subst, sym}
 use Rattle.std.specs.Prelude.{IfNone, IfSome}
 use Rattle.room_core.specs.declared.event.How.{How}
-use Rattle.room_core.specs.declared.event.How.TheVariants.{Expired, Satisfied}
 use Rattle.room_core.specs.declared.parts.Phase.{Phase}
 use Rattle.room_core.specs.declared.parts.Phase.TheVariants.{Open, Won}
 use Rattle.room_core.specs.declared.parts.Session.{Session}
 use Rattle.room_core.specs.declared.parts.Stage.{Stage}
-use Rattle.room_core.specs.Packing.{packed, phase_number, unpacked, winner_number}
+use Rattle.room_core.specs.Packing.{unpacked}
 use Rattle.room_core.specs.Passes.{IsOver, peeked, taken_of}
 use Rattle.room_core.specs.State.{Caller}
 use Rattle.room_table.specs.declared.part.CallerStep.{CallerStep}
 use Rattle.room_table.specs.Seats.{CallerView, caller_did, caller_now}
-use Rattle.room_table.specs.Tells.{IsOwnWord, IsSessionWord}
+use Rattle.room_table.specs.Tells.{IsOwnWord}
 use Rattle.room_scans.specs.Listing.{open_at}
 use Rattle.purgatory.specs.declared.outcome.Done.{Done}
 use Rattle.purgatory.specs.Going.{IsAtRest}
 use Rattle.purgatory.specs.Listed.{Keeps}
 use Rattle.purgatory.specs.Polled.{HasPolled, HasTaken, found_open, took, won_at}
 use Rattle.purgatory.proofs.Goes.{keeps_by}
-
-phase_small : (phase : Phase) → phase_number phase < 4
-phase_small Phase.Idle = omega arith
-phase_small Open = omega arith
-phase_small (Won Satisfied by) = omega arith
-phase_small (Won Expired by) = omega arith
-
--- a session word's number is small
-pub word_small : (word : ℕ) → IsSessionWord word → word < 2 ^ 42
-unfolding packed
-word_small word is =
-    let w = unpacked word in
-    let again : w.generation * 1024 + winner_number w.phase * 4 + phase_number w.phase ≡ word = is.again in
-    let phase = phase_small w.phase in
-    let few = is.generation in
-    let winner = is.winner in
-    omega (arith, again, phase, few, winner)
 
 -- a word that isn't idle and isn't won is open
 open_or : (w : Session) (generation : ℕ) (phase : Phase) → w.phase ≡ phase → w.generation ≡ generation → phase ≢ Phase.Idle → ((how : How) (by : ℕ) → phase ≢ Won how by) → w ≡ open_at generation
@@ -89,3 +71,12 @@ waits_still (Some done) a b h waits = tt
 pub has_taken : (result : Option Done) (a b : CallerView) → HasPolled result a b → IfSome result (λ (done : Done). HasTaken (caller_now a).generation done (caller_now a) (caller_now b))
 has_taken None a b h = tt
 has_taken (Some done) a b h = takes a b done h
+
+-- and owes what it owed
+open_owed : (a b : CallerView) → b ≡ found_open a → (caller_now b).owed ≡ (caller_now a).owed
+unfolding peeked
+open_owed a b e = ap (λ (v : CallerView). (caller_now v).owed) e
+
+pub polled_owed : (result : Option Done) (a b : CallerView) → HasPolled result a b → (caller_now b).owed ≡ (caller_now a).owed
+polled_owed None a b h = open_owed a b h
+polled_owed (Some done) a b h = took_owed a b done h

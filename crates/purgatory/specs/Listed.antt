@@ -6,7 +6,7 @@ use Rattle.opcond.specs.Tally.{IsOverdue, IsSatisfied}
 use Rattle.room_core.specs.declared.event.How.{How}
 use Rattle.room_core.specs.declared.event.How.TheVariants.{Expired, Satisfied}
 use Rattle.room_core.specs.declared.parts.Stage.{Stage}
-use Rattle.room_core.specs.Description.{need_of}
+use Rattle.room_core.specs.Description.{deadline_of, least_of, need_of, needs_of}
 use Rattle.room_core.specs.Gauges.{clock_of}
 use Rattle.room_core.specs.Numbers.{clock_mark}
 use Rattle.room_core.specs.State.{Caller}
@@ -28,9 +28,9 @@ AreDescribed needs count words = (i : ℕ) (need : Need) → i < count → need_
 
 -- the words are those of the operation
 pub record IsDescribed (op : Operation) (words : ℕ → ℕ) : Type 0 where
-  pub least : words 0 ≡ op.least
-  pub deadline : words 1 ≡ op.deadline
-  pub count : words 2 ≡ length op.needs
+  pub least : least_of words ≡ op.least
+  pub deadline : deadline_of words ≡ op.deadline
+  pub count : needs_of words ≡ length op.needs
   pub needs : AreDescribed op.needs (length op.needs) words
 
 -- a need, as its words

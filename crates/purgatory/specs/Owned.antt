@@ -3,6 +3,7 @@ use Rattle.std.specs.Prelude.{◌≡◌, ℕ, ◌+◌, ◌<◌, ◌≤◌, List,
 use Rattle.room_core.specs.declared.parts.Stage.{Stage}
 use Rattle.room_core.specs.Gauges.{IsPass}
 use Rattle.room_core.specs.State.{Caller}
+use Rattle.room_core.specs.Numbers.{most_gauges}
 use Rattle.room_table.specs.Seats.{CallerView, caller_now}
 
 -- 1 while it has an operation whose end it hasn't taken
@@ -34,6 +35,6 @@ pub record IsOwner (number generation wins taken : ℕ) (owed : List ℕ) (seat 
   pub there : IsPass seat.table.shape seat.pass
   pub generation_is : generation ≡ (caller_now seat).generation
   pub counts : IsCounted wins taken (caller_now seat)
-  pub few : seat.table.shape.gauges < 194
+  pub few : seat.table.shape.gauges ≤ most_gauges
   pub size : length owed ≡ seat.table.shape.gauges
   pub owes : (gauge : ℕ) → slice_index owed gauge ≡ (caller_now seat).owed gauge

@@ -4,6 +4,7 @@ use Rattle.turn_lock.specs.declared.known.Stage.{Stage}
 use Rattle.turn_lock.specs.declared.lock.TurnLock.{TurnLock}
 use Rattle.turn_lock.specs.declared.pass.TurnPass.{TurnPass}
 use Rattle.turn_lock.specs.Locks.{IsReady, lock_id, lock_name, known}
+use Rattle.room_core.specs.Numbers.{clock_scanner}
 use Rattle.room_scans.specs.Desks.{ShardView, ClockView, desk_name}
 use Rattle.purgatory.specs.Rooms.{LockView}
 
@@ -50,6 +51,6 @@ module _ {E F : Type 0} where
 
   -- a pass of each shard's lock and of the clock's
   pub record AreKeys (shards : List (TurnPass ShardView E)) (clock : TurnPass ClockView F) : Type 0 where
-    pub all : length shards ≡ 16
+    pub all : length shards ≡ clock_scanner
     pub each : All IsKey shards
     pub last : IsKey clock

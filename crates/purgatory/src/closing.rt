@@ -8,8 +8,18 @@ use crate::pass::RoomPass;
 use crate::source::Source;
 use kbytes::List;
 use room_core::SCANNER_NUMBERS;
-use room_table::Closing;
+use room_table::{Closing, TableWords};
 use std::marker::Model;
+
+/// A room that was closed.
+#[derive(Drop)]
+pub struct ClosedRoom {
+    /// How many exchanges each winner has won, by the winners' numbers: first the shards' scanners, then the clock's, whose number is
+    /// `CLOCK_SCANNER`, and then the passes, whose numbers are `SCANNER_NUMBERS` and their own.
+    pub numbers: List<u64>,
+    /// The words that the threads shared, as they stood at the end.
+    pub words: TableWords,
+}
 
 /// A room that nobody can act on any more: everything that was won was taken. It keeps how many operations each winner has won.
 #[derive(Drop)]
@@ -48,19 +58,36 @@ impl StillRoom {
         StillRoom { closing, wins }
     }
 
-    /// Closes the room: answers how many exchanges each winner has won, by the winners' numbers. The shards' scanners come first, then
-    /// the clock's, whose number is 16, and then the passes, whose numbers are 17 and their own.
-    pub fn close(self, mut sources: List<Source>) -> List<u64>
+    /// Closes the room: answers how many exchanges each winner has won, by the winners' numbers, as `ClosedRoom` has them.
+    pub fn close(self, sources: List<Source>) -> List<u64>
         requires all { length sources ≡ self.table.shape.gauges }
         requires made { All (λ source. source.table ≡ self.table) sources }
         ensures { IsClosed self sources result }
     {
+        let ClosedRoom { numbers, words: _ } = self.close_with_words(sources);
+        numbers
+    }
+
+    /// The same, and gives the room's words too. They are the words of which the clause speaks: in them the session word of each pass
+    /// that waits is open.
+    pub fn close_with_words(self, mut sources: List<Source>) -> ClosedRoom
+        requires all { length sources ≡ self.table.shape.gauges }
+        requires made { All (λ source. source.table ≡ self.table) sources }
+        ensures { (closed : IsClosed self sources result.numbers) × (closed.words ≡ result.words) }
+    {
         let StillRoom { mut closing, wins } = self;
         while let Some(source) = sources.pop() {
-            let Source { seat, gauge: _ } = source;
+            let Source {
+                seat,
+                gauge: _,
+                value: _,
+            } = source;
             closing.take_source(seat);
         }
-        let _words = closing.close();
-        wins
+        let words = closing.close();
+        ClosedRoom {
+            numbers: wins,
+            words,
+        }
     }
 }

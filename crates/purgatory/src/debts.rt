@@ -1,5 +1,6 @@
 //! What a pass owes.
 ghost use Rattle.std.specs.Prelude.{◌≡◌, ◌≤◌, ◌<◌, All, IfOk, length, max, set, slice_index};
+ghost use Rattle.room_core.specs.Numbers.{most_gauges};
 ghost use Rattle.purgatory.specs.Owing.{AreDebts};
 
 use kbytes::NoMemory;
@@ -29,7 +30,7 @@ impl Model for Debts {
 impl Debts {
     /// None yet, of so many gauges.
     pub(crate) fn none(alloc: Global, gauges: u32) -> Result<Debts, NoMemory>
-        requires { gauges < 194 }
+        requires { gauges ≤ most_gauges }
         ensures all { IfOk result (λ debts. length debts ≡ gauges) }
         ensures none { IfOk result (λ debts. All (λ debt. debt ≡ 0) debts) }
     {

@@ -8,9 +8,9 @@ ghost use Rattle.purgatory.specs.Holding.{AreBack, AreKept, AreKeysFrom, AreNote
 ghost use Rattle.purgatory.specs.Rooms.{IsRoom};
 ghost use Rattle.purgatory.specs.Turning.{IsKey, clock_name};
 
-use crate::locks::{Keys, Locks, SHARDS};
+use crate::locks::{Keys, Locks};
 use kbytes::List;
-use room_core::CLOCK_SCANNER;
+use room_core::{CLOCK_SCANNER, SHARDS};
 use room_scans::{ClockDesk, ShardDesk};
 use room_table::{Closing, RoomTable};
 use std::sync::Wait;
@@ -65,7 +65,6 @@ fn hold_clock(
 {
     let turn = lock.turn(rt, key);
     let desk = turn.value();
-    desk.keeps();
     let won = desk.wins();
     wins[CLOCK_SCANNER as usize] = won;
     let count = count.with(won);
@@ -105,7 +104,6 @@ fn hold_from(
     let lock = &locks.shards[at];
     let turn = lock.turn(rt, &mut shards[at]);
     let desk = turn.value();
-    desk.keeps();
     let won = desk.wins();
     wins[at] = won;
     match hold_from(

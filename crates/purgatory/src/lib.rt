@@ -63,15 +63,13 @@ mod settling;
 mod source;
 mod still;
 
-pub use closing::StillRoom;
+pub use closing::{ClosedRoom, StillRoom};
+pub use kbytes::{List, NoMemory};
+pub use opcond::{Need, Op};
 pub use outcome::{Done, Registered};
 pub use pass::RoomPass;
 pub use room::{Room, RoomParts};
-pub use room_core::How;
+pub use room_core::{CLOCK_SCANNER, How, MOST_GAUGES, MOST_NEEDS, MOST_PASSES, SCANNER_NUMBERS};
+pub use room_table::TableWords;
 pub use source::Source;
 pub use still::RoomEnd;
-
-#[cfg(test)]
-mod examples;
-#[cfg(test)]
-mod tests;

@@ -1,7 +1,7 @@
 //! The room's locks, one for each scanner, and what a pass has of them.
 ghost use Rattle.std.specs.Prelude.{◌≡◌, ◌≤◌, ◌<◌, ◌%◌, ℕ};
 ghost use Rattle.room_core.specs.Gauges.{IsGauge, IsGaugeOf, IsPass, clock_of};
-ghost use Rattle.room_core.specs.Numbers.{clock_scanner, most_needs};
+ghost use Rattle.room_core.specs.Numbers.{clock_scanner, most_needs, shards};
 ghost use Rattle.room_scans.specs.Desks.{desk_name};
 ghost use Rattle.room_scans.specs.Listing.{HasListedDeadline, HasListedNeed};
 ghost use Rattle.room_scans.specs.Scanned.{HasScanned};
@@ -9,15 +9,12 @@ ghost use Rattle.turn_lock.specs.Locks.{IsPassOf, IsReady, lock_name};
 ghost use Rattle.purgatory.specs.Rooms.{IsRoom};
 ghost use Rattle.purgatory.specs.Turning.{clock_name, shard_name};
 
-use room_core::Shape;
+use room_core::{SHARDS, Shape};
 use room_scans::{ClockDesk, ShardDesk};
 use room_table::RoomTable;
 use std::marker::Model;
 use std::sync::Wait;
 use turn_lock::{Turn, TurnLock, TurnPass};
-
-/// The shards' scanners have every sixteenth gauge each.
-pub(crate) const SHARDS: u32 = 16;
 
 /// A mark of an operation: whose and which it is, and the number of its need.
 #[derive(Clone, Copy)]
@@ -36,6 +33,7 @@ pub(crate) struct Locks {
 
 impl Model for Locks {
     ghost use Rattle.std.specs.Prelude.{◌≡◌, List, length};
+    ghost use Rattle.room_core.specs.Numbers.{shards as shard_count};
     ghost use Rattle.purgatory.specs.Rooms.{LockView};
     ghost use Rattle.purgatory.specs.Turning.{lock_views};
 
@@ -43,7 +41,7 @@ impl Model for Locks {
 
     ghost view = { λ l. lock_views l.shards.items l.clock };
 
-    ghost invariant = { λ l. length l.shards.items ≡ 16 };
+    ghost invariant = { λ l. length l.shards.items ≡ shard_count };
 }
 
 /// A pass's turns: a pass of each lock. Between any two calls none of them has a turn out: else the view wouldn't show the lock's name.
@@ -136,8 +134,8 @@ fn scan_shard(
     gauge: u32,
 )
     requires key { IsPassOf shard_name lock.now key.old × IsReady key.old }
-    requires name { lock_name shard_name lock.now ≡ desk_name table.now (gauge % 16) }
-    requires gauge { IsGaugeOf table.now.shape (gauge % 16) gauge }
+    requires name { lock_name shard_name lock.now ≡ desk_name table.now (gauge % shards) }
+    requires gauge { IsGaugeOf table.now.shape (gauge % shards) gauge }
     ensures { IsPassOf shard_name lock.now key.new × IsReady key.new }
 {
     let turn = lock.turn(rt, key);

@@ -2,7 +2,7 @@
 ghost use Rattle.std.specs.Prelude.{◌≡◌, ◌-◌, ◌<◌, ℕ, List as Items, [], ◌∷◌, ◌++◌, All, IfOk, length, map};
 ghost use Rattle.room_core.specs.declared.shape.Shape.{Shape as Size};
 ghost use Rattle.room_core.specs.Gauges.{IsShape};
-ghost use Rattle.room_core.specs.Numbers.{scanner_numbers};
+ghost use Rattle.room_core.specs.Numbers.{scanner_numbers, shards};
 ghost use Rattle.room_table.specs.Handed.{fresh_scanners};
 ghost use Rattle.room_table.specs.Seats.{TableView};
 ghost use Rattle.purgatory.specs.Making.{AreFrom, IsFreshCaller, IsFreshScanner, IsFreshSource, names_of};
@@ -31,7 +31,11 @@ pub(crate) fn quiet_sources(
     let mut sources = List::new(alloc);
     for seat in seats.into_vec() {
         let gauge = sources.len() as u32;
-        sources.push(Source { seat, gauge })?;
+        sources.push(Source {
+            seat,
+            gauge,
+            value: 0,
+        })?;
     }
     Ok(sources)
 }
@@ -109,7 +113,7 @@ fn shard_locks(
     shape: Shape,
 ) -> Result<(Vec<TurnLock<ShardDesk>>, List<List<TurnPass<ShardDesk>>>), NoMemory>
     requires shape { IsShape shape × (shape.scanners ≡ scanner_numbers) }
-    requires scanners { (length scanners ≡ 16) × AreFrom (IsFreshScanner shape) 0 scanners }
+    requires scanners { (length scanners ≡ shards) × AreFrom (IsFreshScanner shape) 0 scanners }
     ensures names { IfOk result (λ made. map (λ lock. (lock_view shard_name lock).name) made.0.items ≡ names_of scanners) }
     ensures rows { IfOk result (λ made. (length made.1 ≡ shape.passes) × All (IsKeyring (map (lock_view shard_name) made.0.items)) made.1) }
 {
@@ -154,7 +158,7 @@ fn key_rings(
     mut passes: List<TurnPass<ClockDesk>>,
 ) -> Result<List<Keys>, NoMemory>
     requires len { length rows ≡ length passes }
-    requires rows { (locks : Items LockView) × (length locks ≡ 16) × All (IsKeyring locks) rows }
+    requires rows { (locks : Items LockView) × (length locks ≡ shards) × All (IsKeyring locks) rows }
     requires passes { (lock : LockView) × All (IsKeyOf lock) passes }
     ensures len { IfOk result (λ keys. length keys ≡ length rows) }
     ensures rings { IfOk result (λ keys. (locks : Items LockView) (lock : LockView) → All (IsKeyring locks) rows → All (IsKeyOf lock) passes

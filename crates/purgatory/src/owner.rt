@@ -78,6 +78,13 @@ impl Owner {
         self.number
     }
 
+    /// The generation of its operation, or of the last one.
+    pub(crate) fn generation(&self) -> u32
+        ensures { result ≡ (caller_now self.now).generation }
+    {
+        self.generation
+    }
+
     /// How many operations it has won.
     pub(crate) fn wins(&self) -> u32
         ensures { result ≡ length (caller_now self.now).wins }

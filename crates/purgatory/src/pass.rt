@@ -3,7 +3,8 @@ use crate::owner::Owner;
 use std::marker::Model;
 
 /// The right to act in the room: to raise gauges, to register operations, one at a time, and to settle what that leaves to do. Between
-/// any two calls it has no operation, or one that waits.
+/// any two calls it has no operation, or one that waits. One that is dropped while it owes a scan leaves that undone: whom the value
+/// satisfies waits on, until the gauge is raised again. So settle first.
 #[derive(Drop)]
 pub struct RoomPass {
     pub(crate) owner: Owner,
@@ -36,6 +37,14 @@ impl RoomPass {
         ensures rests { IsAtRest (caller_now self.now.seat).stage }
     {
         self.owner.number()
+    }
+
+    /// The generation of its operation, or of the last one that it had: 0 where it had none yet. It may register one more where this is
+    /// below 2^32 - 1.
+    pub fn generation(&self) -> u32
+        ensures { result ≡ (caller_now self.now.seat).generation }
+    {
+        self.owner.generation()
     }
 
     /// Whether its operation waits. Else it has none.

@@ -4,6 +4,7 @@ ghost use Rattle.room_core.specs.declared.parts.Stage.TheVariants.{Waiting};
 ghost use Rattle.room_core.specs.Gauges.{IsGauge};
 ghost use Rattle.room_table.specs.declared.part.CallerStep.TheVariants.{Read};
 ghost use Rattle.room_table.specs.Seats.{caller_did, caller_now};
+ghost use Rattle.purgatory.specs.Going.{OwesNothing};
 ghost use Rattle.purgatory.specs.Polled.{HasPolled, HasTaken};
 ghost use Rattle.purgatory.specs.Rooms.{IsOfRoom, with_locks};
 
@@ -38,9 +39,11 @@ impl Room {
     }
 
     /// Sleeps while the pass's session word is open, for no longer than `most`. Who wins the operation wakes the sleeper. It may also
-    /// return for no reason, and returns at once where the word isn't open: `poll` tells.
+    /// return for no reason, and returns at once where the word isn't open: `poll` tells. A pass that owes a scan settles first: whom that
+    /// would win would else sleep as long.
     pub fn wait(&self, rt: &impl Wait, pass: &RoomPass, most: Duration)
-        requires { IsOfRoom self.now pass.now }
+        requires pass { IsOfRoom self.now pass.now }
+        requires paid { OwesNothing (caller_now pass.now.seat) }
     {
         pass.owner.sleep(rt, &self.table, most);
     }

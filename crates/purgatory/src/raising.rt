@@ -40,7 +40,7 @@ fn ask_for_it(
 }
 
 impl Room {
-    /// Raises the source's gauge to this value, which is no less than its value. The pass then owes the scan of it, unless the value is
+    /// Raises the source's gauge to this value, which is no less than its value, which `Source::value` tells. The pass then owes the scan of it, unless the value is
     /// 0: `settle` pays that.
     pub fn raise(&self, rt: &impl Wait, source: &mut Source, pass: &mut RoomPass, value: u64)
         requires pass { IsOfRoom self.now pass.old }
@@ -62,5 +62,6 @@ impl Room {
             value,
             source.gauge,
         );
+        source.value = value;
     }
 }

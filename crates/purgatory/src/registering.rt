@@ -3,7 +3,7 @@ ghost use Rattle.std.specs.Prelude.{◌≡◌, ◌-◌, ◌*◌, ◌+◌, ◌^�
 ghost use Rattle.opcond.specs.Operation.{IsValid};
 ghost use Rattle.opcond.specs.Tally.{IsSatisfied};
 ghost use Rattle.room_core.specs.declared.parts.Stage.TheVariants.{Checking, Idle, Listing};
-ghost use Rattle.room_core.specs.Description.{IsOperation, needs_of};
+ghost use Rattle.room_core.specs.Description.{IsOperation, gauge_word, needs_of};
 ghost use Rattle.room_core.specs.Gauges.{IsGauge, clock_of};
 ghost use Rattle.room_core.specs.Numbers.{clock_mark, most_needs};
 ghost use Rattle.room_table.specs.Seats.{caller_now};
@@ -18,7 +18,9 @@ use crate::owner::Owner;
 use crate::pass::RoomPass;
 use crate::room::Room;
 use opcond::{Need, Op, is_overdue, is_satisfied};
-use room_core::{CLOCK_MARK, How, MOST_NEEDS};
+use room_core::{
+    CLOCK_MARK, DEADLINE_WORD, GAUGE_WORD, How, LEAST_WORD, MOST_NEEDS, NEED_WORDS, NEEDS_WORD,
+};
 use std::sync::Wait;
 
 // How an operation can be answered at these values and this moment, if it can.
@@ -42,9 +44,9 @@ impl Room {
         requires table { owner.old.table ≡ self.now.table }
         requires idle { (caller_now owner.old).stage ≡ Idle }
         requires few { i < most_needs }
-        ensures { owner.new ≡ need_described owner.old (3 + 3 * i) need }
+        ensures { owner.new ≡ need_described owner.old (gauge_word i) need }
     {
-        let at = 3 + 3 * i;
+        let at = GAUGE_WORD + NEED_WORDS * i;
         owner.describe(&self.table, at, u64::from(need.gauge));
         owner.describe(&self.table, at + 1, need.start);
         owner.describe(&self.table, at + 2, need.cap);
@@ -59,9 +61,9 @@ impl Room {
         ensures valid { IsValid op.now }
     {
         let needs = op.needs();
-        owner.describe(&self.table, 0, op.min());
-        owner.describe(&self.table, 1, op.deadline());
-        owner.describe(&self.table, 2, needs.len() as u64);
+        owner.describe(&self.table, LEAST_WORD, op.min());
+        owner.describe(&self.table, DEADLINE_WORD, op.deadline());
+        owner.describe(&self.table, NEEDS_WORD, needs.len() as u64);
         for i in 0..needs.len() {
             self.describe_need(owner, i as u32, needs[i]);
         }

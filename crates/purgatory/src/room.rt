@@ -1,4 +1,6 @@
 ghost use Rattle.std.specs.Prelude.{◌≡◌, ◌≤◌, IfOk};
+ghost use Rattle.room_core.specs.Gauges.{IsGauge, clock_of};
+ghost use Rattle.room_core.specs.Numbers.{most_gauges, most_passes};
 ghost use Rattle.room_table.specs.Handed.{fresh_sources};
 ghost use Rattle.purgatory.specs.Rooms.{fresh_passes, room_shape};
 
@@ -44,11 +46,11 @@ pub struct RoomParts {
 }
 
 impl Room {
-    /// A room with so many gauges, the last of which is the clock, and so many passes: its gauges are at 0, and no pass has an operation.
+    /// A room with so many gauges, the last of which is the clock, and so many passes, at most `MOST_GAUGES` and `MOST_PASSES`: its gauges are at 0, and no pass has an operation.
     /// It is refused where no memory is left; no other call takes memory.
     pub fn make(alloc: Global, gauges: u32, passes: u32) -> Result<RoomParts, NoMemory>
-        requires gauges { (1 ≤ gauges) × (gauges ≤ 193) }
-        requires passes { (1 ≤ passes) × (passes ≤ 80) }
+        requires gauges { (1 ≤ gauges) × (gauges ≤ most_gauges) }
+        requires passes { (1 ≤ passes) × (passes ≤ most_passes) }
         ensures shape { IfOk result (λ p. p.room.table.shape ≡ room_shape gauges passes) }
         ensures sources { IfOk result (λ p. p.sources ≡ fresh_sources p.room.table) }
         ensures passes { IfOk result (λ p. p.passes ≡ fresh_passes p.room) }
@@ -78,5 +80,27 @@ impl Room {
             sources,
             passes,
         })
+    }
+
+    /// How many gauges it has, the clock with them.
+    pub fn gauges(&self) -> u32
+        ensures { result ≡ self.now.table.shape.gauges }
+    {
+        self.shape.gauges
+    }
+
+    /// The clock's number, which is the last gauge's. A need's gauge is below it.
+    pub fn clock(&self) -> u32
+        ensures is { result ≡ clock_of self.now.table.shape }
+        ensures there { IsGauge self.now.table.shape result }
+    {
+        self.shape.gauges - 1
+    }
+
+    /// How many passes it has.
+    pub fn passes(&self) -> u32
+        ensures { result ≡ self.now.table.shape.passes }
+    {
+        self.shape.passes
     }
 }

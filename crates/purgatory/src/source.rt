@@ -6,6 +6,8 @@ use std::marker::Model;
 pub struct Source {
     pub(crate) seat: SourceSeat,
     pub(crate) gauge: u32,
+    // what it stored last
+    pub(crate) value: u64,
 }
 
 impl Model for Source {
@@ -16,7 +18,7 @@ impl Model for Source {
 
     ghost view = { λ s. s.seat };
 
-    ghost invariant = { λ s. IsSource s.gauge s.seat };
+    ghost invariant = { λ s. IsSource s.gauge s.value s.seat };
 }
 
 impl Source {
@@ -31,5 +33,12 @@ impl Source {
         ensures quiet { (source_now self.now).loud ≡ false }
     {
         self.gauge
+    }
+
+    /// The value of its gauge, as it stored that last: 0 at first. It may raise the gauge to this value or past it.
+    pub fn value(&self) -> u64
+        ensures { result ≡ (source_now self.now).stored }
+    {
+        self.value
     }
 }

@@ -1,6 +1,6 @@
 //! Whether everything that was won was taken. Then nobody can act on the room any more.
 ghost use Rattle.std.specs.Prelude.{◌≡◌, ◌-◌, ◌<◌, ◌≤◌, ◌^◌, ◌↔◌, All, Any, IsTrue, length};
-ghost use Rattle.room_core.specs.Numbers.{scanner_numbers};
+ghost use Rattle.room_core.specs.Numbers.{most_passes, scanner_numbers};
 ghost use Rattle.purgatory.specs.Ended.{HasEnded};
 ghost use Rattle.purgatory.specs.Ends.{IsSettled, IsWaiting, seats_of, taken_of, won_by_passes};
 ghost use Rattle.purgatory.specs.Holding.{IfUntaken, WereHeld};
@@ -14,6 +14,11 @@ use crate::room::Room;
 use kbytes::List;
 use room_table::RoomTable;
 use std::sync::Wait;
+use std::sync::atomic::AtomicU64;
+use std::time::Duration;
+
+// A nap of who sleeps for ever, in milliseconds.
+const NAP: u64 = 1_000;
 
 /// How a room ended.
 #[derive(Drop)]
@@ -27,7 +32,7 @@ pub enum RoomEnd {
 
 // What the passes have won and taken.
 fn counted(passes: &[RoomPass]) -> Count
-    requires { length passes.now < 81 }
+    requires { length passes.now ≤ most_passes }
     ensures won { result.won ≡ won_by_passes (seats_of passes.now) }
     ensures taken { result.taken ≡ taken_of (seats_of passes.now) }
     ensures few { result.taken < 2 ^ 64 - 1 }
@@ -49,15 +54,17 @@ fn one_waits(passes: &[RoomPass]) -> bool
     passes.iter().any(|pass| pass.waits())
 }
 
-// Goes on where one of the passes waits, and else waits for ever. Where more was won than they have taken, the room's rule lets it never
+// Goes on where one of the passes waits, and else sleeps for ever. Where more was won than they have taken, the room's rule lets it never
 // come to be that none waits, but no clause of the table shows that.
 fn wait_till_one_waits(rt: &impl Wait, passes: &[RoomPass])
     ensures { Any IsWaiting passes.now }
 {
+    let never = AtomicU64::new(0);
     for _ in rt.forever() {
         if one_waits(passes) {
             return;
         }
+        never.park_timeout(rt, 0, Duration::from_millis(NAP));
     }
     unreachable!()
 }

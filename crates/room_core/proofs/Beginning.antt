@@ -29,7 +29,7 @@ use Rattle.room_core.proofs.Marking.{marked_need, marked_clock, clock_own}
 use Rattle.room_core.proofs.Prizes.{open_busy}
 use Rattle.room_core.proofs.Winners.{scanner_wins_nothing}
 
-heard_is : (o : Option Heard) (gauge : ℕ) → IsHeard o gauge → o ≡ Some (record { gauge = gauge; number = number_heard o })
+pub heard_is : (o : Option Heard) (gauge : ℕ) → IsHeard o gauge → o ≡ Some (record { gauge = gauge; number = number_heard o })
 heard_is None gauge h = absurd h
 heard_is (Some x) gauge h = ap (λ g. Some (record { gauge = g; number = x.number })) h
 

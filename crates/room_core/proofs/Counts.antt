@@ -13,26 +13,11 @@ use Rattle.room_core.specs.declared.parts.Taken.{Taken}
 use Rattle.room_core.specs.Carried.{IsCarried}
 use Rattle.room_core.specs.Counts.{sum_below, is_won_by, taken_by, won_by}
 use Rattle.room_core.specs.State.{State}
+use Rattle.room_core.proofs.Sums.{sum_both, sum_none, sum_same}
 use Rattle.room_core.specs.Wins.{prizes_as, taken_as, won_as, wins_of, same_how, is_prize, is_taken_as}
 
 abbrev bit : Bool → ℕ
 bit b = cond b 1 0
-
--- sums
-sum_same : (f g : ℕ → ℕ) (n : ℕ) → ((i : ℕ) → i < n → f i ≡ g i) → sum_below f n ≡ sum_below g n
-unfolding sum_below
-sum_same f g zero h = refl
-sum_same f g (suc n) h = λ k. sum_same f g n (λ i l. h i (omega arith)) k + h n (omega arith) k
-
-sum_none : (n : ℕ) → sum_below (λ i. 0) n ≡ 0
-unfolding sum_below
-sum_none zero = refl
-sum_none (suc n) = omega (arith, sum_none n)
-
-sum_both : (f g : ℕ → ℕ) (n : ℕ) → sum_below (λ i. f i + g i) n ≡ sum_below f n + sum_below g n
-unfolding sum_below
-sum_both f g zero = refl
-sum_both f g (suc n) = omega (arith, sum_both f g n)
 
 -- one place alone counts
 no_place : (k : ℕ) (b : Bool) (n : ℕ) → n ≤ k → sum_below (λ i. bit ((k == i) && b)) n ≡ 0

@@ -9,6 +9,7 @@ use Rattle.room_core.specs.Packing.{winner_number}
 use Rattle.room_core.specs.Wins.{prizes_as, taken_as, won_as, wins_of, same_how}
 use Rattle.room_core.specs.Carried.{IsCarried}
 use Rattle.room_core.specs.State.{State}
+use Rattle.room_core.proofs.Starting.{no_prizes}
 
 same : (how : How) → same_how how how ≡ true
 same Satisfied = refl
@@ -17,10 +18,6 @@ same Expired = refl
 won_here : (s : State) (pass : ℕ) (how : How) (by : ℕ) → (s.session pass).phase ≡ Won how by → won_as (s.session pass) (s.session pass).generation how by ≡ 1
 unfolding won_as
 won_here s pass how by e = rw (e, eq-eqb (s.session pass).generation (s.session pass).generation refl, same how, eq-eqb by by refl) refl
-
-none_won : (pass generation : ℕ) (how : How) → prizes_as [] pass generation how ≡ 0
-unfolding prizes_as
-none_won pass generation how = refl
 
 -- a winner past the last pass has no wins
 no_wins : (s : State) → IsCarried s → (by : ℕ) → 97 ≤ by → wins_of s.scanner s.caller by ≡ []
@@ -35,7 +32,7 @@ winner_few s c pass how by e =
     (λ (l : 97 ≤ by).
     let g : ℕ = (s.session pass).generation in
     let counted : prizes_as (wins_of s.scanner s.caller by) pass g how ≡ taken_as (s.caller pass).taken g how by + won_as (s.session pass) g how by = c.sound.wins.counted by pass g how in
-    let none : prizes_as (wins_of s.scanner s.caller by) pass g how ≡ 0 = ap (λ x. prizes_as x pass g how) (no_wins s c by l) ∙ none_won pass g how in
+    let none : prizes_as (wins_of s.scanner s.caller by) pass g how ≡ 0 = ap (λ x. prizes_as x pass g how) (no_wins s c by l) ∙ no_prizes pass g how in
     absurd (omega (arith, counted, none, won_here s pass how by e)))
     (cases_lt by 97)
 

@@ -98,6 +98,8 @@ pub mod DeadEntries
 pub mod Packings
 -- the numbers of winners
 pub mod Few
+-- sums of the first terms
+pub mod Sums
 -- how many exchanges a winner has won
 pub mod Counts
 -- the operation that words describe

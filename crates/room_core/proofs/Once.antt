@@ -14,7 +14,7 @@ use Rattle.room_core.specs.State.{State}
 use Rattle.room_core.proofs.Winners.{taken_as-more, taken_at-more}
 use Rattle.room_core.proofs.Prizes.{prize_by}
 
-one_at_most : (b : Bool) → cond b 1 0 ≤ 1
+pub one_at_most : (b : Bool) → cond b 1 0 ≤ 1
 one_at_most true = omega arith
 one_at_most false = omega arith
 

@@ -17,7 +17,7 @@ use Rattle.room_core.specs.State.{Scanner}
 use Rattle.room_core.specs.ScannerTables.{row}
 use Rattle.room_core.proofs.Views.{table_set, part_set, put_as}
 
-pub scanner_place : (shape : Shape) (k n : ℕ) → IsScanner shape k → shape.scanners < 18 → n ≡ 17 → k < n
+pub scanner_place : (shape : Shape) (k n : ℕ) → IsScanner shape k → shape.scanners ≤ 17 → n ≡ 17 → k < n
 scanner_place shape k n is few size =
     ⊎_elim
     (λ (l : k < shape.scanners - 1). omega (arith, l, few, size))

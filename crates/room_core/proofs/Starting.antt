@@ -18,7 +18,7 @@ no_wins : (by : ℕ) → wins_of (λ k. idle_scanner) (λ p. idle_caller) by ≡
 unfolding wins_of
 no_wins by = of_either (λ x. x ≡ []) (nat_lt by 17) [] [] (λ e. refl) (λ e. refl)
 
-no_prizes : (pass generation : ℕ) (how : How) → prizes_as [] pass generation how ≡ 0
+pub no_prizes : (pass generation : ℕ) (how : How) → prizes_as [] pass generation how ≡ 0
 unfolding prizes_as
 no_prizes pass generation how = refl
 

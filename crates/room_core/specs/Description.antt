@@ -7,28 +7,47 @@ use Rattle.opcond.specs.Tally.{counted}
 use Rattle.room_core.specs.declared.shape.Shape.{Shape}
 use Rattle.room_core.specs.Gauges.{clock_of}
 
+-- the places of the words: of the whole, and of the need with this number
+abbrev pub least_word : ℕ
+least_word = 0
+
+abbrev pub deadline_word : ℕ
+deadline_word = 1
+
+abbrev pub needs_word : ℕ
+needs_word = 2
+
+abbrev pub gauge_word : ℕ → ℕ
+gauge_word i = 3 + 3 * i
+
+abbrev pub start_word : ℕ → ℕ
+start_word i = 4 + 3 * i
+
+abbrev pub cap_word : ℕ → ℕ
+cap_word i = 5 + 3 * i
+
 abbrev pub least_of : (ℕ → ℕ) → ℕ
-least_of words = words 0
+least_of words = words least_word
 
 abbrev pub deadline_of : (ℕ → ℕ) → ℕ
-deadline_of words = words 1
+deadline_of words = words deadline_word
 
 abbrev pub needs_of : (ℕ → ℕ) → ℕ
-needs_of words = words 2
+needs_of words = words needs_word
 
 -- the gauge of a need
 abbrev pub gauge_of : (ℕ → ℕ) → ℕ → ℕ
-gauge_of words i = words (3 + 3 * i)
+gauge_of words i = words (gauge_word i)
 
 abbrev pub need_of : (ℕ → ℕ) → ℕ → Need
-need_of words i = record { gauge = words (3 + 3 * i); start = words (4 + 3 * i); cap = words (5 + 3 * i) }
+need_of words i = record { gauge = words (gauge_word i); start = words (start_word i); cap = words (cap_word i) }
 
 -- at most 64 needs, of distinct gauges, each there and not the clock; the caps and the least tally below 2^31
 pub record IsOperation (shape : Shape) (words : ℕ → ℕ) : Type 0 where
   pub few : needs_of words ≤ most_needs
   pub gauges : (i : ℕ) → i < needs_of words → gauge_of words i < clock_of shape
   pub distinct : (i j : ℕ) → i < j → j < needs_of words → gauge_of words i ≢ gauge_of words j
-  pub caps : (i : ℕ) → i < needs_of words → words (5 + 3 * i) < 2 ^ 31
+  pub caps : (i : ℕ) → i < needs_of words → words (cap_word i) < 2 ^ 31
   pub least : least_of words < 2 ^ 31
 
 -- the sum, over the first needs, of what counts of the gauges' values

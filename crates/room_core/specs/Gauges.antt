@@ -1,6 +1,6 @@
 -- Gauges, passes and scanners of a shape.
-use Rattle.std.specs.Prelude.{◌≡◌, ◌⊎◌, ℕ, ◌-◌, ◌%◌, ◌<◌, ◌==◌, if◌then◌else◌}
-use Rattle.room_core.specs.Numbers.{clock_scanner}
+use Rattle.std.specs.Prelude.{◌≡◌, ◌⊎◌, ℕ, ◌-◌, ◌%◌, ◌<◌, ◌≤◌, ◌==◌, if◌then◌else◌}
+use Rattle.room_core.specs.Numbers.{clock_scanner, most_gauges, most_passes, scanner_numbers}
 use Rattle.room_core.specs.declared.shape.Shape.{Shape}
 
 abbrev pub IsGauge : Shape → ℕ → Type 0
@@ -29,8 +29,8 @@ pub record IsGaugeOf (shape : Shape) (scanner gauge : ℕ) : Type 0 where
 -- 1 to 193 gauges, 1 to 80 passes, 2 to 17 scanners
 pub record IsShape (shape : Shape) : Type 0 where
   pub some_gauges : 0 < shape.gauges
-  pub few_gauges : shape.gauges < 194
+  pub few_gauges : shape.gauges ≤ most_gauges
   pub some_passes : 0 < shape.passes
-  pub few_passes : shape.passes < 81
+  pub few_passes : shape.passes ≤ most_passes
   pub some_scanners : 1 < shape.scanners
-  pub few_scanners : shape.scanners < 18
+  pub few_scanners : shape.scanners ≤ scanner_numbers

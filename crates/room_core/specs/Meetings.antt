@@ -10,7 +10,7 @@ use Rattle.room_core.specs.declared.parts.Duty.{Duty}
 use Rattle.room_core.specs.declared.parts.Meeting.{Meeting}
 use Rattle.room_core.specs.Put.{put}
 use Rattle.room_core.specs.Gauges.{IsPass, IsScanner, IsGaugeOf, clock_of}
-use Rattle.room_core.specs.Description.{needs_of, deadline_of, gauge_of, marked_gauge}
+use Rattle.room_core.specs.Description.{gauge_word, needs_of, deadline_of, gauge_of, marked_gauge}
 use Rattle.room_core.specs.Readings.{unread, read_only}
 use Rattle.room_core.specs.State.{State, Scanner}
 
@@ -85,7 +85,7 @@ pub record MayMarkNeed (shape : Shape) (k : ℕ) (scanner : Scanner) (at : ℕ) 
   pub need : at < most_needs
   pub count : IsLearned scanner 2
   pub within : at < needs_of (words_of scanner)
-  pub gauge : IsLearned scanner (3 + 3 * at)
+  pub gauge : IsLearned scanner (gauge_word at)
   pub own : IsGaugeOf shape k (gauge_of (words_of scanner) at)
   pub no_clock : gauge_of (words_of scanner) at ≢ clock_of shape
 

@@ -5,9 +5,13 @@ ghost use Rattle.room_core.specs.Checks.{AreRead, IsRead, IsWon, is_overdue, is_
 ghost use Rattle.room_core.specs.Description.{gauge_of, need_of};
 ghost use Rattle.room_core.specs.Readings.{read_only};
 
+use crate::description::{
+    CAP_WORD, DEADLINE_WORD, DESCRIPTION_WORDS, GAUGE_WORD, LEAST_WORD, NEED_WORDS, NEEDS_WORD,
+    START_WORD,
+};
 use crate::event::How;
 use crate::gauges::clock;
-use crate::numbers::{DESCRIPTION_WORDS, MOST_NEEDS};
+use crate::numbers::MOST_NEEDS;
 use crate::shape::Shape;
 
 /// What was read of a gauge, and 0 where nothing was.
@@ -31,14 +35,14 @@ pub(crate) fn has_read(readings: &[Option<u64>], gauge: u64) -> bool
 }
 
 /// What counts of a need.
-fn part_of(words: &[u64], i: usize, readings: &[Option<u64>]) -> u64
+fn part_of(words: &[u64], i: u32, readings: &[Option<u64>]) -> u64
     requires words { length words.now ≡ DESCRIPTION_WORDS }
     requires need { i < MOST_NEEDS }
     ensures { result ≡ counted (need_of (table words.now 0) i) (read_only (table readings.now Nothing) (gauge_of (table words.now 0) i)) }
 {
-    let value = read_of(readings, words[3 + 3 * i]);
-    let past = value.saturating_sub(words[4 + 3 * i]);
-    words[5 + 3 * i].min(past)
+    let value = read_of(readings, words[(GAUGE_WORD + NEED_WORDS * i) as usize]);
+    let past = value.saturating_sub(words[(START_WORD + NEED_WORDS * i) as usize]);
+    words[(CAP_WORD + NEED_WORDS * i) as usize].min(past)
 }
 
 /// Whether the readings satisfy the operation. Words past the 64th need count nothing.
@@ -46,9 +50,9 @@ pub(crate) fn is_satisfied(words: &[u64], readings: &[Option<u64>]) -> bool
     requires { length words.now ≡ DESCRIPTION_WORDS }
     ensures { result ≡ is_satisfied (table words.now 0) (table readings.now Nothing) }
 {
-    let needs = words[2].min(MOST_NEEDS);
-    let mut left = words[0];
-    for i in 0..needs as usize {
+    let needs = words[NEEDS_WORD as usize].min(MOST_NEEDS);
+    let mut left = words[LEAST_WORD as usize];
+    for i in 0..needs as u32 {
         left = left.saturating_sub(part_of(words, i, readings));
     }
     left == 0
@@ -59,7 +63,7 @@ pub(crate) fn is_overdue(shape: Shape, words: &[u64], readings: &[Option<u64>]) 
     requires { length words.now ≡ DESCRIPTION_WORDS }
     ensures { result ≡ is_overdue shape (table words.now 0) (table readings.now Nothing) }
 {
-    words[1] <= read_of(readings, u64::from(clock(shape)))
+    words[DEADLINE_WORD as usize] <= read_of(readings, u64::from(clock(shape)))
 }
 
 /// Whether the readings show that the operation is won in this way.
@@ -76,15 +80,15 @@ pub(crate) fn is_won(shape: Shape, how: How, words: &[u64], readings: &[Option<u
 }
 
 /// The gauge of a need, and 0 past the description's end.
-fn gauge_of(words: &[u64], i: usize) -> u64
+fn gauge_of(words: &[u64], i: u32) -> u64
     requires words { length words.now ≡ DESCRIPTION_WORDS }
     requires need { i ≤ MOST_NEEDS }
     ensures { result ≡ gauge_of (table words.now 0) i }
 {
-    if i as u64 == MOST_NEEDS {
+    if u64::from(i) == MOST_NEEDS {
         return 0;
     }
-    words[3 + 3 * i]
+    words[(GAUGE_WORD + NEED_WORDS * i) as usize]
 }
 
 /// Whether a gauge was read, or is the one that is read last.
@@ -99,8 +103,8 @@ pub(crate) fn are_read(words: &[u64], readings: &[Option<u64>], last: u32) -> bo
     requires { length words.now ≡ DESCRIPTION_WORDS }
     ensures { IsTrue result ↔ AreRead (table readings.now Nothing) last (table words.now 0) }
 {
-    let needs = words[2].min(MOST_NEEDS + 1);
-    for i in 0..needs as usize {
+    let needs = words[NEEDS_WORD as usize].min(MOST_NEEDS + 1);
+    for i in 0..needs as u32 {
         if !is_read(readings, last, gauge_of(words, i)) {
             return false;
         }

@@ -4,8 +4,9 @@ ghost use Rattle.room_core.specs.Scans.{caller_asks, caller_relieves};
 ghost use Rattle.room_core.specs.CallerSize.{CallerIsSized};
 ghost use Rattle.room_core.specs.CallerWhole.{CallerIsWhole};
 
+use crate::description::DESCRIPTION_WORDS;
 use crate::empty::nothing_read;
-use crate::numbers::{DESCRIPTION_WORDS, MARKS};
+use crate::numbers::MARKS;
 use crate::parts::{Phase, Prize, Stage, Taken};
 use crate::shape::Shape;
 use kbytes::NoMemory;

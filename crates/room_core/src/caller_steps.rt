@@ -9,10 +9,11 @@ ghost use Rattle.room_core.specs.declared.parts.Stage.TheVariants.{Checking, Lis
 
 use crate::answering::{are_read, is_answerable, is_read, is_won};
 use crate::caller_part::{CallerPart, peeked_stage};
+use crate::description::{DESCRIPTION_WORDS, NEEDS_WORD};
 use crate::empty::forget;
 use crate::event::How;
 use crate::gauges::clock;
-use crate::numbers::{CLOCK_MARK, DESCRIPTION_WORDS, LAST_GENERATION, MARKS, SCANNER_NUMBERS};
+use crate::numbers::{CLOCK_MARK, LAST_GENERATION, MARKS, SCANNER_NUMBERS};
 use crate::operation::is_operation;
 use crate::parts::{Prize, Session, Stage, Taken};
 use crate::session_word::{exchanged, keep_prize};
@@ -26,7 +27,8 @@ impl CallerPart {
     pub(crate) fn awaits_mark(&self, at: u32) -> bool
         ensures { IsTrue result ↔ (((caller_of self.now).stage ≡ Listing) × IsMark (caller_of self.now).description at) }
     {
-        self.stage == Stage::Listing && (at == 64 || u64::from(at) < self.description[2])
+        self.stage == Stage::Listing
+            && (at == CLOCK_MARK || u64::from(at) < self.description[NEEDS_WORD as usize])
     }
 
     pub(crate) fn describes(&mut self, at: u32, word: u64)
@@ -215,5 +217,5 @@ fn is_all_seen(description: &[u64], seen: &[bool]) -> bool
     requires marks { length seen.now ≡ MARKS }
     ensures { result ≡ all_seen (table description.now 0) (table seen.now false) }
 {
-    is_all_below(seen, description[2]) && seen[CLOCK_MARK as usize]
+    is_all_below(seen, description[NEEDS_WORD as usize]) && seen[CLOCK_MARK as usize]
 }

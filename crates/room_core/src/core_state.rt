@@ -14,10 +14,11 @@ ghost use Rattle.room_core.specs.WordSizes.{WordsAreSized};
 ghost use Rattle.room_core.specs.Words.{IsWord, word_at};
 
 use crate::caller_part::CallerPart;
+use crate::description::DESCRIPTION_WORDS;
 use crate::duties::is_free;
 use crate::event::{CoreEvent, How, Party};
 use crate::gauges::{is_scanner, scanner_of};
-use crate::numbers::{DESCRIPTION_WORDS, MARKS, SCANNER_NUMBERS};
+use crate::numbers::{MARKS, SCANNER_NUMBERS};
 use crate::parts::{Phase, Session, Source};
 use crate::scanner_part::ScannerPart;
 use crate::shape::Shape;

@@ -8,6 +8,7 @@ mod answering;
 mod caller_part;
 mod caller_steps;
 mod core_state;
+mod description;
 mod duties;
 mod empty;
 mod event;
@@ -29,16 +30,16 @@ pub mod theorems;
 mod word;
 
 pub use core_state::CoreState;
+pub use description::{
+    CAP_WORD, DEADLINE_WORD, DESCRIPTION_WORDS, GAUGE_WORD, LEAST_WORD, NEED_WORDS, NEEDS_WORD,
+    START_WORD,
+};
 pub use event::{CoreEvent, How, Party};
 pub use numbers::{
-    CLOCK_MARK, CLOCK_SCANNER, DESCRIPTION_WORDS, MARKS, MOST_NEEDS, SCANNER_NUMBERS,
+    CLOCK_MARK, CLOCK_SCANNER, MARKS, MOST_GAUGES, MOST_NEEDS, MOST_PASSES, OPEN_PHASE, PHASES,
+    SCANNER_NUMBERS, SHARD_GAUGES, SHARDS,
 };
 pub use parts::{Duty, Entry, Heard, Meeting, Phase, Prize, Session, Source, Stage, Taken};
 pub use run::run_events;
 pub use shape::Shape;
 pub use word::Word;
-
-#[cfg(test)]
-mod run_tests;
-#[cfg(test)]
-mod step_tests;

@@ -4,8 +4,9 @@ ghost use Rattle.room_core.specs.Checks.{CanLeavePass, CanReadPass, CanWinPass, 
 ghost use Rattle.room_core.specs.Passes.{CanDescribe, CanIdle, CanOpen, CanPeek, CanSeeMark, describing, idling, opening, peeking, seeing_mark};
 
 use crate::core_state::CoreState;
+use crate::description::DESCRIPTION_WORDS;
 use crate::event::How;
-use crate::numbers::{CLOCK_MARK, DESCRIPTION_WORDS, SCANNER_NUMBERS};
+use crate::numbers::{CLOCK_MARK, SCANNER_NUMBERS};
 use crate::parts::{Phase, Session, Stage};
 use crate::session_word::exchanged;
 use kbytes::NoMemory;

@@ -4,10 +4,10 @@ ghost use Rattle.room_core.specs.Checks.{CanLeaveScanner, CanReadScanner, CanWin
 ghost use Rattle.room_core.specs.Meetings.{CanLearn, CanMark, CanMeet, learning, marking, scanner_meeting};
 
 use crate::core_state::CoreState;
+use crate::description::DESCRIPTION_WORDS;
 use crate::event::How;
 use crate::gauges::is_scanner;
 use crate::listing::is_met;
-use crate::numbers::DESCRIPTION_WORDS;
 use crate::session_word::exchanged;
 use kbytes::NoMemory;
 

@@ -6,10 +6,11 @@ ghost use Rattle.room_core.specs.Meetings.{IsLearned, MayMarkClock, MayMarkNeed,
 ghost use Rattle.room_core.specs.Put.{put};
 ghost use Rattle.room_core.specs.State.{Scanner};
 
+use crate::description::{DEADLINE_WORD, DESCRIPTION_WORDS, GAUGE_WORD, NEED_WORDS, NEEDS_WORD};
 use crate::empty::forget;
 use crate::gauges::{clock, is_gauge_of};
 use crate::listing::{drop_dead, meeting_with, still_due};
-use crate::numbers::{CLOCK_MARK, CLOCK_SCANNER, DESCRIPTION_WORDS};
+use crate::numbers::{CLOCK_MARK, CLOCK_SCANNER};
 use crate::parts::{Entry, Session};
 use crate::scanner_part::ScannerPart;
 
@@ -79,10 +80,10 @@ impl ScannerPart {
         if at >= CLOCK_MARK {
             return false;
         }
-        let gauge = self.word(3 + 3 * at);
-        self.has_learned(2)
-            && u64::from(at) < self.word(2)
-            && self.has_learned(3 + 3 * at)
+        let gauge = self.word(GAUGE_WORD + NEED_WORDS * at);
+        self.has_learned(NEEDS_WORD)
+            && u64::from(at) < self.word(NEEDS_WORD)
+            && self.has_learned(GAUGE_WORD + NEED_WORDS * at)
             && is_gauge_of(self.shape, scanner, gauge)
             && gauge != u64::from(clock(self.shape))
     }
@@ -93,7 +94,7 @@ impl ScannerPart {
         ensures { IsTrue result ↔ (MayMarkNeed self.now.shape scanner (scanner_of self.now) at ⊎ MayMarkClock scanner (scanner_of self.now) at) }
     {
         if at == CLOCK_MARK {
-            scanner == CLOCK_SCANNER && self.has_learned(1)
+            scanner == CLOCK_SCANNER && self.has_learned(DEADLINE_WORD)
         } else {
             self.may_mark_need(scanner, at)
         }
@@ -109,7 +110,7 @@ impl ScannerPart {
         if at == CLOCK_MARK {
             u64::from(clock(self.shape))
         } else {
-            self.word(3 + 3 * at)
+            self.word(GAUGE_WORD + NEED_WORDS * at)
         }
     }
 
@@ -119,7 +120,11 @@ impl ScannerPart {
     {
         Entry {
             generation: self.generation(),
-            deadline: if at == CLOCK_MARK { self.word(1) } else { 0 },
+            deadline: if at == CLOCK_MARK {
+                self.word(DEADLINE_WORD)
+            } else {
+                0
+            },
         }
     }
 

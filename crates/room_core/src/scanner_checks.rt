@@ -7,6 +7,9 @@ ghost use Rattle.room_core.specs.Meetings.{generation_met, words_of};
 ghost use Rattle.room_core.specs.Readings.{read_only};
 
 use crate::answering::{has_read, read_of};
+use crate::description::{
+    CAP_WORD, DEADLINE_WORD, GAUGE_WORD, LEAST_WORD, NEED_WORDS, NEEDS_WORD, START_WORD,
+};
 use crate::empty::forget;
 use crate::gauges::clock;
 use crate::listing::is_met;
@@ -34,9 +37,9 @@ impl ScannerPart {
         requires { need < MOST_NEEDS }
         ensures { result ≡ counted (need_of (words_of (scanner_of self.now)) need) (read_only (scanner_of self.now).readings (gauge_of (words_of (scanner_of self.now)) need)) }
     {
-        let gauge = self.word(3 + 3 * need);
-        let start = self.word(4 + 3 * need);
-        let cap = self.word(5 + 3 * need);
+        let gauge = self.word(GAUGE_WORD + NEED_WORDS * need);
+        let start = self.word(START_WORD + NEED_WORDS * need);
+        let cap = self.word(CAP_WORD + NEED_WORDS * need);
         let value = self.reading(gauge);
         cap.min(value.saturating_sub(start))
     }
@@ -45,7 +48,7 @@ impl ScannerPart {
         requires { needs_of (words_of (scanner_of self.now)) ≤ MOST_NEEDS }
         ensures { result ≡ tally (words_of (scanner_of self.now)) (read_only (scanner_of self.now).readings) }
     {
-        let needs = self.word(2) as u32;
+        let needs = self.word(NEEDS_WORD) as u32;
         let mut sum: u128 = 0;
         for need in 0..needs {
             sum += u128::from(self.counts(need));
@@ -57,14 +60,14 @@ impl ScannerPart {
         requires { needs_of (words_of (scanner_of self.now)) ≤ MOST_NEEDS }
         ensures { result ≡ is_satisfied (words_of (scanner_of self.now)) (scanner_of self.now).readings }
     {
-        u128::from(self.word(0)) <= self.tally()
+        u128::from(self.word(LEAST_WORD)) <= self.tally()
     }
 
     pub(crate) fn is_overdue(&self) -> bool
         requires { IsShape self.now.shape }
         ensures { result ≡ is_overdue self.now.shape (words_of (scanner_of self.now)) (scanner_of self.now).readings }
     {
-        self.word(1) <= self.reading(u64::from(clock(self.shape)))
+        self.word(DEADLINE_WORD) <= self.reading(u64::from(clock(self.shape)))
     }
 
     /// Whether each need's gauge was read, or is the one that is read last.
@@ -72,9 +75,9 @@ impl ScannerPart {
         requires { needs_of (words_of (scanner_of self.now)) ≤ MOST_NEEDS }
         ensures { IsTrue result ↔ AreRead (scanner_of self.now).readings last (words_of (scanner_of self.now)) }
     {
-        let needs = self.word(2) as u32;
+        let needs = self.word(NEEDS_WORD) as u32;
         for need in 0..needs {
-            let gauge = self.word(3 + 3 * need);
+            let gauge = self.word(GAUGE_WORD + NEED_WORDS * need);
             if !self.has_read(gauge) && gauge != u64::from(last) {
                 return false;
             }
@@ -85,11 +88,11 @@ impl ScannerPart {
     fn is_all_learned(&self) -> bool
         ensures { IsTrue result ↔ IsAllLearned (scanner_of self.now) }
     {
-        let needs = self.word(2);
+        let needs = self.word(NEEDS_WORD);
         if needs > MOST_NEEDS {
             return false;
         }
-        for at in 0..3 + 3 * needs as u32 {
+        for at in 0..GAUGE_WORD + NEED_WORDS * needs as u32 {
             if !self.has_learned(at) {
                 return false;
             }

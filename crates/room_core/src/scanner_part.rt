@@ -2,9 +2,9 @@ ghost use Rattle.std.specs.Prelude.{◌≡◌, ◌↔◌, ◌<◌, IfOk, IsTrue,
 ghost use Rattle.room_core.specs.Scans.{IsHeard, number_heard, scanner_begins, scanner_hears};
 ghost use Rattle.room_core.specs.ScannerSize.{ScannerIsSized};
 
+use crate::description::DESCRIPTION_WORDS;
 use crate::duties::make_duties;
 use crate::empty::{forget, nothing_read};
-use crate::numbers::DESCRIPTION_WORDS;
 use crate::parts::{Duty, Entry, Heard, Meeting, Prize};
 use crate::shape::Shape;
 use kbytes::NoMemory;

@@ -2,12 +2,10 @@ ghost use Rattle.std.specs.Prelude.{◌≡◌, ◌<◌, ◌^◌};
 ghost use Rattle.room_core.specs.Packing.{packed, phase_number, unpacked, winner_number};
 
 use crate::event::How;
+use crate::numbers::PHASES;
 use crate::parts::{Phase, Session};
 
-// A session word counts this for each number before the winner's: there are four phases, Satisfied and Expired being two.
-const PHASES: u64 = 4;
-
-// A session word counts this for each generation: there are fewer than 256 winners.
+// A session word counts this for each generation, and `PHASES` for each number before the winner's: there are fewer than 256 winners.
 const WINNERS: u64 = 1024;
 
 /// Which of the room's words, all of which every thread sees.

@@ -11,7 +11,7 @@ use Rattle.room_core.specs.Numbers.{clock_mark, clock_scanner}
 use Rattle.room_core.specs.Put.{put}
 use Rattle.room_core.specs.Start.{idle_scanner}
 use Rattle.room_core.specs.State.{Scanner}
-use Rattle.room_core.proofs.Laws.{put_else, put_here}
+use Rattle.room_core.proofs.Laws.{at_put, put_else, put_here}
 use Rattle.room_table.specs.declared.part.ScannerStep.{ScannerStep}
 use Rattle.room_table.specs.Parts.{scanner_of}
 use Rattle.room_table.specs.Seats.{ScanView, TableView, scanner_did, scanner_now}
@@ -28,7 +28,6 @@ use Rattle.room_scans.proofs.Entries.{live_entry_some}
 use Rattle.room_scans.proofs.Goes.{goes_by, one_step, stays}
 use Rattle.room_scans.proofs.Sessions.{is_live_at, not_live}
 use Rattle.room_scans.proofs.Settling.{live_none, live_some}
-use Rattle.room_scans.proofs.Tables.{at_put}
 use Rattle.room_scans.proofs.Timers.{none_there}
 
 abbrev desk_of : ScanView → Timers → ClockView

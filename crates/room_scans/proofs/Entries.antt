@@ -11,10 +11,9 @@ use Rattle.room_core.specs.Meetings.{is_live, live_entry, scanner_meets}
 use Rattle.room_core.specs.Put.{put}
 use Rattle.room_core.specs.Sound.{IsEntry}
 use Rattle.room_core.specs.State.{Scanner}
-use Rattle.room_core.proofs.Laws.{put_else, put_here}
+use Rattle.room_core.proofs.Laws.{at_put, put_else, put_here}
 use Rattle.room_scans.specs.Checked.{without_entry}
 use Rattle.room_scans.specs.ShardKeeps.{AreEntries, gauge_of_key}
-use Rattle.room_scans.proofs.Tables.{at_put}
 
 two : (b : Bool) → (b ≡ true) ⊎ (b ≡ false)
 two true = inl refl

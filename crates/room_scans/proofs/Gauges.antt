@@ -1,5 +1,5 @@
 -- A shard's gauges, and their keys.
-use Rattle.std.proofs.Common.{◌≡◌, ◌≢◌, ◌∙◌, ℕ, ◌-◌, ◌/◌, ◌%◌, ◌<◌, cond, ap, refl, sym, arith}
+use Rattle.std.proofs.Common.{◌≡◌, ◌≢◌, ◌∙◌, ℕ, ◌-◌, ◌/◌, ◌%◌, ◌<◌, ◌≤◌, cond, ap, refl, sym, arith}
 use Rattle.std.proofs.lemmas.Bool.{eq-eqb, ne_eqb}
 use Rattle.room_core.specs.declared.shape.Shape.{Shape}
 use Rattle.room_core.specs.Gauges.{IsGaugeOf, IsShape, clock_of, scanner_of}
@@ -36,7 +36,7 @@ key_is shape k gauge all few own =
     let is = owner_is shape k gauge all own (not_clock shape k gauge few own) in
     omega (arith, is)
 
-less_one : (gauge gauges : ℕ) → gauge < gauges → gauge ≢ gauges - 1 → gauges < 194 → gauge < 192
+less_one : (gauge gauges : ℕ) → gauge < gauges → gauge ≢ gauges - 1 → gauges ≤ 193 → gauge < 192
 less_one gauge gauges less n few = omega (arith, less, n, few)
 
 pub key_few : (shape : Shape) (k gauge : ℕ) → IsShape shape → k < clock_scanner → IsGaugeOf shape k gauge → gauge / 16 < 12

@@ -42,5 +42,3 @@ pub mod Settling
 pub mod ClockEntries
 -- the timers that come out as a scan of the clock begins, one after another
 pub mod Coming
--- the room of the tests
-pub mod Rooms

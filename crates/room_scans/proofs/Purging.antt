@@ -9,15 +9,11 @@ use Rattle.room_core.specs.declared.shape.Shape.{Shape}
 use Rattle.room_core.specs.Meetings.{is_live, live_duty, scanner_meets}
 use Rattle.room_core.specs.Scans.{HasNoDuty}
 use Rattle.room_core.specs.State.{Scanner}
+use Rattle.room_core.proofs.Laws.{at_put, no_duty_lives}
 use Rattle.room_scans.specs.ShardKeeps.{AreEntries}
 use Rattle.room_scans.specs.Shelf.{open_generation}
 use Rattle.room_scans.proofs.Entries.{entries_by, entries_met}
 use Rattle.room_scans.proofs.Sessions.{is_live_at, live_at}
-use Rattle.room_scans.proofs.Tables.{at_put}
-
-pub no_duty_lives : (w : Session) (o : Option Duty) → o ≡ None → live_duty w o ≡ None
-unfolding live_duty
-no_duty_lives w o e = ap (live_duty w) e
 
 pub meets_no_duty : (s : Scanner) (pass : ℕ) (w : Session) → HasNoDuty s → HasNoDuty (scanner_meets s pass w)
 meets_no_duty s pass w none = at_put s.duties pass (live_duty w (s.duties pass)) (λ p (o : Option Duty). o ≡ None) (no_duty_lives w (s.duties pass) (none pass)) (λ p n. none p)

@@ -1,31 +1,12 @@
--- Session words: small numbers, and the generation at which one is open.
-use Rattle.std.proofs.Common.{◌≡◌, ◌≢◌, ℕ, ◌+◌, ◌*◌, ◌^◌, ◌<◌, ◌≤◌, Bool, true, false, ap, refl, sym, arith}
+-- Session words, and the generation at which one is open.
+use Rattle.std.proofs.Common.{◌≡◌, ◌≢◌, ℕ, ◌≤◌, Bool, true, false, ap, refl, sym, arith}
 use Rattle.std.proofs.lemmas.Bool.{eq-eqb, eqb-true}
-use Rattle.room_core.specs.declared.event.How.TheVariants.{Expired, Satisfied}
 use Rattle.room_core.specs.declared.parts.Phase.{Phase}
 use Rattle.room_core.specs.declared.parts.Phase.TheVariants.{Open, Won}
 use Rattle.room_core.specs.declared.parts.Session.{Session}
 use Rattle.room_core.specs.Meetings.{is_live}
-use Rattle.room_core.specs.Packing.{packed, phase_number, unpacked, winner_number}
-use Rattle.room_table.specs.Tells.{IsSessionWord}
 use Rattle.room_scans.specs.Listing.{open_at}
 use Rattle.room_scans.specs.Shelf.{open_generation}
-
-phase_small : (phase : Phase) → phase_number phase < 4
-phase_small Phase.Idle = omega arith
-phase_small Open = omega arith
-phase_small (Won Satisfied by) = omega arith
-phase_small (Won Expired by) = omega arith
-
-pub session_small : (word : ℕ) → IsSessionWord word → word < 2 ^ 42
-unfolding packed
-session_small word is =
-    let w = unpacked word in
-    let again : w.generation * 1024 + winner_number w.phase * 4 + phase_number w.phase ≡ word = is.again in
-    let phase = phase_small w.phase in
-    let few = is.generation in
-    let winner = is.winner in
-    omega (arith, again, phase, few, winner)
 
 -- an entry's generation is at least 1: it is live exactly where the word is open at it
 pub live_generation : (phase : Phase) (word generation : ℕ) → 1 ≤ generation

@@ -10,7 +10,7 @@ use Rattle.room_core.specs.Gauges.{clock_of}
 use Rattle.room_core.specs.Meetings.{generation_met, is_live, live_duty, live_entry, scanner_learns, scanner_marks}
 use Rattle.room_core.specs.Numbers.{clock_mark}
 use Rattle.room_core.specs.Put.{put}
-use Rattle.room_core.proofs.Laws.{put_else, put_here}
+use Rattle.room_core.proofs.Laws.{no_duty_lives, put_else, put_here}
 use Rattle.room_core.specs.State.{Scanner}
 use Rattle.room_table.specs.declared.part.ScannerStep.{ScannerStep}
 use Rattle.room_table.specs.Seats.{ScanView, TableView, scanner_did, scanner_now}
@@ -23,7 +23,6 @@ use Rattle.room_scans.specs.Shelf.{open_generation}
 use Rattle.room_scans.specs.Timing.{HasTimer, IsTimed}
 use Rattle.room_scans.proofs.Deadlines.{marked_is}
 use Rattle.room_scans.proofs.Goes.{goes_by, goes_far, one_step, stays}
-use Rattle.room_scans.proofs.Purging.{no_duty_lives}
 use Rattle.room_scans.proofs.Sessions.{is_live_at, not_live}
 use Rattle.room_scans.proofs.Tables.{some_same}
 use Rattle.room_scans.proofs.Watching.{duty_left, meeting_is}

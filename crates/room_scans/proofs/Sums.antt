@@ -1,5 +1,5 @@
 -- Tallies over the same words and values.
-use Rattle.std.proofs.Common.{◌≡◌, ◌∙◌, ℕ, zero, suc, ◌+◌, ◌*◌, ◌<◌, ap, refl, arith, add-one}
+use Rattle.std.proofs.Common.{◌≡◌, ◌∙◌, ℕ, zero, suc, ◌+◌, ◌*◌, ◌<◌, ap, refl, arith}
 use Rattle.opcond.specs.Tally.{counted}
 use Rattle.room_core.specs.Description.{gauge_of, need_of, tally_below}
 
@@ -17,12 +17,3 @@ tally_same words other value reading (suc n) same read =
     ap (λ sum. sum + counted (need_of words n) (value (gauge_of words n))) before
     ∙ ap (λ need. tally_below other reading n + counted need (value (gauge_of words n))) (λ i. record { gauge = first i; start = second i; cap = third i })
     ∙ ap (λ v. tally_below other reading n + counted (need_of other n) v) value_is
-
--- by a need more
-pub tally_more : (words value : ℕ → ℕ) (n : ℕ) → tally_below words value (n + 1) ≡ tally_below words value n + counted (need_of words n) (value (gauge_of words n))
-unfolding tally_below
-tally_more words value n = ap (tally_below words value) (add-one n)
-
-pub tally_none : (words value : ℕ → ℕ) → tally_below words value 0 ≡ 0
-unfolding tally_below
-tally_none words value = refl

@@ -52,11 +52,3 @@ some_here known at value = subst (λ o. IsSome o) (sym (put_here known at (Some 
 
 pub some_same : {A : Type 0} (a b : A) → Some a ≡ Some b → a ≡ b
 some_same a b e = ap (λ o. unwrap_or o a) e
-
--- what holds of the new value at its place, and of the old ones elsewhere
-pub at_put : {A : Type 0} (f : ℕ → A) (i : ℕ) (x : A) (P : ℕ → A → Type 0) → P i x → ((j : ℕ) → j ≢ i → P j (f j)) → (j : ℕ) → P j (put f i x j)
-at_put f i x P here other j =
-    ⊎_elim
-    (λ (e : j ≡ i). subst (λ k. P k (put f i x k)) (sym e) (subst (P i) (sym (put_here f i x)) here))
-    (λ (n : j ≢ i). subst (P j) (sym (put_else f i x j n)) (other j n))
-    (cases_eq j i)

@@ -6,7 +6,7 @@ use Rattle.room_core.specs.declared.parts.Session.{Session}
 use Rattle.room_core.specs.Checks.{IsDuty}
 use Rattle.room_core.specs.Meetings.{IsMet, generation_met, is_live, live_duty, met}
 use Rattle.room_core.specs.Put.{put}
-use Rattle.room_core.proofs.Laws.{put_else, put_here}
+use Rattle.room_core.proofs.Laws.{met_open, put_else, put_here}
 use Rattle.room_table.specs.declared.part.ScannerStep.{ScannerStep}
 use Rattle.room_table.specs.Seats.{ScanView, scanner_did, scanner_now}
 use Rattle.watch_lists.specs.Watches.{Watches}
@@ -27,10 +27,6 @@ pub duty_left : (w : Session) (gauge generation : ℕ) (b : Bool) → is_live w 
     → live_duty w (Some (record { gauge = gauge; generation = generation })) ≡ cond b (Some (record { gauge = gauge; generation = generation })) None
 unfolding live_duty
 duty_left w gauge generation b e = ap (λ x. cond x (Some (let d : Duty = record { gauge = gauge; generation = generation } in d)) None) e
-
-met_open : (pass generation : ℕ) → met (open_at generation) pass ≡ Some (record { pass = pass; generation = generation })
-unfolding met
-met_open pass generation = refl
 
 module _ (gauge id generation : ℕ) (a b : ShardView) (new : ShardView) (found : Session) (i : IsAtCheck gauge id generation a b) (some : 1 ≤ generation)
     (step : new.seat ≡ scanner_did b.seat (ScannerStep.Met id found)) (lower : KeepsLower id b.watches new.watches) where

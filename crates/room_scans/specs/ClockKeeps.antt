@@ -3,7 +3,7 @@ use Rattle.std.specs.Prelude.{◌≡◌, ℕ, Some}
 use Rattle.room_core.specs.declared.parts.Entry.{Entry}
 use Rattle.room_core.specs.declared.shape.Shape.{Shape}
 use Rattle.room_core.specs.Gauges.{IsShape, clock_of}
-use Rattle.room_core.specs.Numbers.{clock_scanner}
+use Rattle.room_core.specs.Numbers.{clock_scanner, scanner_numbers}
 use Rattle.room_core.specs.Scans.{HasNoDuty}
 use Rattle.room_core.specs.State.{Scanner}
 use Rattle.room_table.specs.Seats.{scanner_now}
@@ -20,7 +20,7 @@ pub record AreTimersOf (shape : Shape) (scanner : Scanner) (timers : Timers) : T
 -- scan the clock. They are exactly those of the listing's entries whose deadline is past that moment, and the scanner has no duty.
 pub record ClockKeeps (desk : ClockView) : Type 0 where
   pub shape : IsShape desk.seat.table.shape
-  pub scanners : desk.seat.table.shape.scanners ≡ 17
+  pub scanners : desk.seat.table.shape.scanners ≡ scanner_numbers
   pub number : desk.seat.scanner ≡ clock_scanner
   pub passes : ids_of desk.timers ≡ desk.seat.table.shape.passes
   pub moment : desk.timers.moment ≡ (scanner_now desk.seat).began (clock_of desk.seat.table.shape)

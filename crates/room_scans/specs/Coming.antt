@@ -4,7 +4,7 @@ use Rattle.room_core.specs.declared.parts.Duty.{Duty}
 use Rattle.room_core.specs.declared.parts.Entry.{Entry}
 use Rattle.room_core.specs.declared.parts.Session.{Session}
 use Rattle.room_core.specs.Gauges.{IsShape, clock_of}
-use Rattle.room_core.specs.Numbers.{clock_scanner}
+use Rattle.room_core.specs.Numbers.{clock_scanner, scanner_numbers}
 use Rattle.room_table.specs.declared.part.ScannerStep.{ScannerStep}
 use Rattle.room_table.specs.Seats.{scanner_did, scanner_now}
 use Rattle.timing_wheel.specs.Timers.{deadline_of, ids_of}
@@ -31,7 +31,7 @@ duty_on desk entry = record { gauge = clock_of desk.seat.table.shape; generation
 -- clock, and what is kept by pass is exactly its listing.
 pub record IsClockListing (kept : List (Option Entry)) (desk : ClockView) : Type 0 where
   pub shape : IsShape desk.seat.table.shape
-  pub scanners : desk.seat.table.shape.scanners ≡ 17
+  pub scanners : desk.seat.table.shape.scanners ≡ scanner_numbers
   pub number : desk.seat.scanner ≡ clock_scanner
   pub passes : ids_of desk.timers ≡ desk.seat.table.shape.passes
   pub moment : desk.timers.moment ≡ (scanner_now desk.seat).began (clock_of desk.seat.table.shape)

@@ -3,6 +3,7 @@ use Rattle.std.specs.Prelude.{◌≡◌, ◌≢◌, ◌⊎◌, ℕ, ◌+◌, ◌
 use Rattle.room_core.specs.declared.parts.Phase.{Phase}
 use Rattle.room_core.specs.declared.parts.Session.{Session}
 use Rattle.room_core.specs.declared.shape.Shape.{Shape}
+use Rattle.room_core.specs.Description.{deadline_word, gauge_word, needs_word}
 use Rattle.room_core.specs.Gauges.{IsGaugeOf, clock_of}
 use Rattle.room_core.specs.Meetings.{is_live}
 use Rattle.room_core.specs.Numbers.{clock_mark}
@@ -26,7 +27,7 @@ pub record FoundElse (pass generation : ℕ) (old new : ScanView) : Type 0 where
 abbrev pub need_learned : ScanView → ℕ → ℕ → ℕ → ℕ → ℕ → ScanView
 need_learned before pass generation at needs gauge =
     scanner_did (scanner_did (scanner_did before
-    (ScannerStep.Met pass (open_at generation))) (ScannerStep.Learned 2 needs)) (ScannerStep.Learned (3 + 3 * at) gauge)
+    (ScannerStep.Met pass (open_at generation))) (ScannerStep.Learned needs_word needs)) (ScannerStep.Learned (gauge_word at) gauge)
 
 -- the operation has the need, and its gauge is one of the scanner's
 pub record IsNeedOf (shape : Shape) (k at needs gauge : ℕ) : Type 0 where
@@ -61,7 +62,7 @@ pub record IsListedDeadline (pass generation : ℕ) (old new : ScanView) : Type 
   pub before : ScanView
   pub deadline : ℕ
   pub came : GoesOn old before
-  pub steps : new ≡ scanner_did (scanner_did (scanner_did before (ScannerStep.Met pass (open_at generation))) (ScannerStep.Learned 1 deadline)) (ScannerStep.Listed pass clock_mark)
+  pub steps : new ≡ scanner_did (scanner_did (scanner_did before (ScannerStep.Met pass (open_at generation))) (ScannerStep.Learned deadline_word deadline)) (ScannerStep.Listed pass clock_mark)
 
 -- the clock's scanner lists the open operation of the pass under its deadline
 abbrev pub HasListedDeadline : ℕ → ℕ → ScanView → ScanView → Type 0

@@ -3,7 +3,7 @@ use Rattle.std.specs.Prelude.{◌≡◌, ℕ, ◌+◌, ◌*◌, ◌<◌, ◌↔�
 use Rattle.room_core.specs.declared.parts.Entry.{Entry}
 use Rattle.room_core.specs.declared.shape.Shape.{Shape}
 use Rattle.room_core.specs.Gauges.{IsShape, IsGaugeOf}
-use Rattle.room_core.specs.Numbers.{clock_scanner}
+use Rattle.room_core.specs.Numbers.{clock_scanner, scanner_numbers, shards}
 use Rattle.room_core.specs.Scans.{HasNoDuty}
 use Rattle.room_core.specs.Sound.{IsEntry}
 use Rattle.room_core.specs.State.{Scanner}
@@ -13,7 +13,11 @@ use Rattle.room_scans.specs.Desks.{ShardView}
 
 -- the gauge of a key: a shard's scanner has every sixteenth
 abbrev pub gauge_of_key : ℕ → ℕ → ℕ
-gauge_of_key k key = k + 16 * key
+gauge_of_key k key = k + shards * key
+
+-- a shard with so many watchers or more is purged before more are listed
+abbrev pub purge_size : ℕ
+purge_size = 500
 
 -- what is listed by key, pass and generation is exactly the listing of the scanner, all whose gauges are its own
 pub record AreEntries (shape : Shape) (k : ℕ) (listed : ℕ → ℕ → ℕ → Type 0) (scanner : Scanner) : Type 0 where
@@ -24,7 +28,7 @@ pub record AreEntries (shape : Shape) (k : ℕ) (listed : ℕ → ℕ → ℕ �
 -- no duty.
 pub record ShardKeeps (desk : ShardView) : Type 0 where
   pub shape : IsShape desk.seat.table.shape
-  pub scanners : desk.seat.table.shape.scanners ≡ 17
+  pub scanners : desk.seat.table.shape.scanners ≡ scanner_numbers
   pub number : desk.seat.scanner < clock_scanner
   pub passes : desk.watches.ids ≡ desk.seat.table.shape.passes
   pub entries : AreEntries desk.seat.table.shape desk.seat.scanner (IsListed desk.watches) (scanner_now desk.seat)

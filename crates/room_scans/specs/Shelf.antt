@@ -4,7 +4,7 @@ use Rattle.room_core.specs.declared.parts.Duty.{Duty}
 use Rattle.room_core.specs.declared.parts.Session.{Session}
 use Rattle.room_core.specs.Gauges.{IsShape}
 use Rattle.room_core.specs.Meetings.{is_open}
-use Rattle.room_core.specs.Numbers.{clock_scanner}
+use Rattle.room_core.specs.Numbers.{clock_scanner, scanner_numbers, shard_gauges}
 use Rattle.room_core.specs.State.{Scanner}
 use Rattle.room_table.specs.Seats.{scanner_now}
 use Rattle.watch_lists.specs.declared.watch.Watch.{Watch}
@@ -21,10 +21,10 @@ open_generation session = if is_open session.phase then session.generation else 
 -- pass have one generation, which is the one that is kept.
 pub record IsShelf (generations : List ℕ) (desk : ShardView) : Type 0 where
   pub shape : IsShape desk.seat.table.shape
-  pub scanners : desk.seat.table.shape.scanners ≡ 17
+  pub scanners : desk.seat.table.shape.scanners ≡ scanner_numbers
   pub number : desk.seat.scanner < clock_scanner
   pub passes : desk.watches.ids ≡ desk.seat.table.shape.passes
-  pub keys : keys_of desk.watches ≡ 12
+  pub keys : keys_of desk.watches ≡ shard_gauges
   pub kept : length generations ≡ desk.seat.table.shape.passes
   pub entries : AreEntries desk.seat.table.shape desk.seat.scanner (IsListed desk.watches) (scanner_now desk.seat)
   pub one : (key pass generation : ℕ) → IsListed desk.watches key pass generation → (generation ≡ slice_index generations pass) × (1 ≤ generation)

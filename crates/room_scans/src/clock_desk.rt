@@ -1,7 +1,7 @@
 //! What stands behind the wheels' lock.
 ghost use Rattle.std.specs.Prelude.{◌≡◌, ◌≤◌, [], IfOk, length};
 ghost use Rattle.room_core.specs.Gauges.{IsPass, IsShape, clock_of};
-ghost use Rattle.room_core.specs.Numbers.{clock_scanner};
+ghost use Rattle.room_core.specs.Numbers.{clock_scanner, scanner_numbers};
 ghost use Rattle.room_core.specs.Scans.{HasNoDuty};
 ghost use Rattle.room_table.specs.Seats.{scanner_now};
 ghost use Rattle.room_scans.specs.ClockKeeps.{ClockKeeps};
@@ -41,13 +41,12 @@ impl ClockDesk {
     /// The desk of the clock's scanner, from its seat as the table hands it out. It is refused where no memory is left; nothing takes
     /// memory after this.
     pub fn make(alloc: Global, seat: ScanSeat, shape: Shape) -> Result<ClockDesk, NoMemory>
-        requires shape { (shape ≡ seat.table.shape) × IsShape shape × (shape.scanners ≡ 17) }
+        requires shape { (shape ≡ seat.table.shape) × IsShape shape × (shape.scanners ≡ scanner_numbers) }
         requires number { seat.scanner ≡ clock_scanner }
         requires fresh { seat.steps ≡ [] }
         ensures { IfOk result (λ desk. desk.seat ≡ seat) }
     {
         let listing = ClockListing::make(alloc, seat, shape)?;
-        listing.is_listed();
         let due = Due::new(alloc, shape.passes)?;
         Ok(ClockDesk { listing, due })
     }
@@ -79,18 +78,12 @@ impl ClockDesk {
         self.listing.is_listed();
     }
 
-    /// How many operations the scanner won.
+    /// How many operations the scanner won. Between any two calls the desk keeps what its clause says.
     pub fn wins(&self) -> u64
-        ensures { result ≡ length (scanner_now self.now.seat).wins }
+        ensures count { result ≡ length (scanner_now self.now.seat).wins }
+        ensures keeps { ClockKeeps self.now }
     {
         self.listing.wins()
-    }
-
-    /// Law: what the desk keeps between any two calls.
-    pub fn keeps(&self)
-        ensures { ClockKeeps self.now }
-    {
-        let _ = &self.listing;
     }
 
     /// The scanner's seat, for the close of the table.

@@ -3,7 +3,7 @@ ghost use Rattle.std.specs.Prelude.{◌≡◌, ◌≢◌, ◌≤◌, ◌<◌, �
 ghost use Rattle.std.specs.List.Sorted.{IsStrictlyIncreasing};
 ghost use Rattle.room_core.specs.declared.parts.Entry.{Entry as Listed};
 ghost use Rattle.room_core.specs.Gauges.{IsPass, IsShape, clock_of};
-ghost use Rattle.room_core.specs.Numbers.{clock_scanner};
+ghost use Rattle.room_core.specs.Numbers.{clock_scanner, scanner_numbers};
 ghost use Rattle.room_core.specs.Scans.{HasNoDuty};
 ghost use Rattle.room_table.specs.Seats.{scanner_now};
 ghost use Rattle.timing_wheel.specs.Timers.{deadline_of, ids_of};
@@ -17,7 +17,7 @@ use crate::numbers::FARTHEST;
 use crate::open_generation::open_generation;
 use crate::verdict::Verdict;
 use kbytes::NoMemory;
-use room_core::{CLOCK_MARK, CLOCK_SCANNER, Entry, Session, Shape};
+use room_core::{CLOCK_MARK, CLOCK_SCANNER, DEADLINE_WORD, Entry, Session, Shape};
 use room_table::{RoomTable, ScanSeat};
 use std::alloc::Global;
 use std::marker::Model;
@@ -73,11 +73,12 @@ impl ClockListing {
         seat: ScanSeat,
         shape: Shape,
     ) -> Result<ClockListing, NoMemory>
-        requires shape { (shape ≡ seat.table.shape) × IsShape shape × (shape.scanners ≡ 17) }
+        requires shape { (shape ≡ seat.table.shape) × IsShape shape × (shape.scanners ≡ scanner_numbers) }
         requires number { seat.scanner ≡ clock_scanner }
         requires fresh { seat.steps ≡ [] }
         ensures seat { IfOk result (λ l. l.seat ≡ seat) }
         ensures settled { IfOk result (λ l. (pass : ℕ) → IsSettled pass l) }
+        ensures listed { IfOk result (λ l. (kept : Items (Maybe Listed)) × IsClockListing kept l) }
     {
         let scanner = Inspector::make(alloc, seat, shape, CLOCK_SCANNER)?;
         let wheels = Wheels::new(alloc, shape.passes)?;
@@ -209,7 +210,7 @@ impl ClockListing {
         if open_generation(found) != generation {
             return;
         }
-        let deadline = self.scanner.learn(table, pass, 1);
+        let deadline = self.scanner.learn(table, pass, DEADLINE_WORD);
         self.scanner.mark(table, pass, CLOCK_MARK, generation);
         self.entries[pass as usize] = Some(Entry {
             generation,

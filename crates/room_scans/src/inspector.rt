@@ -5,7 +5,7 @@ ghost use Rattle.room_core.specs.Gauges.{IsGauge, IsGaugeOf, IsPass, IsScanner, 
 ghost use Rattle.room_core.specs.Meetings.{IsMet, MayMark, generation_met, words_of};
 ghost use Rattle.room_core.specs.Description.{gauge_of, needs_of};
 ghost use Rattle.room_core.specs.declared.event.How.TheVariants.{Expired, Satisfied};
-ghost use Rattle.room_core.specs.Numbers.{clock_scanner, description_words};
+ghost use Rattle.room_core.specs.Numbers.{clock_scanner, description_words, scanner_numbers, shard_gauges};
 ghost use Rattle.room_core.specs.Scans.{MayHear};
 ghost use Rattle.room_table.specs.declared.part.ScannerStep.TheVariants.{Learned, Listed, Met, Read};
 ghost use Rattle.room_table.specs.Seats.{scanner_did, scanner_now};
@@ -15,15 +15,22 @@ ghost use Rattle.room_scans.specs.Inspected.{AreLearnedBelow};
 ghost use Rattle.room_scans.specs.Scanned.{scan_begun};
 ghost use Rattle.room_scans.specs.ShardKeeps.{gauge_of_key};
 
-use crate::numbers::SHARDS;
 use crate::tally::tally;
 use crate::verdict::Verdict;
 use kbytes::NoMemory;
-use room_core::{DESCRIPTION_WORDS, How, MOST_NEEDS, Session, Shape};
+use room_core::{
+    DEADLINE_WORD, DESCRIPTION_WORDS, GAUGE_WORD, How, LEAST_WORD, MOST_NEEDS, NEED_WORDS,
+    NEEDS_WORD, SHARDS, Session, Shape,
+};
 use room_table::{RoomTable, ScanSeat};
 use std::alloc::Global;
 use std::marker::Model;
 use std::sync::Wait;
+use std::sync::atomic::AtomicU64;
+use std::time::Duration;
+
+// A nap of who sleeps for ever, in milliseconds.
+const NAP: u64 = 1_000;
 
 /// A scanner's seat, and what it keeps of its present meeting.
 #[derive(Drop)]
@@ -50,15 +57,17 @@ impl Model for Inspector {
     ghost invariant = { λ i. IsInspector i.shape i.number i.words.items i.values.items i.wins i.seat };
 }
 
-// One more where the scanner has won. One that has won 2^64 - 1 operations waits for ever.
+// One more where the scanner has won. One that has won 2^64 - 1 operations sleeps for ever.
 fn counted(rt: &impl Wait, wins: u64, has_won: bool) -> u64
     ensures { result ≡ wins + (if has_won then 1 else 0) }
 {
     let more = u64::from(has_won);
+    let never = AtomicU64::new(0);
     for _ in rt.forever() {
         if let Some(sum) = wins.checked_add(more) {
             return sum;
         }
+        never.park_timeout(rt, 0, Duration::from_millis(NAP));
     }
     unreachable!()
 }
@@ -123,8 +132,9 @@ impl Inspector {
 
     // Whether a word learned is a gauge of the scanner's own, and not the clock.
     fn owns(&self, gauge: u64) -> bool
-        requires { (self.now.table.shape.scanners ≡ 17) × (self.now.scanner < clock_scanner) }
-        ensures { IsTrue result ↔ (IsGaugeOf self.now.table.shape self.now.scanner gauge × (gauge ≢ clock_of self.now.table.shape)) }
+        requires { (self.now.table.shape.scanners ≡ scanner_numbers) × (self.now.scanner < clock_scanner) }
+        ensures own { IsTrue result ↔ (IsGaugeOf self.now.table.shape self.now.scanner gauge × (gauge ≢ clock_of self.now.table.shape)) }
+        ensures shape { IsShape self.now.table.shape }
     {
         gauge < u64::from(self.shape.gauges - 1)
             && gauge % u64::from(SHARDS) == u64::from(self.number)
@@ -132,12 +142,11 @@ impl Inspector {
 
     /// The key of a gauge of the scanner's own. None where a word learned is no such gauge.
     pub(crate) fn key_of(&self, gauge: u64) -> Option<u32>
-        requires { (self.now.table.shape.scanners ≡ 17) × (self.now.scanner < clock_scanner) }
-        ensures key { IfSome result (λ key. (gauge ≡ gauge_of_key self.now.scanner key) × (key < 12)) }
+        requires { (self.now.table.shape.scanners ≡ scanner_numbers) × (self.now.scanner < clock_scanner) }
+        ensures key { IfSome result (λ key. (gauge ≡ gauge_of_key self.now.scanner key) × (key < shard_gauges)) }
         ensures own { IfSome result (λ key. IsGaugeOf self.now.table.shape self.now.scanner gauge × (gauge ≢ clock_of self.now.table.shape)) }
         ensures none { IfNone result (¬ (IsGaugeOf self.now.table.shape self.now.scanner gauge × (gauge ≢ clock_of self.now.table.shape))) }
     {
-        let _shape = self.shape();
         if !self.owns(gauge) {
             return None;
         }
@@ -214,13 +223,13 @@ impl Inspector {
         ensures learned { IfSome result (λ needs. IsAllLearned (scanner_now self.new)) }
         ensures needs { IfSome result (λ needs. needs ≡ needs_of (words_of (scanner_now self.new))) }
     {
-        self.learn_more(table, pass, 0, 3);
-        let needs = self.words[2];
+        self.learn_more(table, pass, LEAST_WORD, GAUGE_WORD);
+        let needs = self.words[NEEDS_WORD as usize];
         if needs > MOST_NEEDS {
             return None;
         }
         let needs = needs as u32;
-        self.learn_more(table, pass, 3, 3 + 3 * needs);
+        self.learn_more(table, pass, GAUGE_WORD, GAUGE_WORD + NEED_WORDS * needs);
         Some(needs)
     }
 
@@ -246,7 +255,7 @@ impl Inspector {
         ensures read { IsTrue result → IsRead (scanner_now self.new).readings last (gauge_of (words_of (scanner_now self.old)) need) }
         ensures there { IsTrue result → IsGauge self.old.table.shape (gauge_of (words_of (scanner_now self.old)) need) }
     {
-        let gauge = self.words[3 + 3 * need as usize];
+        let gauge = self.words[(GAUGE_WORD + NEED_WORDS * need) as usize];
         if gauge >= u64::from(self.shape.gauges) {
             return false;
         }
@@ -293,12 +302,8 @@ impl Inspector {
     {
         let value = table.leave(&mut self.seat, pass, last);
         self.values[last as usize] = value;
-        let total = tally(
-            self.words.as_slice(),
-            self.values.as_slice(),
-            needs as usize,
-        );
-        u128::from(self.words[0]) <= total
+        let total = tally(self.words.as_slice(), self.values.as_slice(), needs);
+        u128::from(self.words[LEAST_WORD as usize]) <= total
     }
 
     // Takes the clock. Whether the operation is overdue; where it isn't, the check is left.
@@ -315,7 +320,7 @@ impl Inspector {
         let clock = self.shape.gauges - 1;
         let moment = table.leave(&mut self.seat, pass, clock);
         self.values[clock as usize] = moment;
-        self.words[1] <= moment
+        self.words[DEADLINE_WORD as usize] <= moment
     }
 
     // Tries to win the operation that it has checked.

@@ -72,6 +72,3 @@ mod verdict;
 
 pub use clock_desk::ClockDesk;
 pub use shard_desk::ShardDesk;
-
-#[cfg(test)]
-mod tests;

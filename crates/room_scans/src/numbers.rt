@@ -1,9 +1,3 @@
-/// The shards' scanners have every sixteenth gauge each.
-pub(crate) const SHARDS: u32 = 16;
-
-/// A shard has at most so many gauges.
-pub(crate) const KEYS: u32 = 12;
-
 /// A shard with so many watchers or more is purged before more are listed.
 pub(crate) const PURGE_SIZE: u32 = 500;
 

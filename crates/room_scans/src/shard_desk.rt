@@ -1,19 +1,18 @@
 //! What stands behind a shard's lock.
 ghost use Rattle.std.specs.Prelude.{◌≡◌, ◌<◌, ◌≤◌, [], IfOk, length};
 ghost use Rattle.room_core.specs.Gauges.{IsGaugeOf, IsPass, IsShape};
-ghost use Rattle.room_core.specs.Numbers.{clock_scanner, most_needs};
+ghost use Rattle.room_core.specs.Numbers.{clock_scanner, most_needs, scanner_numbers};
 ghost use Rattle.room_core.specs.Scans.{HasNoDuty};
 ghost use Rattle.room_table.specs.Seats.{scanner_now};
 ghost use Rattle.watch_lists.specs.Watches.{size_of};
 ghost use Rattle.room_scans.specs.Going.{GoesOn, HasMetAll};
 ghost use Rattle.room_scans.specs.Listing.{HasListedNeed};
 ghost use Rattle.room_scans.specs.Scanned.{HasScanned};
-ghost use Rattle.room_scans.specs.ShardKeeps.{ShardKeeps};
+ghost use Rattle.room_scans.specs.ShardKeeps.{ShardKeeps, purge_size};
 
-use crate::numbers::SHARDS;
 use crate::shard_listing::ShardListing;
 use kbytes::NoMemory;
-use room_core::Shape;
+use room_core::{SHARDS, Shape};
 use room_table::{RoomTable, ScanSeat};
 use std::alloc::Global;
 use std::marker::Model;
@@ -46,7 +45,7 @@ impl ShardDesk {
         shape: Shape,
         number: u32,
     ) -> Result<ShardDesk, NoMemory>
-        requires shape { (shape ≡ seat.table.shape) × IsShape shape × (shape.scanners ≡ 17) }
+        requires shape { (shape ≡ seat.table.shape) × IsShape shape × (shape.scanners ≡ scanner_numbers) }
         requires number { (number ≡ seat.scanner) × (number < clock_scanner) }
         requires fresh { seat.steps ≡ [] }
         ensures { IfOk result (λ desk. desk.seat ≡ seat) }
@@ -83,24 +82,18 @@ impl ShardDesk {
         requires generation { 1 ≤ generation }
         requires need { at < most_needs }
         ensures listed { HasListedNeed pass generation at self.old.seat self.new.seat }
-        ensures purged { 500 ≤ size_of self.old.watches → HasMetAll self.old.seat self.new.seat }
+        ensures purged { purge_size ≤ size_of self.old.watches → HasMetAll self.old.seat self.new.seat }
     {
         self.listing.list(table, pass, generation, at);
         self.listing.is_listed();
     }
 
-    /// How many operations the scanner won.
+    /// How many operations the scanner won. Between any two calls the desk keeps what its clause says.
     pub fn wins(&self) -> u64
-        ensures { result ≡ length (scanner_now self.now.seat).wins }
+        ensures count { result ≡ length (scanner_now self.now.seat).wins }
+        ensures keeps { ShardKeeps self.now }
     {
         self.listing.wins()
-    }
-
-    /// Law: what the desk keeps between any two calls.
-    pub fn keeps(&self)
-        ensures { ShardKeeps self.now }
-    {
-        let _ = &self.listing;
     }
 
     /// The scanner's seat, for the close of the table.

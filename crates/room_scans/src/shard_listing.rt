@@ -1,7 +1,7 @@
 //! A shard and its scanner: what is listed there is the scanner's listing.
 ghost use Rattle.std.specs.Prelude.{◌≡◌, ◌≢◌, ◌≤◌, ◌<◌, ◌/◌, ◌↔◌, ℕ, List as Items, [], IfOk, Some, length, slice_get};
 ghost use Rattle.room_core.specs.Gauges.{IsGaugeOf, IsPass, IsShape};
-ghost use Rattle.room_core.specs.Numbers.{clock_scanner, most_needs};
+ghost use Rattle.room_core.specs.Numbers.{clock_scanner, most_needs, scanner_numbers, shard_gauges, shards};
 ghost use Rattle.room_core.specs.Scans.{HasNoDuty};
 ghost use Rattle.room_table.specs.declared.part.ScannerStep.TheVariants.{Met};
 ghost use Rattle.room_table.specs.Seats.{scanner_did, scanner_now};
@@ -10,14 +10,15 @@ ghost use Rattle.watch_lists.specs.Watches.{IsListed, keys_of, row_of, size_of};
 ghost use Rattle.room_scans.specs.Going.{GoesOn, HasMetAll};
 ghost use Rattle.room_scans.specs.Listing.{HasListedNeed};
 ghost use Rattle.room_scans.specs.Scanned.{scan_begun};
+ghost use Rattle.room_scans.specs.ShardKeeps.{purge_size};
 ghost use Rattle.room_scans.specs.Shelf.{AreAllBelow, AreDutiesBelow, IsShelf, KeepsLower, WasChecked, open_generation};
 
 use crate::inspector::Inspector;
-use crate::numbers::{KEYS, PURGE_SIZE};
+use crate::numbers::PURGE_SIZE;
 use crate::open_generation::open_generation;
 use crate::verdict::Verdict;
 use kbytes::NoMemory;
-use room_core::{Session, Shape};
+use room_core::{GAUGE_WORD, NEED_WORDS, NEEDS_WORD, SHARD_GAUGES, Session, Shape};
 use room_table::{RoomTable, ScanSeat};
 use std::alloc::Global;
 use std::marker::Model;
@@ -35,6 +36,7 @@ pub(crate) struct ShardListing {
 
 impl Model for ShardListing {
     ghost use Rattle.room_scans.specs.Desks.{ShardView};
+    ghost use Rattle.room_scans.specs.ShardKeeps.{purge_size};
     ghost use Rattle.room_scans.specs.Shelf.{IsShelf};
 
     ghost Value = { ShardView };
@@ -46,13 +48,13 @@ impl Model for ShardListing {
 
 // Takes the watchers of a pass that have this generation out, under every key.
 fn drop_pass(shard: &mut Shard, pass: u32, generation: u32)
-    requires keys { keys_of shard.old ≡ 12 }
+    requires keys { keys_of shard.old ≡ shard_gauges }
     requires pass { pass < shard.old.ids }
-    ensures same { (shard.new.ids ≡ shard.old.ids) × (keys_of shard.new ≡ 12) }
+    ensures same { (shard.new.ids ≡ shard.old.ids) × (keys_of shard.new ≡ shard_gauges) }
     ensures listed { (k i g : ℕ) → IsListed shard.new k i g ↔ (IsListed shard.old k i g × (i ≡ pass → g ≢ generation)) }
     ensures lower { KeepsLower pass shard.old shard.new }
 {
-    for key in 0..KEYS {
+    for key in 0..SHARD_GAUGES {
         shard.watchers_rise();
         shard.drop_stale(key, pass, generation);
     }
@@ -65,13 +67,13 @@ impl ShardListing {
         shape: Shape,
         number: u32,
     ) -> Result<ShardListing, NoMemory>
-        requires shape { (shape ≡ seat.table.shape) × IsShape shape × (shape.scanners ≡ 17) }
+        requires shape { (shape ≡ seat.table.shape) × IsShape shape × (shape.scanners ≡ scanner_numbers) }
         requires number { (number ≡ seat.scanner) × (number < clock_scanner) }
         requires fresh { seat.steps ≡ [] }
         ensures { IfOk result (λ l. l.seat ≡ seat) }
     {
         let scanner = Inspector::make(alloc, seat, shape, number)?;
-        let shard = Shard::new(alloc, KEYS, shape.passes)?;
+        let shard = Shard::new(alloc, SHARD_GAUGES, shape.passes)?;
         let generations = vec![in alloc; 0; shape.passes as usize]?;
         Ok(ShardListing {
             scanner,
@@ -112,7 +114,7 @@ impl ShardListing {
         ensures step { self.new.seat ≡ scan_begun self.old.seat gauge result }
         ensures least { (scanner_now self.old.seat).began gauge ≤ result }
         ensures shard { self.new.watches ≡ self.old.watches }
-        ensures duties { (count : ℕ) → AreAllBelow (gauge / 16) count self.new.watches → AreDutiesBelow gauge (gauge / 16) count self.new.watches (scanner_now self.new.seat) }
+        ensures duties { (count : ℕ) → AreAllBelow (gauge / shards) count self.new.watches → AreDutiesBelow gauge (gauge / shards) count self.new.watches (scanner_now self.new.seat) }
     {
         self.shard.watchers_rise();
         self.scanner.begin(table, gauge)
@@ -120,7 +122,7 @@ impl ShardListing {
 
     /// How many watchers a key has.
     pub(crate) fn watchers(&self, key: u32) -> u32
-        requires { key < 12 }
+        requires { key < shard_gauges }
         ensures { AreAllBelow key result self.now.watches }
     {
         self.shard.watchers_rise();
@@ -135,7 +137,7 @@ impl ShardListing {
 
     /// The watcher at a place of a key.
     pub(crate) fn watcher(&self, key: u32, place: u32) -> Option<Watch>
-        requires { key < 12 }
+        requires { key < shard_gauges }
         ensures place { result ≡ slice_get (row_of self.now.watches key) place }
         ensures row { IsRow key self.now.seat.table.shape.passes (row_of self.now.watches key) }
     {
@@ -168,7 +170,7 @@ impl ShardListing {
         requires gauge { IsGaugeOf table.now.shape self.old.seat.scanner gauge }
         requires pass { IsPass table.now.shape watch.id }
         requires duty { (scanner_now self.old.seat).duties watch.id ≡ Some (record { gauge = gauge; generation = watch.generation }) }
-        requires key { watch.key ≡ gauge / 16 }
+        requires key { watch.key ≡ gauge / shards }
         requires generation { 1 ≤ watch.generation }
         ensures { WasChecked watch.id self.old self.new }
     {
@@ -209,7 +211,7 @@ impl ShardListing {
     fn make_room(&mut self, table: &RoomTable)
         requires table { self.old.seat.table ≡ table.now }
         ensures went { GoesOn self.old.seat self.new.seat }
-        ensures purged { 500 ≤ size_of self.old.watches → HasMetAll self.old.seat self.new.seat }
+        ensures purged { purge_size ≤ size_of self.old.watches → HasMetAll self.old.seat self.new.seat }
         ensures no_duty { HasNoDuty (scanner_now self.old.seat) → HasNoDuty (scanner_now self.new.seat) }
     {
         if self.shard.len() < PURGE_SIZE {
@@ -226,15 +228,17 @@ impl ShardListing {
         requires need { at < most_needs }
         ensures no_duty { HasNoDuty (scanner_now self.old.seat) → HasNoDuty (scanner_now self.new.seat) }
         ensures listed { HasListedNeed pass generation at self.old.seat self.new.seat }
-        ensures purged { 500 ≤ size_of self.old.watches → HasMetAll self.old.seat self.new.seat }
+        ensures purged { purge_size ≤ size_of self.old.watches → HasMetAll self.old.seat self.new.seat }
     {
         self.make_room(table);
         let found = self.meet(table, pass);
         if open_generation(found) != generation {
             return;
         }
-        let needs = self.scanner.learn(table, pass, 2);
-        let gauge = self.scanner.learn(table, pass, 3 + 3 * at);
+        let needs = self.scanner.learn(table, pass, NEEDS_WORD);
+        let gauge = self
+            .scanner
+            .learn(table, pass, GAUGE_WORD + NEED_WORDS * at);
         if u64::from(at) >= needs {
             return;
         }

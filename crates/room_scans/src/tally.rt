@@ -1,26 +1,30 @@
 //! The tally of an operation's description.
 ghost use Rattle.std.specs.Prelude.{◌≡◌, ◌<◌, ◌≤◌, ◌+◌, ◌*◌, ℕ, length, slice_index};
 ghost use Rattle.opcond.specs.Tally.{counted};
-ghost use Rattle.room_core.specs.Description.{gauge_of, need_of, tally_below};
+ghost use Rattle.room_core.specs.Description.{cap_word, gauge_of, gauge_word, need_of, tally_below};
+ghost use Rattle.room_core.specs.Numbers.{most_needs};
+
+use room_core::{CAP_WORD, GAUGE_WORD, NEED_WORDS, START_WORD};
 
 // What counts of a value for the need with this number.
-fn part(words: &[u64], values: &[u64], need: usize) -> u64
-    requires need { 5 + 3 * need < length words.now }
+fn part(words: &[u64], values: &[u64], need: u32) -> u64
+    requires need { cap_word need < length words.now }
+    requires few { need < most_needs }
     requires gauge { gauge_of (slice_index words.now) need < length values.now }
     ensures { result ≡ counted (need_of (slice_index words.now) need) (slice_index values.now (gauge_of (slice_index words.now) need)) }
 {
-    let gauge = words[3 + 3 * need] as usize;
-    let start = words[4 + 3 * need];
-    let cap = words[5 + 3 * need];
+    let gauge = words[(GAUGE_WORD + NEED_WORDS * need) as usize] as usize;
+    let start = words[(START_WORD + NEED_WORDS * need) as usize];
+    let cap = words[(CAP_WORD + NEED_WORDS * need) as usize];
     cap.min(values[gauge].saturating_sub(start))
 }
 
 /// The tally of the first needs of a description at these values of the gauges. The words may be of two descriptions, so that the
 /// caps are of any size.
-#[tactic(auto, using(crate::proofs::Sums::tally_more, crate::proofs::Sums::tally_none))]
-pub(crate) fn tally(words: &[u64], values: &[u64], needs: usize) -> u128
-    requires few { needs ≤ 64 }
-    requires words { 3 * needs + 3 ≤ length words.now }
+#[tactic(auto, using(room_core::proofs::Laws::tally_more, room_core::proofs::Laws::tally_none))]
+pub(crate) fn tally(words: &[u64], values: &[u64], needs: u32) -> u128
+    requires few { needs ≤ most_needs }
+    requires words { gauge_word needs ≤ length words.now }
     requires gauges { (i : ℕ) → i < needs → gauge_of (slice_index words.now) i < length values.now }
     ensures { result ≡ tally_below (slice_index words.now) (slice_index values.now) needs }
 {

@@ -19,14 +19,14 @@ use Rattle.room_core.specs.Gauges.{IsGauge, IsPass}
 use Rattle.room_core.specs.Packing.{packed, unpacked}
 use Rattle.room_core.specs.Passes.{MayDescribe, MayOpen, MaySeeMark, MayPeek, MayIdle, caller_describes, caller_opens, caller_sees_mark, caller_peeks, caller_idles, describing, opening, seeing_mark, peeking, idling}
 use Rattle.room_core.specs.Scans.{MayAsk, asking, caller_asks, relieving, caller_relieves}
-use Rattle.room_core.proofs.Laws.{event_carried, put_here, put_else, unpacks}
+use Rattle.room_core.proofs.Laws.{event_carried, place_here, put_here, put_else, unpacks}
 use Rattle.room_table.specs.declared.part.Part.{Part}
 use Rattle.room_table.specs.declared.part.CallerStep.{CallerStep}
 use Rattle.room_table.specs.Layout.{place_of}
 use Rattle.room_table.specs.Parts.{caller_of}
 use Rattle.room_table.specs.Shown.{IsShown}
 use Rattle.room_table.specs.Tells.{IsOwnWord, asked, relieved, described, opened, saw_mark, caller_read, caller_left, caller_won, peeked_own, idled}
-use Rattle.room_table.proofs.Changes.{words_but, caller_others, place_else, place_here}
+use Rattle.room_table.proofs.Changes.{words_but, caller_others, place_else}
 use Rattle.room_table.proofs.Exchanges.{below_256, own_word, exchange_is, number_how, rest_is}
 use Rattle.room_table.proofs.Stepping.{allowed}
 

@@ -10,6 +10,7 @@ use Rattle.room_core.specs.Put.{put}
 use Rattle.room_core.specs.State.{State, Caller, Scanner}
 use Rattle.room_core.specs.Words.{word_at}
 use Rattle.room_core.proofs.Laws.{put_here, put_else}
+pub use Rattle.room_core.proofs.Laws.{place_here}
 use Rattle.room_table.specs.declared.part.Part.{Part}
 use Rattle.room_table.specs.Shown.{Shows, number_of}
 
@@ -44,9 +45,6 @@ place_else f i p x j q n =
     (λ (e : j ≡ i). subst (λ k. put f i (put (f i) p x) k q ≡ f k q) (sym e) (ap (λ row. row q) (put_here f i (put (f i) p x)) ∙ put_else (f i) p x q (n e)))
     (λ (m : j ≢ i). ap (λ row. row q) (put_else f i (put (f i) p x) j m))
     (cases_eq j i)
-
-pub place_here : {A : Type 0} (f : ℕ → ℕ → A) (i p : ℕ) (x : A) → put f i (put (f i) p x) i p ≡ x
-place_here f i p x = ap (λ row. row p) (put_here f i (put (f i) p x)) ∙ put_here (f i) p x
 
 module _ (old new : State) (shape : new.shape ≡ old.shape) where
   -- where one source changes

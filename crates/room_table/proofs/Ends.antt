@@ -20,7 +20,8 @@ use Rattle.room_table.specs.Seats.{TableView, table_view, SourceView, CallerView
 use Rattle.room_table.specs.Shown.{Shows, number_of, one_if, AreWords, IsShown}
 use Rattle.room_table.specs.Tells.{Sat}
 use Rattle.room_table.proofs.Pigeons.{IsPlaced, each_once}
-use Rattle.room_table.proofs.Sums.{one_le, one_at_most}
+use Rattle.room_core.proofs.Laws.{one_at_most}
+use Rattle.room_table.proofs.Sums.{one_le}
 
 module _ {A : Type 0} where
   pub all_front : (P : A → Type 0) (xs ys : List A) → All P (xs ++ ys) → All P xs

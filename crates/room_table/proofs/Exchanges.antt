@@ -16,7 +16,7 @@ use Rattle.room_core.specs.Meetings.{is_live}
 use Rattle.room_core.specs.Packing.{packed, unpacked, winner_number, phase_number, how_number}
 use Rattle.room_core.specs.Sound.{Agree}
 use Rattle.room_core.specs.State.{State, Caller}
-use Rattle.room_core.proofs.Laws.{unpacks, winner_below, exchange_cases, open_is_live}
+use Rattle.room_core.proofs.Laws.{exchange_cases, open_is_live, packed_small, unpacks, winner_below}
 use Rattle.room_table.specs.Tells.{IsSessionWord, IsOwnWord}
 
 pub below_256 : (s : State) → IsCarried s → (pass : ℕ) → winner_number (s.session pass).phase < 256
@@ -77,15 +77,6 @@ how_few Expired = omega arith
 pub rest_is : (generation : ℕ) (how : How) (by : ℕ) → packed (record { generation = generation; phase = Won how by }) % 4 ≡ how_number how
 unfolding packed
 rest_is generation how by = let few = how_few how in omega arith
-
-by_few : (phase : Phase) → winner_number phase < 97 → winner_number phase * 4 + phase_number phase < 1024
-by_few Phase.Idle l = omega arith
-by_few Open l = omega arith
-by_few (Won how by) l = let few = how_few how in omega arith
-
-packed_small : (w : Session) → w.generation < 2 ^ 32 → winner_number w.phase < 97 → packed w < 2 ^ 42
-unfolding packed
-packed_small w few less = let rest = by_few w.phase less in omega arith
 
 -- the number of a session word is below 2^42
 pub session_small : (word : ℕ) → IsSessionWord word → word < 2 ^ 42

@@ -3,6 +3,8 @@ use Rattle.std.proofs.Common.{◌≡◌, ℕ, ◌+◌, ◌<◌, ◌≤◌, List,
 use Rattle.std.specs.Prelude.{All, count_by}
 use Rattle.room_core.specs.Counts.{sum_below}
 use Rattle.room_table.proofs.Pigeons as pigeons
+-- a session word's number is below 2^42
+pub use Rattle.room_table.proofs.Exchanges.{session_small}
 
 -- the sum of sums
 pub sum_both : (f g both : ℕ → ℕ) (n : ℕ) → ((i : ℕ) → both i ≡ f i + g i) → sum_below both n ≡ sum_below f n + sum_below g n

@@ -30,9 +30,5 @@ pub mod Pigeons
 pub mod Ends
 -- the last of the seats
 pub mod Popped
--- a table and its seats beside the machine, in a test of a whole run
-pub mod Besides
--- operations that threads open and win, in a test
-pub mod Winners
 -- what the crates above may cite
 pub mod Laws

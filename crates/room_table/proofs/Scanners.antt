@@ -20,14 +20,14 @@ use Rattle.room_core.specs.Meetings.{IsMet, MayLearn, MayMark, MayMarkNeed, MayM
 use Rattle.room_core.specs.Packing.{packed, unpacked}
 use Rattle.room_core.specs.Scans.{MayHear, MayBegin, IsHeard, number_heard, scanner_hears, scanner_begins, hearing, beginning}
 use Rattle.room_core.specs.State.{State, Scanner}
-use Rattle.room_core.proofs.Laws.{event_carried, put_here, put_else, unpacks}
+use Rattle.room_core.proofs.Laws.{event_carried, heard_is, place_here, put_here, put_else, unpacks}
 use Rattle.room_table.specs.declared.part.Part.{Part}
 use Rattle.room_table.specs.declared.part.ScannerStep.{ScannerStep}
 use Rattle.room_table.specs.Layout.{place_of}
 use Rattle.room_table.specs.Parts.{scanner_of}
 use Rattle.room_table.specs.Shown.{IsShown}
 use Rattle.room_table.specs.Tells.{IsSessionWord, IsNewest, pass_met, heard, began, met_word, learned_word, marked_word, scanner_read, scanner_left, scanner_won}
-use Rattle.room_table.proofs.Changes.{words_but, scanner_others, place_else, place_here}
+use Rattle.room_table.proofs.Changes.{words_but, scanner_others, place_else}
 use Rattle.room_table.proofs.Exchanges.{below_256, session_word, exchange_is, number_how, rest_is}
 use Rattle.room_table.proofs.MetPasses.{met_pass, met_with}
 use Rattle.room_table.proofs.Stepping.{allowed}
@@ -37,10 +37,6 @@ MayMeet shape k pass = IsScanner shape k × IsPass shape pass
 
 abbrev CanBeRead : Shape → ℕ → ℕ → Type 0
 CanBeRead shape k gauge = IsScanner shape k × IsGauge shape gauge
-
-heard_is : (o : Option Heard) (gauge : ℕ) → IsHeard o gauge → o ≡ Some (record { gauge = gauge; number = number_heard o })
-heard_is None gauge h = absurd h
-heard_is (Some x) gauge h = ap (λ g. Some (record { gauge = g; number = x.number })) h
 
 -- what was heard is of the scanner's own gauge
 pub heard_own : (s : State) → IsCarried s → (k gauge : ℕ) → IsHeard (s.scanner k).heard gauge → IsGaugeOf s.shape k gauge

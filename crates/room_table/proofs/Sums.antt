@@ -36,7 +36,3 @@ none_counts {A} f n (x ∷ xs) le =
     All-cons P x xs
     (λ is. let one : one_if (eqb (f x) n) ≡ 1 = ap one_if (eq-eqb (f x) n is) in absurd (omega arith))
     (none_counts f n xs (omega arith))
-
-pub one_at_most : (b : Bool) → one_if b ≤ 1
-one_at_most true = omega arith
-one_at_most false = omega arith

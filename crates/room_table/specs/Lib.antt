@@ -18,7 +18,3 @@ pub mod Layout
 
 -- all parts of a shape, as they are handed out
 pub mod Fresh
--- a table and its seats beside a state of the machine
-pub mod Beside
--- how far a scanner and a pass are with an operation, in a test
-pub mod Winners

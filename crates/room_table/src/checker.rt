@@ -180,7 +180,7 @@ impl Checker for ScanSeat {
             .board
             .shared
             .compare_exchange::<ScannerWins>(&mut self.seat, at, open, won);
-        if found == open {
+        if found == open && table.sleepers.may_sleep(pass) {
             table.board.shared.wake_all(at);
         }
         found == open

@@ -36,6 +36,7 @@ mod rule;
 mod scans;
 mod seats;
 mod sleep;
+mod sleepers;
 mod table;
 
 pub use checker::Checker;
@@ -43,6 +44,3 @@ pub use closing::Closing;
 pub use part::{CallerStep, Part, ScannerStep, SourceStep};
 pub use seats::{CallerSeat, ScanSeat, SourceSeat};
 pub use table::{RoomTable, TableParts, TableWords};
-
-#[cfg(test)]
-mod tests;

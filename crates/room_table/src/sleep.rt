@@ -7,15 +7,9 @@ ghost use Rattle.room_core.specs.Gauges.{IsPass};
 use crate::layout::place;
 use crate::seats::CallerSeat;
 use crate::table::RoomTable;
-use room_core::Word;
+use room_core::{OPEN_PHASE, PHASES, Word};
 use std::sync::Wait;
 use std::time::Duration;
-
-// The phase of an open word.
-const OPEN: u64 = 1;
-
-// There are four phases.
-const PHASES: u64 = 4;
 
 // The kernel compares the low 32 bits of a word, where the phase lies.
 const LOW: u64 = 0xffff_ffff;
@@ -30,9 +24,11 @@ impl RoomTable {
         let pass = caller.pass;
         let at = place(self.shape, Word::Session { pass });
         let top = &self.board.shared;
+        self.sleepers.come(pass);
         let word = top.peek(at);
-        if word % PHASES == OPEN {
+        if word % PHASES == OPEN_PHASE {
             top.park_timeout(rt, at, (word & LOW) as u32, most);
         }
+        self.sleepers.leave(pass);
     }
 }

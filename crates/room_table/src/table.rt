@@ -11,6 +11,7 @@ use crate::layout::size;
 use crate::plays::TakeBack;
 use crate::rule::{Board, Place, Top};
 use crate::seats::{CallerSeat, ScanSeat, SourceSeat};
+use crate::sleepers::Sleepers;
 use atomic_table::{Closed, Table};
 use kbytes::{List, NoMemory};
 use room_core::Shape;
@@ -22,6 +23,7 @@ use std::marker::Model;
 pub struct RoomTable {
     pub(crate) board: Board,
     pub(crate) shape: Shape,
+    pub(crate) sleepers: Sleepers,
 }
 
 impl Model for RoomTable {
@@ -98,7 +100,11 @@ impl RoomTable {
         let callers = hand_callers(alloc, top, shape, &mut seat)?;
         let scanners = hand_scanners(alloc, top, shape, seat)?;
         Ok(TableParts {
-            table: RoomTable { board, shape },
+            table: RoomTable {
+                board,
+                shape,
+                sleepers: Sleepers::none(),
+            },
             sources,
             callers,
             scanners,
@@ -118,7 +124,8 @@ impl RoomTable {
         requires scanners { AreScanners self scanners }
         ensures { AreShown self sources callers scanners result }
     {
-        let _ = &self.shape;
+        let some = self.shape.scanners > 0;
+        prove!(some);
         let Some(last) = scanners.pop() else {
             unreachable!()
         };
@@ -145,7 +152,11 @@ impl RoomTable {
         requires all { AreAllBack (closing_view self seat.me.0) }
         ensures { let back = closing_view self seat.me.0 in AreShown self back.sources back.callers back.scanners result }
     {
-        let RoomTable { board, shape: _ } = self;
+        let RoomTable {
+            board,
+            shape: _,
+            sleepers: _,
+        } = self;
         TableWords {
             closed: board.close_with(seat),
         }

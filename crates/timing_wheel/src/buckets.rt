@@ -1,11 +1,9 @@
 ghost use Rattle.std.specs.Prelude.{◌≡◌, ◌≢◌, ◌<◌, ℕ, List, Option, length, replicate, IfOk, IfSome, IfNone, slice_index, slice_index_or, slice_set};
 
+use crate::numbers::ALL_BUCKETS;
 use kbytes::NoMemory;
 use std::alloc::Global;
 use std::marker::Model;
-
-/// How many buckets there are: 20 on each of the eight levels.
-const BUCKETS: usize = 160;
 
 /// Ids in linked buckets. A contract sees the bucket of each id.
 #[derive(Debug, Drop)]
@@ -45,7 +43,7 @@ impl Buckets {
         ensures { IfOk result (λ b. b ≡ replicate ids None) }
     {
         let homes = vec![in alloc; None; ids as usize]?;
-        let nodes = ids as usize + BUCKETS;
+        let nodes = ids as usize + ALL_BUCKETS;
         let next = numbers_below(alloc, nodes)?;
         let prev = numbers_below(alloc, nodes)?;
         Ok(Buckets { homes, next, prev })
@@ -53,7 +51,7 @@ impl Buckets {
 
     /// The id that has stood longest in a bucket.
     pub(crate) fn first(&self, bucket: u8) -> Option<u32>
-        requires { bucket < 160 }
+        requires { bucket < ALL_BUCKETS }
         ensures within { IfSome result (λ id. id < length self.now) }
         ensures some { IfSome result (λ id. slice_index_or self.now id None ≡ Some bucket) }
         ensures none { IfNone result ((id : ℕ) → slice_index_or self.now id None ≢ Some bucket) }
@@ -66,7 +64,7 @@ impl Buckets {
     /// Puts an id that stands in no bucket at the end of one.
     pub(crate) fn put(&mut self, id: u32, bucket: u8)
         requires within { id < length self.old }
-        requires bucket { bucket < 160 }
+        requires bucket { bucket < ALL_BUCKETS }
         requires free { slice_index_or self.old id None ≡ None }
         ensures { self.new ≡ slice_set self.old id (Some bucket) }
     {

@@ -5,13 +5,11 @@ ghost use Rattle.timing_wheel.specs.Filed.{StartFrom};
 ghost use Rattle.timing_wheel.specs.Wait.{IsNear, bucket_of};
 
 use crate::buckets::Buckets;
+use crate::numbers::{ALL_BUCKETS, LEVELS};
 use crate::timer::Timer;
 use kbytes::NoMemory;
 use std::alloc::Global;
 use std::marker::Model;
-
-/// How many wheels there are.
-const LEVELS: usize = 8;
 
 /// The entries by id, each in the bucket of its place. A contract sees the entries.
 #[derive(Debug, Drop)]
@@ -21,7 +19,7 @@ pub(crate) struct Entries {
     count: u32,
     /// For each level a moment before which no bucket that holds an entry starts: it rises to the
     /// first such bucket when the level turns, and falls when an earlier one is filled.
-    starts: [u64; LEVELS],
+    starts: [u64; LEVELS as usize],
 }
 
 impl Model for Entries {
@@ -46,7 +44,7 @@ impl Entries {
             timers,
             buckets,
             count: 0,
-            starts: [u64::MAX; LEVELS],
+            starts: [u64::MAX; LEVELS as usize],
         })
     }
 
@@ -66,7 +64,7 @@ impl Entries {
 
     /// An id whose entry is in a bucket.
     pub(crate) fn first(&self, bucket: u8) -> Option<u32>
-        requires { bucket < 160 }
+        requires { bucket < ALL_BUCKETS }
         ensures within { IfSome result (λ id. id < length self.now) }
         ensures some { IfSome result
             (λ id. bucket_of (slice_index_or self.now id None) ≡ Some bucket) }
@@ -93,7 +91,7 @@ impl Entries {
 
     /// False only where no bucket of this level that holds an entry starts by t.
     pub(crate) fn may_start(&self, level: u32, t: u64) -> bool
-        requires { level < 8 }
+        requires { level < LEVELS }
         ensures { OnFalse result (StartFrom level (t + 1) self.now) }
     {
         self.starts[level as usize] <= t
@@ -101,7 +99,7 @@ impl Entries {
 
     /// Keeps a moment before which no bucket of this level that holds an entry starts.
     pub(crate) fn start_from(&mut self, level: u32, start: u64)
-        requires level { level < 8 }
+        requires level { level < LEVELS }
         requires start { StartFrom level start self.old }
         ensures { self.new ≡ self.old }
     {

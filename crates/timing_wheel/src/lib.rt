@@ -32,6 +32,7 @@ mod buckets;
 mod due;
 mod entries;
 mod laws;
+mod numbers;
 mod place;
 mod timer;
 mod turn;
@@ -39,9 +40,7 @@ mod wheels;
 
 pub use due::Due;
 pub use laws::level_exists;
+pub use numbers::LEVELS;
 pub use place::Place;
 pub use timer::Timer;
 pub use wheels::Wheels;
-
-#[cfg(test)]
-mod tests;

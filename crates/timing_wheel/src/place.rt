@@ -1,6 +1,8 @@
 ghost use Rattle.std.specs.Prelude.{◌≡◌, ◌+◌, ◌*◌, ◌<◌};
 ghost use Rattle.timing_wheel.specs.Wait.{number_of};
 
+use crate::numbers::{ALL_BUCKETS, BUCKETS, LEVELS};
+
 /// Where an entry stands: a level from 0 to 7, and in it a bucket from 0 to 19.
 #[derive(Clone, Copy, Debug, PartialEq, Eq)]
 pub struct Place {
@@ -10,11 +12,11 @@ pub struct Place {
 
 impl Place {
     pub(crate) fn number(self) -> u8
-        requires level { self.level < 8 }
-        requires bucket { self.bucket < 20 }
+        requires level { self.level < LEVELS }
+        requires bucket { self.bucket < BUCKETS }
         ensures same { result ≡ number_of self }
-        ensures within { result < 160 }
+        ensures within { result < ALL_BUCKETS }
     {
-        (20 * self.level + self.bucket) as u8
+        (BUCKETS as u32 * self.level + self.bucket) as u8
     }
 }

@@ -3,6 +3,7 @@ ghost use Rattle.timing_wheel.specs.Place.{place_of};
 ghost use Rattle.timing_wheel.specs.Turn.{bucket_start};
 ghost use Rattle.timing_wheel.specs.Wait.{IsNear};
 
+use crate::numbers::{BUCKETS, LEVELS};
 use crate::place::Place;
 
 /// One entry of the wheels: its deadline, and the moment at which it was last put into a bucket,
@@ -26,10 +27,11 @@ fn reaches(put: u64, deadline: u64, tick: u64) -> bool
     requires past { put < deadline }
     requires tick { 0 < tick }
     requires fits { tick ≤ 1280000000 }
-    ensures { IsTrue result ↔ (deadline / tick < put / tick + 20) }
+    ensures { IsTrue result ↔ (deadline / tick < put / tick + BUCKETS) }
 {
     let ahead = deadline - put;
-    ahead <= 19 * tick || (ahead < 20 * tick && deadline / tick - put / tick < 20)
+    ahead <= (BUCKETS - 1) * tick
+        || (ahead < BUCKETS * tick && deadline / tick - put / tick < BUCKETS)
 }
 
 impl Timer {
@@ -39,20 +41,20 @@ impl Timer {
         requires { IsNear self }
         ensures place { result.place ≡ place_of self }
         ensures start { result.start ≡ bucket_start self }
-        ensures level { result.place.level < 8 }
-        ensures bucket { result.place.bucket < 20 }
+        ensures level { result.place.level < LEVELS }
+        ensures bucket { result.place.bucket < BUCKETS }
     {
         let mut tick: u64 = 1;
         let mut level: u32 = 0;
         while !reaches(self.put, self.deadline, tick) {
-            tick *= 20;
+            tick *= BUCKETS;
             level += 1;
         }
         let ticks = self.deadline / tick;
         Spot {
             place: Place {
                 level,
-                bucket: (ticks % 20) as u32,
+                bucket: (ticks % BUCKETS) as u32,
             },
             start: ticks * tick,
         }

@@ -10,6 +10,7 @@ ghost use Rattle.timing_wheel.specs.Wait.{AllTurnedBelow, AllWait, HasCome, Wait
 
 use crate::due::Due;
 use crate::entries::Entries;
+use crate::numbers::{BUCKETS, LEVELS};
 use crate::place::Place;
 use crate::timer::Timer;
 
@@ -39,8 +40,8 @@ fn turn_entry(entries: &mut Entries, id: u32, t: u64, due: &mut Due)
 
 /// Empties a bucket that has started.
 fn turn_bucket(entries: &mut Entries, place: Place, t: u64, due: &mut Due)
-    requires level { place.level < 8 }
-    requires bucket { place.bucket < 20 }
+    requires level { place.level < LEVELS }
+    requires bucket { place.bucket < BUCKETS }
     requires come { (id : ℕ) (e : Entry) → slice_index_or entries.old id None ≡ Some e
         → number_of (place_of e) ≡ number_of place → HasCome t e }
     requires room { length due.old.ids + listed entries.old ≤ due.old.room }
@@ -55,10 +56,10 @@ fn turn_bucket(entries: &mut Entries, place: Place, t: u64, due: &mut Due)
     }
 }
 
-/// Empties the buckets of a level that start after `now` and by `t`. A wheel has 20: a longer way
+/// Empties the buckets of a level that start after `now` and by `t`. A longer way than a whole wheel
 /// passes each of them once.
 fn pass_buckets(entries: &mut Entries, level: u32, tick: u64, now: u64, t: u64, due: &mut Due)
-    requires level { level < 8 }
+    requires level { level < LEVELS }
     requires tick { tick ≡ tick_of level }
     requires later { now ≤ t }
     requires below { AllTurnedBelow level now t entries.old }
@@ -67,24 +68,24 @@ fn pass_buckets(entries: &mut Entries, level: u32, tick: u64, now: u64, t: u64, 
     ensures below { AllTurnedBelow (level + 1) now t entries.new }
 {
     let start = now / tick;
-    let passed = (t / tick - start).min(20);
+    let passed = (t / tick - start).min(BUCKETS);
     for step in 0..passed {
-        let bucket = ((start + 1 + step) % 20) as u32;
+        let bucket = ((start + 1 + step) % BUCKETS) as u32;
         turn_bucket(entries, Place { level, bucket }, t, due);
     }
 }
 
 /// Where the first bucket of a level starts that holds an entry; where none does, the last moment.
 fn first_start(entries: &Entries, level: u32, tick: u64, t: u64) -> u64
-    requires level { level < 8 }
+    requires level { level < LEVELS }
     requires tick { tick ≡ tick_of level }
     requires wait { (id : ℕ) (e : Entry) → slice_index_or entries.now id None ≡ Some e
         → level_of e ≡ level → Waits t e }
     ensures { StartFrom level result entries.now }
 {
     let ticks = t / tick;
-    for step in 1..20 {
-        let bucket = ((ticks % 20 + step) % 20) as u32;
+    for step in 1..BUCKETS {
+        let bucket = ((ticks % BUCKETS + step) % BUCKETS) as u32;
         if entries.first(Place { level, bucket }.number()).is_some() {
             return ticks.saturating_add(step).saturating_mul(tick);
         }
@@ -94,7 +95,7 @@ fn first_start(entries: &Entries, level: u32, tick: u64, t: u64) -> u64
 
 /// Turns a level, if a bucket that holds an entry may start by `t`.
 fn turn_level(entries: &mut Entries, level: u32, tick: u64, now: u64, t: u64, due: &mut Due)
-    requires level { level < 8 }
+    requires level { level < LEVELS }
     requires tick { tick ≡ tick_of level }
     requires later { now ≤ t }
     requires below { AllTurnedBelow level now t entries.old }
@@ -122,8 +123,8 @@ pub(crate) fn turn(entries: &mut Entries, now: u64, t: u64, due: &mut Due)
     ensures room { due.new.room ≡ due.old.room }
 {
     let mut tick: u64 = 1;
-    for level in 0..8 {
+    for level in 0..LEVELS {
         turn_level(entries, level, tick, now, t, due);
-        tick *= 20;
+        tick *= BUCKETS;
     }
 }

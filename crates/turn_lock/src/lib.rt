@@ -36,7 +36,7 @@
 //! }
 //! ```
 //!
-//! `src/tests/examples.rt` has both whole, with a turn of the first.
+//! The crate `tests_of_room` has both whole, with a turn of the first (`src/turns/examples.rt`).
 //!
 //! # How the proof goes
 //!
@@ -86,6 +86,3 @@ pub use known::{Known, Stage};
 pub use lock::TurnLock;
 pub use pass::TurnPass;
 pub use turn::Turn;
-
-#[cfg(test)]
-mod tests;

@@ -1,7 +1,7 @@
 ghost use Rattle.std.specs.Prelude.{◌≡◌, ◌≤◌};
 
 use crate::kept::Kept;
-use crate::line::{About, Board, Place, SERVING, TICKET};
+use crate::line::{About, Board, Place, SERVING, TICKET, VALUE};
 use crate::pass::TurnPass;
 use crate::patience::{Benches, Patience, sleep_on};
 use crate::plays::{Draw, HandOut, Look, PassOn, TakeBack};
@@ -72,8 +72,10 @@ impl<T: Kept> TurnLock<T> {
 
     // The passes, in the order of their numbers.
     fn hand_out(&self, alloc: Global, mut seat: Place<T>) -> Result<List<TurnPass<T>>, NoMemory>
-        requires { (seat.table_id ≡ lock_id self.now) × (seat.me ≡ (fresh_from (lock_name T.name self.now) 0 self.now.passes, [])) }
-        ensures { IfOk result (λ all. (length all ≡ lock_passes self.now) × AreFresh (lock_id self.now) (lock_name T.name self.now) all) }
+        requires { (seat.table_id ≡ lock_id self.now)
+            × (seat.me ≡ (fresh_from (lock_name T.name self.now) 0 self.now.passes, [])) }
+        ensures { IfOk result (λ all. (length all ≡ lock_passes self.now)
+            × AreFresh (lock_id self.now) (lock_name T.name self.now) all) }
     {
         let mut all = List::new(alloc);
         for number in 0..self.passes {
@@ -85,23 +87,31 @@ impl<T: Kept> TurnLock<T> {
 
     // Draws a ticket.
     fn draw(&self, seat: &mut Place<T>) -> u64
-        requires { (seat.old.table_id ≡ lock_id self.now) × (seat.old.me ≡ (at_stage Idle (known_of seat.old.me.0) ∷ [], [])) }
-        ensures { (seat.new.table_id ≡ seat.old.table_id) × (seat.new.id ≡ seat.old.id) × (seat.new.me ≡ (at_stage (stage_of result) (known_of seat.old.me.0) ∷ [], [])) }
+        requires { (seat.old.table_id ≡ lock_id self.now)
+            × (seat.old.me ≡ (at_stage Idle (known_of seat.old.me.0) ∷ [], [])) }
+        ensures { (seat.new.table_id ≡ seat.old.table_id) × (seat.new.id ≡ seat.old.id)
+            × (seat.new.me ≡ (at_stage (stage_of result) (known_of seat.old.me.0) ∷ [], [])) }
     {
         self.board.shared.fetch_add::<Draw>(seat, TICKET, 1)
     }
 
     // Waits a little for the turn of the ticket, while this one is served.
     fn pause<R: Wait>(&self, rt: &R, patience: &mut Patience, ticket: u64, serving: u64) {
-        if !patience.rest(ticket.saturating_sub(serving)) {
-            self.benches.sleep::<T>(rt, &self.board.shared, ticket);
+        if patience.rest(ticket.saturating_sub(serving)) {
+            return;
+        }
+        let top = &self.board.shared;
+        if self.benches.sleep::<T>(rt, top, ticket, patience.sleep()) {
+            patience.wake();
         }
     }
 
     // Waits for the turn of the ticket.
     fn wait<R: Wait>(&self, rt: &R, seat: &mut Place<T>, ticket: u64)
-        requires { (seat.old.table_id ≡ lock_id self.now) × (seat.old.me ≡ (at_stage (stage_of ticket) (known_of seat.old.me.0) ∷ [], [])) }
-        ensures { (seat.new.table_id ≡ seat.old.table_id) × (seat.new.id ≡ seat.old.id) × (ticket < 2 ^ 62) × Took T.entries T.by T.name ticket (known_of seat.old.me.0) seat.new.me }
+        requires { (seat.old.table_id ≡ lock_id self.now)
+            × (seat.old.me ≡ (at_stage (stage_of ticket) (known_of seat.old.me.0) ∷ [], [])) }
+        ensures { (seat.new.table_id ≡ seat.old.table_id) × (seat.new.id ≡ seat.old.id) × (ticket < 2 ^ 62)
+            × Took T.entries T.by T.name ticket (known_of seat.old.me.0) seat.new.me }
     {
         let mut patience = Patience::new();
         for _ in rt.forever() {
@@ -126,11 +136,12 @@ impl<T: Kept> TurnLock<T> {
         ensures name { (T.name result.value ≡ lock_name T.name self.now) }
         ensures history { StartsWith (T.entries result.value) (known pass.old).seen }
         ensures own { of_pass T.by (known pass.old).number (T.entries result.value) ≡ (known pass.old).mine }
-        ensures pass { IsPassOf T.name self.now pass.new × HasTurn pass.new result × (known pass.new ≡ begun T.entries result.ticket result.value (known pass.old)) }
+        ensures pass { IsPassOf T.name self.now pass.new × HasTurn pass.new result
+            × (known pass.new ≡ begun T.entries result.ticket result.value (known pass.old)) }
     {
         let ticket = self.draw(&mut pass.seat);
         self.wait(rt, &mut pass.seat, ticket);
-        let found = self.board.shared.exchange(&mut pass.seat, 0, None);
+        let found = self.board.shared.exchange(&mut pass.seat, VALUE, None);
         let Some(value) = found else { unreachable!() };
         Turn {
             value,
@@ -152,11 +163,10 @@ impl<T: Kept> TurnLock<T> {
             ticket,
             from: _,
         } = turn;
-        let found = self.board.shared.exchange(&mut pass.seat, 0, Some(value));
+        let shared = &self.board.shared;
+        let found = shared.exchange(&mut pass.seat, VALUE, Some(value));
         let None = found else { unreachable!() };
-        self.board
-            .shared
-            .store::<PassOn>(&mut pass.seat, SERVING, ticket + 1);
+        shared.store::<PassOn>(&mut pass.seat, SERVING, ticket + 1);
         self.benches.wake(ticket + 1);
     }
 
@@ -185,9 +195,11 @@ impl<T: Kept> TurnLock<T> {
         requires all { length passes ≡ lock_passes self }
         requires each { All (λ p. IsPassOf T.name self p × IsReady p) passes }
         ensures name { T.name result ≡ lock_name T.name self }
-        ensures each { All (λ p. StartsWith (T.entries result) (known p).seen × (of_pass T.by (known p).number (T.entries result) ≡ (known p).mine)) passes }
+        ensures each { All (λ p. StartsWith (T.entries result) (known p).seen
+            × (of_pass T.by (known p).number (T.entries result) ≡ (known p).mine)) passes }
         ensures whose { All (λ e. T.by e < lock_passes self) (T.entries result) }
-        ensures once { (number : ℕ) → number < lock_passes self → count_by (λ p. (known p).number == number) passes ≡ 1 }
+        ensures once { (number : ℕ) → number < lock_passes self
+            → count_by (λ p. (known p).number == number) passes ≡ 1 }
     {
         let seat = self.gather(passes);
         let TurnLock {
@@ -196,7 +208,7 @@ impl<T: Kept> TurnLock<T> {
             benches: _,
         } = self;
         let mut closed = board.close_with(seat);
-        let found = closed.take(0);
+        let found = closed.take(VALUE);
         closed.free();
         let Some(value) = found else { unreachable!() };
         value

@@ -1,13 +1,15 @@
 //! How a pass waits: at first it stays awake, and looks again and again at the ticket that is served; the more passes come
-//! before it, the longer it pauses between two looks. After some hundred microseconds it sleeps on a bench. That is longer
+//! before it, the longer it pauses between two looks. After 40 to 200 microseconds it sleeps on a bench. That is longer
 //! than it takes to wake a sleeper, so that one pass that came late doesn't send those after it to sleep as well, each of
 //! whom would have to be woken in turn. It doesn't yield its processor in between: where others want it, a yield gives
-//! away a whole slice of time, and the pass isn't there when its turn comes.
+//! away a whole slice of time, and the pass isn't there when its turn comes. A pass stays awake so once in a turn, before
+//! its first sleep: who finds at the end of a sleep that others still come first sleeps again at once, and longer. So
+//! many passes that wait for long cost next to nothing.
 //!
 //! There are a few benches, and a ticket's number tells its own. Who passes the turn on wakes the bench of the ticket
 //! that is served next, and only where somebody sleeps there. A sleeper first counts itself, then looks at the ticket
 //! that is served, and then sleeps; who passes the turn on first shows the next ticket, and then looks whether anybody
-//! is counted. So one of the two sees the other. No proof says so: therefore each sleep is short too.
+//! is counted. So one of the two sees the other. No proof says so: therefore each sleep ends by itself too.
 ghost use Rattle.std.specs.Prelude.{◌<◌, ◌≤◌};
 
 use crate::kept::Kept;
@@ -17,7 +19,8 @@ use std::sync::Wait;
 use std::sync::atomic::{AtomicU64, Ordering};
 use std::time::Duration;
 
-// The pauses in which a pass stays awake. A pause is the processor's own, of some 10 to 50 nanoseconds.
+// The pauses in which a pass stays awake before its first sleep. A pause is the processor's own, of some 10 to 50
+// nanoseconds.
 const AWAKE: u32 = 4_000;
 
 // The pauses between two looks for each pass that comes first, and the most passes that count.
@@ -25,13 +28,20 @@ const PAUSES: u32 = 2;
 
 const MOST_AHEAD: u64 = 16;
 
-// A sleep, in milliseconds.
-const SLEEP: u64 = 20;
+// The first sleep, and the longest, in milliseconds.
+const FIRST_SLEEP: u64 = 20;
+
+const LONGEST_SLEEP: u64 = 1_000;
+
+// Tickets that are as many apart share a bench.
+const BENCHES: u64 = 8;
 
 /// The patience of one pass in one turn.
 #[derive(Drop)]
 pub(crate) struct Patience {
     pauses: u32,
+    // how long it sleeps next, in milliseconds
+    sleep: u64,
 }
 
 fn spin(pauses: u32) {
@@ -42,14 +52,15 @@ fn spin(pauses: u32) {
 
 impl Patience {
     pub(crate) fn new() -> Patience {
-        Patience { pauses: 0 }
+        Patience {
+            pauses: 0,
+            sleep: FIRST_SLEEP,
+        }
     }
 
-    /// Waits a little, awake, where so many passes come first. False where no patience is left for that; the next time
-    /// there is some again.
+    /// Waits a little, awake, where so many passes come first. False where no patience is left for that.
     pub(crate) fn rest(&mut self, ahead: u64) -> bool {
         if self.pauses >= AWAKE {
-            self.pauses = 0;
             return false;
         }
         let pauses = PAUSES * ahead.min(MOST_AHEAD) as u32;
@@ -57,6 +68,23 @@ impl Patience {
         self.pauses = self.pauses.saturating_add(pauses.max(1));
         true
     }
+
+    /// How long to sleep now. The next sleep is twice as long, up to the longest.
+    pub(crate) fn sleep(&mut self) -> Duration {
+        let now = self.sleep;
+        self.sleep = now.saturating_mul(2).min(LONGEST_SLEEP);
+        Duration::from_millis(now)
+    }
+
+    /// Somebody passed a turn on meanwhile, so the next sleep is short.
+    pub(crate) fn wake(&mut self) {
+        self.sleep = FIRST_SLEEP;
+    }
+}
+
+// The half of a word at which a sleeper looks.
+fn low(word: u64) -> u32 {
+    (word & u32::MAX as u64) as u32
 }
 
 // Where the passes of some tickets sleep.
@@ -74,16 +102,17 @@ impl Bench {
         }
     }
 
-    fn sleep<T: Kept>(&self, rt: &impl Wait, top: &Top<T>, ticket: u64)
+    // Sleeps so long, where the ticket isn't served yet. Whether somebody woke the bench meanwhile.
+    fn sleep<T: Kept>(&self, rt: &impl Wait, top: &Top<T>, ticket: u64, time: Duration) -> bool
         requires { 1 < top.now.table_id.words }
     {
-        let calls = (self.calls.load(Ordering::SeqCst) & 0xffff_ffff) as u32;
+        let calls = self.calls.load(Ordering::SeqCst);
         self.asleep.fetch_add(1, Ordering::SeqCst);
         if top.peek(SERVING) != ticket {
-            self.calls
-                .park_timeout(rt, calls, Duration::from_millis(SLEEP));
+            self.calls.park_timeout(rt, low(calls), time);
         }
         self.asleep.fetch_sub(1, Ordering::SeqCst);
+        self.calls.load(Ordering::SeqCst) != calls
     }
 
     fn wake(&self) {
@@ -97,7 +126,7 @@ impl Bench {
 /// The benches of a lock.
 #[derive(Drop)]
 pub(crate) struct Benches {
-    benches: [Bench; 8],
+    benches: [Bench; BENCHES as usize],
 }
 
 impl Benches {
@@ -116,23 +145,33 @@ impl Benches {
         }
     }
 
-    /// Sleeps a while, where the ticket isn't served yet.
-    pub(crate) fn sleep<T: Kept>(&self, rt: &impl Wait, top: &Top<T>, ticket: u64)
+    fn of(&self, ticket: u64) -> &Bench {
+        &self.benches[(ticket % BENCHES) as usize]
+    }
+
+    /// Sleeps so long, where the ticket isn't served yet. Whether somebody woke its bench meanwhile.
+    pub(crate) fn sleep<T: Kept>(
+        &self,
+        rt: &impl Wait,
+        top: &Top<T>,
+        ticket: u64,
+        time: Duration,
+    ) -> bool
         requires { 1 < top.now.table_id.words }
     {
-        self.benches[(ticket % 8) as usize].sleep(rt, top, ticket);
+        self.of(ticket).sleep(rt, top, ticket, time)
     }
 
     /// Wakes who sleeps until this ticket is served.
     pub(crate) fn wake(&self, ticket: u64) {
-        self.benches[(ticket % 8) as usize].wake();
+        self.of(ticket).wake();
     }
 }
 
-/// Waits a little, where the ticket is never served.
+/// Waits a while, where the ticket is never served.
 pub(crate) fn sleep_on<T: Kept>(rt: &impl Wait, top: &Top<T>)
     requires { 1 < top.now.table_id.words }
 {
-    let low = (top.peek(TICKET) & 0xffff_ffff) as u32;
-    top.park_timeout(rt, TICKET, low, Duration::from_millis(SLEEP));
+    let next = low(top.peek(TICKET));
+    top.park_timeout(rt, TICKET, next, Duration::from_millis(LONGEST_SLEEP));
 }

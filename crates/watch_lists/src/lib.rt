@@ -13,8 +13,5 @@ mod row;
 mod shard;
 mod watch;
 
-pub use shard::Shard;
+pub use shard::{MOST_WATCHERS, Shard};
 pub use watch::Watch;
-
-#[cfg(test)]
-mod tests;

@@ -8,6 +8,9 @@ use kbytes::NoMemory;
 use std::alloc::Global;
 use std::marker::Model;
 
+/// How many watchers a shard has room for, at most.
+pub const MOST_WATCHERS: u32 = 1 << 20;
+
 /// Who watches which key. Each key has its watchers in a list of its own, in rising order of id.
 #[derive(Debug, Drop)]
 pub struct Shard {
@@ -31,7 +34,7 @@ impl Shard {
     /// A shard with nothing listed, for the keys below `keys` and the ids below `ids`. Nothing
     /// takes memory after this.
     pub fn new(alloc: Global, keys: u32, ids: u32) -> Result<Shard, NoMemory>
-        requires { keys * ids ≤ 2 ^ 20 }
+        requires { keys * ids ≤ MOST_WATCHERS }
         ensures rows { IfOk result (λ shard. shard ≡ record { ids = ids; rows = replicate keys [] }) }
         ensures none { IfOk result
             (λ shard. (key : ℕ) (id : ℕ) (generation : ℕ) → ¬ IsListed shard key id generation) }

@@ -28,7 +28,7 @@ take_scanner-requires g t c =
     let seat = c.turn-turn.result.value.seat in
     let name = name_at c.args.table l.shards.items l.clock c.args.locks.now c.args.shards.now.items c.args.at c.locks.view_is c.locks.invariant c.requires.room.named c.requires.shards (omega (arith, most, other))
     c.index-lock.result.now c.index_mut.result.now c.index-lock.ensures c.index_mut.ensures.value in
-    let none = subst (λ (d : ShardView). HasNoDuty (scanner_now d.seat)) c.value-desk.ensures c.keeps.ensures.no_duty in
+    let none = subst (λ (d : ShardView). HasNoDuty (scanner_now d.seat)) c.value-desk.ensures c.wins-won.ensures.keeps.no_duty in
     let is = named_seat c.args.table c.args.at seat (c.turn-turn.ensures.name ∙ name) none in
     ap (λ (s : ScanView). s.table) (c.into_seat.ensures.seat ∙ ap (λ (d : ShardView). d.seat) c.take.ensures) ∙ is.table_is ∙ sym (ap (λ (x : ClosingView). x.table) c.in-Still.ensures.held.ended.0)
 
@@ -40,9 +40,9 @@ returns-in-Untaken-clause-held g t c =
     let seat = c.turn-turn.result.value.seat in
     let name = name_at c.args.table l.shards.items l.clock c.args.locks.now c.args.shards.now.items c.args.at c.locks.view_is c.locks.invariant c.requires.room.named c.requires.shards (omega (arith, most, other))
     c.index-lock.result.now c.index_mut.result.now c.index-lock.ensures c.index_mut.ensures.value in
-    let none = subst (λ (d : ShardView). HasNoDuty (scanner_now d.seat)) c.value-desk.ensures c.keeps.ensures.no_duty in
+    let none = subst (λ (d : ShardView). HasNoDuty (scanner_now d.seat)) c.value-desk.ensures c.wins-won.ensures.keeps.no_duty in
     let is = named_seat c.args.table c.args.at seat (c.turn-turn.ensures.name ∙ name) none in
-    let won = c.wins-won.ensures ∙ ap (λ (d : ShardView). length (scanner_now d.seat).wins) c.value-desk.ensures in
+    let won = c.wins-won.ensures.count ∙ ap (λ (d : ShardView). length (scanner_now d.seat).wins) c.value-desk.ensures in
     let wins = c.hold_from.new.wins in
     let room = c.requires.wins in
     let noted : slice_index wins c.args.at ≡ length (scanner_now seat).wins =
@@ -77,9 +77,9 @@ returns-in-Still-clause-held g t c =
     let seat = c.turn-turn.result.value.seat in
     let name = name_at c.args.table l.shards.items l.clock c.args.locks.now c.args.shards.now.items c.args.at c.locks.view_is c.locks.invariant c.requires.room.named c.requires.shards (omega (arith, most, other))
     c.index-lock.result.now c.index_mut.result.now c.index-lock.ensures c.index_mut.ensures.value in
-    let none = subst (λ (d : ShardView). HasNoDuty (scanner_now d.seat)) c.value-desk.ensures c.keeps.ensures.no_duty in
+    let none = subst (λ (d : ShardView). HasNoDuty (scanner_now d.seat)) c.value-desk.ensures c.wins-won.ensures.keeps.no_duty in
     let is = named_seat c.args.table c.args.at seat (c.turn-turn.ensures.name ∙ name) none in
-    let won = c.wins-won.ensures ∙ ap (λ (d : ShardView). length (scanner_now d.seat).wins) c.value-desk.ensures in
+    let won = c.wins-won.ensures.count ∙ ap (λ (d : ShardView). length (scanner_now d.seat).wins) c.value-desk.ensures in
     let wins = c.hold_from.new.wins in
     let room = c.requires.wins in
     let noted : slice_index wins c.args.at ≡ length (scanner_now seat).wins =

@@ -4,13 +4,14 @@ use Rattle.room_core.specs.declared.parts.Stage.{Stage}
 use Rattle.room_core.specs.Packing.{unpacked}
 use Rattle.room_table.specs.declared.part.CallerStep.{CallerStep}
 use Rattle.room_table.specs.Seats.{CallerView, TableView, caller_now}
+use Rattle.room_table.proofs.Laws.{session_small}
 use Rattle.purgatory.proofs.Counted.{counts_idle, counts_peek}
 use Rattle.purgatory.proofs.Owners.{owner_steps}
-use Rattle.purgatory.proofs.Words.{won_over, word_small}
+use Rattle.purgatory.proofs.Words.{won_over}
 use Rattle.purgatory.proofs.owner.Owner.poll.Goals as goal
 
 pub unpacked-requires : goal.unpacked-requires
-unpacked-requires c = word_small c.peek_own-word.result c.peek_own-word.ensures.word.session
+unpacked-requires c = session_small c.peek_own-word.result c.peek_own-word.ensures.word.session
 
 pub idle-requires-clause-may : goal.idle-requires-clause-may
 idle-requires-clause-may c =

@@ -1,4 +1,4 @@
-use Rattle.room_scans.proofs.Sessions.{session_small}
+use Rattle.room_table.proofs.Laws.{session_small}
 use Rattle.room_scans.proofs.inspector.Inspector.meet.Goals as goal
 
 pub unpacked-requires : goal.unpacked-requires

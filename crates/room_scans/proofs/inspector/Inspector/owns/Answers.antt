@@ -5,8 +5,8 @@ use Rattle.room_table.specs.Seats.{ScanView}
 use Rattle.room_scans.proofs.Gauges.{gauge_owned, owner_is}
 use Rattle.room_scans.proofs.inspector.Inspector.owns.Goals as goal
 
-pub returns-then-gauge-from : goal.returns-then-gauge-from
-returns-then-gauge-from c =
+pub returns-then-gauge-from-clause-own : goal.returns-then-gauge-from-clause-own
+returns-then-gauge-from-clause-own c =
     let now = c.args.self.now in
     let i = c.self.inside in
     let shape : i.shape ≡ now.table.shape = c.self.invariant.shape_is ∙ ap (λ (v : ScanView). v.table.shape) c.self.view_is in

@@ -1,5 +1,0 @@
-use Rattle.room_table.specs.Beside.{AreBeside}
-use Rattle.room_table.proofs.tests.sleepers.room_after.Given as goal
-
-abbrev pub invariant-loop-event : goal.invariant-loop-event
-invariant-loop-event l = AreBeside l.room

@@ -1,0 +1,2 @@
+-- what a room is made with
+pub mod Fresh

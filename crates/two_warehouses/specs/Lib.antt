@@ -1,0 +1,2 @@
+-- a pass between two calls
+pub mod Ready
