@@ -27,7 +27,7 @@ use Rattle.audit.specs.declared.account.Point.{Point}
 use Rattle.audit.specs.Histories.{clock_owner_of, at_in, at_point, before_in, before_point, event_at, event_in, history_of, owner_of, owners_in, owners_of, points_of}
 use Rattle.audit.specs.IsLawful.{IsLawful, is_point}
 use Rattle.audit.specs.LawfulCall.{IsClockLook, IsEntry, IsLawfulCall, IsLook, IsStep, LooksAtClock, Step, step_points}
-use Rattle.audit.proofs.Places.{all_append, some_is}
+use Rattle.kbytes.proofs.Laws.{all_append, some_is}
 use Rattle.audit.proofs.Prints.{looks_stand}
 
 -- ---- an item that passes is among those that are counted

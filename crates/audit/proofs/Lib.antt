@@ -1,7 +1,5 @@
 -- what the crates above may cite
 pub mod Laws
--- items of lists, by their places
-pub mod Places
 -- the numbers of a summary, step by step
 pub mod Tallies
 -- a call was accepted in one way, and has one reply at most
@@ -24,3 +22,5 @@ pub mod WorkedRuns
 pub mod Ends
 -- the logs of a lawful account are bounded
 pub mod Bounded
+-- what became of the partitions of a request
+mod ResultsStand

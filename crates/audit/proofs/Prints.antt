@@ -17,7 +17,7 @@ use Rattle.audit.specs.LawfulCall.{Step, IsLook, IsClockLook, IsLawfulCall, Comp
 use Rattle.audit.specs.Histories.{calls_in}
 use Rattle.audit.specs.IsLawful.{IsLawful}
 use Rattle.audit.specs.Printed.{IsPrintOf, transcripts_of, session_text, summary_of}
-use Rattle.audit.proofs.Places.{all_append}
+use Rattle.kbytes.proofs.Laws.{all_append}
 use Rattle.audit.proofs.ReplyOnce.{replies_once}
 
 -- ---- the calls of a lawful account

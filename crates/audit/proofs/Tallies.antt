@@ -10,7 +10,7 @@ use Rattle.partlog.specs.declared.event.PartEvent.TheVariants.{Append, Follow, L
 use Rattle.partlog.specs.Batches.{batches_after, batches_of}
 use Rattle.audit.specs.declared.account.PartAccount.{PartAccount}
 use Rattle.audit.specs.declared.account.Call.{Call}
-use Rattle.audit.proofs.Places.{some_is}
+use Rattle.kbytes.proofs.Laws.{some_is}
 use Rattle.audit.specs.Printed.{is_parked, parked_of, numbered, part_line}
 
 any_before : (before after : List PartEvent) (e : PartEvent) (log other : List ℕ) → length (batches_after before (e ∷ []) log) ≡ length (batches_after after (e ∷ []) other)

@@ -12,7 +12,7 @@ use Rattle.audit.specs.Histories.{Owner, owners_of, owners_in, clock_owner_of, c
 use Rattle.audit.specs.IsLawful.{IsLawful, is_point, is_won_by, places_in}
 use Rattle.kwire.specs.IsRequest.{IsRequest}
 use Rattle.audit.specs.Worked.{fetch_one, fetch_both, expired_call, parked_call, cut_call, three_waits}
-use Rattle.audit.proofs.Places.{same_or_not, some_is}
+use Rattle.kbytes.proofs.Laws.{same_or_not, some_is}
 use Rattle.audit.proofs.WorkedCalls.{expired_lawful, parked_lawful, cut_lawful}
 
 abbrev owned_by : ℕ → ℕ → Option (Option Owner)

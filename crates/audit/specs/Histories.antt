@@ -35,6 +35,10 @@ ticks_of [] = []
 ticks_of (clocks.Tick t ∷ events) = t ∷ ticks_of events
 ticks_of (clocks.Look by seq ∷ events) = ticks_of events
 
+-- a partition's history in an account
+abbrev pub part_account : History → PartAccount
+part_account h = record { followers = h.followers; log = h.log; events = h.events }
+
 -- the clock stands behind the partitions' numbers
 abbrev pub clock_part : ℕ
 clock_part = CLOCK_PART

@@ -41,7 +41,7 @@ is_won_as winner (Cut (Some by)) = by == winner
 abbrev pub is_won_by : ℕ → Call → Bool
 is_won_by winner call = is_won_as winner call.how
 
--- a parked call is the last of its transcript, which has no end; a cut one is the last, and the end is want of memory
+-- a parked call is the last of its transcript, which has no end; a cut one is the last, and the end is running out of memory
 abbrev pub EndsAs : CallHow → List Call → Option SessionEnd → Type 0
 EndsAs Quiet later end = Unit {0}
 EndsAs AtOnce later end = Unit {0}

@@ -180,9 +180,9 @@ Completes account request steps looks finish (Expired by) =
 Completes account request steps looks finish Parked =
     (is_delayed account request steps ≡ true) × (finish ≡ [])
     × (IsAnswerable (operation_in account request steps looks) (values_of request.ask (shown_at_last account steps)) (moment_of account.clock) → ⊥)
--- it met want of memory before anyone had won its operation, or with none
+-- it ran out of memory before anyone had won its operation, or with none
 Completes account request steps looks finish (Cut None) = finish ≡ []
--- it was won, and met want of memory amid its last entries or behind them
+-- it was won, and ran out of memory amid its last entries or behind them
 Completes account request steps looks finish (Cut (Some by)) =
     (is_delayed account request steps ≡ true)
     × (IsCutAsSatisfied account request steps looks finish ⊎ IsCutAsExpired account request steps looks finish)
@@ -201,7 +201,7 @@ pub record IsWholeCall (account : Account) (call : Call) : Type 0 where
   pub whole : IsAccepted account call
   pub completed : Completes account whole.request whole.steps whole.looks call.finish call.how
 
--- a call that met want of memory as it was accepted: the entries for the first of its partitions, from the front
+-- a call that ran out of memory as it was accepted: the entries for the first of its partitions, from the front
 pub record IsCutShort (account : Account) (call : Call) : Type 0 where
   pub request : Request
   pub is_request : IsRequest call.frame request

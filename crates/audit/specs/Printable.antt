@@ -1,4 +1,4 @@
--- An account that may be printed: a lawful one, in which no session was refused for want of memory, which isn't a fault of
+-- An account that may be printed: a lawful one, in which no session was refused because memory ran out, which isn't a fault of
 -- its request, and no two sessions have one number.
 use Rattle.std.specs.Prelude.{◌≢◌, AllPairs, Some}
 use Rattle.std.specs.List.{AllByRecursion}

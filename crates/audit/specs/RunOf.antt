@@ -12,7 +12,7 @@ use Rattle.trace_file.specs.Contents.{configuration_of, input_of, is_shut, is_na
 use Rattle.audit.specs.Histories.{ticks_of, all_calls}
 use Rattle.audit.specs.Fits.{Fits}
 
--- no fault of the outside and no want of memory ends a session of a trace
+-- no fault of the outside and no running out of memory ends a session of a trace
 abbrev pub IsTraceEnd : Option SessionEnd → Type 0
 IsTraceEnd end = (end ≢ Some ReadFault) × (end ≢ Some WriteFault) × (end ≢ Some NoMemory)
 

@@ -54,7 +54,7 @@ expired_call one = record { frame = one; accept = at 0 0 ∷ at clock_part 0 ∷
 abbrev pub parked_call : List ℕ → Call
 parked_call one = record { frame = one; accept = at 0 4 ∷ at clock_part 5 ∷ []; finish = []; how = Parked }
 
--- It waited for two partitions until 100, was won, and met want of memory behind its look at the first.
+-- It waited for two partitions until 100, was won, and ran out of memory behind its look at the first.
 abbrev pub cut_call : List ℕ → Call
 cut_call both = record {
   frame = both;
@@ -102,7 +102,7 @@ filled = record {
 abbrev pub satisfied_call : List ℕ → ℕ → Call
 satisfied_call one place = record { frame = one; accept = at 0 0 ∷ at clock_part 0 ∷ []; finish = at 0 place ∷ []; how = Satisfied 0 }
 
--- It waited for a byte of either partition, was won, and met want of memory behind its look at the first.
+-- It waited for a byte of either partition, was won, and ran out of memory behind its look at the first.
 abbrev pub cut_as_satisfied : List ℕ → Call
 cut_as_satisfied both = record {
   frame = both;

@@ -30,7 +30,7 @@ pub enum CallHow {
     Expired { by: u32 },
     /// It waits still.
     Parked,
-    /// It met want of memory; `won` is its winner where it had been won.
+    /// It ran out of memory; `won` is its winner where it had been won.
     Cut { won: Option<u32> },
 }
 

@@ -74,7 +74,7 @@ fn put_end(out: &mut Bytes, end: &SessionEnd) -> Result<(), NoMemory>
     }
 }
 
-/// Puts the line that tells how a session of a trace ended at the end of the bytes. After want of memory a part of it may stand
+/// Puts the line that tells how a session of a trace ended at the end of the bytes. If memory runs out, a part of it may stand
 /// there.
 pub fn put_end_line(out: &mut Bytes, session: u32, end: &SessionEnd) -> Result<(), NoMemory>
     ensures { OnOk result (out.new ≡ out.old ++ end_line session (Some end.now)) }

@@ -6,6 +6,7 @@
 mod account;
 mod ending;
 mod numbers;
+mod parts;
 mod promises;
 mod summary;
 mod tally;
@@ -14,8 +15,9 @@ pub use account::{
     Account, CLOCK_PART, Call, CallHow, MOST_CALLS, PartAccount, Point, SessionEnd, Transcript,
 };
 pub use ending::put_end_line;
+pub use parts::part_accounts;
 pub use promises::{
-    lawful_logs_are_bounded, looks_stand, one_print, one_reply, worked_account, worked_calls,
-    worked_prints, worked_replies, worked_requests, worked_run,
+    lawful_logs_are_bounded, looks_stand, one_print, one_reply, results_stand, worked_account,
+    worked_calls, worked_prints, worked_replies, worked_requests, worked_run,
 };
 pub use summary::print_replay;

@@ -1,16 +1,20 @@
 //! Laws of accounts. They do nothing.
 ghost use Rattle.std.specs.Prelude.{◌≡◌, ◌≢◌, ◌<◌, ◌≤◌, ◌^◌, ◌⊎◌, ◌∷◌, [], codes, length, map, negsuc, pos, true, All, List, None, Some, ℕ};
-ghost use Rattle.std.specs.List.{AllByRecursion};
+ghost use Rattle.std.specs.List.{AllByRecursion, AllZip};
 ghost use Rattle.kbytes.specs.Field.{fields};
 ghost use Rattle.kbatch.specs.Batch.{IsBatch};
 ghost use Rattle.kbatch.specs.declared.record.Record.{Record};
 ghost use Rattle.audit.specs.Fits.{HasReplies, IsReplyOf, is_answered, sent};
-ghost use Rattle.kwire.specs.Configuration.{partitions_of};
+ghost use Rattle.kwire.specs.Configuration.{Configuration, partitions_of};
+ghost use Rattle.kanswer.specs.Decisions.{Decides, Decision};
+ghost use Rattle.kanswer.specs.LogReadings.{IsCarriable};
+ghost use Rattle.kanswer.specs.Results.{AreResults};
+ghost use Rattle.kwire.specs.declared.request.Request.{Request};
 ghost use Rattle.kwire.specs.declared.config.TheConstants.{MOST_PARTITIONS};
 ghost use Rattle.partlog.specs.Added.{log_end_of};
 ghost use Rattle.partlog.specs.declared.part_log.TheConstants.{MOST_LOG_BYTES};
 ghost use Rattle.kwire.specs.Frames.{AreFramesOf, framed, IsFrameBody};
-ghost use Rattle.audit.specs.LawfulCall.{IsClockLook, IsLawfulCall, IsLook};
+ghost use Rattle.audit.specs.LawfulCall.{IsClockLook, IsLawfulCall, IsLook, IsStep, Step};
 ghost use Rattle.audit.specs.IsLawful.{IsLawful};
 ghost use Rattle.kwire.specs.IsRequest.{IsRequest, request_fields};
 ghost use Rattle.audit.specs.Printed.{IsPrintOf, link_line, session_text, storm_summary_of, summary_of};
@@ -138,4 +142,12 @@ pub fn worked_run()
     ensures run { IsRunOf closed_lines 9092 ([] ∷ []) (1000 ∷ []) closed_run }
     ensures pass { IsRunOf closed_lines 9092 [] (1000 ∷ []) closed_run → ⊥ }
     ensures tick { IsRunOf closed_lines 9092 ([] ∷ []) [] closed_run → ⊥ }
+{}
+
+/// Law: what became of the partitions of a request is one result for each, of partitions that are there, each log asked once.
+pub fn results_stand()
+    ensures { (config : Configuration) (account : TheAccount) (body : List ℕ) (request : Request) (decisions : List Decision) (steps : List Step)
+        → IsRequest body request → Decides config request.ask decisions → partitions_of config.topics ≤ MOST_PARTITIONS
+        → AllZip (IsStep account) decisions steps → All (λ (step : Step). IsCarriable step.result) steps
+        → AreResults request.ask (map (λ (step : Step). step.result) steps) }
 {}

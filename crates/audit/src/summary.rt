@@ -15,7 +15,7 @@ use kbytes::{Bytes, List, NoMemory};
 use kwire::MOST_PARTITIONS;
 use std::alloc::Global;
 
-/// Puts a word and a number at the end. After want of memory a part of them may stand there.
+/// Puts a word and a number at the end. If memory runs out, a part of them may stand there.
 pub fn put_number(out: &mut Bytes, word: &[u8], number: u64) -> Result<(), NoMemory>
     ensures { OnOk result (out.new ≡ out.old ++ (word.now ++ decimal number)) }
 {
@@ -83,8 +83,8 @@ fn put_passes(out: &mut Bytes, passes: &[List<Transcript>]) -> Result<(), NoMemo
     Ok(())
 }
 
-/// Puts what is printed behind the `end` of a trace at the end of the bytes: each partition, each session, and `done`. After
-/// want of memory the bytes are as before.
+/// Puts what is printed behind the `end` of a trace at the end of the bytes: each partition, each session, and `done`. If
+/// memory runs out, the bytes are as before.
 pub fn print_replay(alloc: Global, account: &Account, out: &mut Bytes) -> Result<(), NoMemory>
     requires { IsPrintable account.now }
     ensures ok { OnOk result (out.new ≡ out.old ++ summary_of account.now) }

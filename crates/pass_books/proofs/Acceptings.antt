@@ -16,20 +16,20 @@ use Rattle.audit.specs.declared.account.Point.{Point}
 use Rattle.audit.specs.declared.account.Transcript.{Transcript}
 use Rattle.audit.specs.Histories.{moment_at, no_state, points_of}
 use Rattle.audit.specs.LawfulCall.{Step, Completes, IsAcceptance, IsAccepted, IsStep, LooksAtClock, is_delayed, operation_parts, part_in, shown_as_accepted, shown_at, step_points}
-use Rattle.audit.proofs.Laws.{all_append}
+use Rattle.kbytes.proofs.Laws.{all_append}
 use Rattle.kanswer.specs.declared.accepted.Accepted.TheVariants.{Refused}
 use Rattle.kanswer.specs.Decisions.{Decision, Refuse, Decides}
 use Rattle.kanswer.specs.Waiting.{Shown, becomes_delayed, is_quiet, operation_of, results_of}
 use Rattle.kwire.specs.Configuration.{Configuration}
 use Rattle.kwire.specs.IsRequest.{IsRequest}
 use Rattle.kwire.specs.declared.request.Request.{Request}
-use Rattle.plain_broker.specs.Board.{Waiting}
-use Rattle.plain_broker.specs.Entering.{Noted, accept_all, shown_of, steps_of}
-use Rattle.plain_broker.specs.GoesOn.{GoesOn, HaveGrown}
-use Rattle.plain_broker.specs.Kept.{owners_at}
-use Rattle.plain_broker.specs.Sound.{AllBelow, AreHistories, IsDelayedAs}
-use Rattle.plain_broker.specs.Turns.{how_at_once}
-use Rattle.plain_broker.proofs.Laws.{IsFair, ShowsAccepted, accepted_longer, accepted_shows, accepted_size, accepted_within, all_get, all_longer_self, carried_on, clock_looked, clock_moment, clock_point, completes, decides_fair, goes_back, grown_clock, grown_parts, histories_on, parts_size, ticks_looked}
+use Rattle.broker_spec.specs.Board.{Waiting}
+use Rattle.broker_spec.specs.Entering.{Noted, accept_all, shown_of, steps_of}
+use Rattle.broker_spec.specs.GoesOn.{GoesOn, HaveGrown}
+use Rattle.broker_spec.specs.Kept.{owners_at}
+use Rattle.broker_spec.specs.Sound.{AllBelow, AreHistories, IsDelayedAs}
+use Rattle.broker_spec.specs.Turns.{how_at_once}
+use Rattle.broker_spec.proofs.Laws.{IsFair, ShowsAccepted, accepted_longer, accepted_shows, accepted_size, accepted_within, all_get, all_longer_self, carried_on, clock_looked, clock_moment, clock_point, completes, decides_fair, goes_back, grown_clock, grown_parts, histories_on, parts_size, ticks_looked}
 use Rattle.pass_books.specs.Book.{Book}
 use Rattle.pass_books.specs.IsBook.{IsBook}
 use Rattle.pass_books.specs.Owned.{AreOwn, OwnWithin}

@@ -16,17 +16,17 @@ use Rattle.audit.specs.declared.account.Transcript.{Transcript}
 use Rattle.audit.specs.Histories.{Owner, owners_of, points_of, calls_in, calls_of, call_of}
 use Rattle.audit.specs.IsLawful.{IsLawful, FollowOn, is_point, is_won_by, places_in}
 use Rattle.audit.specs.LawfulCall.{Step, IsLawfulCall, Completes, final_of, operation_in, part_in, shown_at_last}
-use Rattle.audit.proofs.Laws.{get_there}
+use Rattle.kbytes.proofs.Laws.{get_there}
 use Rattle.kanswer.specs.Waiting.{Shown, values_of}
 use Rattle.kwire.specs.Configuration.{Configuration}
 use Rattle.opcond.specs.Operation.{Operation}
 use Rattle.opcond.specs.Tally.{IsAnswerable}
-use Rattle.plain_broker.specs.Board.{Waiting}
-use Rattle.plain_broker.specs.Completing.{present}
-use Rattle.plain_broker.specs.GoesOn.{GoesOn, the_owner}
-use Rattle.plain_broker.specs.Kept.{owners_at}
-use Rattle.plain_broker.specs.Sound.{IsWaiting}
-use Rattle.plain_broker.proofs.Laws.{all_from_get, all_get, all_on, flat_points, followers_map, get_map, goes_back, last_state, map_get, push_get, whole_logs}
+use Rattle.broker_spec.specs.Board.{Waiting}
+use Rattle.broker_spec.specs.Completing.{present}
+use Rattle.broker_spec.specs.GoesOn.{GoesOn, the_owner}
+use Rattle.broker_spec.specs.Kept.{owners_at}
+use Rattle.broker_spec.specs.Sound.{IsWaiting}
+use Rattle.broker_spec.proofs.Laws.{all_from_get, all_get, all_on, flat_points, followers_map, get_map, goes_back, last_state, map_get, push_get, whole_logs}
 use Rattle.pass_books.specs.Book.{Book}
 use Rattle.pass_books.specs.IsBook.{IsBook, IsFinished, Stand, with_call}
 use Rattle.pass_books.specs.Owned.{AreOwn}

@@ -13,12 +13,12 @@ use Rattle.partlog.specs.declared.event.PartEvent.{PartEvent}
 use Rattle.partlog.specs.declared.event.PartEvent.TheVariants.{Append, Follow, Look}
 use Rattle.partlog.specs.History.{History}
 use Rattle.audit.specs.Histories.{Owner, owner_of, clock_owner_of, ticks_of}
-use Rattle.audit.proofs.Laws.{same_or_not, get_behind, get_set_same, get_set_other, some_is}
+use Rattle.kbytes.proofs.Laws.{same_or_not, get_behind, get_set_same, get_set_other, some_is}
 use Rattle.kwire.specs.Configuration.{Configuration}
-use Rattle.plain_broker.specs.GoesOn.{HaveGrown, IsWhole, Longer, the_owner}
-use Rattle.plain_broker.specs.Kept.{owners_here}
-use Rattle.plain_broker.specs.Sound.{AreHistories}
-use Rattle.plain_broker.proofs.Laws.{all_get, all_on, set_same, set_whole}
+use Rattle.broker_spec.specs.GoesOn.{HaveGrown, IsWhole, Longer, the_owner}
+use Rattle.broker_spec.specs.Kept.{owners_here}
+use Rattle.broker_spec.specs.Sound.{AreHistories}
+use Rattle.broker_spec.proofs.Laws.{all_get, all_on, set_same, set_whole}
 use Rattle.pass_books.specs.Owned.{NotOf, OthersAlone, OwnWithin, pass_of}
 
 -- ---- entries of others

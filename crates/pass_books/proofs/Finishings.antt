@@ -23,12 +23,13 @@ use Rattle.kanswer.specs.declared.accepted.Accepted.{Accepted}
 use Rattle.kanswer.specs.Waiting.{Shown, results_of, values_of}
 use Rattle.opcond.specs.Operation.{Operation}
 use Rattle.opcond.specs.Tally.{IsOverdue, IsSatisfied}
-use Rattle.plain_broker.specs.Board.{Waiting, history_at, part_account}
-use Rattle.plain_broker.specs.Entering.{entered}
-use Rattle.plain_broker.specs.GoesOn.{GoesOn, HaveGrown}
-use Rattle.plain_broker.specs.Kept.{owners_at}
-use Rattle.plain_broker.specs.Sound.{AllBelow, AreHistories, IsDelayedAs}
-use Rattle.plain_broker.proofs.Laws.{IsFair, accepted_longer, accepted_shows, all_get, all_longer_self, carried_on, clock_looked, clock_moment, clock_point, goes_back, grown_clock, grown_parts, looked_moment, looked_state}
+use Rattle.audit.specs.Histories.{part_account}
+use Rattle.broker_spec.specs.Board.{Waiting, history_at}
+use Rattle.kanswer.specs.WithEntry.{entered}
+use Rattle.broker_spec.specs.GoesOn.{GoesOn, HaveGrown}
+use Rattle.broker_spec.specs.Kept.{owners_at}
+use Rattle.broker_spec.specs.Sound.{AllBelow, AreHistories, IsDelayedAs}
+use Rattle.broker_spec.proofs.Laws.{IsFair, accepted_longer, accepted_shows, all_get, all_longer_self, carried_on, clock_looked, clock_moment, clock_point, goes_back, grown_clock, grown_parts, looked_moment, looked_state}
 use Rattle.pass_books.specs.IsBook.{IsBook, IsFinished}
 use Rattle.pass_books.specs.Owned.{AreOwn, OwnWithin}
 use Rattle.pass_books.specs.Underway.{Underway, book_amid, earlier_calls, seq_of, with_end}

@@ -7,13 +7,13 @@ use Rattle.partlog.specs.History.{History}
 use Rattle.audit.specs.declared.account.Account.{Account}
 use Rattle.audit.specs.declared.account.PartAccount.{PartAccount}
 use Rattle.audit.specs.Histories.{Owner, owner_of, clock_owner_of, owners_of, owners_in}
-use Rattle.audit.proofs.Laws.{get_front, get_within}
+use Rattle.kbytes.proofs.Laws.{get_front, get_within}
 use Rattle.kwire.specs.Configuration.{Configuration}
-use Rattle.plain_broker.specs.Board.{part_account}
-use Rattle.plain_broker.specs.GoesOn.{GoesOn, HaveGrown}
-use Rattle.plain_broker.specs.Kept.{owners_here, owners_at}
-use Rattle.plain_broker.specs.Sound.{AreHistories}
-use Rattle.plain_broker.proofs.Laws.{longer_self, map_get, owned_here}
+use Rattle.audit.specs.Histories.{part_account}
+use Rattle.broker_spec.specs.GoesOn.{GoesOn, HaveGrown}
+use Rattle.broker_spec.specs.Kept.{owners_here, owners_at}
+use Rattle.broker_spec.specs.Sound.{AreHistories}
+use Rattle.broker_spec.proofs.Laws.{longer_self, map_get, owned_here}
 
 -- ---- who left the entries
 

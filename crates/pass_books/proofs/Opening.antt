@@ -3,8 +3,8 @@ use Rattle.std.proofs.Common.{◌≡◌, ℕ, ◌≤◌, List, [], Option, Some,
 use Rattle.std.specs.Prelude.{slice_get}
 use Rattle.audit.specs.Histories.{Owner}
 use Rattle.kwire.specs.Configuration.{Configuration, followers_of, partitions_of}
-use Rattle.plain_broker.specs.GoesOn.{the_owner}
-use Rattle.plain_broker.proofs.Laws.{nobodys, opening_sound}
+use Rattle.broker_spec.specs.GoesOn.{the_owner}
+use Rattle.broker_spec.proofs.Laws.{nobodys, opening_sound}
 use Rattle.pass_books.specs.Book.{opening_book}
 use Rattle.pass_books.specs.IsBook.{IsBook}
 

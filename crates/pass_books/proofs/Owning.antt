@@ -15,13 +15,14 @@ use Rattle.audit.specs.declared.account.Point.{Point}
 use Rattle.audit.specs.Histories.{Owner, owner_of, clock_owner_of}
 use Rattle.audit.specs.IsLawful.{places_in}
 use Rattle.audit.specs.LawfulCall.{step_points}
-use Rattle.audit.proofs.Laws.{same_or_not, get_set_same, get_set_other, get_there, get_front, some_is}
+use Rattle.kbytes.proofs.Laws.{same_or_not, get_set_same, get_set_other, get_there, get_front, some_is}
 use Rattle.kanswer.specs.Decisions.{Decision, Refuse, AskLog}
-use Rattle.plain_broker.specs.Board.{history_at, empty_history}
-use Rattle.plain_broker.specs.Entering.{accept_all, entered, steps_of}
-use Rattle.plain_broker.specs.GoesOn.{HaveGrown, the_owner}
-use Rattle.plain_broker.specs.Kept.{IsKept, owners_here, owners_at}
-use Rattle.plain_broker.proofs.Laws.{IsFair, all_on, clock_point, entered_events, event_of, event_owner, get_map, kept_entry, map_get, owners_clock, owners_part, push_get, put, put_other, put_same}
+use Rattle.broker_spec.specs.Board.{history_at, empty_history}
+use Rattle.kanswer.specs.WithEntry.{entered}
+use Rattle.broker_spec.specs.Entering.{accept_all, steps_of}
+use Rattle.broker_spec.specs.GoesOn.{HaveGrown, the_owner}
+use Rattle.broker_spec.specs.Kept.{IsKept, owners_here, owners_at}
+use Rattle.broker_spec.proofs.Laws.{IsFair, all_on, clock_point, entered_events, event_of, event_owner, get_map, kept_entry, map_get, owners_clock, owners_part, push_get, put, put_other, put_same}
 use Rattle.pass_books.specs.Owned.{AreOwn, OwnWithin}
 use Rattle.pass_books.proofs.Growing.{owner_seen, owner_stands}
 

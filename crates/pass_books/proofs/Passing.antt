@@ -12,12 +12,12 @@ use Rattle.audit.specs.Histories.{Owner, owner_of, clock_owner_of}
 use Rattle.kanswer.specs.Decisions.{Decision}
 use Rattle.kwire.specs.Configuration.{Configuration}
 use Rattle.kwire.specs.declared.request.Request.{Request}
-use Rattle.plain_broker.specs.Board.{Waiting}
-use Rattle.plain_broker.specs.Entering.{Noted}
-use Rattle.plain_broker.specs.GoesOn.{the_owner}
-use Rattle.plain_broker.specs.Kept.{owners_here, owners_at}
-use Rattle.plain_broker.specs.Sound.{AreHistories}
-use Rattle.plain_broker.proofs.Laws.{all_get, get_map, ticks_rise}
+use Rattle.broker_spec.specs.Board.{Waiting}
+use Rattle.broker_spec.specs.Entering.{Noted}
+use Rattle.broker_spec.specs.GoesOn.{the_owner}
+use Rattle.broker_spec.specs.Kept.{owners_here, owners_at}
+use Rattle.broker_spec.specs.Sound.{AreHistories}
+use Rattle.broker_spec.proofs.Laws.{all_get, get_map, ticks_rise}
 use Rattle.pass_books.specs.Accepting.{IsAccepting}
 use Rattle.pass_books.specs.Book.{Book}
 use Rattle.pass_books.specs.Finishing.{IsDelayed, IsFinishing}

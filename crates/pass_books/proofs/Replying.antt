@@ -11,9 +11,9 @@ use Rattle.kanswer.specs.Decisions.{Decision}
 use Rattle.kanswer.specs.Waiting.{becomes_delayed}
 use Rattle.kwire.specs.Configuration.{Configuration}
 use Rattle.kwire.specs.declared.request.Request.{Request}
-use Rattle.plain_broker.specs.Board.{Waiting}
-use Rattle.plain_broker.specs.Entering.{Noted, shown_of, steps_of}
-use Rattle.plain_broker.specs.GoesOn.{Carried}
+use Rattle.broker_spec.specs.Board.{Waiting}
+use Rattle.broker_spec.specs.Entering.{Noted, shown_of, steps_of}
+use Rattle.broker_spec.specs.GoesOn.{Carried}
 use Rattle.pass_books.specs.Underway.{Underway}
 use Rattle.pass_books.specs.Accepting.{IsAccepting}
 use Rattle.pass_books.specs.Finishing.{IsFinishing, shown_with}

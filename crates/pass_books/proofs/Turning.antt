@@ -6,14 +6,15 @@ use Rattle.partlog.specs.History.{History}
 use Rattle.partlog.specs.State.{PartState as State, state_of}
 use Rattle.audit.specs.declared.account.Point.{Point}
 use Rattle.audit.specs.LawfulCall.{operation_parts}
-use Rattle.audit.proofs.Laws.{get_set_same}
+use Rattle.kbytes.proofs.Laws.{get_set_same}
 use Rattle.kanswer.specs.Decisions.{AskLog, Decision, Looked, Outcome}
 use Rattle.kanswer.specs.Waiting.{values_of}
 use Rattle.kwire.specs.declared.request.Request.{Request}
 use Rattle.opcond.specs.Tally.{IsSatisfied}
-use Rattle.plain_broker.specs.Board.{Waiting, empty_history, history_at}
-use Rattle.plain_broker.specs.Entering.{Noted, entered}
-use Rattle.plain_broker.specs.Sound.{AreHistories}
+use Rattle.broker_spec.specs.Board.{Waiting, empty_history, history_at}
+use Rattle.kanswer.specs.WithEntry.{entered}
+use Rattle.broker_spec.specs.Entering.{Noted}
+use Rattle.broker_spec.specs.Sound.{AreHistories}
 use Rattle.pass_books.specs.Accepting.{IsAccepting}
 use Rattle.pass_books.specs.Finishing.{IsFinishing, shown_with}
 use Rattle.pass_books.specs.Owned.{OthersAlone}

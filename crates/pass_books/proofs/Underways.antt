@@ -15,13 +15,13 @@ use Rattle.audit.specs.declared.account.Transcript.{Transcript}
 use Rattle.audit.specs.Histories.{calls_in, points_of}
 use Rattle.audit.specs.IsLawful.{EndWell}
 use Rattle.audit.specs.LawfulCall.{IsLawfulCall}
-use Rattle.audit.proofs.Laws.{all_append}
+use Rattle.kbytes.proofs.Laws.{all_append}
 use Rattle.kwire.specs.Configuration.{Configuration}
-use Rattle.plain_broker.specs.Board.{Waiting}
-use Rattle.plain_broker.specs.GoesOn.{HaveGrown}
-use Rattle.plain_broker.specs.Kept.{owners_at}
-use Rattle.plain_broker.specs.Sound.{AreHistories, IsWaiting}
-use Rattle.plain_broker.proofs.Laws.{all_on, carried_on, waiting_on}
+use Rattle.broker_spec.specs.Board.{Waiting}
+use Rattle.broker_spec.specs.GoesOn.{HaveGrown}
+use Rattle.broker_spec.specs.Kept.{owners_at}
+use Rattle.broker_spec.specs.Sound.{AreHistories, IsWaiting}
+use Rattle.broker_spec.proofs.Laws.{all_on, carried_on, waiting_on}
 use Rattle.pass_books.specs.Book.{Book, begun_behind}
 use Rattle.pass_books.specs.IsBook.{AreFinished, IsBook, IsFinished, Stand}
 use Rattle.pass_books.specs.Owned.{AreOwn, OwnWithin}
@@ -94,7 +94,7 @@ last_unparked book front last h =
     all_behind (λ (call : Call). call.how ≡ Parked → ⊥) (calls_in front) last.calls
     (unparked_all book.config book.parts book.clock (calls_in front ++ last.calls) (subst (AreFinished book.config book.parts book.clock) (calls_behind front last) h.calls))
 
--- where its last call was cut off, it is for want of memory
+-- where its last call was cut off, it is because memory ran out
 pub ended : (book : Book) (front : List Transcript) (last : Transcript) (end : SessionEnd) → last.end ≡ None → (last_is_cut last.calls ≡ true → end ≡ NoMemory)
     → IsBook (record book { transcripts = front ++ last ∷ [] }) None → IsBook (record book { transcripts = front ++ record last { end = Some end } ∷ [] }) None
 ended book front last end going cut h =

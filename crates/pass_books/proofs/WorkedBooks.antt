@@ -16,17 +16,17 @@ use Rattle.audit.specs.declared.account.Transcript.{Transcript}
 use Rattle.audit.specs.Histories.{Owner, owner_of, clock_owner_of}
 use Rattle.audit.specs.IsLawful.{IsLawful, is_won_by}
 use Rattle.audit.specs.Worked.{at, followed}
-use Rattle.audit.proofs.Laws.{some_is}
+use Rattle.kbytes.proofs.Laws.{some_is}
 use Rattle.kanswer.specs.Decisions.{AskLog, Decision, Decides, append_outcome, fetch_outcome}
 use Rattle.kwire.specs.Configuration.{Configuration}
 use Rattle.kwire.specs.IsRequest.{IsRequest}
-use Rattle.plain_broker.specs.Board.{Waiting, empty_history}
-use Rattle.plain_broker.specs.GoesOn.{Longer, the_owner}
-use Rattle.plain_broker.specs.Kept.{owners_at}
-use Rattle.plain_broker.specs.Sound.{AreHistories}
-use Rattle.plain_broker.specs.Worked.{waits_for_all}
-use Rattle.plain_broker.specs.WorkedPlay.{batch, follow, produce}
-use Rattle.plain_broker.proofs.Laws.{grown_self}
+use Rattle.broker_spec.specs.Board.{Waiting, empty_history}
+use Rattle.broker_spec.specs.GoesOn.{Longer, the_owner}
+use Rattle.broker_spec.specs.Kept.{owners_at}
+use Rattle.broker_spec.specs.Sound.{AreHistories}
+use Rattle.broker_spec.specs.Worked.{waits_for_all}
+use Rattle.broker_spec.specs.WorkedPlay.{batch, follow, produce}
+use Rattle.broker_spec.proofs.Laws.{grown_self}
 use Rattle.pass_books.specs.Book.{Book, opening_book}
 use Rattle.pass_books.specs.IsBook.{IsBook}
 use Rattle.pass_books.specs.Owned.{NotOf, OthersAlone}

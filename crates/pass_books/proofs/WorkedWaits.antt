@@ -14,13 +14,13 @@ use Rattle.audit.specs.declared.account.CallHow.TheVariants.{Cut, Expired, Parke
 use Rattle.audit.specs.Histories.{owner_of, clock_owner_of, clock_part}
 use Rattle.audit.specs.IsLawful.{IsLawful, is_won_by}
 use Rattle.audit.specs.Worked.{at, fetch_both, fetch_one, from_start, three_waits, two_parts}
-use Rattle.audit.proofs.Laws.{some_is}
+use Rattle.kbytes.proofs.Laws.{some_is}
 use Rattle.kanswer.specs.Decisions.{AskLog, Decision, Outcome, fetch_outcome}
 use Rattle.kwire.specs.IsRequest.{IsRequest}
-use Rattle.plain_broker.specs.Board.{Waiting}
-use Rattle.plain_broker.specs.Entering.{Noted}
-use Rattle.plain_broker.specs.GoesOn.{Longer, the_owner}
-use Rattle.plain_broker.specs.Sound.{AreHistories}
+use Rattle.broker_spec.specs.Board.{Waiting}
+use Rattle.broker_spec.specs.Entering.{Noted}
+use Rattle.broker_spec.specs.GoesOn.{Longer, the_owner}
+use Rattle.broker_spec.specs.Sound.{AreHistories}
 use Rattle.pass_books.specs.Accepting.{IsAccepting, clock_seen, left_waiting}
 use Rattle.pass_books.specs.Book.{Book, opening_book}
 use Rattle.pass_books.specs.Finishing.{IsDelayed, late_seen}

@@ -9,10 +9,10 @@ use Rattle.kanswer.specs.Decisions.{Decision, Decides}
 use Rattle.kanswer.specs.Waiting.{operation_of, results_of}
 use Rattle.kwire.specs.IsRequest.{IsRequest}
 use Rattle.kwire.specs.declared.request.Request.{Request}
-use Rattle.plain_broker.specs.Board.{Waiting}
-use Rattle.plain_broker.specs.Entering.{Noted, accept_all, shown_of, steps_of}
-use Rattle.plain_broker.specs.GoesOn.{Carried}
-use Rattle.plain_broker.specs.Sound.{AllBelow}
+use Rattle.broker_spec.specs.Board.{Waiting}
+use Rattle.broker_spec.specs.Entering.{Noted, accept_all, shown_of, steps_of}
+use Rattle.broker_spec.specs.GoesOn.{Carried}
+use Rattle.broker_spec.specs.Sound.{AllBelow}
 use Rattle.pass_books.specs.Underway.{Underway, IsUnderway, seq_of}
 
 -- The first so many of the decisions are carried out, and this is what became of their partitions: in every account that goes on each

@@ -5,7 +5,7 @@ use Rattle.partlog.specs.History.{History}
 use Rattle.audit.specs.declared.account.Transcript.{Transcript}
 use Rattle.audit.specs.Histories.{calls_in}
 use Rattle.kwire.specs.Configuration.{Configuration, followers_of}
-use Rattle.plain_broker.specs.Board.{empty_history}
+use Rattle.broker_spec.specs.Board.{empty_history}
 
 pub record Book : Type 0 where
   pub config : Configuration

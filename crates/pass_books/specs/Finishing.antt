@@ -9,10 +9,10 @@ use Rattle.audit.specs.LawfulCall.{Step, IsClockLook, IsLook, by_part, operation
 use Rattle.kanswer.specs.Decisions.{Looked}
 use Rattle.kanswer.specs.Waiting.{Shown, values_of}
 use Rattle.opcond.specs.Tally.{IsOverdue, IsSatisfied}
-use Rattle.plain_broker.specs.Board.{Waiting, history_at}
-use Rattle.plain_broker.specs.Entering.{entered}
-use Rattle.plain_broker.specs.GoesOn.{Carried}
-use Rattle.plain_broker.specs.Sound.{AllBelow, IsDelayedAs}
+use Rattle.broker_spec.specs.Board.{Waiting, history_at}
+use Rattle.kanswer.specs.WithEntry.{entered}
+use Rattle.broker_spec.specs.GoesOn.{Carried}
+use Rattle.broker_spec.specs.Sound.{AllBelow, IsDelayedAs}
 use Rattle.pass_books.specs.Underway.{Underway, IsUnderway, seq_of}
 
 -- the call was accepted whole, and became this operation

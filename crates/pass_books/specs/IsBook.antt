@@ -11,15 +11,15 @@ use Rattle.audit.specs.Histories.{calls_in, points_of}
 use Rattle.audit.specs.IsLawful.{FollowOn}
 use Rattle.audit.specs.LawfulCall.{IsLawfulCall}
 use Rattle.kwire.specs.Configuration.{Configuration}
-use Rattle.plain_broker.specs.Board.{Waiting}
-use Rattle.plain_broker.specs.GoesOn.{Carried}
-use Rattle.plain_broker.specs.Kept.{owners_at}
-use Rattle.plain_broker.specs.Sound.{AreHistories, IsWaiting}
+use Rattle.broker_spec.specs.Board.{Waiting}
+use Rattle.broker_spec.specs.GoesOn.{Carried}
+use Rattle.broker_spec.specs.Kept.{owners_at}
+use Rattle.broker_spec.specs.Sound.{AreHistories, IsWaiting}
 use Rattle.pass_books.specs.Book.{Book}
 use Rattle.pass_books.specs.Owned.{AreOwn}
 use Rattle.pass_books.specs.Told.{told}
 
--- a call that doesn't wait, and is lawful whatever comes after; want of memory may have cut it off
+-- a call that doesn't wait, and is lawful whatever comes after; running out of memory may have cut it off
 pub record IsFinished (config : Configuration) (parts : List History) (clock : List ClockEvent) (call : Call) : Type 0 where
   pub unparked : call.how ≡ Parked → ⊥
   pub lawful : Carried config parts clock (λ account. IsLawfulCall account call)
@@ -51,5 +51,5 @@ pub record IsBook (book : Book) (waits : Option Waiting) : Type 0 where
   pub histories : AreHistories book.config book.parts book.clock
   pub own : AreOwn (owners_at book.parts book.clock) book.number (map points_of (calls_in book.transcripts))
   pub calls : Stand book waits
-  -- the calls are numbered through, and each transcript ends as its last call says, which want of memory may have cut off just now
+  -- the calls are numbered through, and each transcript ends as its last call says, which running out of memory may have cut off just now
   pub ends : FollowOn 0 (map told book.transcripts)

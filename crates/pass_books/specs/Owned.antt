@@ -10,8 +10,8 @@ use Rattle.partlog.specs.History.{History}
 use Rattle.audit.specs.declared.account.Point.{Point}
 use Rattle.audit.specs.Histories.{Owner, owner_of, clock_owner_of}
 use Rattle.audit.specs.IsLawful.{is_point, places_in}
-use Rattle.plain_broker.specs.GoesOn.{Longer, the_owner}
-use Rattle.plain_broker.specs.Kept.{owners_at}
+use Rattle.broker_spec.specs.GoesOn.{Longer, the_owner}
+use Rattle.broker_spec.specs.Kept.{owners_at}
 
 -- the owners of each history, and the points of the pass's calls, one list a call
 pub record AreOwn (owners : ℕ → List (Option Owner)) (number : ℕ) (rows : List (List Point)) : Type 0 where

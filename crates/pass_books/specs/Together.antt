@@ -12,11 +12,12 @@ use Rattle.audit.specs.LawfulCall.{Step, part_in}
 use Rattle.kanswer.specs.Waiting.{Shown, values_of}
 use Rattle.kwire.specs.Configuration.{Configuration}
 use Rattle.opcond.specs.Tally.{IsAnswerable}
-use Rattle.plain_broker.specs.Board.{Waiting, part_account}
-use Rattle.plain_broker.specs.Completing.{present}
-use Rattle.plain_broker.specs.GoesOn.{HaveGrown, the_owner}
-use Rattle.plain_broker.specs.Kept.{owners_at}
-use Rattle.plain_broker.specs.Sound.{AreHistories}
+use Rattle.audit.specs.Histories.{part_account}
+use Rattle.broker_spec.specs.Board.{Waiting}
+use Rattle.broker_spec.specs.Completing.{present}
+use Rattle.broker_spec.specs.GoesOn.{HaveGrown, the_owner}
+use Rattle.broker_spec.specs.Kept.{owners_at}
+use Rattle.broker_spec.specs.Sound.{AreHistories}
 use Rattle.pass_books.specs.Book.{Book}
 use Rattle.pass_books.specs.Owned.{OwnWithin}
 use Rattle.pass_books.specs.Told.{told}

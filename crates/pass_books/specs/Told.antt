@@ -1,4 +1,4 @@
--- A transcript as it is told in an account: where its last call was cut off and nobody has ended it, its end is want of memory.
+-- A transcript as it is told in an account: where its last call was cut off and nobody has ended it, its end is running out of memory.
 use Rattle.std.specs.Prelude.{Bool, true, false, List, [], ◌∷◌, Option, Some, None}
 use Rattle.audit.specs.declared.account.Call.{Call}
 use Rattle.audit.specs.declared.account.CallHow.{CallHow}

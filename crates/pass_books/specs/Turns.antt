@@ -7,8 +7,9 @@ use Rattle.partlog.specs.State.{state_of}
 use Rattle.audit.specs.declared.account.Point.{Point}
 use Rattle.audit.specs.Histories.{owner_of}
 use Rattle.kanswer.specs.Decisions.{Entry, Looked, Outcome}
-use Rattle.plain_broker.specs.Entering.{Noted, entered}
-use Rattle.plain_broker.specs.GoesOn.{IsWhole, Longer}
+use Rattle.kanswer.specs.WithEntry.{entered}
+use Rattle.broker_spec.specs.Entering.{Noted}
+use Rattle.broker_spec.specs.GoesOn.{IsWhole, Longer}
 use Rattle.pass_books.specs.Owned.{NotOf}
 use Rattle.pass_books.specs.Underway.{Underway, seq_of}
 

@@ -1,4 +1,4 @@
--- A pass amid a call, which it has written down already, as cut off: so the call is lawful wherever want of memory stops it.
+-- A pass amid a call, which it has written down already, as cut off: so the call is lawful wherever running out of memory stops it.
 use Rattle.std.specs.Prelude.{ℕ, ◌≡◌, List, [], ◌∷◌, ◌++◌, length, map, None}
 use Rattle.std.specs.List.{AllByRecursion}
 use Rattle.partlog.specs.declared.clock_event.ClockEvent.{ClockEvent}
@@ -10,8 +10,8 @@ use Rattle.audit.specs.declared.account.Transcript.{Transcript}
 use Rattle.audit.specs.Histories.{calls_in, points_of}
 use Rattle.audit.specs.IsLawful.{FollowOn}
 use Rattle.kwire.specs.Configuration.{Configuration}
-use Rattle.plain_broker.specs.Kept.{owners_at}
-use Rattle.plain_broker.specs.Sound.{AreHistories}
+use Rattle.broker_spec.specs.Kept.{owners_at}
+use Rattle.broker_spec.specs.Sound.{AreHistories}
 use Rattle.pass_books.specs.Book.{Book}
 use Rattle.pass_books.specs.IsBook.{AreFinished, with_call}
 use Rattle.pass_books.specs.Owned.{AreOwn}

@@ -12,9 +12,9 @@ use Rattle.audit.specs.declared.account.CallHow.TheVariants.{AtOnce, Satisfied, 
 use Rattle.audit.specs.declared.account.Point.{Point}
 use Rattle.audit.specs.declared.account.SessionEnd.TheVariants.{Closed}
 use Rattle.audit.specs.Worked.{at, followed}
-use Rattle.plain_broker.specs.Board.{Waiting}
-use Rattle.plain_broker.specs.Worked.{produced, waits_for_all}
-use Rattle.plain_broker.specs.WorkedPlay.{batch}
+use Rattle.broker_spec.specs.Board.{Waiting}
+use Rattle.broker_spec.specs.Worked.{produced, waits_for_all}
+use Rattle.broker_spec.specs.WorkedPlay.{batch}
 use Rattle.pass_books.specs.Book.{Book}
 
 -- a partition into which one batch was put

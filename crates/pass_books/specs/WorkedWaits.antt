@@ -9,7 +9,7 @@ use Rattle.audit.specs.declared.account.Call.{Call}
 use Rattle.audit.specs.Worked.{at, cut_call, expired_call, fetch_one, parked_call, two_parts}
 use Rattle.kanswer.specs.declared.accepted.Accepted.TheVariants.{Seen}
 use Rattle.kanswer.specs.Waiting.{operation_of}
-use Rattle.plain_broker.specs.Board.{Waiting}
+use Rattle.broker_spec.specs.Board.{Waiting}
 use Rattle.pass_books.specs.Book.{Book}
 
 -- looks by these passes

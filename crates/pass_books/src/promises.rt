@@ -28,13 +28,13 @@ ghost use Rattle.kwire.specs.IsRequest.{IsRequest};
 ghost use Rattle.kwire.specs.declared.config.TheConstants.{MOST_PARTITIONS};
 ghost use Rattle.kwire.specs.declared.request.Request.{Request};
 ghost use Rattle.opcond.specs.Tally.{IsSatisfied};
-ghost use Rattle.plain_broker.specs.Board.{history_at, Waiting};
-ghost use Rattle.plain_broker.specs.Entering.{Noted, shown_of};
-ghost use Rattle.plain_broker.specs.GoesOn.{Carried};
-ghost use Rattle.plain_broker.specs.Sound.{AreHistories};
-ghost use Rattle.plain_broker.specs.Turns.{how_at_once};
-ghost use Rattle.plain_broker.specs.Worked.{waits_for_all};
-ghost use Rattle.plain_broker.specs.WorkedPlay.{batch, follow, produce};
+ghost use Rattle.broker_spec.specs.Board.{history_at, Waiting};
+ghost use Rattle.broker_spec.specs.Entering.{Noted, shown_of};
+ghost use Rattle.broker_spec.specs.GoesOn.{Carried};
+ghost use Rattle.broker_spec.specs.Sound.{AreHistories};
+ghost use Rattle.broker_spec.specs.Turns.{how_at_once};
+ghost use Rattle.broker_spec.specs.Worked.{waits_for_all};
+ghost use Rattle.broker_spec.specs.WorkedPlay.{batch, follow, produce};
 ghost use Rattle.pass_books.specs.Accepting.{carried_out, clock_seen, IsAccepting, left_waiting, noted_next};
 ghost use Rattle.pass_books.specs.Book.{begun_behind, Book, opening_book};
 ghost use Rattle.pass_books.specs.Finishing.{IsDelayed, IsFinishing, late_seen, part_seen, shown_with};
@@ -57,7 +57,7 @@ pub fn books_are_lawful()
 {}
 
 /// Law: a book between two calls. A pass that has done nothing has one. It stays one whatever others do, as the pass tells the clock a
-/// later moment, and as a transcript is begun or ended, which is for want of memory where its last call was cut off.
+/// later moment, and as a transcript is begun or ended, which is because memory ran out where its last call was cut off.
 pub fn books_go_on()
     ensures opened { (config : Configuration) (number : ℕ) → partitions_of config.topics ≤ MOST_PARTITIONS
         → IsBook (opening_book config number) None }
@@ -194,7 +194,7 @@ pub fn worked_books()
 
 /// Law: worked books of three passes that waited. A fetch expired, one waits still, and one was won and cut off behind the first of its
 /// looks. Each pass saw another front of the histories, turn by turn; the books go together, and come to an account that is written
-/// out elsewhere, in which the transcript of the third ends for want of memory.
+/// out elsewhere, in which the transcript of the third ends because memory ran out.
 pub fn worked_waits()
     ensures expired { (one : List ℕ) → IsRequest one fetch_one → IsBook (expired_book one) None }
     ensures parked { (one : List ℕ) → IsRequest one fetch_one → IsBook (parked_book one) (Some fetch_waits) }

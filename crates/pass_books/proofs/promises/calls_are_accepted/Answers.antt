@@ -4,7 +4,7 @@ use Rattle.pass_books.proofs.Turning.{accepting_turn}
 use Rattle.pass_books.proofs.promises.calls_are_accepted.Goals as goal
 use Rattle.std.proofs.Common.{length, refl, None}
 use Rattle.audit.specs.declared.account.CallHow.TheVariants.{Cut}
-use Rattle.plain_broker.specs.Turns.{how_at_once}
+use Rattle.broker_spec.specs.Turns.{how_at_once}
 use Rattle.pass_books.specs.Underway.{with_end}
 
 pub returns-clause-called : goal.returns-clause-called

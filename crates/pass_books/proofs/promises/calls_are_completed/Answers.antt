@@ -1,6 +1,6 @@
 use Rattle.std.proofs.Common.{None, Some, refl}
 use Rattle.audit.specs.declared.account.CallHow.TheVariants.{Cut, Expired, Parked, Satisfied}
-use Rattle.plain_broker.proofs.Laws.{clock_point}
+use Rattle.broker_spec.proofs.Laws.{clock_point}
 use Rattle.pass_books.specs.Underway.{with_end}
 use Rattle.pass_books.proofs.Finishings.{delayed_as, delayed_cut, delayed_parked, finishing_as, finishing_cut, finishing_expired, finishing_late, finishing_on, finishing_satisfied, finishing_won, waits_delayed}
 use Rattle.pass_books.proofs.Passing.{others_amid_finishing}

@@ -1,0 +1,10 @@
+use Rattle.account_print.proofs.ByPoints.{item_there}
+use Rattle.account_print.proofs.Tellings.{next_call}
+use Rattle.account_print.proofs.telling.put_replies.Goals as goal
+
+pub loop-call-preserved : goal.loop-call-preserved
+loop-call-preserved c =
+    let calls = c.args.calls.now in
+    let i = c.loop-call.call-index in
+    let call = c.call-item.result in
+    next_call c.args.account.now c.args.session calls i call c.args.out.now c.loop-call.out c.put_reply.new.out (item_there calls i call c.loop-call-test.true c.call-item.is) c.loop-call.invariant c.in_ok-put_reply.ensures

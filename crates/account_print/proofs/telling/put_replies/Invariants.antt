@@ -1,0 +1,6 @@
+use Rattle.std.proofs.Common.{take}
+use Rattle.account_print.proofs.Tellings.{HavePut}
+use Rattle.account_print.proofs.telling.put_replies.Given as goal
+
+abbrev pub invariant-loop-call : goal.invariant-loop-call
+invariant-loop-call l = HavePut l.account l.session (take l.call-index l.calls) l.fn.out l.out

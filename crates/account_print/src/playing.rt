@@ -1,0 +1,76 @@
+//! The entries of a history put into a log again.
+
+ghost use Rattle.std.specs.Prelude.{◌≡◌, ◌≤◌, ◌<◌, ◌+◌, length, OnOk, List as Items};
+ghost use Rattle.kbatch.specs.Batch.{IsBatch};
+ghost use Rattle.kbatch.specs.declared.record.Record.{Record};
+ghost use Rattle.partlog.specs.declared.part_log.TheConstants.{MOST_LOG_BYTES};
+ghost use Rattle.partlog.specs.Added.{log_end_of};
+ghost use Rattle.partlog.specs.Appended.{appended};
+ghost use Rattle.partlog.specs.Followed.{followed};
+ghost use Rattle.partlog.specs.Follower.{IsFollower};
+ghost use Rattle.partlog.specs.State.{front_of};
+ghost use Rattle.audit.specs.Histories.{history_of};
+ghost use Rattle.account_print.specs.Playable.{IsPlayable};
+
+use audit::PartAccount;
+use kbatch::view_batch;
+use kbytes::NoMemory;
+use partlog::{FollowFault, LogFault, PartEvent, PartLog, Who};
+
+// A batch that there is room for.
+fn put_again(log: &mut PartLog, who: Who, bytes: &[u8]) -> Result<(), NoMemory>
+    requires batch { (records : Items Record) × IsBatch bytes.now records }
+    requires room { length log.old.log + length bytes.now ≤ MOST_LOG_BYTES }
+    ensures { OnOk result (log.new ≡ appended log.old who.by who.seq bytes.now) }
+{
+    let Ok(batch) = view_batch(bytes) else {
+        unreachable!()
+    };
+    match log.append_view(who, &batch) {
+        Ok(_) => Ok(()),
+        Err(LogFault::NoMemory) => Err(NoMemory),
+        Err(LogFault::LogFull) => unreachable!(),
+    }
+}
+
+// The fetch of a follower, in range.
+fn follow_again(log: &mut PartLog, who: Who, replica: i32, offset: u64) -> Result<(), NoMemory>
+    requires follower { IsFollower replica log.old.followers }
+    requires within { offset ≤ log_end_of log.old.events }
+    ensures { OnOk result (log.new ≡ followed log.old who.by who.seq replica offset) }
+{
+    let end = log.numbers().end;
+    prove!(offset <= end);
+    match log.follow(who, replica, offset as i64) {
+        Ok(_) => Ok(()),
+        Err(FollowFault::NoMemory) => Err(NoMemory),
+        Err(FollowFault::NoReplica) => unreachable!(),
+        Err(FollowFault::OutOfRange { .. }) => unreachable!(),
+    }
+}
+
+/// Puts the entry at a place of a history behind those before it. If memory runs out, the log is as it was.
+pub fn play(log: &mut PartLog, part: &PartAccount, place: usize) -> Result<(), NoMemory>
+    requires playable { IsPlayable (history_of part.now) }
+    requires before { log.old ≡ front_of (history_of part.now) place }
+    requires within { place < length part.now.events }
+    ensures { OnOk result (log.new ≡ front_of (history_of part.now) (place + 1)) }
+{
+    match part.events.as_slice()[place] {
+        PartEvent::Append { by, seq, len, .. } => {
+            let start = log.log().len();
+            let bytes = &part.log.as_slice()[start..start + len as usize];
+            put_again(log, Who { by, seq }, bytes)
+        }
+        PartEvent::Follow {
+            by,
+            seq,
+            replica,
+            offset,
+        } => follow_again(log, Who { by, seq }, replica, offset),
+        PartEvent::Look { by, seq } => {
+            log.look(Who { by, seq })?;
+            Ok(())
+        }
+    }
+}

@@ -1,0 +1,114 @@
+//! The sessions of a run told in shares, each share in a thread of its own.
+
+ghost use Rattle.std.specs.Prelude.{ℕ, ◌≡◌, ◌<◌, ◌≤◌, ◌++◌, map, List as Items, Ok, OnOk, IfOk};
+ghost use Rattle.std.specs.List.{AllByRecursion, flat_map};
+ghost use Rattle.kwire.specs.DeclaredTopics.{AreDeclared};
+ghost use Rattle.audit.specs.Histories.{history_of};
+ghost use Rattle.audit.specs.IsLawful.{HasLogs};
+ghost use Rattle.audit.specs.Printed.{IsPrintOf, transcripts_of};
+ghost use Rattle.account_print.specs.Shares.{AreShares, IsTextOf, sessions_in};
+ghost use Rattle.account_print.specs.Tellable.{IsTellable, IsTold};
+
+use crate::past::{Past, pasts_of};
+use crate::telling::passes_text;
+use audit::{Account, Transcript, print_replay};
+use kbytes::{Bytes, List, NoMemory};
+use std::alloc::Global;
+use std::thread::Threads;
+use std::{mem, thread};
+
+// How many passes a share has, the last one perhaps fewer, where each thread has one share.
+fn share_size(passes: usize, threads: u32) -> usize
+    requires { 1 ≤ threads }
+    ensures { 0 < result }
+{
+    passes.div_ceil(threads as usize).max(1)
+}
+
+// Tells each share of so many passes, in a thread of its own where one can be started.
+fn share_texts<R: Threads + Sync>(
+    rt: &R,
+    alloc: Global,
+    account: &Account,
+    pasts: &[Past],
+    size: usize,
+) -> Result<Vec<Result<Bytes, NoMemory>>, NoMemory>
+    requires size { 0 < size }
+    requires told { AllByRecursion (IsTold account.now) (transcripts_of account.now) }
+    requires logs { HasLogs account.now }
+    requires pasts { pasts.now ≡ map history_of account.now.parts }
+    requires declared { AreDeclared account.now.config.topics }
+    ensures { IfOk result (λ texts. AreShares account.now size texts.items) }
+{
+    let tell = |_start: usize, passes: &[List<Transcript>]| -> Result<Bytes, NoMemory>
+        requires told { AllByRecursion (IsTold account.now) (sessions_in passes.now) }
+        requires logs { HasLogs account.now }
+        requires pasts { pasts.now ≡ map history_of account.now.parts }
+        requires declared { AreDeclared account.now.config.topics }
+        ensures { IfOk result (λ text. IsTextOf account.entry.now (sessions_in passes.entry.now) text) }
+    { passes_text(alloc, account, pasts, passes) };
+    Ok(thread::map_chunks(rt, alloc, account.passes.as_slice(), size, &tell)?)
+}
+
+// Puts the texts one behind the other, where each was told.
+fn put_texts(texts: &[Result<Bytes, NoMemory>], out: &mut Bytes) -> Result<(), NoMemory>
+    ensures { OnOk result ((all : Items (Items ℕ)) × (texts.now ≡ map Ok all) × (out.new ≡ out.old ++ flat_map (λ text. text) all)) }
+{
+    for told in texts {
+        match told {
+            Ok(text) => out.extend(text.as_slice())?,
+            Err(_) => return Err(NoMemory),
+        }
+    }
+    Ok(())
+}
+
+// The texts one behind the other, where each was told. The first takes the others in, as it may be all there is.
+fn joined(alloc: Global, texts: &mut [Result<Bytes, NoMemory>]) -> Result<Bytes, NoMemory>
+    ensures { IfOk result (λ text. (all : Items (Items ℕ)) × (texts.old ≡ map Ok all) × (text ≡ flat_map (λ text. text) all)) }
+{
+    let Some((first, others)) = texts.split_first_mut() else {
+        return Ok(Bytes::new(alloc));
+    };
+    let mut text = mem::replace(first, Err(NoMemory))?;
+    put_texts(others, &mut text)?;
+    Ok(text)
+}
+
+// The lines of all sessions, told in shares of so many passes.
+fn sessions_text<R: Threads + Sync>(
+    rt: &R,
+    alloc: Global,
+    account: &Account,
+    pasts: &[Past],
+    size: usize,
+) -> Result<Bytes, NoMemory>
+    requires size { 0 < size }
+    requires told { AllByRecursion (IsTold account.now) (transcripts_of account.now) }
+    requires logs { HasLogs account.now }
+    requires pasts { pasts.now ≡ map history_of account.now.parts }
+    requires declared { AreDeclared account.now.config.topics }
+    ensures { IfOk result (λ text. IsTextOf account.now (transcripts_of account.now) text) }
+{
+    let mut texts = share_texts(rt, alloc, account, pasts, size)?;
+    joined(alloc, texts.as_mut_slice())
+}
+
+/// What `print_workers` puts, the sessions told in so many threads, that of the caller among them: the passes are cut into as many
+/// shares, and each is told in a thread of its own where one can be started.
+pub fn workers_text<R: Threads + Sync>(
+    rt: &R,
+    alloc: Global,
+    account: &Account,
+    threads: u32,
+) -> Result<Bytes, NoMemory>
+    requires tellable { IsTellable account.now }
+    requires threads { 1 ≤ threads }
+    ensures { IfOk result (IsPrintOf account.now) }
+{
+    let pasts = pasts_of(alloc, account)?;
+    let size = share_size(account.passes.len(), threads);
+    let mut text = sessions_text(rt, alloc, account, pasts.as_slice(), size)?;
+    print_replay(alloc, account, &mut text)?;
+    Ok(text)
+}

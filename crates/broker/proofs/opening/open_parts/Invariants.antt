@@ -1,7 +1,0 @@
-use Rattle.std.proofs.Common.{◌≡◌, map, take}
-use Rattle.plain_broker.specs.Board.{empty_history}
-use Rattle.kwire.specs.Configuration.{followers_of}
-use Rattle.broker.proofs.opening.open_parts.Given as goal
-
-abbrev pub invariant-loop-topic : goal.invariant-loop-topic
-invariant-loop-topic l = l.parts ≡ map empty_history (followers_of (take l.topic-index l.topic-items))

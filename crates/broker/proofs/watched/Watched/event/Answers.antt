@@ -1,6 +1,0 @@
-use Rattle.plain_broker.specs.Play.{brought}
-use Rattle.broker.proofs.watched.Watched.event.Goals as goal
-use Rattle.broker.proofs.DecisionSteps.{on_ok}
-
-pub returns-clause-plays : goal.returns-clause-plays
-returns-clause-plays c = on_ok c.settle.result c.settle.ensures.rests (λ turns board stands. turns (brought board c.args.line.now) (c.in_ok-bring.ensures.brought board stands))

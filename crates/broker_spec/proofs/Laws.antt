@@ -1,0 +1,62 @@
+-- What the crates above may cite.
+
+-- ---- lists
+
+-- items and owners by their places, and what holds of all items
+pub use Rattle.broker_spec.proofs.Lawful.{all_from_get, all_get, get_map, map_get}
+pub use Rattle.broker_spec.proofs.Ledger.{all_on, push_get}
+-- ---- one history
+
+-- histories that go on, and the entry of a call in one of them
+pub use Rattle.broker_spec.proofs.Growth.{Longer, IsWhole, IsSized, longer_self, longer_on, event_of, entered_events, entered_followers, entered_longer, entered_whole, entered_length, before_kept, at_kept, put_batches, looked_state, looked_moment}
+-- what every account shows of it whose part of that number goes on from there
+pub use Rattle.broker_spec.proofs.Entries.{ShowsEntry, shows_entry, event_owner, is_entry, ShowsStep, part_shows}
+-- ---- all histories
+
+-- decisions that ask only logs that are there, and what they leave
+pub use Rattle.broker_spec.proofs.Entries.{IsWithin, IsFairOutcome, IsFair, AllWhole, Follows, the_owner, accepted_longer, accepted_size, accepted_followers, ShowsAccepted, accepted_shows, set_whole, set_same}
+-- what is decided of a request is such
+pub use Rattle.broker_spec.proofs.Fair.{parts_size, followers_size, part_within, produce_fair, fetch_fair, decides_fair}
+-- what holds in every account that goes on
+pub use Rattle.broker_spec.proofs.Going.{AllLonger, HaveGrown, GoesOn, Carried, all_longer_self, all_longer_on, set_longer, grown_self, grown_parts, grown_clock, goes_back, carried_on, clock_point, clock_looked, clock_moment}
+-- the histories of the configuration, as decisions are carried out and the clock is looked at
+pub use Rattle.broker_spec.proofs.Acts.{histories_on, ticks_looked}
+pub use Rattle.broker_spec.proofs.Playing.{ticks_rise}
+-- what an account shows of histories that its parts are read off
+pub use Rattle.broker_spec.proofs.Lawful.{flat_points, followers_map, last_state, owned_here, whole_logs}
+-- who left the entries, as one more comes, or all of a request
+pub use Rattle.broker_spec.proofs.Ledger.{IsKept, put, put_same, put_other, kept_nobodys, kept_entry, kept_begun, kept_alike}
+pub use Rattle.broker_spec.proofs.Accepting.{owners_clock, owners_part, kept_part, kept_look, kept_tick, kept_accepted, accepted_within, look_decisions, look_points, looked, looks_points, looks_parts, looks_fair, looks_states, shown_in, shown_alike, looks_look, looks_shown}
+-- ---- calls
+
+-- accepted and answered at once, waiting, satisfied and expired
+pub use Rattle.broker_spec.proofs.Calls.{acceptance, completes, done_at_once, waits_on, left_on, done_satisfied, done_expired}
+-- ---- boards
+
+-- what holds of a waiting call holds on, and at first nobody left an entry
+pub use Rattle.broker_spec.proofs.Boards.{waiting_on}
+pub use Rattle.broker_spec.proofs.Playing.{nobodys}
+-- what holds of a board stays as one session changes
+pub use Rattle.broker_spec.proofs.Boards.{AreSound, IsSound, session_on, sound_alike, seat_changed, waits_more, waits_else, waits_no_more, waits_still, none_waits, find_is, finished}
+-- each step keeps it: a line, a waiting request that is asked, a scan, and what a session does
+pub use Rattle.broker_spec.proofs.Boards.{waits_last, waits_there}
+pub use Rattle.broker_spec.proofs.Acts.{handled_sound, ended_sound}
+pub use Rattle.broker_spec.proofs.Answering.{completed_sound}
+pub use Rattle.broker_spec.proofs.Playing.{opening_sound, brought_sound, answered_sound, scanned_sound, acts_sound}
+-- a scan changes no state, and asks every session
+pub use Rattle.broker_spec.proofs.Resting.{IsUnmoved, unmoved_answerable, scanned_still}
+-- its account is lawful where nothing that waits is answerable
+pub use Rattle.broker_spec.proofs.Lawful.{Still, account_goes, board_lawful}
+-- how much is left to do on a board, and whose turn it is
+pub use Rattle.broker_spec.proofs.Work.{AreSeats, IsOpen, work_of, work_on, seats_set, inbox_bytes, opening_seats, scanned_as_much, acts_less, open_work, its_turn}
+-- ---- plays
+
+-- lines that are played, one more at a time
+pub use Rattle.broker_spec.proofs.LineByLine.{plays_keep, plays_on, lines_left, lines_more}
+-- lines play to something, and to one thing at most
+pub use Rattle.broker_spec.proofs.PlaySome.{lines_play, input_bytes, trace_plays}
+pub use Rattle.broker_spec.proofs.PlayOnce.{play_is_one, front_of_play}
+-- the topics of a trace, and what its play is
+pub use Rattle.broker_spec.proofs.RunOfLines.{trace_declared, play_is_run}
+-- a board between two lines is sound and at rest, and its account is lawful
+pub use Rattle.broker_spec.proofs.Resting.{IsSettled, opening_settled, rests_settled, plays_settled, settled_rests, play_rests, play_is_lawful}

@@ -1,0 +1,19 @@
+use Rattle.std.proofs.Common.{◌<◌, arith, length, ap, ◌∙◌, to_z, of_z}
+use Rattle.kwire.specs.declared.request.FetchTopic.{FetchTopic}
+use Rattle.std.specs.Int.{w32}
+use Rattle.lone_broker.proofs.ReadForReply.{topic_size, topic_read}
+use Rattle.lone_broker.proofs.reply.read_fetch.Goals as goal
+
+pub loop-topic-preserved : goal.loop-topic-preserved
+loop-topic-preserved c =
+    let d = c.in_ok-read_topic.ensures in
+    let i = c.loop-topic.topic-index in
+    let t = c.topic-item.result in
+    let lt : i < length c.args.topics.now = c.loop-topic-test.true in
+    let parts = ap (λ (topic : FetchTopic). topic.parts) c.topic.view_is in
+    record {
+      size = omega (arith, topic_size c.args.topics.now i t lt c.topic-item.is, c.len.ensures, ap length parts);
+      read = topic_read c.args.parts.now (to_z w32 (of_z w32 c.args.replica)) c.args.topics.now c.as_slice.result.now c.args.accepted.now i c.loop-topic.from c.len.result t c.loop-topic.budget c.read_topic.new.budget c.loop-topic.readings c.read_topic.new.readings _ lt c.topic-item.is (c.as_slice.ensures ∙ parts) (c.len.ensures ∙ ap length parts) d.read d.left c.loop-topic.invariant.read;
+      offsets = d.offsets c.loop-topic.invariant.offsets;
+      room = omega arith;
+    }

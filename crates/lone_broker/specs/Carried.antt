@@ -1,0 +1,44 @@
+-- Decisions were carried out: the histories are those that accepting leaves, and its results and points stand after those
+-- that came before.
+use Rattle.std.specs.Prelude.{◌≡◌, ℕ, ℤ, List, [], ◌∷◌, ◌++◌, length, map}
+use Rattle.std.specs.List.{AllZip}
+use Rattle.partlog.specs.History.{History}
+use Rattle.audit.specs.declared.account.Point.{Point}
+use Rattle.kanswer.specs.declared.accepted.Accepted.{Accepted}
+use Rattle.kanswer.specs.declared.terms.Terms.{Terms}
+use Rattle.kanswer.specs.OnTerms.{OnTerms}
+use Rattle.kwire.specs.declared.request.ProduceTopic.{ProduceTopic}
+use Rattle.kwire.specs.declared.request.FetchTopic.{FetchTopic}
+use Rattle.kwire.specs.Configuration.{Configuration, part_of}
+use Rattle.partlog.specs.State.{PartState as State, state_of}
+use Rattle.kanswer.specs.Decisions.{Outcome, Decision, ProduceDecides, produce_parts, fetch_parts, fetch_decision}
+use Rattle.kanswer.specs.WithEntry.{entered}
+use Rattle.broker_spec.specs.Entering.{accept_all, steps_of, shown_of}
+use Rattle.kanswer.specs.Waiting.{results_of}
+use Rattle.audit.specs.LawfulCall.{step_points}
+
+-- what came of a request so far: a result for each partition that was named, and the points of the entries that were left
+pub record Came : Type 0 where
+  pub accepted : List Accepted
+  pub points : List Point
+
+-- the log of a partition was asked: its history has the entry of the outcome, whose result and point stand after those that came before
+pub record IsEntered (by seq part : ℕ) (outcome : State → Outcome) (before after : History) (came later : Came) : Type 0 where
+  pub history : after ≡ entered before by seq (outcome (state_of before)).entry
+  pub accepted : later.accepted ≡ came.accepted ++ (outcome (state_of before)).result ∷ []
+  pub points : later.points ≡ came.points ++ record { part = part; place = length before.events } ∷ []
+
+pub record IsCarried (by seq : ℕ) (decisions : List Decision) (before after : List History) (came later : Came) : Type 0 where
+  pub histories : after ≡ (accept_all by seq decisions before).1
+  pub accepted : later.accepted ≡ came.accepted ++ results_of (shown_of (accept_all by seq decisions before).0)
+  pub points : later.points ≡ came.points ++ step_points (steps_of (accept_all by seq decisions before).0)
+
+-- the partitions that these topics name were decided and carried out
+pub record HasProduced (config : Configuration) (terms : Terms) (by seq : ℕ) (topics : List ProduceTopic) (before after : List History) (came later : Came) : Type 0 where
+  pub decisions : List Decision
+  pub decided : OnTerms terms (λ id. AllZip (ProduceDecides config id terms.acks) (produce_parts topics) decisions)
+  pub carried : IsCarried by seq decisions before after came later
+
+-- what is decided of a fetch
+abbrev pub fetch_decisions : Configuration → ℤ → List FetchTopic → List Decision
+fetch_decisions config replica topics = map (λ named. fetch_decision config replica named (part_of config named.0 named.1.index)) (fetch_parts topics)

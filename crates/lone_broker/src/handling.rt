@@ -1,0 +1,138 @@
+//! A request is accepted, and is answered or waits.
+
+ghost use Rattle.std.specs.Prelude.{◌≡◌, ℕ, [], ◌∷◌, ◌++◌, length, map, List as Items, Some, None, IfOk, OnOk};
+ghost use Rattle.std.specs.List.{AllByRecursion};
+ghost use Rattle.audit.specs.declared.account.CallHow.TheVariants.{Parked as Waits};
+ghost use Rattle.audit.specs.Histories.{clock_part};
+ghost use Rattle.kanswer.specs.LogReadings.{IsCarriable};
+ghost use Rattle.kanswer.specs.Results.{AreResults};
+ghost use Rattle.kanswer.specs.Waiting.{Shown, is_quiet, operation_of};
+ghost use Rattle.kwire.specs.Configuration.{followers_of};
+ghost use Rattle.kwire.specs.IsRequest.{IsRequest};
+ghost use Rattle.kwire.specs.Views.{ask_of};
+ghost use Rattle.partlog.specs.Moment.{moment_of};
+ghost use Rattle.broker_spec.specs.Turns.{how_at_once, text_at_once};
+ghost use Rattle.lone_broker.specs.Gathered.{numbers_in};
+ghost use Rattle.lone_broker.specs.Handled.{IsHandled, looked_by};
+ghost use Rattle.kwire.specs.DeclaredTopics.{AreDeclared};
+ghost use Rattle.lone_broker.specs.Replying.{HasLog, ShowsLogs};
+
+use crate::accept::{Asking, accept};
+use crate::came::Came;
+use crate::parked::Parked;
+use crate::reply::{numbers_of, reply_frame};
+use audit::{CLOCK_PART, CallHow, Point};
+use kanswer::{is_quiet, needs_op, op_of};
+use kbytes::{Bytes, List, NoMemory};
+use kwire::{AskView, RequestView};
+use partlog::{ClockLog, PartLog, Who};
+use std::alloc::Global;
+use trace_file::put_reply_line;
+
+/// What was done with a request: the points of the entries that it left, how its call stands, and what is kept of it where
+/// it waits.
+#[derive(Debug, Drop)]
+pub struct Handled {
+    pub accept: List<Point>,
+    pub how: CallHow,
+    pub parked: Option<Parked>,
+}
+
+// How a call comes to its end that needn't wait.
+fn how_at_once(ask: &AskView<'_>) -> CallHow
+    ensures { result ≡ how_at_once (ask_of ask.now) }
+{
+    if is_quiet(ask) {
+        CallHow::Quiet
+    } else {
+        CallHow::AtOnce
+    }
+}
+
+// Puts the reply to a request that needn't wait at the end of `out`, where it asks for one.
+fn answer_at_once(
+    alloc: Global,
+    call: &Asking<'_>,
+    parts: &[PartLog],
+    request: &RequestView<'_>,
+    came: Came,
+    out: &mut Bytes,
+) -> Result<Handled, NoMemory>
+    requires listed { AreResults request.now.ask came.accepted }
+    requires logs { AllByRecursion (HasLog (length parts.now)) came.accepted }
+    requires asked { (body : Items ℕ) × IsRequest body request.now }
+    requires declared { AreDeclared call.now.config.now.topics }
+    ensures points { IfOk result (λ handled. handled.accept ≡ came.points) }
+    ensures how { IfOk result (λ handled. handled.how ≡ how_at_once request.now.ask) }
+    ensures none { IfOk result (λ handled. handled.parked ≡ None) }
+    ensures printed { OnOk result ((shown : Items Shown) → ShowsLogs parts.now came.accepted shown
+        → out.new ≡ out.old ++ text_at_once call.now.config.now call.now.who.by request.now shown) }
+{
+    if !is_quiet(&request.ask) {
+        let frame = reply_frame(alloc, call.config, parts, request, came.accepted())?;
+        put_reply_line(out, call.who.by, frame.as_slice())?;
+    }
+    Ok(Handled {
+        accept: came.into_points(),
+        how: how_at_once(&request.ask),
+        parked: None,
+    })
+}
+
+// The clock is looked at, and from its moment there the deadline is counted.
+fn park(
+    alloc: Global,
+    who: Who,
+    clock: &mut ClockLog,
+    request: &RequestView<'_>,
+    came: Came,
+) -> Result<Handled, NoMemory>
+    requires { AreResults request.now.ask came.accepted }
+    ensures looked { OnOk result (clock.new ≡ looked_by who.by who.seq clock.old) }
+    ensures points { IfOk result (λ handled. handled.accept
+        ≡ came.points ++ record { part = clock_part; place = length clock.old } ∷ []) }
+    ensures how { IfOk result (λ handled. handled.how ≡ Waits) }
+    ensures some { IfOk result (λ handled. handled.parked ≡ Some (record {
+      accepted = came.accepted;
+      op = operation_of request.now.ask came.accepted (moment_of clock.new);
+    })) }
+{
+    let place = clock.look(who)?;
+    let op = op_of(alloc, request, came.accepted(), clock.now())?;
+    let (accepted, mut accept) = came.into_parts();
+    accept.push(Point {
+        part: CLOCK_PART,
+        place,
+    })?;
+    Ok(Handled {
+        accept,
+        how: CallHow::Parked,
+        parked: Some(Parked { accepted, op }),
+    })
+}
+
+/// Handles a request of a session: accepts it, and answers it at the end of `out` or lets it wait. If memory runs out, some of
+/// the named partitions may have their entries, and the logs may only be dropped.
+pub fn handle(
+    alloc: Global,
+    call: &Asking<'_>,
+    parts: &mut [PartLog],
+    clock: &mut ClockLog,
+    request: &RequestView<'_>,
+    out: &mut Bytes,
+) -> Result<Handled, NoMemory>
+    requires asked { (body : Items ℕ) × IsRequest body request.now }
+    requires followers { map (λ h. h.followers) parts.old ≡ followers_of call.now.config.now.topics }
+    requires declared { AreDeclared call.now.config.now.topics }
+    ensures { IfOk result (λ handled. IsHandled call.now.config.now call.now.who.by call.now.who.seq request.now parts.old parts.new
+        clock.old clock.new handled out.old out.new) }
+{
+    let mut came = Came::new(alloc);
+    accept(call, parts, request, &mut came)?;
+    let numbers = numbers_of(alloc, parts, came.accepted())?;
+    if needs_op(request, came.accepted(), numbers.as_slice()) {
+        park(alloc, call.who, clock, request, came)
+    } else {
+        answer_at_once(alloc, call, parts, request, came, out)
+    }
+}

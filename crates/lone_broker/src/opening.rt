@@ -1,0 +1,65 @@
+//! What the one-thread broker keeps before the first line.
+
+ghost use Rattle.std.specs.Prelude.{◌≡◌, ◌++◌, None, map, replicate, IfOk, OnOk};
+ghost use Rattle.broker_spec.specs.Board.{empty_history, empty_seat, most_sessions};
+ghost use Rattle.kwire.specs.Configuration.{followers_of};
+
+use crate::desk::Desk;
+use crate::parked::Parked;
+use kbytes::{List, NoMemory};
+use kwire::Config;
+use partlog::PartLog;
+use std::alloc::Global;
+use trace_file::MOST_SESSIONS;
+
+// Puts so many logs without entries at the end. If memory runs out, some of them may stand there.
+#[tactic(auto, using(crate::proofs::Openings::one_more_behind))]
+fn put_parts(
+    alloc: Global,
+    parts: &mut List<PartLog>,
+    count: u32,
+    followers: u32,
+) -> Result<(), NoMemory>
+    ensures { OnOk result (parts.new ≡ parts.old ++ replicate count (empty_history followers)) }
+{
+    for _number in 0..count {
+        parts.push(PartLog::new(alloc, followers)?)?;
+    }
+    Ok(())
+}
+
+/// A log without entries for each partition of the configuration, in order.
+#[tactic(auto, using(crate::proofs::Openings::logs_more))]
+pub fn open_parts(alloc: Global, config: &Config) -> Result<List<PartLog>, NoMemory>
+    ensures { IfOk result (λ parts. parts ≡ map empty_history (followers_of config.now.topics)) }
+{
+    let mut parts = List::new(alloc);
+    for topic in config.topics() {
+        put_parts(alloc, &mut parts, topic.partitions, topic.followers)?;
+    }
+    Ok(parts)
+}
+
+/// A desk for each session that there may be, none of which a line has named.
+#[tactic(auto, using(std::proofs::lemmas::List::replicate_more))]
+pub fn open_desks(alloc: Global) -> Result<List<Desk>, NoMemory>
+    ensures { IfOk result (λ desks. desks ≡ replicate most_sessions empty_seat) }
+{
+    let mut desks = List::new(alloc);
+    for _number in 0..MOST_SESSIONS {
+        desks.push(Desk::new(alloc))?;
+    }
+    Ok(desks)
+}
+
+/// Nothing waits in any session.
+#[tactic(auto, using(std::proofs::lemmas::List::replicate_more))]
+pub fn open_parked(alloc: Global) -> Result<List<Option<Parked>>, NoMemory>
+    ensures { IfOk result (λ parked. parked ≡ replicate most_sessions None) }
+{
+    let mut parked = List::new(alloc);
+    for _number in 0..MOST_SESSIONS {
+        parked.push(None)?;
+    }
+    Ok(parked)
+}

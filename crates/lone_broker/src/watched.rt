@@ -1,0 +1,255 @@
+//! The one-thread broker looks only at what can have become answerable.
+//!
+//! Where a gauge of a partition rose, or the clock's moment, those who wait for it become suspects. A scan looks at them alone, in the
+//! order of the sessions: one that is answerable is answered, and any other waits on. Which sessions can act is kept as a set, in which
+//! only the session changes that acted, was answered or was named by a line.
+
+ghost use Rattle.std.specs.Prelude.{◌≡◌, ◌≢◌, ◌∷◌, ◌<◌, ◌≤◌, ◌↔◌, ℕ, [], true, None, length, map, IfOk, OnOk};
+ghost use Rattle.kwire.specs.declared.config.TheConstants.{MOST_PARTITIONS};
+ghost use Rattle.partlog.specs.Gauges.{numbers_of};
+ghost use Rattle.partlog.specs.State.{state_of};
+ghost use Rattle.lone_waiters.specs.Index.{IsSuspect, WaitsFor, moment_of};
+ghost use Rattle.lone_waiters.specs.Sessions.{Has};
+ghost use Rattle.lone_waiters.specs.Waiting.{WaitsOn};
+ghost use Rattle.broker_spec.specs.Acting.{Acts};
+ghost use Rattle.broker_spec.specs.Board.{Board, account_of, most_sessions, next_call, opening};
+ghost use Rattle.broker_spec.specs.Completing.{answered_in, scanned};
+ghost use Rattle.kwire.specs.DeclaredTopics.{AreDeclared};
+ghost use Rattle.broker_spec.specs.Play.{PlaysLine, Rests, brought};
+ghost use Rattle.lone_broker.specs.Kept.{IsPlayable, StandsFor, Stands, TurnsBy, parked_at};
+ghost use Rattle.lone_broker.specs.Steps.{is_ready, operation_at};
+ghost use Rattle.lone_broker.specs.Telling.{AreToldOf, AreWarned, IsWarned, StayWatched};
+ghost use Rattle.lone_broker.specs.Watching.{IsTaken, IsWatched, MayWait};
+
+use crate::engine::Engine;
+use audit::{Account, Point};
+use kbytes::{Bytes, List, NoMemory};
+use kwire::Config;
+use lone_waiters::{GAUGES, SessionSet, Waiters};
+use partlog::{Numbers, PartLog};
+use std::alloc::Global;
+use trace_file::Line;
+
+/// What the broker keeps, and by what it finds what a line can have changed. If memory runs out, it may only be dropped.
+#[derive(Debug, Drop)]
+pub struct Watched {
+    engine: Engine,
+    // the numbers of each partition's log, as those who wait were told of them
+    told: List<Numbers>,
+    waiters: Waiters,
+    // the sessions that can act
+    ready: SessionSet,
+}
+
+// The numbers of each log, in order.
+fn numbers_of(alloc: Global, parts: &[PartLog]) -> Result<List<Numbers>, NoMemory>
+    ensures { IfOk result (λ told. told ≡ map (λ h. numbers_of (state_of h)) parts.now) }
+{
+    let mut told = List::new(alloc);
+    for part in parts {
+        told.push(part.numbers())?;
+    }
+    Ok(told)
+}
+
+// The session is in the set exactly where it can act.
+fn note(engine: &Engine, ready: &mut SessionSet, session: u32)
+    requires there { session < most_sessions }
+    requires stands { Stands engine.now }
+    ensures own { Has ready.new session ↔ (is_ready engine.now session ≡ true) }
+    ensures others { (other : ℕ) → other ≢ session → Has ready.new other ↔ Has ready.old other }
+{
+    if engine.is_ready(session) {
+        ready.insert(session);
+    } else {
+        ready.remove(session);
+    }
+}
+
+// Tells those who wait for a gauge where its value changed.
+fn tell_gauge(waiters: &mut Waiters, gauge: u32, was: u64, now: u64)
+    requires { gauge < GAUGES }
+    ensures warned { IsWarned waiters.old waiters.new }
+    ensures told { was ≢ now → (session : ℕ) → WaitsFor waiters.old session gauge → IsSuspect waiters.new session }
+{
+    if was != now {
+        waiters.rise(gauge);
+    }
+}
+
+// Tells those who wait for a gauge of a partition where its value changed.
+fn tell_gauges(waiters: &mut Waiters, part: u32, was: &Numbers, now: &Numbers)
+    requires { part < MOST_PARTITIONS }
+    ensures warned { IsWarned waiters.old waiters.new }
+    ensures told { AreWarned part was.now now.now waiters.old waiters.new }
+{
+    tell_gauge(waiters, 3 * part, was.high, now.high);
+    tell_gauge(waiters, 3 * part + 1, was.visible, now.visible);
+    tell_gauge(waiters, 3 * part + 2, was.bytes, now.bytes);
+}
+
+// Tells those who wait of the partition at a point. The clock's history has none.
+fn tell_at(parts: &[PartLog], point: &Point, told: &mut [Numbers], waiters: &mut Waiters)
+    requires size { length told.old ≡ length parts.now }
+    requires few { length told.old ≤ MOST_PARTITIONS }
+    ensures told { AreToldOf parts.now (point.now ∷ []) told.old told.new }
+    ensures warned { IsWarned waiters.old waiters.new }
+    ensures watched { StayWatched waiters.old told.old waiters.new told.new }
+{
+    let at = point.part as usize;
+    if at >= told.len() {
+        return;
+    }
+    let now = parts[at].numbers();
+    let was = told[at];
+    tell_gauges(waiters, point.part, &was, &now);
+    told[at] = now;
+}
+
+// Tells those who wait of the partitions at these points.
+fn tell(parts: &[PartLog], points: &[Point], told: &mut [Numbers], waiters: &mut Waiters)
+    requires size { length told.old ≡ length parts.now }
+    requires few { length told.old ≤ MOST_PARTITIONS }
+    ensures told { AreToldOf parts.now points.now told.old told.new }
+    ensures warned { IsWarned waiters.old waiters.new }
+    ensures watched { StayWatched waiters.old told.old waiters.new told.new }
+{
+    for point in points {
+        tell_at(parts, point, told, waiters);
+    }
+}
+
+// Where the session's request waits from now on, it waits in the index.
+fn park(engine: &Engine, waiters: &mut Waiters, session: u32)
+    requires there { session < most_sessions }
+    requires stands { Stands engine.now }
+    requires free { MayWait session (next_call engine.now.board session) waiters.old (operation_at engine.now session) }
+    ensures taken { IsTaken session (next_call engine.now.board session) waiters.old waiters.new (operation_at engine.now session) }
+    ensures moment { moment_of waiters.new ≡ moment_of waiters.old }
+    ensures others { (other : ℕ) → other ≢ session → WaitsOn waiters.old waiters.new other }
+    ensures suspects { (other : ℕ) → other ≢ session → IsSuspect waiters.new other ↔ IsSuspect waiters.old other }
+{
+    let Some(op) = engine.waiting(session) else {
+        return;
+    };
+    let generation = engine.calls(session);
+    waiters.wait(session, generation, op);
+}
+
+impl Watched {
+    /// A broker with these topics, which are such as may be declared, before the first line.
+    pub fn make(alloc: Global, config: Config) -> Result<Watched, NoMemory>
+        requires { AreDeclared config.topics }
+        ensures watched { IfOk result (λ w. IsWatched w) }
+        ensures stands { IfOk result (λ w. StandsFor w.engine (opening config)) }
+    {
+        let engine = Engine::make(alloc, config)?;
+        let told = numbers_of(alloc, engine.parts())?;
+        let waiters = Waiters::new(alloc)?;
+        Ok(Watched {
+            engine,
+            told,
+            waiters,
+            ready: SessionSet::none(),
+        })
+    }
+
+    // Looks at a suspect: where its request is answerable it is answered, and else it waits on.
+    fn look(&mut self, session: u32, out: &mut Bytes) -> Result<(), NoMemory>
+        requires there { session < most_sessions }
+        requires watched { IsWatched self.old }
+        ensures answers { OnOk result (TurnsBy (λ board turned. turned ≡ answered_in board session) self.old.engine self.new.engine out.old out.new) }
+        ensures watched { OnOk result (IsWatched self.new) }
+    {
+        let Some(how) = self.engine.due(session) else {
+            self.waiters.clear(session);
+            return Ok(());
+        };
+        self.engine.complete(session, how, out)?;
+        self.waiters.done(session);
+        note(&self.engine, &mut self.ready, session);
+        Ok(())
+    }
+
+    // Answers every request that waits and is answerable, in the order of the sessions.
+    fn scan(&mut self, out: &mut Bytes) -> Result<(), NoMemory>
+        requires { IsWatched self.old }
+        ensures scans { OnOk result (TurnsBy (λ board turned. turned ≡ scanned board) self.old.engine self.new.engine out.old out.new) }
+        ensures watched { OnOk result (IsWatched self.new) }
+    {
+        let mut from = 0;
+        while let Some(session) = self.waiters.least_suspect(from) {
+            self.look(session, out)?;
+            from = session + 1;
+        }
+        Ok(())
+    }
+
+    // A session acts once, and those who wait are told what it changed.
+    fn act(&mut self, session: u32, out: &mut Bytes) -> Result<(), NoMemory>
+        requires there { session < most_sessions }
+        requires idle { parked_at self.old.engine session ≡ None }
+        requires watched { IsWatched self.old }
+        ensures acts { OnOk result (TurnsBy (λ board. Acts board session) self.old.engine self.new.engine out.old out.new) }
+        ensures watched { OnOk result (IsWatched self.new) }
+    {
+        self.engine.act(session, out)?;
+        let points = self.engine.last_points(session);
+        let told = self.told.as_mut_slice();
+        tell(self.engine.parts(), points, told, &mut self.waiters);
+        park(&self.engine, &mut self.waiters, session);
+        note(&self.engine, &mut self.ready, session);
+        Ok(())
+    }
+
+    // Answers what is answerable and lets sessions act, until neither has anything left to do.
+    fn settle(&mut self, out: &mut Bytes) -> Result<(), NoMemory>
+        requires { IsWatched self.old }
+        ensures rests { OnOk result (TurnsBy (λ board turned. (acts : ℕ) × Rests acts board turned) self.old.engine self.new.engine out.old out.new) }
+        ensures watched { OnOk result (IsWatched self.new) }
+    {
+        loop {
+            self.scan(out)?;
+            let Some(session) = self.ready.least() else {
+                return Ok(());
+            };
+            self.act(session, out)?;
+        }
+    }
+
+    // Takes in what a line brings.
+    fn bring(&mut self, line: &Line) -> Result<(), NoMemory>
+        requires playable { IsPlayable line.now }
+        requires watched { IsWatched self.old }
+        ensures brought { OnOk result ((board : Board) → StandsFor self.old.engine board → StandsFor self.new.engine (brought board line.now)) }
+        ensures watched { OnOk result (IsWatched self.new) }
+    {
+        self.engine.bring(line)?;
+        match line {
+            Line::Feed { session, .. } => note(&self.engine, &mut self.ready, *session),
+            Line::Shut { session } => note(&self.engine, &mut self.ready, *session),
+            Line::Clock { .. } => self.waiters.tick(self.engine.moment()),
+            Line::Topic { .. } | Line::End => {}
+        }
+        Ok(())
+    }
+
+    /// Takes one line of a trace, and puts what it prints at the end of `out`.
+    pub fn event(&mut self, line: &Line, out: &mut Bytes) -> Result<(), NoMemory>
+        requires playable { IsPlayable line.now }
+        requires watched { IsWatched self.old }
+        ensures plays { OnOk result (TurnsBy (λ board. PlaysLine board line.now) self.old.engine self.new.engine out.old out.new) }
+        ensures watched { OnOk result (IsWatched self.new) }
+    {
+        self.bring(line)?;
+        self.settle(out)
+    }
+
+    /// The account of what was done so far.
+    pub fn close(self) -> Result<Account, NoMemory>
+        requires { IsWatched self }
+        ensures { IfOk result (λ account. (board : Board) → StandsFor self.engine board → account ≡ account_of board) }
+    {
+        self.engine.close()
+    }
+}

@@ -1,6 +1,0 @@
--- What the crates above may cite.
-
--- the account of a run may be printed, and its sessions have few numbers
-pub use Rattle.retelling.proofs.Printing.{printable, numbers_below}
--- the account of a trace's run can be told again
-pub use Rattle.retelling.proofs.Runs.{run_tellable}
