@@ -15,18 +15,19 @@ use Rattle.audit.specs.declared.account.PartAccount.{PartAccount}
 use Rattle.audit.specs.declared.account.Transcript.{Transcript}
 use Rattle.audit.specs.Histories.{ticks_of}
 use Rattle.audit.specs.IsLawful.{IsLawful}
-use Rattle.audit.proofs.Laws.{some_is}
+use Rattle.kbytes.proofs.Laws.{some_is}
 use Rattle.kwire.specs.Configuration.{followers_of}
 use Rattle.pass_books.specs.Book.{Book}
 use Rattle.pass_books.specs.Together.{account_of}
 use Rattle.pass_books.specs.Told.{told}
-use Rattle.plain_broker.specs.Board.{part_account}
-use Rattle.plain_broker.specs.Declared.{AreDeclared}
-use Rattle.plain_broker.specs.GoesOn.{GoesOn}
-use Rattle.plain_broker.proofs.Laws.{get_map, map_get}
+use Rattle.audit.specs.Histories.{part_account}
+use Rattle.kwire.specs.DeclaredTopics.{AreDeclared}
+use Rattle.broker_spec.specs.GoesOn.{GoesOn}
+use Rattle.broker_spec.proofs.Laws.{get_map, map_get}
 use Rattle.purgatory.specs.Ends.{IsUntaken}
 use Rattle.purgatory.specs.Rooms.{PassView as RoomPassView}
 use Rattle.purgatory.specs.Going.{OwesNothing}
+use Rattle.room_core.specs.Numbers.{scanner_numbers}
 use Rattle.room_table.specs.Seats.{caller_now}
 use Rattle.shared_broker.specs.declared.closing.Sheet.{Sheet}
 use Rattle.shared_broker.specs.Closed.{IsJoined, IsPutFrom, gathered, joined}
@@ -199,6 +200,7 @@ module _ (broker : BrokerView) (passes : List PassView) (logs : List LogPassView
         goes_on = all_of (λ (pass : PassView). GoesOn broker.config pass.logs.parts pass.logs.clock account) passes (λ i pass at.
             account_goes pass (came broker passes stand made topics followers finals clock numbers from_passes i pass at));
         count = lists ∙ sheets_size;
+        winners = ap (λ (ns : List ℕ). length ns) wins_are ∙ from_passes.size ∙ ap (λ (n : ℕ). scanner_numbers + n) (sym (lists ∙ sheets_size ∙ size));
         transcripts = by_number;
         ticks = λ t. subst (λ (c : List ClockEvent). Contains (ticks_of c) t ↔ Any (λ (pass : PassView). Contains pass.logs.ticked t) passes) (sym clock_is) (ticked t);
         moment = ap moment_of clock_is ∙ from_passes.moment ∙ ap (fold max 0) (flat_map-map (λ (ls : LogPassView). ls.ticked) (λ (pass : PassView). pass.logs) passes);

@@ -17,7 +17,7 @@ use Rattle.opcond.specs.Tally.{IsAnswerable, IsOverdue, IsSatisfied}
 use Rattle.audit.specs.declared.account.Transcript.{Transcript}
 use Rattle.audit.specs.IsLawful.{IsLawful, is_won_by}
 use Rattle.audit.specs.LawfulCall.{Step, part_in}
-use Rattle.audit.proofs.Laws.{some_is}
+use Rattle.kbytes.proofs.Laws.{some_is}
 use Rattle.kanswer.specs.declared.accepted.Accepted.{Accepted}
 use Rattle.kanswer.specs.declared.accepted.Accepted.TheVariants.{Refused, Appended, Seen}
 use Rattle.kanswer.specs.ByPart.{AreByPart, IsByPart}
@@ -31,15 +31,15 @@ use Rattle.pass_books.specs.Owned.{OwnWithin}
 use Rattle.pass_books.specs.Told.{told}
 use Rattle.pass_books.specs.Together.{AreTogether, GoesWith, IsAnswerableIn, account_of, all_calls_in, shown_in, won_by}
 use Rattle.pass_books.proofs.Laws.{books_lawful, won_all}
-use Rattle.plain_broker.specs.Board.{Waiting, history_at}
-use Rattle.plain_broker.specs.Completing.{present}
-use Rattle.plain_broker.specs.Declared.{AreDeclared}
-use Rattle.plain_broker.specs.GoesOn.{the_owner}
-use Rattle.plain_broker.specs.Kept.{owners_at}
-use Rattle.plain_broker.specs.Sound.{AreHistories}
-use Rattle.plain_broker.proofs.Laws.{get_map, map_get, parts_size}
+use Rattle.broker_spec.specs.Board.{Waiting, history_at}
+use Rattle.broker_spec.specs.Completing.{present}
+use Rattle.kwire.specs.DeclaredTopics.{AreDeclared}
+use Rattle.broker_spec.specs.GoesOn.{the_owner}
+use Rattle.broker_spec.specs.Kept.{owners_at}
+use Rattle.broker_spec.specs.Sound.{AreHistories}
+use Rattle.broker_spec.proofs.Laws.{get_map, map_get, parts_size}
 use Rattle.purgatory.specs.Rooms.{winners}
-use Rattle.purgatory.proofs.Added.{sum_keyed}
+use Rattle.purgatory.proofs.Laws.{sum_keyed}
 use Rattle.room_core.specs.declared.parts.Stage.{Stage}
 use Rattle.room_core.specs.Counts.{sum_below}
 use Rattle.room_core.specs.Described.{operation_of as described}
@@ -48,7 +48,8 @@ use Rattle.room_table.specs.Seats.{caller_now}
 use Rattle.shared_broker.specs.declared.parked.Parked.{Parked}
 use Rattle.shared_broker.specs.Passes.{BrokerView, PassView, book_of, made_with, transcripts_of}
 use Rattle.shared_broker.specs.Standing.{HoldsBook, IsKeptOf, Sits, Stands}
-use Rattle.shared_logs.specs.Closing.{AreClosed, IsUnanswerable, taken_from, value_in}
+use Rattle.broker_spec.specs.Board.{gauge_now}
+use Rattle.shared_logs.specs.Closing.{AreClosed, IsUnanswerable, taken_from}
 use Rattle.shared_logs.specs.Coming.{OthersCame}
 use Rattle.shared_logs.specs.Shared.{LogPassView, followers_in}
 
@@ -178,8 +179,8 @@ module _ (finals : List History) (clock : List ClockEvent) where
       let ask : Ask = w.request.ask in
       let needs : needs_of ask (results_of (shown_in finals w.steps)) ≡ parked.op.needs =
       ap (needs_of ask) (shown_results finals w.steps ∙ h.results) ∙ sym (ap (λ (op : Operation). op.needs) h.became) in
-      let values : values_of ask (shown_in finals w.steps) ≡ map (value_in finals) parked.op.needs =
-      values_by_part (λ part. state_of (history_at finals part)) ask (shown_in finals w.steps) (shown_by_part finals w.steps) ∙ ap (map (value_in finals)) needs in
+      let values : values_of ask (shown_in finals w.steps) ≡ map (gauge_now finals) parked.op.needs =
+      values_by_part (λ part. state_of (history_at finals part)) ask (shown_in finals w.steps) (shown_by_part finals w.steps) ∙ ap (map (gauge_now finals)) needs in
       ⊎_elim
       (λ (s : IsSatisfied w.operation (values_of ask (shown_in finals w.steps))).
       un.unsatisfied (subst (IsSatisfied parked.op) values (subst (λ (op : Operation). IsSatisfied op (values_of ask (shown_in finals w.steps))) h.operation s)))

@@ -11,9 +11,9 @@ use Rattle.audit.specs.declared.account.Point.{Point}
 use Rattle.audit.specs.declared.account.Transcript.{Transcript}
 use Rattle.audit.specs.Histories.{clock_part, ticks_of}
 use Rattle.audit.specs.LawfulCall.{Step, operation_parts}
-use Rattle.call_turns.specs.Amid.{amid}
-use Rattle.call_turns.specs.Left.{AreLeft}
-use Rattle.call_turns.proofs.Laws.{clock_left, grown_on, left_on, left_stepped, operation_on}
+use Rattle.shared_logs.specs.Amid.{amid}
+use Rattle.shared_logs.specs.Left.{AreLeft}
+use Rattle.shared_logs.proofs.Laws.{clock_left, grown_on, left_on, left_stepped, operation_on}
 use Rattle.kanswer.specs.declared.accepted.Accepted.{Accepted}
 use Rattle.kanswer.specs.declared.accepted.Accepted.TheVariants.{Refused, Appended, Seen}
 use Rattle.kanswer.specs.Results.{parts_asked}
@@ -26,10 +26,10 @@ use Rattle.pass_books.specs.IsBook.{IsBook}
 use Rattle.pass_books.specs.Owned.{OwnWithin}
 use Rattle.pass_books.specs.Underway.{Underway, book_amid, seq_of}
 use Rattle.pass_books.proofs.Laws.{accepting_cut, accepting_delayed, delayed_cut, others_accepting}
-use Rattle.plain_broker.specs.Entering.{Noted, shown_of, steps_of}
-use Rattle.plain_broker.specs.GoesOn.{HaveGrown}
-use Rattle.plain_broker.specs.Sound.{AllBelow}
-use Rattle.plain_broker.proofs.Laws.{all_longer_self, grown_clock, looked_moment, ticks_looked}
+use Rattle.broker_spec.specs.Entering.{Noted, shown_of, steps_of}
+use Rattle.broker_spec.specs.GoesOn.{HaveGrown}
+use Rattle.broker_spec.specs.Sound.{AllBelow}
+use Rattle.broker_spec.proofs.Laws.{all_longer_self, grown_clock, looked_moment, ticks_looked}
 use Rattle.purgatory.specs.Going.{KeepsOperation, OwesNothing}
 use Rattle.room_core.specs.declared.parts.Stage.{Stage}
 use Rattle.room_table.specs.Seats.{caller_now}

@@ -9,9 +9,9 @@ use Rattle.audit.specs.declared.account.CallHow.{CallHow}
 use Rattle.audit.specs.declared.account.CallHow.TheVariants.{Parked as Waits}
 use Rattle.audit.specs.declared.account.Transcript.{Transcript}
 use Rattle.audit.specs.IsLawful.{is_won_as}
-use Rattle.call_turns.specs.Amid.{amid}
-use Rattle.call_turns.specs.Left.{AreLeft}
-use Rattle.call_turns.proofs.Laws.{left_on, left_stepped, went_on, went_self}
+use Rattle.shared_logs.specs.Amid.{amid}
+use Rattle.shared_logs.specs.Left.{AreLeft}
+use Rattle.shared_logs.proofs.Laws.{left_on, left_stepped, went_on, went_self}
 use Rattle.kanswer.specs.LogReadings.{IsCarriable}
 use Rattle.kanswer.specs.Results.{AreResults}
 use Rattle.kanswer.specs.Waiting.{operation_of}
@@ -20,8 +20,8 @@ use Rattle.kwire.specs.declared.request.Request.{Request}
 use Rattle.pass_books.specs.Finishing.{IsDelayed}
 use Rattle.pass_books.specs.Underway.{Underway, seq_of, with_end}
 use Rattle.pass_books.proofs.Laws.{delayed_as, delayed_parked}
-use Rattle.plain_broker.specs.GoesOn.{HaveGrown}
-use Rattle.plain_broker.proofs.Laws.{grown_self}
+use Rattle.broker_spec.specs.GoesOn.{HaveGrown}
+use Rattle.broker_spec.proofs.Laws.{grown_self}
 use Rattle.purgatory.specs.declared.outcome.Done.{Done}
 use Rattle.purgatory.specs.Going.{OwesNothing}
 use Rattle.purgatory.specs.Polled.{item_of}

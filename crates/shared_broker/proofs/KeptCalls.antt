@@ -6,8 +6,8 @@ use Rattle.audit.specs.declared.account.Account.{Account}
 use Rattle.audit.specs.declared.account.Call.{Call}
 use Rattle.audit.specs.declared.account.CallHow.TheVariants.{Cut, Parked as Waits}
 use Rattle.audit.specs.declared.account.Transcript.{Transcript}
-use Rattle.call_turns.specs.Amid.{amid}
-use Rattle.call_turns.proofs.Laws.{same_self}
+use Rattle.shared_logs.specs.Amid.{amid}
+use Rattle.shared_logs.proofs.Laws.{same_self}
 use Rattle.kanswer.specs.Results.{AreResults, parts_asked}
 use Rattle.kanswer.specs.Waiting.{operation_of}
 use Rattle.kwire.specs.Configuration.{Configuration}
@@ -17,10 +17,10 @@ use Rattle.kwire.proofs.Laws.{same_request}
 use Rattle.pass_books.specs.Finishing.{IsDelayed}
 use Rattle.pass_books.specs.Underway.{Underway, with_end}
 use Rattle.pass_books.proofs.Laws.{finishing_as, finishing_cut, finishing_won, waits_delayed}
-use Rattle.plain_broker.specs.Board.{part_account}
-use Rattle.plain_broker.specs.GoesOn.{GoesOn}
-use Rattle.plain_broker.specs.Sound.{AllBelow}
-use Rattle.plain_broker.proofs.Laws.{grown_self, longer_self, map_get}
+use Rattle.audit.specs.Histories.{part_account}
+use Rattle.broker_spec.specs.GoesOn.{GoesOn}
+use Rattle.broker_spec.specs.Sound.{AllBelow}
+use Rattle.broker_spec.proofs.Laws.{grown_self, longer_self, map_get}
 use Rattle.purgatory.specs.declared.outcome.Done.{Done}
 use Rattle.purgatory.specs.Going.{OwesNothing}
 use Rattle.room_table.specs.Seats.{caller_now}

@@ -10,8 +10,8 @@ use Rattle.audit.specs.declared.account.CallHow.TheVariants.{Parked as Waits}
 use Rattle.audit.specs.declared.account.Transcript.{Transcript}
 use Rattle.audit.specs.Histories.{calls_in}
 use Rattle.audit.specs.IsLawful.{is_won_as, is_won_by}
-use Rattle.call_turns.specs.Amid.{amid}
-use Rattle.call_turns.proofs.Laws.{left_on, left_stepped}
+use Rattle.shared_logs.specs.Amid.{amid}
+use Rattle.shared_logs.proofs.Laws.{left_on, left_stepped}
 use Rattle.kwire.specs.Configuration.{Configuration}
 use Rattle.pass_books.specs.Book.{Book}
 use Rattle.pass_books.specs.IsBook.{with_call}
@@ -19,7 +19,7 @@ use Rattle.pass_books.specs.Together.{won_by}
 use Rattle.pass_books.specs.Underway.{book_amid}
 use Rattle.pass_books.proofs.Laws.{calls_with, waits_delayed, won_amid}
 use Rattle.audit.specs.Fits.{IsReplyOf}
-use Rattle.plain_broker.specs.GoesOn.{Carried, HaveGrown}
+use Rattle.broker_spec.specs.GoesOn.{Carried, HaveGrown}
 use Rattle.purgatory.specs.declared.outcome.Done.{Done}
 use Rattle.purgatory.specs.Going.{OwesNothing}
 use Rattle.purgatory.specs.Polled.{HasPolled, HasTaken, found_open}

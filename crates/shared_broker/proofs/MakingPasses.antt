@@ -7,8 +7,8 @@ use Rattle.audit.specs.declared.account.Transcript.{Transcript}
 use Rattle.kwire.specs.Configuration.{Configuration, followers_of}
 use Rattle.pass_books.specs.IsBook.{IsBook}
 use Rattle.pass_books.proofs.Laws.{opened}
-use Rattle.plain_broker.specs.Board.{empty_history}
-use Rattle.plain_broker.specs.Declared.{AreDeclared}
+use Rattle.broker_spec.specs.Board.{empty_history}
+use Rattle.kwire.specs.DeclaredTopics.{AreDeclared}
 use Rattle.shared_broker.specs.Fresh.{IsFresh, IsNewOf, pass_with}
 use Rattle.shared_broker.specs.Making.{fresh_pass as made_pass, fresh_passes}
 use Rattle.shared_broker.specs.Passes.{BrokerView, PassView}

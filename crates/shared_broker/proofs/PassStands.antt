@@ -8,9 +8,9 @@ use Rattle.audit.specs.declared.account.TheConstants.{MOST_CALLS}
 use Rattle.audit.specs.declared.account.Transcript.{Transcript}
 use Rattle.audit.specs.Histories.{calls_in}
 use Rattle.audit.specs.IsLawful.{is_won_as, is_won_by}
-use Rattle.call_turns.specs.Amid.{amid}
-use Rattle.call_turns.specs.Left.{AreLeft}
-use Rattle.call_turns.proofs.Laws.{operation_self, went_self}
+use Rattle.shared_logs.specs.Amid.{amid}
+use Rattle.shared_logs.specs.Left.{AreLeft}
+use Rattle.shared_logs.proofs.Laws.{operation_self, went_self}
 use Rattle.kanswer.specs.Decisions.{Decides, Decision}
 use Rattle.kwire.specs.Configuration.{Configuration}
 use Rattle.kwire.specs.declared.request.Request.{Request}
@@ -18,7 +18,7 @@ use Rattle.kwire.specs.IsRequest.{IsRequest}
 use Rattle.pass_books.specs.IsBook.{IsBook}
 use Rattle.pass_books.specs.Told.{last_is_cut}
 use Rattle.pass_books.proofs.Laws.{accepting_cut, called_accepting, calls_with, won_amid}
-use Rattle.plain_broker.proofs.Laws.{grown_self}
+use Rattle.broker_spec.proofs.Laws.{grown_self}
 use Rattle.room_core.specs.declared.parts.Stage.{Stage}
 use Rattle.room_table.specs.Seats.{caller_now}
 use Rattle.shared_broker.specs.declared.calling.Became.{Became}

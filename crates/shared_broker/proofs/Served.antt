@@ -7,9 +7,9 @@ use Rattle.audit.specs.declared.account.CallHow.TheVariants.{AtOnce, Quiet}
 use Rattle.audit.specs.declared.account.Point.{Point}
 use Rattle.audit.specs.declared.account.Transcript.{Transcript}
 use Rattle.audit.specs.IsLawful.{is_won_as}
-use Rattle.call_turns.specs.Amid.{amid}
-use Rattle.call_turns.specs.Left.{AreLeft}
-use Rattle.call_turns.proofs.Laws.{left_on, left_stepped, operation_on}
+use Rattle.shared_logs.specs.Amid.{amid}
+use Rattle.shared_logs.specs.Left.{AreLeft}
+use Rattle.shared_logs.proofs.Laws.{left_on, left_stepped, operation_on}
 use Rattle.kanswer.specs.Answer.{answer}
 use Rattle.kanswer.specs.Decisions.{Decides, Decision}
 use Rattle.kanswer.specs.LogReadings.{AreReadings}
@@ -22,14 +22,14 @@ use Rattle.pass_books.specs.Accepting.{IsAccepting}
 use Rattle.pass_books.specs.IsBook.{IsBook}
 use Rattle.pass_books.specs.Underway.{Underway, book_amid, with_end}
 use Rattle.pass_books.proofs.Laws.{accepting_as, accepting_cut, answered_book, answered_reply}
-use Rattle.plain_broker.specs.Entering.{Noted, shown_of}
-use Rattle.plain_broker.specs.Turns.{how_at_once}
+use Rattle.broker_spec.specs.Entering.{Noted, shown_of}
+use Rattle.broker_spec.specs.Turns.{how_at_once}
 use Rattle.purgatory.specs.Going.{KeepsOperation, OwesNothing}
 use Rattle.room_core.specs.declared.parts.Stage.{Stage}
 use Rattle.room_table.specs.Seats.{caller_now}
-use Rattle.shared_acceptance.specs.Accepted.{WasAccepted}
-use Rattle.shared_acceptance.specs.Came.{CameView}
-use Rattle.shared_acceptance.specs.Carried.{HasStopped, IsAt}
+use Rattle.shared_calls.specs.Accepted.{WasAccepted}
+use Rattle.shared_calls.specs.Came.{CameView}
+use Rattle.shared_calls.specs.Carried.{HasStopped, IsAt}
 use Rattle.shared_broker.specs.declared.calling.Became.{Became}
 use Rattle.shared_broker.specs.Serving.{HasCome, HasGoneOn, HasServed, IsAnswered, IsToldTo, IsWritten, WillWait}
 use Rattle.shared_logs.specs.Coming.{HasStepped}

@@ -22,11 +22,11 @@ use Rattle.pass_books.specs.Owned.{OwnWithin}
 use Rattle.pass_books.specs.Told.{last_is_cut}
 use Rattle.pass_books.specs.Together.{won_by}
 use Rattle.pass_books.proofs.Laws.{begun, ended, others_came, ticked}
-use Rattle.plain_broker.specs.Board.{Waiting}
-use Rattle.plain_broker.specs.Declared.{AreDeclared}
-use Rattle.plain_broker.specs.GoesOn.{HaveGrown}
-use Rattle.plain_broker.specs.Sound.{AreHistories}
-use Rattle.plain_broker.proofs.Laws.{parts_size, ticks_rise}
+use Rattle.broker_spec.specs.Board.{Waiting}
+use Rattle.kwire.specs.DeclaredTopics.{AreDeclared}
+use Rattle.broker_spec.specs.GoesOn.{HaveGrown}
+use Rattle.broker_spec.specs.Sound.{AreHistories}
+use Rattle.broker_spec.proofs.Laws.{parts_size, ticks_rise}
 use Rattle.purgatory.specs.Going.{KeepsOperation, OwesNothing}
 use Rattle.room_core.specs.declared.parts.Taken.{Taken}
 use Rattle.room_core.specs.Described.{operation_of as described}

@@ -8,14 +8,14 @@ use Rattle.audit.specs.declared.account.Call.{Call}
 use Rattle.audit.specs.declared.account.CallHow.TheVariants.{Cut}
 use Rattle.audit.specs.declared.account.Transcript.{Transcript}
 use Rattle.audit.specs.IsLawful.{is_won_as}
-use Rattle.call_turns.specs.Amid.{amid}
-use Rattle.call_turns.specs.Left.{AreLeft}
-use Rattle.call_turns.proofs.Laws.{grown_on, left_on, went_on}
+use Rattle.shared_logs.specs.Amid.{amid}
+use Rattle.shared_logs.specs.Left.{AreLeft}
+use Rattle.shared_logs.proofs.Laws.{grown_on, left_on, went_on}
 use Rattle.kwire.specs.Configuration.{Configuration, followers_of}
 use Rattle.kwire.specs.declared.request.Request.{Request}
 use Rattle.pass_books.specs.IsBook.{IsBook}
 use Rattle.pass_books.specs.Underway.{book_amid}
-use Rattle.plain_broker.specs.Sound.{AreHistories}
+use Rattle.broker_spec.specs.Sound.{AreHistories}
 use Rattle.purgatory.specs.Going.{KeepsOperation, OwesNothing}
 use Rattle.room_core.specs.declared.parts.Stage.{Stage}
 use Rattle.room_core.specs.declared.parts.Taken.{Taken}

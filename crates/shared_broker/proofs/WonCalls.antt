@@ -10,9 +10,9 @@ use Rattle.audit.specs.declared.account.Point.{Point}
 use Rattle.audit.specs.declared.account.Transcript.{Transcript}
 use Rattle.audit.specs.Fits.{IsReplyOf}
 use Rattle.audit.specs.LawfulCall.{operation_parts}
-use Rattle.call_turns.specs.Amid.{amid}
-use Rattle.call_turns.specs.Left.{AreLeft}
-use Rattle.call_turns.proofs.Laws.{left_on, left_stepped, same_on, same_stepped}
+use Rattle.shared_logs.specs.Amid.{amid}
+use Rattle.shared_logs.specs.Left.{AreLeft}
+use Rattle.shared_logs.proofs.Laws.{left_on, left_stepped, same_on, same_stepped}
 use Rattle.kanswer.specs.Answer.{answer}
 use Rattle.kanswer.specs.declared.accepted.Reading.{Reading}
 use Rattle.kanswer.specs.LogReadings.{AreReadings}
@@ -24,8 +24,8 @@ use Rattle.pass_books.specs.Finishing.{IsFinishing, shown_with}
 use Rattle.pass_books.specs.IsBook.{IsBook}
 use Rattle.pass_books.specs.Underway.{Underway, book_amid, with_end}
 use Rattle.pass_books.proofs.Laws.{expired_reply, finishing_as, finishing_cut, finishing_expired, finishing_satisfied, satisfied_reply}
-use Rattle.plain_broker.specs.Board.{Waiting}
-use Rattle.plain_broker.specs.GoesOn.{Carried, HaveGrown}
+use Rattle.broker_spec.specs.Board.{Waiting}
+use Rattle.broker_spec.specs.GoesOn.{Carried, HaveGrown}
 use Rattle.purgatory.specs.declared.outcome.Done.{Done}
 use Rattle.purgatory.specs.Going.{KeepsOperation, OwesNothing}
 use Rattle.room_core.specs.declared.event.How.{How}
@@ -33,7 +33,7 @@ use Rattle.room_table.specs.Seats.{caller_now}
 use Rattle.shared_broker.specs.Calling.{how_by, told_as}
 use Rattle.shared_broker.specs.declared.parked.Parked.{Parked}
 use Rattle.shared_broker.specs.Serving.{HasEndedCall, IsToldTo, WillSit, finished_as}
-use Rattle.shared_completion.specs.Finished.{IsLate, WasFinished, WasStopped}
+use Rattle.shared_calls.specs.Finished.{IsLate, WasFinished, WasStopped}
 use Rattle.shared_logs.specs.Coming.{HasStepped, IsSamePass}
 use Rattle.shared_logs.specs.Shared.{LogPassView}
 
@@ -86,7 +86,7 @@ module _ (config : Configuration) (seq : ℕ) (request : Request) (parked : Park
     book = book;
   }
 
-  -- want of memory stopped it, on the way or at the reply's frame
+  -- running out of memory stopped it, on the way or at the reply's frame
   pub call_stopped : (by : ℕ) (after : List Point) (call : Call) → WasStopped seq request parked.accepted parked.op old mid after
       → HasEndedCall config (WillSit config seq request parked old call) old new call (finished_as call after (Cut (Some by)))
   call_stopped by after call s = ended call after (Cut (Some by)) s.same s.ticked s.grown (λ front transcript was.

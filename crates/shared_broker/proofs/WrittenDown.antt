@@ -6,7 +6,7 @@ use Rattle.audit.specs.declared.account.CallHow.TheVariants.{Cut}
 use Rattle.audit.specs.declared.account.Point.{Point}
 use Rattle.audit.specs.declared.account.TheConstants.{MOST_CALLS}
 use Rattle.audit.specs.declared.account.Transcript.{Transcript}
-use Rattle.decided_parts.proofs.Laws.{requests_decided}
+use Rattle.kanswer.proofs.Laws.{requests_decided}
 use Rattle.kwire.specs.declared.request.Request.{Request}
 use Rattle.kwire.specs.IsRequest.{IsRequest}
 use Rattle.shared_broker.specs.Passes.{PassView, calls_made}

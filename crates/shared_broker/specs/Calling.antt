@@ -8,7 +8,7 @@ use Rattle.audit.specs.declared.account.SessionEnd.TheVariants as ends
 use Rattle.audit.specs.declared.account.TheConstants.{MOST_CALLS}
 use Rattle.audit.specs.declared.account.Transcript.{Transcript}
 use Rattle.audit.specs.Fits.{IsReplyOf}
-use Rattle.call_turns.specs.Left.{AreLeft}
+use Rattle.shared_logs.specs.Left.{AreLeft}
 use Rattle.kanswer.specs.Waiting.{is_quiet}
 use Rattle.kwire.specs.declared.frame.WireFault.{WireFault}
 use Rattle.kwire.specs.declared.frame.WireFault.TheVariants.{NoMemory as OutOfMemory}
@@ -17,7 +17,7 @@ use Rattle.kwire.specs.declared.request.Request.{Request}
 use Rattle.kwire.specs.IsRequest.{IsRequest}
 use Rattle.kwire.specs.Refusal.{IsRefused}
 use Rattle.kwire.specs.Spelling.{spelling}
-use Rattle.plain_broker.specs.GoesOn.{Carried, HaveGrown}
+use Rattle.broker_spec.specs.GoesOn.{Carried, HaveGrown}
 use Rattle.purgatory.specs.declared.outcome.Done.{Done}
 use Rattle.purgatory.specs.declared.outcome.Registered.{Registered}
 use Rattle.purgatory.specs.Going.{GoesOn}
@@ -76,7 +76,7 @@ pub record HasParked (parked : Parked) (old new : CallerView) : Type 0 where
   pub came : GoesOn old before
   pub registered : HasRegistered parked.op Registered.Parked before new
 
--- a call that want of memory cut off
+-- a call that running out of memory cut off
 abbrev pub IsCutOff : CallHow → Type 0
 IsCutOff how = (won : Option ℕ) × (how ≡ Cut won)
 

@@ -1,25 +1,27 @@
 -- How a broker is closed.
-use Rattle.std.specs.Prelude.{◌≡◌, ◌↔◌, ℕ, List, All, Any, Contains, Some, fold, length, map, max, slice_get, ⊤}
+use Rattle.std.specs.Prelude.{◌≡◌, ◌+◌, ◌↔◌, ℕ, List, All, Any, Contains, Some, fold, length, map, max, slice_get, ⊤}
 use Rattle.std.specs.List.{flat_map}
 use Rattle.audit.specs.Histories.{ticks_of}
 use Rattle.audit.specs.declared.account.Account.{Account}
 use Rattle.audit.specs.declared.account.Transcript.{Transcript}
 use Rattle.audit.specs.IsLawful.{IsLawful}
 use Rattle.partlog.specs.Moment.{moment_of}
-use Rattle.plain_broker.specs.GoesOn.{GoesOn}
+use Rattle.broker_spec.specs.GoesOn.{GoesOn}
 use Rattle.pass_books.specs.Told.{told}
 use Rattle.purgatory.specs.Ends.{IsUntaken}
+use Rattle.room_core.specs.Numbers.{scanner_numbers}
 use Rattle.shared_broker.specs.declared.closing.BrokerEnd.{BrokerEnd}
 use Rattle.shared_broker.specs.Passes.{BrokerView, PassView, transcripts_of}
 use Rattle.shared_logs.specs.Closing.{in_room}
 
 -- The account is lawful. It is of the broker's topics; its histories go on from what each pass has seen, and its lists are the passes'
--- transcripts, by their numbers; and a moment is among its ticks exactly where a pass has ticked it.
+-- transcripts, by their numbers; there is a winner for each scanner and for each pass; and a moment is among its ticks exactly where a pass has ticked it.
 pub record IsAccountOf (broker : BrokerView) (passes : List PassView) (account : Account) : Type 0 where
   pub lawful : IsLawful account
   pub config : account.config ≡ broker.config
   pub goes_on : All (λ (pass : PassView). GoesOn broker.config pass.logs.parts pass.logs.clock account) passes
   pub count : length account.passes ≡ length passes
+  pub winners : length account.wins ≡ scanner_numbers + length account.passes
   pub transcripts : All (λ (pass : PassView). slice_get account.passes pass.logs.number ≡ Some (map told (transcripts_of pass))) passes
   pub ticks : (t : ℕ) → Contains (ticks_of account.clock) t ↔ Any (λ (pass : PassView). Contains pass.logs.ticked t) passes
   pub moment : moment_of account.clock ≡ fold max 0 (flat_map (λ (pass : PassView). pass.logs.ticked) passes)

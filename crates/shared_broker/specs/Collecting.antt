@@ -5,7 +5,7 @@ use Rattle.audit.specs.declared.account.CallHow.{CallHow}
 use Rattle.audit.specs.declared.account.CallHow.TheVariants.{Cut, Parked as Waits}
 use Rattle.audit.specs.declared.account.Point.{Point}
 use Rattle.audit.specs.declared.account.Transcript.{Transcript}
-use Rattle.plain_broker.specs.GoesOn.{HaveGrown}
+use Rattle.broker_spec.specs.GoesOn.{HaveGrown}
 use Rattle.purgatory.specs.declared.outcome.Done.{Done}
 use Rattle.purgatory.specs.Going.{GoesOn}
 use Rattle.purgatory.specs.Polled.{HasPolled}
@@ -13,7 +13,7 @@ use Rattle.room_table.specs.Seats.{CallerView}
 use Rattle.shared_broker.specs.declared.collecting.Collected.{Collected}
 use Rattle.shared_broker.specs.Calling.{IsRepliedTo, told_as}
 use Rattle.shared_broker.specs.Passes.{PassView, calls_made, made_with}
-use Rattle.call_turns.specs.Left.{AreLeft}
+use Rattle.shared_logs.specs.Left.{AreLeft}
 use Rattle.shared_logs.specs.Coming.{HasStepped}
 
 -- The call that waited is the last of the transcript that is going; its word was found won by `done`, and it was completed with these looks.

@@ -9,8 +9,8 @@ use Rattle.audit.specs.declared.account.Transcript.{Transcript}
 use Rattle.audit.specs.Fits.{IsReplyOf}
 use Rattle.audit.specs.Histories.{calls_in}
 use Rattle.audit.specs.IsLawful.{is_won_as}
-use Rattle.call_turns.specs.Amid.{amid}
-use Rattle.call_turns.specs.Left.{AreLeft}
+use Rattle.shared_logs.specs.Amid.{amid}
+use Rattle.shared_logs.specs.Left.{AreLeft}
 use Rattle.kanswer.specs.Answer.{answer}
 use Rattle.kanswer.specs.declared.accepted.Accepted.{Accepted}
 use Rattle.kanswer.specs.Decisions.{Decides, Decision}
@@ -25,20 +25,20 @@ use Rattle.pass_books.specs.Accepting.{IsAccepting}
 use Rattle.pass_books.specs.IsBook.{IsBook}
 use Rattle.pass_books.specs.Told.{last_is_cut}
 use Rattle.pass_books.specs.Underway.{book_amid, seq_of}
-use Rattle.plain_broker.specs.Board.{Waiting}
-use Rattle.plain_broker.specs.Entering.{Noted, shown_of}
-use Rattle.plain_broker.specs.GoesOn.{Carried, HaveGrown}
+use Rattle.broker_spec.specs.Board.{Waiting}
+use Rattle.broker_spec.specs.Entering.{Noted, shown_of}
+use Rattle.broker_spec.specs.GoesOn.{Carried, HaveGrown}
 use Rattle.purgatory.specs.declared.outcome.Done.{Done}
 use Rattle.purgatory.specs.Going.{GoesOn, OwesNothing}
 use Rattle.room_core.specs.declared.parts.Stage.{Stage}
 use Rattle.room_table.specs.Seats.{CallerView, caller_now}
-use Rattle.shared_acceptance.specs.Came.{CameView}
+use Rattle.shared_calls.specs.Came.{CameView}
 use Rattle.shared_broker.specs.Calling.{HasParked, IsAnsweredAs, IsCutOff, told_as}
 use Rattle.shared_broker.specs.declared.calling.Became.{Became}
 use Rattle.shared_broker.specs.declared.parked.Parked.{Parked}
 use Rattle.shared_broker.specs.Passes.{PassView, calls_made}
 use Rattle.shared_broker.specs.Standing.{HoldsBook, IsKeptOf, Sits, Stands}
-use Rattle.shared_completion.specs.Finished.{WasDelayed}
+use Rattle.shared_calls.specs.Finished.{WasDelayed}
 use Rattle.shared_logs.specs.Closing.{taken_from}
 use Rattle.shared_logs.specs.Coming.{IsSamePass}
 use Rattle.shared_logs.specs.Shared.{LogPassView}

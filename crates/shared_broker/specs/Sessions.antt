@@ -26,7 +26,7 @@ pub record HasEnded (end : SessionEnd) (old new : PassView) : Type 0 where
   pub going : old.going ≡ Some transcript
   pub new_is : new ≡ record old { ended = old.ended ++ record transcript { end = Some end } ∷ []; going = None }
 
--- where its last call was cut off, it ends for want of memory
+-- where its last call was cut off, it ends because memory ran out
 abbrev pub MayEnd : Option Transcript → SessionEnd → Type 0
 MayEnd going end = is_cut_off going ≡ true → end ≡ NoMemory
 

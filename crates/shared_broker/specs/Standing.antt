@@ -10,8 +10,8 @@ use Rattle.kwire.specs.Configuration.{followers_of}
 use Rattle.pass_books.specs.Book.{Book}
 use Rattle.pass_books.specs.IsBook.{IsBook}
 use Rattle.pass_books.specs.Together.{won_by}
-use Rattle.plain_broker.specs.Board.{Waiting}
-use Rattle.plain_broker.specs.Declared.{AreDeclared}
+use Rattle.broker_spec.specs.Board.{Waiting}
+use Rattle.kwire.specs.DeclaredTopics.{AreDeclared}
 use Rattle.purgatory.specs.Going.{OwesNothing}
 use Rattle.room_core.specs.declared.parts.Stage.{Stage}
 use Rattle.room_core.specs.Described.{operation_of as described}

@@ -1,6 +1,6 @@
 ghost use Rattle.std.specs.Prelude.{◌≡◌, ◌≤◌, All, IfOk, map};
 ghost use Rattle.kwire.specs.Configuration.{followers_of};
-ghost use Rattle.plain_broker.specs.Declared.{AreDeclared};
+ghost use Rattle.kwire.specs.DeclaredTopics.{AreDeclared};
 ghost use Rattle.shared_broker.specs.Fresh.{IsFresh, IsNewOf, pass_with};
 ghost use Rattle.shared_broker.specs.Making.{fresh_passes};
 ghost use Rattle.shared_logs.specs.Shared.{followers_in};
@@ -24,7 +24,7 @@ pub struct Broker {
 impl Model for Broker {
     ghost use Rattle.std.specs.Prelude.{◌≡◌};
     ghost use Rattle.kwire.specs.Configuration.{followers_of};
-    ghost use Rattle.plain_broker.specs.Declared.{AreDeclared};
+    ghost use Rattle.kwire.specs.DeclaredTopics.{AreDeclared};
     ghost use Rattle.shared_broker.specs.Passes.{BrokerView};
     ghost use Rattle.shared_logs.specs.Shared.{followers_in};
 

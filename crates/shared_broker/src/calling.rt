@@ -9,9 +9,8 @@ ghost use Rattle.kanswer.specs.Results.{AreResults, parts_asked};
 ghost use Rattle.kanswer.specs.Waiting.{Shown, is_quiet, operation_of};
 ghost use Rattle.kwire.specs.declared.request.Request.{Request};
 ghost use Rattle.kwire.specs.IsRequest.{IsRequest};
-ghost use Rattle.kwire.specs.Views.{ask_of};
-ghost use Rattle.plain_broker.specs.Sound.{AllBelow};
-ghost use Rattle.reply_frames.specs.BytesRead.{bytes_read, most_left};
+ghost use Rattle.broker_spec.specs.Sound.{AllBelow};
+ghost use Rattle.kanswer.specs.BytesRead.{bytes_read, most_left};
 ghost use Rattle.shared_broker.specs.Calling.{HasHandled};
 ghost use Rattle.shared_broker.specs.Passes.{PassView, calls_made, made_with};
 ghost use Rattle.shared_broker.specs.Serving.{HasServed, IsAnswered, IsFree, IsWritten, WasWritten, WillSit, WillWait, with_last};
@@ -22,14 +21,13 @@ use crate::broker::Broker;
 use crate::parked::Parked;
 use crate::pass::Pass;
 use audit::{Call, CallHow, MOST_CALLS, SessionEnd, Transcript};
-use call_turns::look_at_clock;
-use kanswer::{needs_op, op_of};
+use kanswer::{is_quiet, needs_op, op_of, reply_frame};
 use kbytes::{Bytes, List, NoMemory, copied};
-use kwire::{AskView, RequestView, WireFault, view_request};
+use kwire::{RequestView, WireFault, view_request};
 use purgatory::Registered;
-use reply_frames::reply_frame;
-use shared_acceptance::{Asking, Came, accept};
+use shared_calls::{Asking, Came, accept};
 use shared_logs::LogPass;
+use shared_logs::call_turns::look_at_clock;
 use std::alloc::Global;
 use std::sync::Wait;
 
@@ -54,12 +52,6 @@ enum Became {
     Answered(Bytes),
     Quiet,
     Parked(Parked),
-}
-
-fn is_quiet(ask: &AskView<'_>) -> bool
-    ensures { result ≡ is_quiet (ask_of ask.now) }
-{
-    matches!(ask, AskView::Produce { acks: 0, .. })
 }
 
 impl Broker {

@@ -3,7 +3,7 @@ ghost use Rattle.std.specs.Prelude.{◌≡◌, ◌<◌, ◌==◌, ℕ, All, IfOk
 ghost use Rattle.std.specs.List.{AllZip};
 ghost use Rattle.audit.specs.declared.account.Account.{Account as AccountView};
 ghost use Rattle.pass_books.specs.Told.{last_is_cut, told};
-ghost use Rattle.plain_broker.specs.Board.{part_account};
+ghost use Rattle.audit.specs.Histories.{part_account};
 ghost use Rattle.shared_broker.specs.Closed.{IsJoined, IsPutFrom, gathered, transcripts_in};
 ghost use Rattle.shared_broker.specs.Closing.{HasClosed};
 ghost use Rattle.shared_broker.specs.Passes.{made_with};
@@ -12,10 +12,9 @@ ghost use Rattle.shared_broker.specs.declared.closing.Sheet.{Sheet as SheetView}
 use crate::broker::Broker;
 use crate::parked::Parked;
 use crate::pass::Pass;
-use audit::{Account, Call, CallHow, PartAccount, SessionEnd, Transcript};
+use audit::{Account, Call, CallHow, SessionEnd, Transcript, part_accounts};
 use kbytes::{List, NoMemory};
 use kwire::Config;
-use partlog::PartLog;
 use shared_logs::{ClosedLogs, LogPass, LogsEnd};
 use std::alloc::Global;
 use std::snapshot::Snapshot;
@@ -117,7 +116,7 @@ fn is_cut_last(calls: &[Call]) -> bool
     }
 }
 
-// Where the last call was cut off and nobody has ended it, the transcript ends for want of memory.
+// Where the last call was cut off and nobody has ended it, the transcript ends because memory ran out.
 fn told(transcript: Transcript) -> Transcript
     ensures { result ≡ told transcript }
 {
@@ -169,28 +168,6 @@ fn transcripts_of(alloc: Global, sheet: Sheet) -> Result<List<Transcript>, NoMem
         transcripts.push(going)?;
     }
     all_told(alloc, transcripts)
-}
-
-fn part_account(part: PartLog) -> PartAccount
-    ensures { result ≡ part_account part }
-{
-    let followers = part.followers();
-    let (log, events) = part.into_parts();
-    PartAccount {
-        followers,
-        log,
-        events,
-    }
-}
-
-fn part_accounts(alloc: Global, parts: List<PartLog>) -> Result<List<PartAccount>, NoMemory>
-    ensures { IfOk result (λ accounts. accounts ≡ map part_account parts) }
-{
-    let mut accounts = List::new(alloc);
-    for part in parts.into_vec() {
-        accounts.push(part_account(part))?;
-    }
-    Ok(accounts)
 }
 
 // So many empty lists.

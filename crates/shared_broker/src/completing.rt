@@ -6,18 +6,18 @@ ghost use Rattle.kanswer.specs.LogReadings.{IsCarriable};
 ghost use Rattle.kanswer.specs.Results.{AreResults, parts_asked};
 ghost use Rattle.kanswer.specs.Waiting.{operation_of};
 ghost use Rattle.kwire.specs.IsRequest.{IsRequest};
-ghost use Rattle.plain_broker.specs.Sound.{AllBelow};
+ghost use Rattle.broker_spec.specs.Sound.{AllBelow};
 ghost use Rattle.shared_broker.specs.Calling.{told_as};
 ghost use Rattle.shared_broker.specs.Serving.{HasFinished, WillSit, finished_as};
 
 use crate::broker::Broker;
 use crate::parked::Parked;
 use audit::{CallHow, Point};
+use kanswer::reply_frame;
 use kbytes::{Bytes, List, NoMemory};
 use kwire::RequestView;
 use purgatory::{Done, How};
-use reply_frames::reply_frame;
-use shared_completion::{Completing, complete};
+use shared_calls::{Completing, complete};
 use shared_logs::LogPass;
 use std::sync::Wait;
 
@@ -32,7 +32,7 @@ fn told_as(done: Done) -> CallHow
 }
 
 impl Broker {
-    /// Completes a request that was won: its call looks at the partitions, and is told as `done` says. After want of memory it is cut off.
+    /// Completes a request that was won: its call looks at the partitions, and is told as `done` says. If memory runs out, it is cut off.
     pub(crate) fn complete(
         &self,
         rt: &impl Wait,

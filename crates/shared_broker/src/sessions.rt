@@ -28,8 +28,8 @@ impl Broker {
         });
     }
 
-    /// Ends the transcript that is going. Its request, if one waited, has been collected; and where its last call met want of memory, it ends so.
-    /// After want of memory the transcript goes on.
+    /// Ends the transcript that is going. Its request, if one waited, has been collected; and where its last call ran out of memory, it ends so.
+    /// If memory runs out, the transcript goes on.
     pub fn finish(&self, pass: &mut Pass, end: SessionEnd) -> Result<(), NoMemory>
         requires made { made_with pass.old ≡ self.now }
         requires begun { IsSome pass.old.going }
@@ -44,7 +44,7 @@ impl Broker {
     }
 
     /// Tells the clock a moment in milliseconds. Where it is above the clock's, the clock comes to it, and all whose deadline that is are won;
-    /// else nothing changes. A request of the pass may wait meanwhile. After want of memory the clock is as it was.
+    /// else nothing changes. A request of the pass may wait meanwhile. If memory runs out, the clock is as it was.
     pub fn tick(&self, rt: &impl Wait, pass: &mut Pass, t: u64) -> Result<(), NoMemory>
         requires made { made_with pass.old ≡ self.now }
         requires limit { t ≤ MOST_MOMENT }
@@ -65,7 +65,7 @@ impl Broker {
     }
 }
 
-// The transcript that is going is ended, and stands behind the others. Answers how many calls it has. After want of memory both are as they were.
+// The transcript that is going is ended, and stands behind the others. Answers how many calls it has. If memory runs out, both are as they were.
 fn end_going(
     alloc: Global,
     ended: &mut List<Transcript>,

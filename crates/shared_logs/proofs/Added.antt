@@ -10,9 +10,9 @@ use Rattle.partlog.specs.History.{History}
 use Rattle.partlog.specs.Moment.{moment_of}
 use Rattle.audit.specs.Histories.{ticks_of}
 use Rattle.turn_lock.specs.OfPass.{of_pass}
-use Rattle.log_desks.specs.declared.entries.ClockEntry.{ClockEntry}
-use Rattle.log_desks.specs.Entries.{clock_by}
-use Rattle.log_desks.specs.Histories.{events_of}
+use Rattle.shared_logs.specs.declared.entries.ClockEntry.{ClockEntry}
+use Rattle.shared_logs.specs.Entries.{clock_by}
+use Rattle.shared_logs.specs.Histories.{events_of}
 use Rattle.shared_logs.specs.Closing.{AreClosed}
 use Rattle.shared_logs.specs.Shared.{LogPassView, SharedView}
 use Rattle.shared_logs.proofs.Rising.{any_flat, flat_any, has_from, has_on, rises_from, same_rising, some_greatest}

@@ -1,8 +1,8 @@
 -- Passes taken apart, and put together again.
 use Rattle.std.proofs.Common.{◌≡◌, ◌∙◌, suc, ◌<◌, List, [], ◌∷◌, ◌++◌, drop, get_or, length, take, ap, refl, subst, sym, arith, append_assoc}
 use Rattle.turn_lock.specs.declared.pass.TurnPass.{TurnPass}
-use Rattle.log_desks.specs.declared.entries.LogEntry.{LogEntry}
-use Rattle.log_desks.specs.Desks.{PartView}
+use Rattle.shared_logs.specs.declared.entries.LogEntry.{LogEntry}
+use Rattle.shared_logs.specs.Desks.{PartView}
 use Rattle.purgatory.specs.Rooms.{PassView}
 use Rattle.shared_logs.specs.declared.hands.Hand.{Hand}
 use Rattle.shared_logs.specs.Apart.{AreJoined, AreRests, IsJoined, IsRest, gathered, joined}

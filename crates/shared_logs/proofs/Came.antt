@@ -9,18 +9,18 @@ use Rattle.partlog.specs.declared.clock_event.ClockEvent.{ClockEvent}
 use Rattle.partlog.specs.History.{History}
 use Rattle.partlog.specs.Kept.{IsKept}
 use Rattle.audit.specs.Histories.{clock_owner_of, owner_of}
-use Rattle.plain_broker.specs.GoesOn.{Longer}
+use Rattle.broker_spec.specs.GoesOn.{Longer}
 use Rattle.pass_books.specs.Owned.{NotOf, OthersAlone}
 use Rattle.pass_books.proofs.Laws.{others_behind}
 use Rattle.turn_lock.specs.declared.pass.TurnPass.{TurnPass}
 use Rattle.turn_lock.specs.Locks.{known}
 use Rattle.turn_lock.specs.OfPass.{of_pass}
-use Rattle.log_desks.specs.declared.entries.ClockEntry.{ClockEntry}
-use Rattle.log_desks.specs.declared.entries.LogEntry.{LogEntry}
-use Rattle.log_desks.specs.Desks.{MomentView, PartView}
-use Rattle.log_desks.specs.Entries.{clock_by, clock_entries, entry_by, log_entries}
-use Rattle.log_desks.specs.Histories.{events_of}
-use Rattle.log_desks.proofs.Beside.{bytes_in, entries_bytes, entries_events, event_in}
+use Rattle.shared_logs.specs.declared.entries.ClockEntry.{ClockEntry}
+use Rattle.shared_logs.specs.declared.entries.LogEntry.{LogEntry}
+use Rattle.shared_logs.specs.Desks.{MomentView, PartView}
+use Rattle.shared_logs.specs.Entries.{clock_by, clock_entries, entry_by, log_entries}
+use Rattle.shared_logs.specs.Histories.{events_of}
+use Rattle.shared_logs.proofs.Beside.{bytes_in, entries_bytes, entries_events, event_in}
 use Rattle.room_table.specs.Seats.{SourceView}
 use Rattle.shared_logs.specs.Coming.{OthersCame}
 use Rattle.shared_logs.specs.Gone.{AreTold, IsTold}

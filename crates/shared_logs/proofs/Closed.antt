@@ -11,19 +11,19 @@ use Rattle.partlog.specs.History.{History}
 use Rattle.partlog.specs.Kept.{IsKept}
 use Rattle.partlog.specs.Moment.{moment_of}
 use Rattle.audit.specs.Histories.{clock_owner_of, ticks_of}
-use Rattle.plain_broker.specs.GoesOn.{AllWhole, the_owner}
-use Rattle.plain_broker.specs.Kept.{owners_here}
+use Rattle.broker_spec.specs.GoesOn.{AllWhole, the_owner}
+use Rattle.broker_spec.specs.Kept.{owners_here}
 use Rattle.turn_lock.specs.declared.lock.TurnLock.{TurnLock}
 use Rattle.turn_lock.specs.declared.pass.TurnPass.{TurnPass}
 use Rattle.turn_lock.specs.Locks.{known}
 use Rattle.turn_lock.specs.OfPass.{of_pass}
-use Rattle.log_desks.specs.declared.entries.ClockEntry.{ClockEntry}
-use Rattle.log_desks.specs.declared.entries.LogEntry.{LogEntry}
-use Rattle.log_desks.specs.Desks.{MomentView, PartView}
-use Rattle.log_desks.specs.Entries.{clock_by, clock_entries, entry_by, log_entries}
-use Rattle.log_desks.specs.Histories.{events_of}
-use Rattle.log_desks.proofs.Beside.{clock_events}
-use Rattle.log_desks.proofs.Owners.{clock_named, named}
+use Rattle.shared_logs.specs.declared.entries.ClockEntry.{ClockEntry}
+use Rattle.shared_logs.specs.declared.entries.LogEntry.{LogEntry}
+use Rattle.shared_logs.specs.Desks.{MomentView, PartView}
+use Rattle.shared_logs.specs.Entries.{clock_by, clock_entries, entry_by, log_entries}
+use Rattle.shared_logs.specs.Histories.{events_of}
+use Rattle.shared_logs.proofs.Beside.{clock_events}
+use Rattle.shared_logs.proofs.Owners.{clock_named, named}
 use Rattle.room_core.specs.declared.parts.Stage.{Stage}
 use Rattle.room_core.specs.Described.{operation_of}
 use Rattle.room_table.specs.Seats.{CallerView, TableView, caller_now}

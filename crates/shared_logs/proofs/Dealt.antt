@@ -10,9 +10,9 @@ use Rattle.turn_lock.specs.declared.lock.TurnLock.{TurnLock}
 use Rattle.turn_lock.specs.declared.pass.TurnPass.{TurnPass}
 use Rattle.turn_lock.specs.Locks.{AreFresh, known, lock_name, lock_passes}
 use Rattle.turn_lock.specs.Passes.{fresh, known_of}
-use Rattle.log_desks.specs.declared.entries.ClockEntry.{ClockEntry}
-use Rattle.log_desks.specs.declared.entries.LogEntry.{LogEntry}
-use Rattle.log_desks.specs.Desks.{MomentView, PartView, moment_name, part_name}
+use Rattle.shared_logs.specs.declared.entries.ClockEntry.{ClockEntry}
+use Rattle.shared_logs.specs.declared.entries.LogEntry.{LogEntry}
+use Rattle.shared_logs.specs.Desks.{MomentView, PartView, moment_name, part_name}
 use Rattle.room_scans.specs.Desks.{desk_name}
 use Rattle.room_table.specs.Handed.{fresh_source, fresh_sources}
 use Rattle.room_table.specs.Seats.{SourceView, TableView}

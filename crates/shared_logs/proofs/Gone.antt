@@ -14,12 +14,12 @@ use Rattle.turn_lock.specs.declared.pass.TurnPass.{TurnPass}
 use Rattle.turn_lock.specs.Locks.{IsPassOf, IsReady, known, lock_name, lock_passes}
 use Rattle.turn_lock.specs.OfPass.{of_pass}
 use Rattle.turn_lock.specs.StartsWith.{StartsWith}
-use Rattle.log_desks.specs.declared.entries.ClockEntry.{ClockEntry}
-use Rattle.log_desks.specs.declared.entries.LogEntry.{LogEntry}
-use Rattle.log_desks.specs.declared.sources.PartSources.{PartSources}
-use Rattle.log_desks.specs.Desks.{MomentView, PartView, moment_name, part_name}
-use Rattle.log_desks.specs.Entries.{clock_by, clock_entries, entry_by, log_entries}
-use Rattle.log_desks.specs.Keeps.{AreAt, AreOfPart, MomentKeeps, PartKeeps}
+use Rattle.shared_logs.specs.declared.entries.ClockEntry.{ClockEntry}
+use Rattle.shared_logs.specs.declared.entries.LogEntry.{LogEntry}
+use Rattle.shared_logs.specs.declared.sources.PartSources.{PartSources}
+use Rattle.shared_logs.specs.Desks.{MomentView, PartView, moment_name, part_name}
+use Rattle.shared_logs.specs.Entries.{clock_by, clock_entries, entry_by, log_entries}
+use Rattle.shared_logs.specs.Keeps.{AreAt, AreOfPart, MomentKeeps, PartKeeps}
 use Rattle.purgatory.specs.Rooms.{LockView}
 use Rattle.room_core.specs.declared.parts.Source.{Source}
 use Rattle.room_scans.specs.Desks.{desk_name}

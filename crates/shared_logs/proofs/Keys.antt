@@ -8,13 +8,13 @@ use Rattle.turn_lock.specs.declared.known.Known.{Known}
 use Rattle.turn_lock.specs.AddedBy.{AddedBy}
 use Rattle.turn_lock.specs.OfPass.{of_pass}
 use Rattle.turn_lock.specs.Passes.{begun, ended}
-use Rattle.log_desks.specs.declared.entries.ClockEntry.{ClockEntry}
-use Rattle.log_desks.specs.declared.entries.LogEntry.{LogEntry}
-use Rattle.log_desks.specs.Desks.{MomentView, PartView, moment_name, part_name}
-use Rattle.log_desks.specs.Entries.{clock_by, clock_entries, entry_by, log_entries}
-use Rattle.log_desks.specs.Histories.{events_of}
-use Rattle.log_desks.specs.Keeps.{MomentKeeps, PartKeeps}
-use Rattle.log_desks.proofs.Beside.{clock_events}
+use Rattle.shared_logs.specs.declared.entries.ClockEntry.{ClockEntry}
+use Rattle.shared_logs.specs.declared.entries.LogEntry.{LogEntry}
+use Rattle.shared_logs.specs.Desks.{MomentView, PartView, moment_name, part_name}
+use Rattle.shared_logs.specs.Entries.{clock_by, clock_entries, entry_by, log_entries}
+use Rattle.shared_logs.specs.Histories.{events_of}
+use Rattle.shared_logs.specs.Keeps.{MomentKeeps, PartKeeps}
+use Rattle.shared_logs.proofs.Beside.{clock_events}
 use Rattle.shared_logs.specs.Turned.{HasFound, HasLeft, HasSeenMore, WasClockTurn, WasPartTurn, moment_entries, part_entries}
 
 pub more_self : {E : Type 0} (k : Known E) → HasSeenMore k k

@@ -1,3 +1,17 @@
+-- what the crates above may cite
+pub mod Laws
+-- the entries that a lock sees, beside the histories
+pub mod Beside
+-- who left an entry
+pub mod Owners
+-- a history that one pass goes on
+pub mod Adding
+-- a partition's desk, as its history goes on
+pub mod Entering
+-- the clock's desk, as its history goes on
+pub mod TickedClock
+-- the sources of a new room, as they are taken from their list
+pub mod Taking
 -- what a whole turn of a lock tells of the histories
 pub mod Telling
 -- what a pass knows of a lock, as its turn goes on
@@ -36,5 +50,9 @@ pub mod Added
 pub mod Closed
 -- how shared logs end
 pub mod Ending
--- what the crates above may cite
-pub mod Laws
+-- a pass that is the same over two steps
+pub mod Same
+-- entries that are left over two steps
+pub mod Leaving
+-- the histories that a turn finds
+pub mod Finding

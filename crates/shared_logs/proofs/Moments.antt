@@ -16,7 +16,7 @@ use Rattle.partlog.specs.Ticked.{ticked}
 use Rattle.audit.specs.Histories.{clock_owner_of, ticks_of}
 use Rattle.room_core.specs.Gauges.{IsPass}
 use Rattle.room_table.specs.Seats.{TableView, caller_now}
-use Rattle.plain_broker.specs.GoesOn.{Longer}
+use Rattle.broker_spec.specs.GoesOn.{Longer}
 use Rattle.pass_books.specs.Owned.{NotOf, OthersAlone}
 use Rattle.pass_books.proofs.Laws.{clock_came}
 use Rattle.turn_lock.specs.declared.known.Known.{Known}
@@ -25,14 +25,14 @@ use Rattle.turn_lock.specs.declared.lock.TurnLock.{TurnLock}
 use Rattle.turn_lock.specs.Locks.{IsPassOf, IsReady, known}
 use Rattle.purgatory.specs.Going.{GoesOn, IsAtRest, KeepsOperation}
 use Rattle.purgatory.specs.Rooms.{IsOfRoom, PassView, RoomView}
-use Rattle.purgatory.proofs.Goes.{kept_same, stays}
-use Rattle.log_desks.specs.declared.entries.ClockEntry.{ClockEntry}
-use Rattle.log_desks.specs.declared.entries.LogEntry.{LogEntry}
-use Rattle.log_desks.specs.Desks.{MomentView, PartView, moment_name}
-use Rattle.log_desks.specs.Entries.{clock_by}
-use Rattle.log_desks.specs.Histories.{events_of}
-use Rattle.log_desks.proofs.Beside.{clock_events, clock_length}
-use Rattle.log_desks.proofs.Ticking.{ticked_above}
+use Rattle.purgatory.proofs.Laws.{kept_same, stays}
+use Rattle.shared_logs.specs.declared.entries.ClockEntry.{ClockEntry}
+use Rattle.shared_logs.specs.declared.entries.LogEntry.{LogEntry}
+use Rattle.shared_logs.specs.Desks.{MomentView, PartView, moment_name}
+use Rattle.shared_logs.specs.Entries.{clock_by}
+use Rattle.shared_logs.specs.Histories.{events_of}
+use Rattle.shared_logs.proofs.Beside.{clock_events, clock_length}
+use Rattle.shared_logs.proofs.TickedClock.{ticked_above}
 use Rattle.shared_logs.specs.Asked.{HasLookedAtClock, HasTicked}
 use Rattle.shared_logs.specs.Coming.{HasCaughtUp, IsSamePass, OthersCame}
 use Rattle.shared_logs.specs.Locked.{IsHand, IsLogPass, lock_of, pass_view, seen_part, shared_view}

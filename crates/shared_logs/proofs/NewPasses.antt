@@ -12,13 +12,13 @@ use Rattle.turn_lock.specs.declared.pass.TurnPass.{TurnPass}
 use Rattle.turn_lock.specs.Locks.{known}
 use Rattle.turn_lock.specs.OfPass.{of_pass}
 use Rattle.turn_lock.specs.Passes.{at_stage, known_of}
-use Rattle.log_desks.specs.declared.entries.ClockEntry.{ClockEntry}
-use Rattle.log_desks.specs.declared.entries.LogEntry.{LogEntry}
-use Rattle.log_desks.specs.Desks.{MomentView, PartView}
-use Rattle.log_desks.specs.Entries.{clock_by, entry_by}
-use Rattle.log_desks.specs.Histories.{events_of, history_of}
-use Rattle.plain_broker.specs.Board.{empty_history, history_at}
-use Rattle.plain_broker.specs.GoesOn.{AllWhole, IsWhole}
+use Rattle.shared_logs.specs.declared.entries.ClockEntry.{ClockEntry}
+use Rattle.shared_logs.specs.declared.entries.LogEntry.{LogEntry}
+use Rattle.shared_logs.specs.Desks.{MomentView, PartView}
+use Rattle.shared_logs.specs.Entries.{clock_by, entry_by}
+use Rattle.shared_logs.specs.Histories.{events_of, history_of}
+use Rattle.broker_spec.specs.Board.{empty_history, history_at}
+use Rattle.broker_spec.specs.GoesOn.{AllWhole, IsWhole}
 use Rattle.room_core.specs.Gauges.{IsPass}
 use Rattle.purgatory.specs.Rooms.{LockView, PassView}
 use Rattle.shared_logs.specs.Dealt.{AreDealt, IsFreshHand, IsFreshOf, IsFreshRow, IsFreshSeat}

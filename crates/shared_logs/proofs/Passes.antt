@@ -14,16 +14,16 @@ use Rattle.partlog.specs.Looked.{looked}
 use Rattle.partlog.specs.State.{PartState, state_of}
 use Rattle.kanswer.specs.Decisions.{Outcome}
 use Rattle.kanswer.specs.Waiting.{gauge_value}
-use Rattle.acceptance.specs.declared.entered.Entered.{Entered}
-use Rattle.acceptance.specs.Entered.{HasEntered}
+use Rattle.kanswer.specs.declared.entered.Entered.{Entered}
+use Rattle.kanswer.specs.Entered.{HasEntered}
 use Rattle.audit.specs.Histories.{owner_of}
-use Rattle.audit.proofs.Laws.{get_set_other, get_set_same, same_or_not}
+use Rattle.kbytes.proofs.Laws.{get_set_other, get_set_same, same_or_not}
 use Rattle.room_core.specs.Gauges.{IsPass}
 use Rattle.room_table.specs.Seats.{TableView, caller_now}
 use Rattle.room_scans.specs.Desks.{desk_name}
-use Rattle.plain_broker.specs.Board.{empty_history, history_at}
-use Rattle.plain_broker.specs.GoesOn.{AllWhole}
-use Rattle.plain_broker.proofs.Laws.{set_same, set_whole}
+use Rattle.broker_spec.specs.Board.{empty_history, history_at}
+use Rattle.broker_spec.specs.GoesOn.{AllWhole}
+use Rattle.broker_spec.proofs.Laws.{set_same, set_whole}
 use Rattle.pass_books.specs.Owned.{NotOf, OthersAlone}
 use Rattle.pass_books.proofs.Laws.{others_grown, others_within, part_came}
 use Rattle.turn_lock.specs.declared.pass.TurnPass.{TurnPass}
@@ -32,11 +32,11 @@ use Rattle.turn_lock.specs.Locks.{IsPassOf, IsReady, known, lock_name}
 use Rattle.turn_lock.specs.OfPass.{of_pass}
 use Rattle.purgatory.specs.Going.{GoesOn, IsAtRest, KeepsOperation}
 use Rattle.purgatory.specs.Rooms.{IsOfRoom, LockView, PassView, RoomView}
-use Rattle.log_desks.specs.declared.entries.ClockEntry.{ClockEntry}
-use Rattle.log_desks.specs.declared.entries.LogEntry.{LogEntry}
-use Rattle.log_desks.specs.Desks.{MomentView, PartView, part_name}
-use Rattle.log_desks.specs.Entries.{entry_by}
-use Rattle.log_desks.specs.Histories.{events_of}
+use Rattle.shared_logs.specs.declared.entries.ClockEntry.{ClockEntry}
+use Rattle.shared_logs.specs.declared.entries.LogEntry.{LogEntry}
+use Rattle.shared_logs.specs.Desks.{MomentView, PartView, part_name}
+use Rattle.shared_logs.specs.Entries.{entry_by}
+use Rattle.shared_logs.specs.Histories.{events_of}
 use Rattle.shared_logs.specs.Asked.{HasAsked, HasLooked, LeftOne}
 use Rattle.shared_logs.specs.Coming.{HasCaughtUp, IsSamePass, OthersCame}
 use Rattle.shared_logs.specs.Locked.{IsHand, IsLogPass, lock_of, moment_lock, part_lock, pass_view, seen_part, shared_view}

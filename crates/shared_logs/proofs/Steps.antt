@@ -8,10 +8,10 @@ use Rattle.purgatory.specs.declared.outcome.Done.{Done}
 use Rattle.purgatory.specs.Going.{GoesOn}
 use Rattle.purgatory.specs.Polled.{HasPolled, won_at}
 use Rattle.purgatory.specs.Rooms.{PassView}
-use Rattle.purgatory.proofs.Goes.{goes_by, one_step}
-use Rattle.log_desks.specs.declared.entries.ClockEntry.{ClockEntry}
-use Rattle.log_desks.specs.declared.entries.LogEntry.{LogEntry}
-use Rattle.log_desks.specs.Desks.{MomentView, PartView}
+use Rattle.purgatory.proofs.Laws.{goes_by, one_step}
+use Rattle.shared_logs.specs.declared.entries.ClockEntry.{ClockEntry}
+use Rattle.shared_logs.specs.declared.entries.LogEntry.{LogEntry}
+use Rattle.shared_logs.specs.Desks.{MomentView, PartView}
 use Rattle.shared_logs.specs.Coming.{HasStepped}
 use Rattle.shared_logs.specs.Locked.{lock_of, pass_view}
 

@@ -12,7 +12,7 @@ use Rattle.partlog.specs.declared.event.PartEvent.{PartEvent}
 use Rattle.partlog.specs.declared.event.PartEvent.TheVariants.{Append, Follow, Look}
 use Rattle.partlog.specs.Kept.{IsKept}
 use Rattle.audit.specs.Histories.{Owner, clock_owner_of, owner_of}
-use Rattle.plain_broker.specs.GoesOn.{Longer, the_owner}
+use Rattle.broker_spec.specs.GoesOn.{Longer, the_owner}
 use Rattle.pass_books.specs.Owned.{NotOf}
 use Rattle.pass_books.proofs.Laws.{others_behind}
 use Rattle.room_table.specs.Seats.{TableView}
@@ -20,12 +20,12 @@ use Rattle.room_scans.specs.Desks.{desk_name}
 use Rattle.room_scans.proofs.Laws.{name_number, name_table}
 use Rattle.turn_lock.specs.declared.known.Known.{Known}
 use Rattle.turn_lock.specs.OfPass.{of_pass}
-use Rattle.log_desks.specs.declared.entries.ClockEntry.{ClockEntry}
-use Rattle.log_desks.specs.declared.entries.LogEntry.{LogEntry}
-use Rattle.log_desks.specs.Desks.{MomentView, PartView, moment_name, part_name}
-use Rattle.log_desks.specs.Entries.{clock_by, clock_entries, entry_by, event_by}
-use Rattle.log_desks.specs.Histories.{events_of, history_of}
-use Rattle.log_desks.proofs.Beside.{bytes_in, clock_events, entries_bytes, entries_events, event_in, history_told}
+use Rattle.shared_logs.specs.declared.entries.ClockEntry.{ClockEntry}
+use Rattle.shared_logs.specs.declared.entries.LogEntry.{LogEntry}
+use Rattle.shared_logs.specs.Desks.{MomentView, PartView, moment_name, part_name}
+use Rattle.shared_logs.specs.Entries.{clock_by, clock_entries, entry_by, event_by}
+use Rattle.shared_logs.specs.Histories.{events_of, history_of}
+use Rattle.shared_logs.proofs.Beside.{bytes_in, clock_events, entries_bytes, entries_events, event_in, history_told}
 use Rattle.shared_logs.specs.Turned.{HasFound, HasLeft, WasClockTurn, WasPartTurn, moment_entries, part_entries}
 
 -- what Ok says, said of what follows from it

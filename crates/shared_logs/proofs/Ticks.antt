@@ -9,9 +9,9 @@ use Rattle.partlog.specs.declared.clock_event.ClockEvent.TheVariants.{Look, Tick
 use Rattle.partlog.specs.Moment.{moment_of, tick_of}
 use Rattle.audit.specs.Histories.{ticks_of}
 use Rattle.turn_lock.specs.OfPass.{of_pass}
-use Rattle.log_desks.specs.declared.entries.ClockEntry.{ClockEntry}
-use Rattle.log_desks.specs.Entries.{clock_by}
-use Rattle.log_desks.specs.Histories.{events_of}
+use Rattle.shared_logs.specs.declared.entries.ClockEntry.{ClockEntry}
+use Rattle.shared_logs.specs.Entries.{clock_by}
+use Rattle.shared_logs.specs.Histories.{events_of}
 use Rattle.shared_logs.proofs.Rising.{Has, Rises, has_from, has_on, rises_from, rises_lower, rises_on, some_greatest}
 
 pub ticks_append : (events more : List ClockEvent) → ticks_of (events ++ more) ≡ ticks_of events ++ ticks_of more

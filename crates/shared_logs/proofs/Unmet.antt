@@ -13,7 +13,7 @@ use Rattle.partlog.specs.State.{state_of}
 use Rattle.opcond.specs.declared.need.Need.{Need}
 use Rattle.opcond.specs.Tally.{IsSatisfied}
 use Rattle.kanswer.specs.Waiting.{gauge_value}
-use Rattle.plain_broker.specs.Board.{empty_history, history_at}
+use Rattle.broker_spec.specs.Board.{empty_history, history_at}
 use Rattle.room_core.specs.declared.parts.Source.{Source}
 use Rattle.room_core.specs.declared.parts.Stage.{Stage}
 use Rattle.room_core.specs.declared.shape.Shape.{Shape}
@@ -24,7 +24,8 @@ use Rattle.room_core.specs.State.{Caller}
 use Rattle.room_table.specs.Seats.{CallerView, SourceView, caller_now, source_now}
 use Rattle.purgatory.specs.Closed.{IsClosed, stored_in}
 use Rattle.purgatory.specs.Ends.{StillView}
-use Rattle.shared_logs.specs.Closing.{IsUnanswerable, value_in}
+use Rattle.broker_spec.specs.Board.{gauge_now}
+use Rattle.shared_logs.specs.Closing.{IsUnanswerable}
 use Rattle.shared_logs.specs.Gone.{HaveStored, TellOf}
 
 map_agrees : {A B : Type 0} (f g : A → B) (xs : List A) → All (λ x. f x ≡ g x) xs → map f xs ≡ map g xs
@@ -80,10 +81,10 @@ module _ (still : StillView) (logs : List History) (sources : List SourceView) (
   moment_same : stored_in closed.shown.state (clock_of closed.shown.state.shape) ≡ moment_of events
   moment_same = ap (stored_in closed.shown.state) (clock_is ∙ sym gauge_is) ∙ ap (λ (s : Source). s.stored) shown_sources.1 ∙ stored
 
-  values_agree : (words : ℕ → ℕ) → IsOperation closed.shown.state.shape words → values_in words (stored_in closed.shown.state) ≡ map (value_in logs) (needs_in words)
+  values_agree : (words : ℕ → ℕ) → IsOperation closed.shown.state.shape words → values_in words (stored_in closed.shown.state) ≡ map (gauge_now logs) (needs_in words)
   values_agree words op =
-      let P : Need → Type 0 = λ need. stored_in closed.shown.state need.gauge ≡ value_in logs need in
-      map_agrees (λ (need : Need). stored_in closed.shown.state need.gauge) (value_in logs) (needs_in words)
+      let P : Need → Type 0 = λ need. stored_in closed.shown.state need.gauge ≡ gauge_now logs need in
+      map_agrees (λ (need : Need). stored_in closed.shown.state need.gauge) (gauge_now logs) (needs_in words)
       (λ k d less.
       let few : k < needs_of words = subst (λ n. k < n) (length-map-range_with_len (need_of words) 0 (needs_of words)) less in
       let here = get_or-map-range_with_len (need_of words) 0 (needs_of words) k k d few (omega arith) in

@@ -9,8 +9,7 @@ use Rattle.room_core.specs.declared.shape.Shape.{Shape}
 use Rattle.room_core.specs.Counts.{sum_below, taken_by}
 use Rattle.room_core.specs.declared.parts.Prize.{Prize}
 use Rattle.room_core.specs.Wins.{wins_of}
-use Rattle.room_core.proofs.Counts.{wins_counted}
-use Rattle.room_core.proofs.Prizes.{wins_of-pass}
+use Rattle.room_core.proofs.Laws.{wins_counted, wins_of-pass}
 use Rattle.room_core.specs.State.{Caller}
 use Rattle.room_table.specs.Seats.{CallerView, SourceView, caller_now}
 use Rattle.purgatory.specs.Closed.{IsClosed}

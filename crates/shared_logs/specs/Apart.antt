@@ -2,10 +2,10 @@
 use Rattle.std.specs.Prelude.{◌≡◌, List, [], ◌∷◌, ◌++◌, All, map, ⊤}
 use Rattle.turn_lock.specs.declared.lock.TurnLock.{TurnLock}
 use Rattle.turn_lock.specs.declared.pass.TurnPass.{TurnPass}
-use Rattle.log_desks.specs.declared.entries.ClockEntry.{ClockEntry}
-use Rattle.log_desks.specs.declared.entries.LogEntry.{LogEntry}
-use Rattle.log_desks.specs.Desks.{MomentView, PartView}
-use Rattle.log_desks.specs.Entries.{clock_by, entry_by}
+use Rattle.shared_logs.specs.declared.entries.ClockEntry.{ClockEntry}
+use Rattle.shared_logs.specs.declared.entries.LogEntry.{LogEntry}
+use Rattle.shared_logs.specs.Desks.{MomentView, PartView}
+use Rattle.shared_logs.specs.Entries.{clock_by, entry_by}
 use Rattle.purgatory.specs.Rooms.{PassView}
 use Rattle.shared_logs.specs.declared.hands.Hand.{Hand}
 use Rattle.shared_logs.specs.Locked.{IsHand, IsLogPass, lock_of, moment_lock, part_lock, pass_view}

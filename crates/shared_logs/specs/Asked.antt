@@ -17,9 +17,9 @@ use Rattle.kanswer.specs.Decisions.{Outcome}
 use Rattle.kanswer.specs.LogReadings.{HasRecords}
 use Rattle.kanswer.specs.Waiting.{gauge_value}
 use Rattle.kwire.specs.declared.request.FetchPart.{FetchPart}
-use Rattle.acceptance.specs.declared.entered.Entered.{Entered}
-use Rattle.acceptance.specs.Entered.{HasEntered}
-use Rattle.plain_broker.specs.Board.{history_at}
+use Rattle.kanswer.specs.declared.entered.Entered.{Entered}
+use Rattle.kanswer.specs.Entered.{HasEntered}
+use Rattle.broker_spec.specs.Board.{history_at}
 use Rattle.shared_logs.specs.Coming.{IsSamePass, OthersCame}
 use Rattle.shared_logs.specs.Shared.{LogPassView}
 

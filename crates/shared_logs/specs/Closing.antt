@@ -11,9 +11,9 @@ use Rattle.opcond.specs.Operation.{Operation}
 use Rattle.opcond.specs.Tally.{IsSatisfied}
 use Rattle.audit.specs.Histories.{ticks_of}
 use Rattle.kanswer.specs.Waiting.{gauge_value}
-use Rattle.plain_broker.specs.Board.{history_at}
-use Rattle.plain_broker.specs.GoesOn.{AllWhole, the_owner}
-use Rattle.plain_broker.specs.Kept.{owners_at}
+use Rattle.broker_spec.specs.Board.{history_at, gauge_now}
+use Rattle.broker_spec.specs.GoesOn.{AllWhole, the_owner}
+use Rattle.broker_spec.specs.Kept.{owners_at}
 use Rattle.room_core.specs.declared.parts.Stage.{Stage}
 use Rattle.room_core.specs.Described.{operation_of}
 use Rattle.room_table.specs.Seats.{CallerView, caller_now}
@@ -21,13 +21,9 @@ use Rattle.purgatory.specs.Rooms.{PassView, winners}
 use Rattle.shared_logs.specs.Coming.{OthersCame}
 use Rattle.shared_logs.specs.Shared.{LogPassView, SharedView, followers_in}
 
--- the value of a need's gauge
-abbrev pub value_in : List History → Need → ℕ
-value_in parts need = gauge_value need.gauge (state_of (history_at parts (need.gauge / 3)))
-
 -- the operation isn't answerable by these histories
 pub record IsUnanswerable (parts : List History) (clock : List ClockEvent) (op : Operation) : Type 0 where
-  pub unsatisfied : ¬ IsSatisfied op (map (value_in parts) op.needs)
+  pub unsatisfied : ¬ IsSatisfied op (map (gauge_now parts) op.needs)
   pub early : moment_of clock < op.deadline
 
 -- how many operations that this winner won a pass has taken the end of

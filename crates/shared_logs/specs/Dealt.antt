@@ -5,9 +5,9 @@ use Rattle.turn_lock.specs.declared.lock.TurnLock.{TurnLock}
 use Rattle.turn_lock.specs.declared.pass.TurnPass.{TurnPass}
 use Rattle.turn_lock.specs.Locks.{known, lock_name, lock_passes}
 use Rattle.turn_lock.specs.Passes.{fresh}
-use Rattle.log_desks.specs.declared.entries.ClockEntry.{ClockEntry}
-use Rattle.log_desks.specs.declared.entries.LogEntry.{LogEntry}
-use Rattle.log_desks.specs.Desks.{MomentView, PartView, part_name}
+use Rattle.shared_logs.specs.declared.entries.ClockEntry.{ClockEntry}
+use Rattle.shared_logs.specs.declared.entries.LogEntry.{LogEntry}
+use Rattle.shared_logs.specs.Desks.{MomentView, PartView, part_name}
 use Rattle.room_core.specs.Gauges.{IsPass}
 use Rattle.room_scans.specs.Desks.{desk_name}
 use Rattle.room_table.specs.Handed.{fresh_caller, fresh_source}

@@ -14,10 +14,10 @@ use Rattle.turn_lock.specs.declared.pass.TurnPass.{TurnPass}
 use Rattle.turn_lock.specs.Locks.{known, lock_name}
 use Rattle.turn_lock.specs.OfPass.{of_pass}
 use Rattle.turn_lock.specs.StartsWith.{StartsWith}
-use Rattle.log_desks.specs.declared.entries.ClockEntry.{ClockEntry}
-use Rattle.log_desks.specs.declared.entries.LogEntry.{LogEntry}
-use Rattle.log_desks.specs.Desks.{MomentView, PartView, moment_name, part_name}
-use Rattle.log_desks.specs.Entries.{clock_by, clock_entries, entry_by, log_entries}
+use Rattle.shared_logs.specs.declared.entries.ClockEntry.{ClockEntry}
+use Rattle.shared_logs.specs.declared.entries.LogEntry.{LogEntry}
+use Rattle.shared_logs.specs.Desks.{MomentView, PartView, moment_name, part_name}
+use Rattle.shared_logs.specs.Entries.{clock_by, clock_entries, entry_by, log_entries}
 use Rattle.room_core.specs.declared.parts.Source.{Source}
 use Rattle.room_scans.specs.Desks.{desk_name}
 use Rattle.room_table.specs.Seats.{SourceView, TableView, source_now}

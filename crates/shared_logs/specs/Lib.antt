@@ -1,5 +1,15 @@
 -- ==== the words of public contracts
 
+-- what a clause sees of a partition's desk and of the clock's, and their names
+pub mod Desks
+-- the entries that a lock sees of a partition's history and of the clock's, and the passes that they name
+pub mod Entries
+-- the histories that entries tell of
+pub mod Histories
+-- what a partition's desk and the clock's keep between any two calls
+pub mod Keeps
+-- the clock's desk was told a moment
+pub mod Ticked
 -- what a clause sees of the logs that threads share, and of what a thread has of them
 pub mod Shared
 -- what is so of a pass between any two calls
@@ -10,6 +20,10 @@ pub mod Coming
 pub mod Asked
 -- the passes of new logs
 pub mod Making
+-- a pass amid a call
+pub mod Amid
+-- what a call leaves behind it
+pub mod Left
 -- the logs as they are closed
 pub mod Closing
 -- how they end

@@ -10,8 +10,8 @@ use Rattle.partlog.specs.Moment.{moment_of}
 use Rattle.partlog.specs.State.{PartState as State, state_of}
 use Rattle.kanswer.specs.Decisions.{Outcome}
 use Rattle.kanswer.specs.Waiting.{gauge_value}
-use Rattle.acceptance.specs.declared.entered.Entered.{Entered}
-use Rattle.acceptance.specs.Entered.{HasEntered}
+use Rattle.kanswer.specs.declared.entered.Entered.{Entered}
+use Rattle.kanswer.specs.Entered.{HasEntered}
 use Rattle.room_table.specs.Seats.{TableView}
 use Rattle.room_scans.specs.Desks.{desk_name}
 use Rattle.turn_lock.specs.declared.known.Known.{Known}
@@ -22,12 +22,12 @@ use Rattle.turn_lock.specs.Locks.{IsPassOf, IsReady, known, lock_name}
 use Rattle.turn_lock.specs.OfPass.{of_pass}
 use Rattle.turn_lock.specs.Passes.{begun, ended}
 use Rattle.turn_lock.specs.StartsWith.{StartsWith}
-use Rattle.log_desks.specs.declared.entries.ClockEntry.{ClockEntry}
-use Rattle.log_desks.specs.declared.entries.LogEntry.{LogEntry}
-use Rattle.log_desks.specs.Desks.{MomentView, PartView, moment_name, part_name}
-use Rattle.log_desks.specs.Entries.{clock_by, clock_entries, entry_by, log_entries}
-use Rattle.log_desks.specs.Keeps.{MomentKeeps}
-use Rattle.log_desks.specs.Ticked.{HasTicked}
+use Rattle.shared_logs.specs.declared.entries.ClockEntry.{ClockEntry}
+use Rattle.shared_logs.specs.declared.entries.LogEntry.{LogEntry}
+use Rattle.shared_logs.specs.Desks.{MomentView, PartView, moment_name, part_name}
+use Rattle.shared_logs.specs.Entries.{clock_by, clock_entries, entry_by, log_entries}
+use Rattle.shared_logs.specs.Keeps.{MomentKeeps}
+use Rattle.shared_logs.specs.Ticked.{HasTicked}
 
 abbrev pub part_entries : PartView → List LogEntry
 part_entries desk = log_entries desk.history

@@ -11,8 +11,8 @@ ghost use Rattle.shared_logs.specs.Gone.{AreAllOut, AreOfRoom, AreOut, AreSource
 use crate::hands::{Hand, first_of_each, put_together, take_apart};
 use crate::logs::SharedLogs;
 use crate::pass::LogPass;
+use crate::{MomentDesk, PartDesk, PartSources};
 use kbytes::{List, NoMemory};
-use log_desks::{MomentDesk, PartDesk, PartSources};
 use partlog::{ClockLog, PartLog};
 use purgatory::{RoomEnd, Source, StillRoom};
 use std::alloc::Global;

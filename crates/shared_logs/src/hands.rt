@@ -4,8 +4,8 @@ ghost use Rattle.shared_logs.specs.Apart.{AreJoined, AreRests, gathered};
 ghost use Rattle.shared_logs.specs.declared.hands.Hand.{Hand as HandView};
 
 use crate::pass::LogPass;
+use crate::{MomentDesk, PartDesk};
 use kbytes::{List, NoMemory};
-use log_desks::{MomentDesk, PartDesk};
 use purgatory::RoomPass;
 use std::alloc::Global;
 use turn_lock::TurnPass;

@@ -4,8 +4,8 @@ ghost use Rattle.shared_logs.specs.Shared.{followers_in};
 
 use crate::making::{log_passes, part_locks};
 use crate::pass::LogPass;
+use crate::{MomentDesk, PartDesk};
 use kbytes::{List, NoMemory};
-use log_desks::{MomentDesk, PartDesk};
 use purgatory::{Room, RoomParts};
 use std::alloc::Global;
 use std::marker::Model;

@@ -9,8 +9,8 @@ ghost use Rattle.shared_logs.specs.Making.{fresh_log_passes};
 ghost use Rattle.shared_logs.specs.Shared.{SharedView};
 
 use crate::pass::LogPass;
+use crate::{MomentDesk, PartDesk, PartSources};
 use kbytes::{List, NoMemory};
-use log_desks::{MomentDesk, PartDesk, PartSources};
 use purgatory::{RoomPass, Source};
 use std::alloc::Global;
 use turn_lock::{TurnLock, TurnPass};

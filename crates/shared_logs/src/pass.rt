@@ -2,7 +2,7 @@ ghost use Rattle.std.specs.Prelude.{◌≡◌, fold, max};
 ghost use Rattle.partlog.specs.Moment.{moment_of};
 ghost use Rattle.shared_logs.specs.Seen.{HasSeen};
 
-use log_desks::{MomentDesk, PartDesk};
+use crate::{MomentDesk, PartDesk};
 use purgatory::RoomPass;
 use std::marker::Model;
 use turn_lock::TurnPass;

@@ -13,7 +13,7 @@ use std::sync::Wait;
 
 impl SharedLogs {
     /// Tells the clock a moment in milliseconds: the pass adds a tick where that is above the clock's, and may then owe a scan. A moment
-    /// that the pass has already seen passed takes no turn. After want of memory it has left nothing.
+    /// that the pass has already seen passed takes no turn. If memory runs out, it has left nothing.
     pub fn tick(&self, rt: &impl Wait, pass: &mut LogPass, t: u64) -> Result<(), NoMemory>
         requires made { pass.old.made ≡ self.now }
         requires limit { t ≤ MOST_MOMENT }
@@ -42,7 +42,7 @@ impl SharedLogs {
     }
 
     /// Looks at the clock for a call of the pass, in a turn in which its moment is no less than `least`, and answers the place of the look
-    /// and that moment. While it is less, the turn is taken again and leaves nothing. After want of memory no look was left.
+    /// and that moment. While it is less, the turn is taken again and leaves nothing. If memory runs out, no look was left.
     pub fn look_at_clock(
         &self,
         rt: &impl Wait,

@@ -5,7 +5,7 @@ ghost use Rattle.kanswer.specs.declared.accepted.Accepted.TheVariants.{Seen};
 ghost use Rattle.kanswer.specs.Decisions.{append_outcome, fetch_outcome};
 ghost use Rattle.partlog.specs.declared.part_log.TheConstants.{MOST_LOG_BYTES};
 ghost use Rattle.partlog.specs.State.{state_of};
-ghost use Rattle.plain_broker.specs.Board.{history_at};
+ghost use Rattle.broker_spec.specs.Board.{history_at};
 ghost use Rattle.shared_logs.specs.Asked.{HasAsked, HasLooked, HasRead};
 ghost use Rattle.shared_logs.specs.Coming.{HasCaughtUp};
 ghost use Rattle.shared_logs.specs.Shared.{followers_in};
@@ -13,8 +13,7 @@ ghost use Rattle.shared_logs.specs.Shared.{followers_in};
 use crate::logs::SharedLogs;
 use crate::part_turns::{fetch_from, look_into, put_into, read_from};
 use crate::pass::LogPass;
-use acceptance::Entered;
-use kanswer::Budget;
+use kanswer::{Budget, Entered};
 use kbatch::BatchView;
 use kbytes::{Bytes, NoMemory};
 use kwire::FetchPart;
@@ -52,7 +51,7 @@ pub struct Read {
 }
 
 impl SharedLogs {
-    /// Puts a batch into a partition, in a turn of its lock, for a call of the pass. The pass may then owe scans. After want of memory
+    /// Puts a batch into a partition, in a turn of its lock, for a call of the pass. The pass may then owe scans. If memory runs out,
     /// it has left nothing.
     pub fn put(
         &self,
@@ -86,7 +85,7 @@ impl SharedLogs {
     }
 
     /// Enters what a fetch asks of a partition, in a turn of its lock, for a call of the pass, and reads what the reply takes of it: the
-    /// budget is lowered by that. The pass may then owe scans. After want of memory it has left nothing.
+    /// budget is lowered by that. The pass may then owe scans. If memory runs out, it has left nothing.
     pub fn fetch(
         &self,
         rt: &impl Wait,
@@ -128,7 +127,7 @@ impl SharedLogs {
     }
 
     /// Looks at a partition for a call of the pass, in a turn of its lock in which the gauge, one of this partition's, is no less than
-    /// `least`. While it is less, the turn is taken again and leaves nothing. After want of memory no look was left.
+    /// `least`. While it is less, the turn is taken again and leaves nothing. If memory runs out, no look was left.
     pub fn look(
         &self,
         rt: &impl Wait,

@@ -62,9 +62,11 @@ impl SharedLogs {
         self.room.gauge(&mut pass.room, gauge)
     }
 
-    /// Sleeps while the pass's operation waits, for no longer than `most`. It may also return for no reason: `poll` tells.
+    /// Sleeps while the pass's operation waits, for no longer than `most`. It may also return for no reason: `poll` tells. A pass that owes
+    /// a scan settles first.
     pub fn wait(&self, rt: &impl Wait, pass: &LogPass, most: Duration)
-        requires { pass.now.made ≡ self.now }
+        requires made { pass.now.made ≡ self.now }
+        requires paid { OwesNothing (caller_now pass.now.seat) }
     {
         self.room.wait(rt, &pass.room, most);
     }

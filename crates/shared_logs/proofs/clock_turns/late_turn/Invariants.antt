@@ -1,5 +1,5 @@
 use Rattle.turn_lock.specs.Locks.{IsPassOf, IsReady, known}
-use Rattle.log_desks.specs.Desks.{moment_name}
+use Rattle.shared_logs.specs.Desks.{moment_name}
 use Rattle.shared_logs.specs.Turned.{HasSeenMore}
 use Rattle.shared_logs.proofs.clock_turns.late_turn.Given as goal
 

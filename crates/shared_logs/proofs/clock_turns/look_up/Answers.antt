@@ -2,8 +2,8 @@ use Rattle.std.proofs.Common.{◌≡◌, ◌≤◌, ℕ, [], ◌∷◌, ◌++◌
 use Rattle.partlog.specs.declared.clock_event.ClockEvent.TheVariants.{Look}
 use Rattle.partlog.specs.Moment.{moment_of}
 use Rattle.turn_lock.specs.Locks.{known, lock_name}
-use Rattle.log_desks.specs.Desks.{MomentView, moment_name}
-use Rattle.log_desks.specs.Keeps.{MomentKeeps}
+use Rattle.shared_logs.specs.Desks.{MomentView, moment_name}
+use Rattle.shared_logs.specs.Keeps.{MomentKeeps}
 use Rattle.shared_logs.proofs.Keys.{BeganClock, clock_turned, moment_seen}
 use Rattle.shared_logs.proofs.Telling.{if_ok_with}
 use Rattle.shared_logs.proofs.clock_turns.look_up.Goals as goal

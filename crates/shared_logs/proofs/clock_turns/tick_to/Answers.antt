@@ -2,9 +2,9 @@ use Rattle.std.proofs.Common.{ap, subst, sym, ◌∙◌}
 use Rattle.std.specs.Prelude.{Bool, ℕ}
 use Rattle.partlog.specs.Moment.{moment_of}
 use Rattle.turn_lock.specs.Locks.{known, lock_name}
-use Rattle.log_desks.specs.Desks.{MomentView, moment_name}
-use Rattle.log_desks.specs.Keeps.{MomentKeeps}
-use Rattle.log_desks.specs.Ticked.{HasTicked}
+use Rattle.shared_logs.specs.Desks.{MomentView, moment_name}
+use Rattle.shared_logs.specs.Keeps.{MomentKeeps}
+use Rattle.shared_logs.specs.Ticked.{HasTicked}
 use Rattle.shared_logs.proofs.Keys.{BeganClock, clock_turned, moment_seen}
 use Rattle.shared_logs.proofs.Telling.{if_ok}
 use Rattle.shared_logs.proofs.clock_turns.tick_to.Goals as goal

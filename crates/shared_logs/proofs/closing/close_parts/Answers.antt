@@ -6,8 +6,8 @@ use Rattle.std.proofs.lemmas.List.Elements.{All-head, All-tail}
 use Rattle.partlog.specs.History.{History}
 use Rattle.turn_lock.specs.declared.lock.TurnLock.{TurnLock}
 use Rattle.turn_lock.specs.Locks.{lock_passes}
-use Rattle.log_desks.specs.declared.entries.LogEntry.{LogEntry}
-use Rattle.log_desks.specs.Desks.{PartView}
+use Rattle.shared_logs.specs.declared.entries.LogEntry.{LogEntry}
+use Rattle.shared_logs.specs.Desks.{PartView}
 use Rattle.room_table.specs.Seats.{SourceView}
 use Rattle.purgatory.specs.Making.{AreFrom}
 use Rattle.shared_logs.specs.Apart.{IsOfLocks}

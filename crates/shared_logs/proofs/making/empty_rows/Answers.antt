@@ -1,8 +1,8 @@
 use Rattle.std.proofs.Common.{◌∙◌, ◌+◌, List, Global, Vec, ap, length}
 use Rattle.std.proofs.lemmas.List.{length_push}
 use Rattle.turn_lock.specs.declared.pass.TurnPass.{TurnPass}
-use Rattle.log_desks.specs.declared.entries.LogEntry.{LogEntry}
-use Rattle.log_desks.specs.Desks.{PartView}
+use Rattle.shared_logs.specs.declared.entries.LogEntry.{LogEntry}
+use Rattle.shared_logs.specs.Desks.{PartView}
 use Rattle.shared_logs.proofs.Dealt.{rows_none}
 use Rattle.shared_logs.proofs.making.empty_rows.Goals as goal
 

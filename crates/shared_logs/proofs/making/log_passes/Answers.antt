@@ -3,9 +3,9 @@ use Rattle.std.specs.Vec.Iter.{into_iter_items}
 use Rattle.std.proofs.lemmas.List.{length_push}
 use Rattle.std.proofs.lemmas.List.FromFn.{map-range_with_len_more}
 use Rattle.turn_lock.specs.declared.pass.TurnPass.{TurnPass}
-use Rattle.log_desks.specs.declared.entries.ClockEntry.{ClockEntry}
-use Rattle.log_desks.specs.declared.entries.LogEntry.{LogEntry}
-use Rattle.log_desks.specs.Desks.{MomentView, PartView}
+use Rattle.shared_logs.specs.declared.entries.ClockEntry.{ClockEntry}
+use Rattle.shared_logs.specs.declared.entries.LogEntry.{LogEntry}
+use Rattle.shared_logs.specs.Desks.{MomentView, PartView}
 use Rattle.purgatory.specs.Rooms.{PassView}
 use Rattle.shared_logs.specs.Dealt.{AreDealt}
 use Rattle.shared_logs.specs.Locked.{IsLogPass, pass_view}

@@ -4,8 +4,8 @@ use Rattle.std.specs.Vec.Iter.{into_iter_items}
 use Rattle.std.proofs.lemmas.List.{length_push}
 use Rattle.turn_lock.specs.declared.lock.TurnLock.{TurnLock}
 use Rattle.turn_lock.specs.Locks.{AreFresh, lock_id}
-use Rattle.log_desks.specs.declared.entries.LogEntry.{LogEntry}
-use Rattle.log_desks.specs.Desks.{PartView, part_name}
+use Rattle.shared_logs.specs.declared.entries.LogEntry.{LogEntry}
+use Rattle.shared_logs.specs.Desks.{PartView, part_name}
 use Rattle.room_scans.specs.Desks.{desk_name}
 use Rattle.room_table.specs.Handed.{fresh_source}
 use Rattle.room_table.specs.Seats.{SourceView, TableView}

@@ -1,7 +1,7 @@
 use Rattle.std.proofs.Common.{◌∙◌, ap}
 use Rattle.turn_lock.specs.Locks.{known}
 use Rattle.turn_lock.specs.Passes.{ended}
-use Rattle.log_desks.specs.Entries.{entry_by}
+use Rattle.shared_logs.specs.Entries.{entry_by}
 use Rattle.shared_logs.specs.Turned.{part_entries}
 use Rattle.shared_logs.proofs.Keys.{begun_first, found_first, more_self, more_turned}
 use Rattle.shared_logs.proofs.part_turns.late_turn.Goals as goal

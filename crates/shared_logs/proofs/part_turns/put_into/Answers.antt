@@ -4,9 +4,9 @@ use Rattle.kbatch.specs.Kept.{count_of}
 use Rattle.partlog.specs.Gauges.{numbers_of}
 use Rattle.partlog.specs.State.{state_of}
 use Rattle.kanswer.specs.Decisions.{append_outcome}
-use Rattle.acceptance.specs.Entered.{HasEntered}
+use Rattle.kanswer.specs.Entered.{HasEntered}
 use Rattle.turn_lock.specs.Locks.{known, lock_name}
-use Rattle.log_desks.specs.Desks.{part_name}
+use Rattle.shared_logs.specs.Desks.{part_name}
 use Rattle.shared_logs.specs.declared.turns.Put.{Put}
 use Rattle.shared_logs.proofs.Keys.{BeganPart, part_turned}
 use Rattle.shared_logs.proofs.Telling.{if_ok_both, part_is}

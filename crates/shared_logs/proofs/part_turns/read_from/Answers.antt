@@ -7,7 +7,7 @@ use Rattle.partlog.specs.State.{state_of}
 use Rattle.kanswer.specs.declared.accepted.Accepted.TheVariants.{Seen}
 use Rattle.kanswer.specs.Waiting.{gauge_value}
 use Rattle.turn_lock.specs.Locks.{known, lock_name}
-use Rattle.log_desks.specs.Desks.{PartView, part_name}
+use Rattle.shared_logs.specs.Desks.{PartView, part_name}
 use Rattle.shared_logs.specs.declared.turns.Read.{Read}
 use Rattle.shared_logs.specs.Asked.{HasRead}
 use Rattle.shared_logs.proofs.Keys.{BeganPart, part_turned}

@@ -1,7 +1,7 @@
 use Rattle.std.proofs.Common.{◌≡◌, ◌∙◌, List, ap, map, subst, sym}
 use Rattle.std.specs.Prelude.{All}
 use Rattle.kwire.specs.Configuration.{followers_of}
-use Rattle.plain_broker.specs.Declared.{AreDeclared}
+use Rattle.kwire.specs.DeclaredTopics.{AreDeclared}
 use Rattle.purgatory.specs.Ends.{IsUntaken}
 use Rattle.purgatory.specs.Rooms.{PassView as RoomPassView}
 use Rattle.shared_broker.specs.Closed.{gathered}

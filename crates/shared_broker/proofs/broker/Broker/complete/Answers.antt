@@ -8,7 +8,7 @@ use Rattle.kanswer.specs.LogReadings.{AreReadings}
 use Rattle.kwire.specs.Spelling.{spelling}
 use Rattle.shared_broker.specs.Passes.{BrokerView}
 use Rattle.shared_broker.specs.Serving.{HasEndedCall, HasFinished, IsToldTo, WillSit, finished_as}
-use Rattle.shared_completion.specs.Finished.{WasFinished, WasStopped}
+use Rattle.shared_calls.specs.Finished.{WasFinished, WasStopped}
 use Rattle.shared_broker.proofs.Results.{if_err}
 use Rattle.shared_broker.proofs.WonCalls.{call_cut, call_left, call_read, call_replied, call_stopped, call_told}
 use Rattle.shared_broker.proofs.broker.Broker.complete.Goals as goal

@@ -3,8 +3,8 @@ use Rattle.kanswer.specs.Decisions.{Decides, Decision}
 use Rattle.kanswer.specs.Numbered.{AreNumbers}
 use Rattle.kanswer.specs.Waiting.{Shown, becomes_delayed, results_of}
 use Rattle.partlog.specs.declared.numbers.Numbers.{Numbers}
-use Rattle.shared_acceptance.specs.Accepted.{WasAccepted}
-use Rattle.shared_acceptance.specs.Carried.{HasStopped}
+use Rattle.shared_calls.specs.Accepted.{WasAccepted}
+use Rattle.shared_calls.specs.Carried.{HasStopped}
 use Rattle.shared_broker.specs.Passes.{BrokerView}
 use Rattle.shared_broker.specs.Serving.{HasServed, IsWritten}
 use Rattle.shared_broker.proofs.Results.{if_err}

@@ -1,7 +1,7 @@
 use Rattle.std.proofs.Common.{ap, subst}
 use Rattle.room_table.specs.declared.part.CallerStep.TheVariants.{Read}
 use Rattle.purgatory.specs.Rooms.{PassView}
-use Rattle.purgatory.proofs.Goes.{one_step}
+use Rattle.purgatory.proofs.Laws.{one_step}
 use Rattle.shared_logs.specs.Coming.{HasStepped}
 use Rattle.shared_logs.specs.Locked.{pass_view}
 use Rattle.shared_logs.specs.Shared.{LogPassView}

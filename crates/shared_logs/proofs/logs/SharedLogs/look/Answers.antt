@@ -1,6 +1,6 @@
 use Rattle.std.proofs.Common.{◌/◌, ap, set, subst, sym, ◌∙◌}
 use Rattle.room_table.specs.Seats.{caller_now}
-use Rattle.purgatory.proofs.Goes.{kept_same, stays}
+use Rattle.purgatory.proofs.Laws.{kept_same, stays}
 use Rattle.shared_logs.specs.Asked.{HasLooked}
 use Rattle.shared_logs.specs.Coming.{HasCaughtUp}
 use Rattle.shared_logs.specs.Locked.{pass_view}

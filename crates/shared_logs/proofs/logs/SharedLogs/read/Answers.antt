@@ -4,7 +4,7 @@ use Rattle.partlog.specs.History.{History}
 use Rattle.partlog.specs.State.{state_of}
 use Rattle.kanswer.specs.declared.accepted.Accepted.TheVariants.{Seen}
 use Rattle.room_table.specs.Seats.{caller_now}
-use Rattle.purgatory.proofs.Goes.{kept_same, stays}
+use Rattle.purgatory.proofs.Laws.{kept_same, stays}
 use Rattle.shared_logs.specs.Asked.{HasLooked, HasRead}
 use Rattle.shared_logs.specs.Coming.{HasCaughtUp}
 use Rattle.shared_logs.specs.Locked.{pass_view, seen_part}

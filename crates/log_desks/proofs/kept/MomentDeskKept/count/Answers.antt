@@ -1,6 +1,0 @@
-use Rattle.std.proofs.Common.{sym, ap, ◌∙◌, length}
-use Rattle.log_desks.proofs.Beside.{clock_length}
-use Rattle.log_desks.proofs.kept.MomentDeskKept.count.Goals as goal
-
-pub returns : goal.returns
-returns c = ap length c.events.ensures ∙ sym (clock_length c.args.self.now.events c.args.self.now.tickers)

@@ -1,8 +1,0 @@
-use Rattle.log_desks.proofs.Owners.{clock_named, named}
-use Rattle.log_desks.proofs.promises.entries_name_owners.Goals as goal
-
-pub returns-clause-part : goal.returns-clause-part
-returns-clause-part c = λ h. named h.events h.log
-
-pub returns-clause-clock : goal.returns-clause-clock
-returns-clause-clock c = clock_named

@@ -1,0 +1,156 @@
+-- The histories that a turn finds are the configuration's, and what came to its partition is others'.
+use Rattle.std.proofs.Common.{◌≡◌, ℕ, ◌+◌, ◌<◌, Bool, false, cond, eqb, List, length, map, Option, Some, refl, sym, ap, subst, ◌∙◌, arith, inl, inr, length-append}
+use Rattle.std.proofs.lemmas.List.{length-map}
+use Rattle.std.proofs.lemmas.Bool.{ne_eqb}
+use Rattle.std.proofs.lemmas.List.Sums.{sum_by_push}
+use Rattle.std.specs.Prelude.{slice_get}
+use Rattle.std.specs.List.{AllByRecursion}
+use Rattle.partlog.specs.declared.event.PartEvent.{PartEvent}
+use Rattle.partlog.specs.declared.event.PartEvent.TheVariants.{Append, Follow, Look}
+use Rattle.kbatch.specs.Stamp.{stamped}
+use Rattle.partlog.specs.declared.numbers.Numbers.{Numbers}
+use Rattle.partlog.specs.Added.{added_bytes, log_end_of}
+use Rattle.partlog.specs.History.{History}
+use Rattle.partlog.specs.Looked.{looked}
+use Rattle.partlog.specs.State.{PartState as State, state_of}
+use Rattle.audit.specs.declared.account.Call.{Call}
+use Rattle.audit.specs.declared.account.Transcript.{Transcript}
+use Rattle.audit.specs.Histories.{Owner, clock_owner_of, owner_of}
+use Rattle.kbytes.proofs.Laws.{get_behind, get_set_other, get_set_same, get_there, same_or_not, some_is}
+use Rattle.kanswer.specs.Decisions.{AskLog, Entry, Outcome, Put, Followed, Looked}
+use Rattle.kwire.specs.Configuration.{Configuration}
+use Rattle.kanswer.specs.declared.entered.Entered.{Entered}
+use Rattle.broker_spec.specs.Board.{empty_history, history_at}
+use Rattle.kanswer.specs.WithEntry.{entered}
+use Rattle.broker_spec.specs.GoesOn.{AllWhole, IsWhole, Longer, the_owner}
+use Rattle.broker_spec.specs.Kept.{owners_at, owners_here}
+use Rattle.broker_spec.specs.Sound.{AreHistories}
+use Rattle.broker_spec.proofs.Laws.{IsFair, IsSized, all_from_get, entered_followers, map_get, set_same}
+use Rattle.pass_books.specs.Owned.{NotOf}
+use Rattle.pass_books.specs.Turns.{Finds}
+use Rattle.shared_logs.specs.Asked.{HasAsked, HasLooked, LeftOne}
+use Rattle.shared_logs.specs.Seen.{HasSeen}
+use Rattle.shared_logs.specs.Shared.{LogPassView, followers_in}
+use Rattle.shared_logs.specs.Amid.{amid}
+use Rattle.shared_logs.proofs.Leaving.{found_within}
+
+-- ---- the bytes of what stood before an entry
+
+whole_before : (h : History) (number seq : ℕ) (entry : Entry) → IsSized entry → IsWhole (entered h number seq entry) → IsWhole h
+whole_before h number seq (Put count batch) sized whole =
+    let e : PartEvent = Append number seq count (length batch) in
+    let base = log_end_of h.events in
+    omega (arith, sum_by_push added_bytes h.events e, length-append h.log (stamped base batch), sized base, whole)
+whole_before h number seq (Followed replica offset) sized whole =
+    let e : PartEvent = Follow number seq replica offset in
+    omega (arith, sum_by_push added_bytes h.events e, whole)
+whole_before h number seq Looked sized whole =
+    let e : PartEvent = Look number seq in
+    omega (arith, sum_by_push added_bytes h.events e, whole)
+
+-- ---- one turn
+
+module _ (config : Configuration) (part : ℕ) (old new : LogPassView) (found : List History) (left : History) (turn : LeftOne part old new found left) (before : HasSeen old) (after : HasSeen new) (inside : part < length old.parts)
+    (histories : AreHistories config old.parts old.clock) (followers : left.followers ≡ (history_at found part).followers) (whole : IsWhole left → IsWhole (history_at found part)) where
+  abbrev here : History
+  here = history_at found part
+
+  there : part < length found
+  there = found_within part old new found left turn inside
+
+  found_there : slice_get found part ≡ Some here
+  found_there = get_there found part (empty_history 0) there
+
+  left_there : slice_get new.parts part ≡ Some left
+  left_there = ap (λ (parts : List History). slice_get parts part) turn.parts ∙ get_set_same found part left there
+
+  same_followers : map (λ (h : History). h.followers) found ≡ map (λ (h : History). h.followers) old.parts
+  same_followers =
+      sym (set_same (λ (h : History). h.followers) found part here left found_there followers) ∙ sym (ap (map (λ (h : History). h.followers)) turn.parts)
+      ∙ after.followers ∙ ap followers_in turn.same.made ∙ sym before.followers
+
+  pub found_size : length found ≡ length old.parts
+  found_size = sym (length-map found (λ (h : History). h.followers)) ∙ ap length same_followers ∙ length-map old.parts (λ (h : History). h.followers)
+
+  pub found_whole : AllWhole found
+  found_whole p h e = elim (same_or_not p part) [
+    | inl same ↦
+        let is : here ≡ h = some_is here h (sym found_there ∙ sym (ap (slice_get found) same) ∙ e) in
+        subst IsWhole is (whole (after.whole part left left_there))
+    | inr other ↦ after.whole p h (ap (λ (parts : List History). slice_get parts p) turn.parts ∙ get_set_other found part p left other ∙ e)
+  ]
+
+  -- what was found are histories of the configuration
+  pub found_histories : AreHistories config found old.clock
+  found_histories = record {
+    whole = found_whole;
+    few = omega (arith, histories.few, found_size);
+    followers = same_followers ∙ histories.followers;
+    ticks = histories.ticks;
+  }
+
+  -- ---- what came to the partition
+
+  abbrev seen : History
+  seen = history_at old.parts part
+
+  seen_there : slice_get old.parts part ≡ Some seen
+  seen_there = get_there old.parts part (empty_history 0) inside
+
+  not_clock : eqb part 64 ≡ false
+  not_clock = ne_eqb part 64 (λ e. omega (arith, inside, histories.few, e))
+
+  owners_are : (parts : List History) (h : History) → slice_get parts part ≡ Some h → owners_at parts old.clock part ≡ map owner_of h.events
+  owners_are parts h e =
+      ap (λ (b : Bool). cond b (map clock_owner_of old.clock) (owners_here (slice_get parts part))) not_clock ∙ ap owners_here e
+
+  longer : Longer seen here
+  longer =
+      let l = turn.others.grown.each part seen seen_there in
+      subst (Longer seen) (some_is l.0 here (sym l.1 ∙ found_there)) l.2
+
+  others : AllByRecursion (λ event. NotOf old.number (owner_of event)) longer.more
+  others = all_from_get (λ (event : PartEvent). NotOf old.number (owner_of event)) longer.more (λ i event e seq is.
+      let at : slice_get here.events (length seen.events + i) ≡ Some event =
+      ap (λ (events : List PartEvent). slice_get events (length seen.events + i)) longer.events ∙ get_behind seen.events longer.more i ∙ e in
+      let own : slice_get (owners_at found old.clock part) (length seen.events + i) ≡ Some (the_owner old.number seq) =
+      ap (λ (os : List (Option Owner)). slice_get os (length seen.events + i)) (owners_are found here found_there)
+      ∙ map_get owner_of here.events (length seen.events + i) event at ∙ ap Some is in
+      let size : length (owners_at old.parts old.clock part) ≡ length seen.events = ap length (owners_are old.parts seen seen_there) ∙ length-map seen.events owner_of in
+      absurd (omega (arith, turn.others.within part (length seen.events + i) seq own, size)))
+
+  pub found_finds : (front : List Transcript) (transcript : Transcript) (call : Call) → Finds (amid config front transcript old call) part here
+  found_finds front transcript call = record {
+    seen = seen;
+    there = seen_there;
+    longer = longer;
+    others = others;
+    whole = found_whole part here found_there;
+  }
+
+-- ---- of a call's turn
+
+module _ (config : Configuration) (part seq : ℕ) (outcome : State → Outcome) (old new : LogPassView) (came : Entered) (numbers : Numbers) (h : HasAsked part seq outcome old new came numbers) (before : HasSeen old) (after : HasSeen new)
+    (fair : IsFair (length old.parts) (AskLog part outcome)) (histories : AreHistories config old.parts old.clock) where
+  abbrev found_here : History
+  found_here = history_at h.found part
+
+  followers_kept : h.left.followers ≡ found_here.followers
+  followers_kept = ap (λ (x : History). x.followers) h.entry.history ∙ entered_followers found_here old.number seq (outcome (state_of found_here)).entry
+
+  whole_here : IsWhole h.left → IsWhole found_here
+  whole_here whole = whole_before found_here old.number seq (outcome (state_of found_here)).entry (fair.1 (state_of found_here)).0 (subst IsWhole h.entry.history whole)
+
+  pub asked_histories : AreHistories config h.found old.clock
+  asked_histories = found_histories config part old new h.found h.left h.turn before after fair.0 histories followers_kept whole_here
+
+  pub asked_finds : (front : List Transcript) (transcript : Transcript) (call : Call) → Finds (amid config front transcript old call) part found_here
+  asked_finds = found_finds config part old new h.found h.left h.turn before after fair.0 histories followers_kept whole_here
+
+module _ (config : Configuration) (part seq gauge least : ℕ) (old new : LogPassView) (place : ℕ) (numbers : Numbers) (h : HasLooked part seq gauge least old new place numbers) (before : HasSeen old) (after : HasSeen new)
+    (inside : part < length old.parts) (histories : AreHistories config old.parts old.clock) where
+  pub looked_histories : AreHistories config h.found old.clock
+  looked_histories = found_histories config part old new h.found (looked (history_at h.found part) old.number seq) h.turn before after inside histories refl (whole_before (history_at h.found part) old.number seq Looked tt)
+
+  pub looked_finds : (front : List Transcript) (transcript : Transcript) (call : Call) → Finds (amid config front transcript old call) part (history_at h.found part)
+  looked_finds = found_finds config part old new h.found (looked (history_at h.found part) old.number seq) h.turn before after inside histories refl (whole_before (history_at h.found part) old.number seq Looked tt)

@@ -1,0 +1,178 @@
+//! What stands behind a partition's lock.
+ghost use Rattle.std.specs.Prelude.{◌≡◌, [], IfOk, OnOk, OnErr, length};
+ghost use Rattle.kbatch.specs.Kept.{count_of};
+ghost use Rattle.kanswer.specs.Decisions.{append_outcome, fetch_outcome};
+ghost use Rattle.partlog.specs.Gauges.{numbers_of};
+ghost use Rattle.partlog.specs.Looked.{looked};
+ghost use Rattle.partlog.specs.State.{state_of};
+ghost use Rattle.kanswer.specs.Entered.{HasEntered};
+ghost use Rattle.turn_lock.specs.AddedBy.{AddedBy};
+ghost use Rattle.room_table.specs.Seats.{caller_now};
+ghost use Rattle.purgatory.specs.Going.{GoesOn, KeepsOperation};
+ghost use Rattle.purgatory.specs.Rooms.{IsOfRoom, IsSourceOf};
+ghost use Rattle.shared_logs.specs.Desks.{part_name};
+ghost use Rattle.shared_logs.specs.Entries.{entry_by, log_entries};
+ghost use Rattle.shared_logs.specs.Keeps.{AreAt, AreOfPart, AreStill, PartKeeps};
+
+use crate::sources::PartSources;
+use kanswer::{Entered, enter_batch, enter_fetch};
+use kbatch::BatchView;
+use kbytes::NoMemory;
+use kwire::FetchPart;
+use partlog::{Numbers, PartLog, Who, numbers_never_fall};
+use purgatory::{Room, RoomPass};
+use std::alloc::Global;
+use std::marker::Model;
+use std::sync::Wait;
+
+/// A partition's log, and the sources of its gauges. Between any two calls the gauges are at the numbers of the log's history, and each
+/// call leaves the desk's name as it was.
+#[derive(Drop)]
+pub struct PartDesk {
+    log: PartLog,
+    part: u32,
+    sources: PartSources,
+}
+
+impl Model for PartDesk {
+    ghost use Rattle.shared_logs.specs.Desks.{PartView};
+
+    ghost Value = { PartView };
+
+    ghost use Rattle.shared_logs.specs.Keeps.{PartKeeps};
+
+    ghost view = { λ d. record { history = d.log; part = d.part; sources = d.sources } };
+
+    ghost invariant = { λ d. PartKeeps (record { history = d.log; part = d.part; sources = d.sources }) };
+}
+
+impl PartDesk {
+    /// The desk of the partition of this number, with so many followers and an empty log, from the sources of its gauges as the room
+    /// hands them out. It is refused where no memory is left.
+    pub fn make(
+        alloc: Global,
+        part: u32,
+        followers: u32,
+        sources: PartSources,
+    ) -> Result<PartDesk, NoMemory>
+        requires whose { AreOfPart part sources }
+        requires fresh { AreAt (record { end = 0; high = 0; visible = 0; bytes = 0 }) sources }
+        ensures { IfOk result (λ desk. desk ≡ record {
+          history = record { log = []; followers = followers; events = [] };
+          part = part;
+          sources = sources;
+        }) }
+    {
+        sources.high.gauge();
+        sources.visible.gauge();
+        sources.end.gauge();
+        let log = PartLog::new(alloc, followers)?;
+        Ok(PartDesk { log, part, sources })
+    }
+
+    /// Puts a batch at the end of the log for a call of a pass (`who`), where there is room, and raises the gauges that rose. The pass
+    /// of the room then owes their scans, which `settle` pays once the turn is over. Where there is no room, the log is looked at and
+    /// the partition is refused with code 6. If memory runs out, all is as it was.
+    pub fn put(
+        &mut self,
+        rt: &impl Wait,
+        room: &Room,
+        pass: &mut RoomPass,
+        who: Who,
+        batch: &BatchView<'_>,
+    ) -> Result<Entered, NoMemory>
+        requires pass { IsOfRoom room.now pass.old }
+        requires desk { IsSourceOf room.now self.old.sources.high }
+        ensures entered { IfOk result (λ entered. HasEntered who.by who.seq (append_outcome self.old.part (count_of batch.now) batch.now) self.old.history self.new.history entered) }
+        ensures refused { OnErr result ((self.new ≡ self.old) × (pass.new ≡ pass.old)) }
+        ensures still { AreStill (numbers_of (state_of self.old.history)) (numbers_of (state_of self.new.history)) self.old.sources self.new.sources }
+        ensures untouched { numbers_of (state_of self.new.history) ≡ numbers_of (state_of self.old.history) → pass.new ≡ pass.old }
+        ensures name { part_name self.new ≡ part_name self.old }
+        ensures added { AddedBy entry_by who.by (log_entries self.old.history) (log_entries self.new.history) }
+        ensures made { IsOfRoom room.now pass.new }
+        ensures went { GoesOn pass.old.seat pass.new.seat }
+        ensures kept { KeepsOperation (caller_now pass.old.seat) (caller_now pass.new.seat) }
+    {
+        numbers_never_fall();
+        let before = self.log.numbers();
+        let entered = enter_batch(&mut self.log, who, self.part, batch)?;
+        let after = self.log.numbers();
+        self.sources.tell(rt, room, pass, &before, &after);
+        Ok(entered)
+    }
+
+    /// Enters what a fetch asks of the partition for a call of a pass (`who`): a follower's fetch in range moves the follower, and the
+    /// gauges that rose are raised, as in `put`; every other fetch looks at the log. A negative replica is a consumer. If memory runs
+    /// out, all is as it was.
+    pub fn fetch(
+        &mut self,
+        rt: &impl Wait,
+        room: &Room,
+        pass: &mut RoomPass,
+        who: Who,
+        replica: i32,
+        asked: &FetchPart,
+    ) -> Result<Entered, NoMemory>
+        requires pass { IsOfRoom room.now pass.old }
+        requires desk { IsSourceOf room.now self.old.sources.high }
+        ensures entered { IfOk result (λ entered. HasEntered who.by who.seq (fetch_outcome self.old.history.followers replica asked.now self.old.part) self.old.history self.new.history entered) }
+        ensures refused { OnErr result ((self.new ≡ self.old) × (pass.new ≡ pass.old)) }
+        ensures still { AreStill (numbers_of (state_of self.old.history)) (numbers_of (state_of self.new.history)) self.old.sources self.new.sources }
+        ensures untouched { numbers_of (state_of self.new.history) ≡ numbers_of (state_of self.old.history) → pass.new ≡ pass.old }
+        ensures name { part_name self.new ≡ part_name self.old }
+        ensures added { AddedBy entry_by who.by (log_entries self.old.history) (log_entries self.new.history) }
+        ensures made { IsOfRoom room.now pass.new }
+        ensures went { GoesOn pass.old.seat pass.new.seat }
+        ensures kept { KeepsOperation (caller_now pass.old.seat) (caller_now pass.new.seat) }
+    {
+        numbers_never_fall();
+        let before = self.log.numbers();
+        let entered = enter_fetch(&mut self.log, who, replica, self.part, asked)?;
+        let after = self.log.numbers();
+        self.sources.tell(rt, room, pass, &before, &after);
+        Ok(entered)
+    }
+
+    /// Enters a look at the log for a call of a pass, and answers the place of the entry. No gauge changes. If memory runs out, all is
+    /// as it was.
+    pub fn look(&mut self, who: Who) -> Result<u64, NoMemory>
+        ensures looked { OnOk result (self.new ≡ record { history = looked self.old.history who.by who.seq; part = self.old.part; sources = self.old.sources }) }
+        ensures place { IfOk result (λ place. place ≡ length self.old.history.events) }
+        ensures state { state_of self.new.history ≡ state_of self.old.history }
+        ensures refused { OnErr result (self.new ≡ self.old) }
+        ensures name { part_name self.new ≡ part_name self.old }
+        ensures added { AddedBy entry_by who.by (log_entries self.old.history) (log_entries self.new.history) }
+    {
+        self.log.look(who)
+    }
+
+    /// The log, to read numbers and batches from.
+    pub fn log(&self) -> &PartLog
+        ensures { result.now ≡ self.now.history }
+    {
+        &self.log
+    }
+
+    /// The partition's number.
+    pub fn number(&self) -> u32
+        ensures { result ≡ self.now.part }
+    {
+        self.part
+    }
+
+    /// Law: what the desk keeps between any two calls.
+    pub fn keeps(&self)
+        ensures { PartKeeps self.now }
+    {
+        let _ = &self.log;
+    }
+
+    /// The log and the sources, for the close.
+    pub fn into_parts(self) -> (PartLog, PartSources)
+        ensures log { result.0 ≡ self.history }
+        ensures sources { result.1 ≡ self.sources }
+        ensures keeps { PartKeeps self }
+    {
+        (self.log, self.sources)
+    }
+}
