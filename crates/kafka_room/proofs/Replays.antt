@@ -5,13 +5,13 @@ use Rattle.std.specs.Io.KnownBytes.{Consumes, IsAtEnd}
 use Rattle.std.specs.List.{count_by, AllByRecursion, AllZip}
 use Rattle.audit.specs.declared.account.Account.{Account}
 use Rattle.trace_file.specs.declared.line.Line.{Line}
-use Rattle.plain_broker.specs.Board.{Board, opening, account_of}
+use Rattle.broker_spec.specs.Board.{Board, opening, account_of}
 use Rattle.kwire.specs.Configuration.{Configuration}
-use Rattle.plain_broker.specs.Turns.{Turned}
+use Rattle.broker_spec.specs.Turns.{Turned}
 use Rattle.kafka_room.specs.LinesFront.{IsLinesFront}
-use Rattle.plain_broker.specs.Play.{Plays, IsPlay}
+use Rattle.broker_spec.specs.Play.{Plays, IsPlay}
 use Rattle.audit.specs.Printable.{IsPrintable}
-use Rattle.retelling.proofs.Laws.{printable}
+use Rattle.account_print.proofs.Laws.{printable}
 use Rattle.audit.specs.Printed.{summary_of}
 use Rattle.kafka_room.specs.Replay.{IsReplayOf, IsReplay, IsReplayFront, IsFirstBadOf, HasTrace}
 use Rattle.trace_file.specs.Contents.{configuration_of}
@@ -19,9 +19,9 @@ use Rattle.kafka_room.specs.Streams.{IsInput}
 use Rattle.trace_file.specs.IsLine.{IsLine}
 use Rattle.trace_file.specs.Trace.{IsTrace, pieces_of}
 use Rattle.trace_file.specs.declared.line.Line.TheVariants.{Topic, Feed, Shut, Clock, End}
-use Rattle.broker.specs.Kept.{IsPlayable}
-use Rattle.plain_broker.specs.Declared.{AreDeclared}
-use Rattle.plain_broker.proofs.Laws.{play_is_lawful, play_is_run, trace_declared, play_is_one, front_of_play, trace_plays, lines_left}
+use Rattle.lone_broker.specs.Kept.{IsPlayable}
+use Rattle.kwire.specs.DeclaredTopics.{AreDeclared}
+use Rattle.broker_spec.proofs.Laws.{play_is_lawful, play_is_run, trace_declared, play_is_one, front_of_play, trace_plays, lines_left}
 use Rattle.trace_file.specs.declared.line.TheConstants.{MOST_TRACE_BYTES, REPLAY_PORT}
 use Rattle.trace_file.specs.declared.line.LineFault.{LineFault}
 use Rattle.trace_file.specs.declared.line.TraceFault.{TraceFault}
@@ -149,22 +149,28 @@ front_of_text text lines written trace f =
     let config = configuration_of REPLAY_PORT lines in
     let play = trace_plays config text lines trace in
     let k = front_of_play config lines f.done f.more f.last f.count play.0 play.1 f.parts f.played play.2 in
-    record { lines = lines; trace = trace; account = play.0; text = play.1; played = play.2; count = k.0; front = f.front ∙ k.1 }
-
-pub told_trace : (left : Option (List ℕ)) (text : List ℕ) (lines : List Line) → IsTrace text lines → IfSome left (λ had. had ≡ text) → IfSome left (λ had. IsTrace had lines)
-told_trace None text lines trace told = tt
-told_trace (Some had) text lines trace told = subst (λ (t : List ℕ). IsTrace t lines) (sym told) trace
+    record { lines = lines; read = text; trace = trace; told = refl; account = play.0; text = play.1; played = play.2; count = k.0; front = f.front ∙ k.1 }
 
 -- what the lines that were read came to
 pub replay_of : (left : Option (List ℕ)) (text : List ℕ) (lines slice : List Line) (account : Account) (printed : List ℕ) → IsTrace text lines → slice ≡ lines → IfSome left (λ had. had ≡ text)
     → IsReplayOf slice account printed → IsReplay left account printed
 replay_of left text lines slice account printed trace same told h =
-    record { lines = lines; trace = told_trace left text lines trace told; replay = subst (λ (ls : List Line). IsReplayOf ls account printed) same h }
+    record { lines = lines; read = text; trace = trace; told = told; replay = subst (λ (ls : List Line). IsReplayOf ls account printed) same h }
 
 -- where the source tells what it had, that is the text that was read
 pub front_of_source : (left : Option (List ℕ)) (text written : List ℕ) → IfSome left (λ had. had ≡ text) → IsReplayFront (Some text) written → IsReplayFront left written
 front_of_source left text written told f =
-    record { lines = f.lines; trace = told_trace left text f.lines f.trace told; account = f.account; text = f.text; played = f.played; count = f.count; front = f.front }
+    record {
+      lines = f.lines;
+      read = f.read;
+      trace = f.trace;
+      told = subst (λ (t : List ℕ). IfSome left (λ had. had ≡ t)) f.told told;
+      account = f.account;
+      text = f.text;
+      played = f.played;
+      count = f.count;
+      front = f.front;
+    }
 
 -- ---- a trace is replayed
 
@@ -174,7 +180,7 @@ has_no_bad_line None line has some bad = has
 has_no_bad_line (Some text) None has some bad = absurd cc
 has_no_bad_line (Some text) (Some fault) has some bad = trace_has_none text false has.0 fault (record { trace = has.1; declares = λ yes. absurd cc }) bad
 
--- what stops the replay of a trace, where no count rose, is want of memory
+-- what stops the replay of a trace, where no count rose, is running out of memory
 pub stopped_by : {R W : Type 0} (left : Option (List ℕ)) (stop : Stop) → (stop ≡ Usage → ⊥) → (stop ≡ ReadFault → R) → (stop ≡ WriteFault → W) → IfSome (bad_line_of stop) (IsFirstBadOf left)
     → HasTrace left → (R → ⊥) → (W → ⊥) → (exit_code_of stop ≡ 0) ⊎ (exit_code_of stop ≡ 6)
 stopped_by left Usage words read write bad has quiet still = absurd (words refl)

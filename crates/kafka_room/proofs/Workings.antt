@@ -4,11 +4,10 @@ use Rattle.audit.specs.declared.account.Account.{Account}
 use Rattle.trace_file.specs.declared.line.Line.{Line}
 use Rattle.trace_file.specs.declared.line.TheConstants.{REPLAY_PORT}
 use Rattle.trace_file.specs.Trace.{IsTrace}
-use Rattle.retelling.specs.Tellable.{IsTellable}
-use Rattle.retelling.proofs.Laws.{run_tellable}
-use Rattle.worker_runs.specs.WorkerRun.{IsWorkerRun}
+use Rattle.account_print.specs.Tellable.{IsTellable}
+use Rattle.account_print.proofs.Laws.{run_tellable}
+use Rattle.trace_workers.specs.WorkerRun.{IsWorkerRun}
 use Rattle.kafka_room.specs.Worked.{IsWorked}
-use Rattle.kafka_room.proofs.Replays.{told_trace}
 
 -- what each session was sent may be told of it
 pub tellable : (text : List ℕ) (lines : List Line) (account : Account) → IsTrace text lines → IsWorkerRun lines REPLAY_PORT false account → IsTellable account
@@ -18,4 +17,4 @@ tellable text lines account trace h = run_tellable text lines REPLAY_PORT ([] �
 pub worked_of : (left : Option (List ℕ)) (text : List ℕ) (lines slice : List Line) (account : Account) → IsTrace text lines → slice ≡ lines → IfSome left (λ had. had ≡ text)
     → IsWorkerRun slice REPLAY_PORT false account → IsWorked left account
 worked_of left text lines slice account trace same told h =
-    record { lines = lines; trace = told_trace left text lines trace told; run = subst (λ (ls : List Line). IsWorkerRun ls REPLAY_PORT false account) same h }
+    record { lines = lines; read = text; trace = trace; told = told; run = subst (λ (ls : List Line). IsWorkerRun ls REPLAY_PORT false account) same h }

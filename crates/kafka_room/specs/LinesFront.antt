@@ -2,10 +2,10 @@
 use Rattle.std.specs.Prelude.{ℕ, ◌≡◌, ◌++◌, List, take, Option}
 use Rattle.std.specs.Io.KnownBytes.{Appends}
 use Rattle.trace_file.specs.declared.line.Line.{Line}
-use Rattle.plain_broker.specs.Board.{Board}
-use Rattle.plain_broker.specs.Turns.{Turned}
-use Rattle.plain_broker.specs.Play.{Plays}
-use Rattle.broker.specs.Kept.{Kept, StandsFor}
+use Rattle.broker_spec.specs.Board.{Board}
+use Rattle.broker_spec.specs.Turns.{Turned}
+use Rattle.broker_spec.specs.Play.{Plays}
+use Rattle.lone_broker.specs.Kept.{Kept, StandsFor}
 
 -- the front of what the first so many of these lines print
 pub record IsLinesFront (start : Board) (lines : List Line) (written : List ℕ) : Type 0 where

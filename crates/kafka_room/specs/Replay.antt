@@ -4,7 +4,7 @@ use Rattle.audit.specs.declared.account.Account.{Account}
 use Rattle.trace_file.specs.declared.line.Line.{Line}
 use Rattle.trace_file.specs.declared.line.TheConstants.{REPLAY_PORT}
 use Rattle.audit.specs.IsLawful.{IsLawful}
-use Rattle.plain_broker.specs.Play.{IsPlay}
+use Rattle.broker_spec.specs.Play.{IsPlay}
 use Rattle.audit.specs.RunOf.{IsRunOf}
 use Rattle.trace_file.specs.declared.line.LineFault.{LineFault}
 use Rattle.trace_file.specs.Contents.{configuration_of}
@@ -19,16 +19,20 @@ pub record IsReplayOf (lines : List Line) (account : Account) (text : List ℕ) 
   -- and it plays to nothing else
   pub only : (other : Account) (more : List ℕ) → IsPlay (configuration_of REPLAY_PORT lines) lines other more → (other ≡ account) × (more ≡ text)
 
--- `left` is what the source had, where it tells
+-- The lines are those of the text that was read; `left` is what the source had, where it tells, and that is this text.
 pub record IsReplay (left : Option (List ℕ)) (account : Account) (text : List ℕ) : Type 0 where
   pub lines : List Line
-  pub trace : IfSome left (λ had. IsTrace had lines)
+  pub read : List ℕ
+  pub trace : IsTrace read lines
+  pub told : IfSome left (λ had. had ≡ read)
   pub replay : IsReplayOf lines account text
 
 -- what a replay that came to no end wrote: a front of the text to which the lines that were read play
 pub record IsReplayFront (left : Option (List ℕ)) (written : List ℕ) : Type 0 where
   pub lines : List Line
-  pub trace : IfSome left (λ had. IsTrace had lines)
+  pub read : List ℕ
+  pub trace : IsTrace read lines
+  pub told : IfSome left (λ had. had ≡ read)
   pub account : Account
   pub text : List ℕ
   pub played : IsPlay (configuration_of REPLAY_PORT lines) lines account text

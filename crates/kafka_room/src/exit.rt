@@ -184,6 +184,6 @@ pub fn exit_text(code: u8) -> &'static str {
         3 => "the input can't be read",
         4 => "the output can't be written",
         5 => "the port failed",
-        _ => "no memory was left",
+        _ => "out of memory",
     }
 }

@@ -11,6 +11,7 @@ mod streams;
 #[cfg(test)]
 mod tests;
 mod trace;
+mod usage;
 
 use exit::{Stop, exit_text};
 use nothing::{NoClock, NoPort};
@@ -19,6 +20,7 @@ use run::run;
 use std::process::ExitCode;
 use std::{env, io, mem};
 use trace_file::LineFault;
+use usage::WrongWords;
 
 const HELP: &str = "\
 kafka_room: the request purgatory of a Kafka broker
@@ -26,8 +28,8 @@ kafka_room: the request purgatory of a Kafka broker
 Usage:
   kafka_room replay              replays the trace on standard input
   kafka_room replay --workers W  replays it on W threads, 1 to 16
-  kafka_room --help              prints this text
-  kafka_room --version           prints the version
+  kafka_room --help or -h        prints this text
+  kafka_room --version or -V     prints the version
 
 A trace has topics first and its end last, one space between two words, and
 numbers without sign or leading zeros. It has at most 67108864 bytes.
@@ -53,13 +55,13 @@ and after the last, for each partition and each session that a line named:
   session S calls COUNT replies COUNT parked 1-OR-0, which is 1 where it waits
   done
 With --workers nothing is printed before all is done: then session by session,
-in rising number, its replies in order and its end, and behind them the summary.
+in rising number, its replies in order and its end, and after them the summary.
 
 Exit codes:
   0  all was done and written        3  the input can't be read
   1  the command line is faulty      4  the output can't be written
-  2  the input is no trace: its      6  no memory was left
-     first bad line is told
+  2  the input is no trace: its      6  out of memory
+     first bad line is reported
 
 Examples: kafka_room replay < examples/produce.trace
           kafka_room replay < examples/acks_all.trace
@@ -67,6 +69,17 @@ Examples: kafka_room replay < examples/produce.trace
 ";
 
 const VERSION: &str = "kafka_room 0.1.0\n";
+
+// The text that a word alone asks for.
+fn text_asked(word: &str) -> Option<&'static str> {
+    if word == "--help" || word == "-h" {
+        Some(HELP)
+    } else if word == "--version" || word == "-V" {
+        Some(VERSION)
+    } else {
+        None
+    }
+}
 
 // The words of the command line after the program's name.
 fn words(rt: &HostRuntime) -> io::Result<Vec<String>> {
@@ -77,7 +90,7 @@ fn words(rt: &HostRuntime) -> io::Result<Vec<String>> {
     Ok(words)
 }
 
-// Ends with a code, and tells what it means where it isn't 0.
+// Ends with a code, and reports what it means where it isn't 0.
 fn ended(rt: &HostRuntime, code: u8) -> ExitCode {
     if code != 0 {
         let text = exit_text(code);
@@ -86,7 +99,14 @@ fn ended(rt: &HostRuntime, code: u8) -> ExitCode {
     ExitCode::from(code)
 }
 
-// Ends as the run did. Of a text that is no trace the first bad line is told.
+// Ends where the words are no command, and reports what is wrong with them.
+fn ended_words(rt: &HostRuntime, words: &[String]) -> ExitCode {
+    let wrong = WrongWords::of(words);
+    let _ = rt.eprintln(format_args!("kafka_room: {wrong}: see kafka_room --help"));
+    ExitCode::from(Stop::Usage.code())
+}
+
+// Ends as the run did. Of a text that is no trace the first bad line is reported.
 fn ended_run(rt: &HostRuntime, code: u8, line: Option<LineFault>) -> ExitCode {
     match line {
         Some(fault) => {
@@ -118,12 +138,10 @@ fn main(rt: HostRuntime) -> ExitCode {
         // A word that isn't UTF-8.
         Err(_) => return ended(&rt, Stop::Usage.code()),
     };
-    if let [word] = words.as_slice() {
-        match word.as_str() {
-            "--help" => return shown(&rt, HELP),
-            "--version" => return shown(&rt, VERSION),
-            _ => {}
-        }
+    if let [word] = words.as_slice()
+        && let Some(text) = text_asked(word.as_str())
+    {
+        return shown(&rt, text);
     }
     let mut source = StdSource::new(rt.reader());
     let mut sink = StdSink::new(io::writer(&rt));
@@ -139,5 +157,8 @@ fn main(rt: HostRuntime) -> ExitCode {
     let (code, line) = (exit.code, exit.line);
     // The process ends: the system takes all memory of the account at once.
     mem::forget(exit);
+    if code == Stop::Usage.code() {
+        return ended_words(&rt, words.as_slice());
+    }
     ended_run(&rt, code, line)
 }

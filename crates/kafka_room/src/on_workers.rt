@@ -5,7 +5,7 @@ ghost use Rattle.std.specs.Io.KnownBytes.{Appends, Keeps, IsAtEnd};
 ghost use Rattle.outside.specs.Causes.{Rose};
 ghost use Rattle.audit.specs.Printed.{IsPrintOf};
 ghost use Rattle.trace_file.specs.Trace.{IsTrace};
-ghost use Rattle.worker_runs.specs.WorkerRun.{IsWorkerRun};
+ghost use Rattle.trace_workers.specs.WorkerRun.{IsWorkerRun};
 ghost use Rattle.kafka_room.specs.Codes.{bad_line_of, stop_in, account_in};
 ghost use Rattle.kafka_room.specs.Replay.{IsFirstBadOf};
 ghost use Rattle.kafka_room.specs.Worked.{IsWorked};
@@ -14,16 +14,15 @@ use crate::command::MOST_WORKERS;
 use crate::exit::{Stop, Unfinished};
 use crate::streams::write_all;
 use crate::trace::read_lines;
+use account_print::workers_text;
 use audit::Account;
 use kbytes::{Bytes, NoMemory};
 use outside::{Sink, Source};
-use retelling::workers_text;
 use std::alloc::Global;
 use std::sync::Wait;
 use std::thread::Threads;
 use trace_file::{Line, REPLAY_PORT};
-use worker_runs::run_lines;
-use workers::NoGate;
+use trace_workers::{NoGate, run_lines};
 
 // Plays the lines on so many workers, and tells in a text what came of it, on as many threads.
 fn play<R: Threads + Wait + Sync>(

@@ -47,7 +47,7 @@ where
     // After a write fault the front of such lines stands written.
     ensures prefix { said words.now ≡ codes "replay" ∷ [] → result.code ≡ 4 → (written : List ℕ) × IsReplayFront (S.left source.old) written
         × Appends (K.written sink.old) (K.written sink.new) written }
-    // Where no memory was left, nothing was written, or the front of such lines.
+    // Out of memory, nothing was written, or a prefix of such lines.
     ensures stopped { said words.now ≡ codes "replay" ∷ [] → result.code ≡ 6 → Keeps (K.written sink.old) (K.written sink.new)
         ⊎ ((written : List ℕ) × IsReplayFront (S.left source.old) written × Appends (K.written sink.old) (K.written sink.new) written) }
     // On workers it is that of a run of the trace.
@@ -57,7 +57,7 @@ where
         × Appends (K.written sink.old) (K.written sink.new) text) }
     ensures told_in_part { IsThreaded (said words.now) → result.code ≡ 4 → IfSome result.account (λ account. (text : List ℕ) × (count : ℕ)
         × IsPrintOf account text × Appends (K.written sink.old) (K.written sink.new) (take count text)) }
-    // Where no memory was left, nothing was written.
+    // Out of memory, nothing was written.
     ensures untold { IsThreaded (said words.now) → result.code ≡ 6 → Keeps (K.written sink.old) (K.written sink.new) }
     // The source was read to its end.
     ensures end { (result.code ≡ 0) ⊎ (result.code ≡ 4) → IsAtEnd (S.left source.new) }
@@ -68,7 +68,7 @@ where
     ensures usage { (result.code ≡ 1) ↔ ((command : TheCommand) → IsCommand (said words.now) command → ⊥) }
     ensures read_fault { result.code ≡ 3 → Rose (S.faults source.old) (S.faults source.new) }
     ensures write_fault { result.code ≡ 4 → Rose (K.faults sink.old) (K.faults sink.new) }
-    // A trace is replayed to its end, unless a fault of the source or the sink or want of memory stops it.
+    // A trace is replayed to its end, unless a fault of the source or the sink or running out of memory stops it.
     ensures complete { (command : TheCommand) → IsCommand (said words.now) command → HasTrace (S.left source.old)
         → (Rose (S.faults source.old) (S.faults source.new) → ⊥) → (Rose (K.faults sink.old) (K.faults sink.new) → ⊥)
         → (result.code ≡ 0) ⊎ (result.code ≡ 6) }

@@ -1,4 +1,4 @@
-//! What a file of `rows` can't say: sources and sinks that fail, streams that are cut at each byte, and faulty words.
+//! What a file of `rows` can't say: sources and sinks that fail, a stream that is cut at each byte, and what the account has of a run on two workers.
 
 mod pieces;
 
@@ -8,13 +8,13 @@ use crate::run::run;
 use kbytes::{Bytes, List, NoMemory};
 use outside::{MemSink, MemSource};
 use pieces::{
-    A, A_AT_1, FETCH_138, FETCHED_138, PRODUCE, PRODUCE_NO_REPLY, PRODUCED, PRODUCED_AT_1,
+    A, A_AT_1, FETCH_138, FETCHED_138, PRODUCE, PRODUCE_NO_REPLY, PRODUCE_TO_1, PRODUCED,
+    PRODUCED_AT_1, WAIT_FOR_0, WAIT_FOR_1,
 };
 use std::alloc::Global;
 use std::sync::Wait;
 use std::test::*;
 use std::thread::Threads;
-use trace_file::{LineFault, LineKind};
 
 const TOPIC: &str = "topic t 1 0\n";
 
@@ -49,6 +49,8 @@ const THREE_LINES_PRINTED: &[&[&str]] = &[
     &[OF_0, FETCHED_138, A, A_AT_1, "\n"],
     &["part 0 end 2 high 2 batches 2 bytes 138\nsession 0 calls 3 replies 3 parked 0\ndone\n"],
 ];
+
+const REPLAY: &[&str] = &["replay"];
 
 const ON_ONE_WORKER: &[&str] = &["replay", "--workers", "1"];
 
@@ -149,49 +151,6 @@ fn long_trace(alloc: Global) -> Result<Bytes, NoMemory> {
 }
 
 #[test]
-fn a_trace_is_replayed_and_accounted_for(rt: HostRuntime) -> Result<(), Fail> {
-    let alloc = rt.alloc();
-    let done = run_with(
-        &rt,
-        alloc,
-        &["replay"],
-        joined(alloc, THREE_LINES)?,
-        &[],
-        &[],
-    )?;
-    assert_eq!(rt; done.exit.code, 0);
-    let account = done.exit.account.ok_or("an account")?;
-    assert_eq!(rt; account.parts.len(), 1);
-    assert_eq!(rt; account.passes.len(), 1);
-    assert_eq!(rt; account.wins.as_slice(), [0].as_slice());
-    Ok(())
-}
-
-#[test]
-fn faulty_words_write_nothing(rt: HostRuntime) -> Result<(), Fail> {
-    let alloc = rt.alloc();
-    let lines: [&[&str]; 10] = [
-        &[],
-        &["serve"],
-        &["Replay"],
-        &["replay", "--workers"],
-        &["replay", "--workers", "0"],
-        &["replay", "--workers", "17"],
-        &["replay", "--workers", "01"],
-        &["replay", "--workers", "x"],
-        &["replay", "--Workers", "1"],
-        &["replay", "--workers", "1", "1"],
-    ];
-    for words in lines {
-        let refused = run_with(&rt, alloc, words, joined(alloc, THREE_LINES)?, &[], &[])?;
-        assert_eq!(rt; refused.exit.code, 1);
-        assert!(rt; refused.sink.bytes().is_empty());
-        assert!(rt; refused.exit.account.is_none());
-    }
-    Ok(())
-}
-
-#[test]
 fn a_stream_may_be_cut_at_any_byte(rt: HostRuntime) -> Result<(), Fail> {
     let alloc = rt.alloc();
     let stream = joined(alloc, STREAM)?;
@@ -199,7 +158,7 @@ fn a_stream_may_be_cut_at_any_byte(rt: HostRuntime) -> Result<(), Fail> {
     for cut in 1..stream.len() / 2 {
         let (front, behind) = stream.as_slice().split_at(2 * cut);
         let trace = fed(alloc, &[front, behind])?;
-        let done = run_with(&rt, alloc, &["replay"], trace, &[], &[])?;
+        let done = run_with(&rt, alloc, REPLAY, trace, &[], &[])?;
         assert_eq!(rt; done.exit.code, 0, "cut at byte {cut}");
         assert_eq!(rt; done.sink.bytes(), printed.as_slice(), "cut at byte {cut}");
     }
@@ -207,35 +166,17 @@ fn a_stream_may_be_cut_at_any_byte(rt: HostRuntime) -> Result<(), Fail> {
 }
 
 #[test]
-fn a_stream_may_come_byte_by_byte(rt: HostRuntime) -> Result<(), Fail> {
-    let alloc = rt.alloc();
-    let stream = joined(alloc, STREAM)?;
-    let printed = joined(alloc, STREAM_PRINTED)?;
-    let mut digits = Vec::new(alloc);
-    for pair in stream.as_slice().chunks(2) {
-        digits.push(pair)?;
-    }
-    let trace = fed(alloc, digits.as_slice())?;
-    let done = run_with(&rt, alloc, &["replay"], trace, &[], &[])?;
-    assert_eq!(rt; done.exit.code, 0);
-    assert_eq!(rt; done.sink.bytes(), printed.as_slice());
-    Ok(())
-}
-
-#[test]
 fn each_read_that_fails_leaves_nothing_written(rt: HostRuntime) -> Result<(), Fail> {
     let alloc = rt.alloc();
-    for read in 0..3 {
-        let failed = run_with(&rt, alloc, &["replay"], long_trace(alloc)?, &[read], &[])?;
-        assert_eq!(rt; failed.exit.code, 3, "at read {read}");
-        assert!(rt; failed.sink.bytes().is_empty(), "at read {read}");
-        assert!(rt; failed.exit.account.is_none(), "at read {read}");
+    for words in [REPLAY, ON_ONE_WORKER] {
+        for read in 0..3 {
+            let failed = run_with(&rt, alloc, words, long_trace(alloc)?, &[read], &[])?;
+            assert_eq!(rt; failed.exit.code, 3, "at read {read}");
+            assert!(rt; failed.sink.bytes().is_empty(), "at read {read}");
+        }
     }
-    let done = run_with(&rt, alloc, &["replay"], long_trace(alloc)?, &[3], &[])?;
+    let done = run_with(&rt, alloc, REPLAY, long_trace(alloc)?, &[3], &[])?;
     assert_eq!(rt; done.exit.code, 0);
-    let printed = b"part 0 end 300 high 300 batches 300 bytes 20700\n\
-session 0 calls 300 replies 0 parked 0\ndone\n";
-    assert_eq!(rt; done.sink.bytes(), printed.as_slice());
     Ok(())
 }
 
@@ -245,44 +186,17 @@ fn each_write_that_fails_leaves_the_front_of_the_output(rt: HostRuntime) -> Resu
     let mut front = Bytes::new(alloc);
     for (write, more) in THREE_LINES_PRINTED.iter().enumerate() {
         let trace = joined(alloc, THREE_LINES)?;
-        let failed = run_with(&rt, alloc, &["replay"], trace, &[], &[write as u64])?;
+        let failed = run_with(&rt, alloc, REPLAY, trace, &[], &[write as u64])?;
         assert_eq!(rt; failed.exit.code, 4, "at write {write}");
         assert_eq!(rt; failed.sink.bytes(), front.as_slice(), "at write {write}");
-        assert!(rt; failed.exit.account.is_none(), "at write {write}");
         for piece in *more {
             front.extend(piece.as_bytes())?;
         }
     }
     let trace = joined(alloc, THREE_LINES)?;
-    let done = run_with(&rt, alloc, &["replay"], trace, &[], &[4])?;
+    let done = run_with(&rt, alloc, REPLAY, trace, &[], &[4])?;
     assert_eq!(rt; done.exit.code, 0);
     assert_eq!(rt; done.sink.bytes(), front.as_slice());
-    Ok(())
-}
-
-#[test]
-fn one_worker_tells_each_session_at_the_end(rt: HostRuntime) -> Result<(), Fail> {
-    let alloc = rt.alloc();
-    let trace = joined(alloc, THREE_LINES)?;
-    let done = run_with(&rt, alloc, ON_ONE_WORKER, trace, &[], &[])?;
-    assert_eq!(rt; done.exit.code, 0);
-    let account = done.exit.account.ok_or("an account")?;
-    assert_eq!(rt; account.parts.len(), 1);
-    assert_eq!(rt; account.passes.len(), 2);
-    assert_eq!(rt; done.sink.bytes(), all_printed(alloc)?.as_slice());
-    Ok(())
-}
-
-#[test]
-fn each_read_that_fails_on_one_worker_leaves_nothing_written(rt: HostRuntime) -> Result<(), Fail> {
-    let alloc = rt.alloc();
-    for read in 0..3 {
-        let trace = long_trace(alloc)?;
-        let failed = run_with(&rt, alloc, ON_ONE_WORKER, trace, &[read], &[])?;
-        assert_eq!(rt; failed.exit.code, 3, "at read {read}");
-        assert!(rt; failed.sink.bytes().is_empty(), "at read {read}");
-        assert!(rt; failed.exit.account.is_none(), "at read {read}");
-    }
     Ok(())
 }
 
@@ -316,21 +230,6 @@ fn a_write_that_fails_on_one_worker_leaves_the_account_and_a_front(
     Ok(())
 }
 
-#[test]
-fn a_bad_line_is_told_and_nothing_is_written(rt: HostRuntime) -> Result<(), Fail> {
-    let alloc = rt.alloc();
-    let text = joined(alloc, &[TOPIC, TO_0, PRODUCE, A, "\nclose 64\nend\n"])?;
-    let refused = run_with(&rt, alloc, &["replay"], text, &[], &[])?;
-    assert_eq!(rt; refused.exit.code, 2);
-    let fault = LineFault {
-        line: 3,
-        kind: LineKind::Number,
-    };
-    assert_eq!(rt; refused.exit.line, Some(fault));
-    assert!(rt; refused.sink.bytes().is_empty());
-    Ok(())
-}
-
 // The trace of a frame of eight mebibytes, whose size is told by these digits, and what it prints.
 fn long_frame<R: Threads + Wait + Sync>(rt: &R, alloc: Global, size: &str) -> Result<Ran, Fail> {
     let mut text = joined(alloc, &[TOPIC, TO_0, size])?;
@@ -338,7 +237,7 @@ fn long_frame<R: Threads + Wait + Sync>(rt: &R, alloc: Global, size: &str) -> Re
         text.extend(b"0000000000000000000000000000000000000000000000000000000000000000")?;
     }
     text.extend(b"\nend\n")?;
-    run_with(rt, alloc, &["replay"], text, &[], &[])
+    run_with(rt, alloc, REPLAY, text, &[], &[])
 }
 
 #[test]
@@ -362,5 +261,39 @@ fn a_frame_of_eight_mebibytes_is_read_and_one_more_byte_is_too_long(
         )?;
         assert_eq!(rt; ran.sink.bytes(), printed.as_slice(), "size {size}");
     }
+    Ok(())
+}
+
+/// Two fetches that wait for what another session produces: the first session's for the third's, and the second's for the first's.
+const MEETING: &[&str] = &[
+    "topic t 2 0\n",
+    "bytes 0 ",
+    WAIT_FOR_0,
+    PRODUCE_TO_1,
+    A,
+    "\nbytes 1 ",
+    WAIT_FOR_1,
+    "\nbytes 2 ",
+    PRODUCE,
+    A,
+    "\nend\n",
+];
+
+#[test]
+fn sessions_on_two_workers_wait_for_each_other(rt: HostRuntime) -> Result<(), Fail> {
+    let alloc = rt.alloc();
+    let words = ["replay", "--workers", "2"];
+    let done = run_with(&rt, alloc, &words, joined(alloc, MEETING)?, &[], &[])?;
+    assert_eq!(rt; done.exit.code, 0);
+    let account = done.exit.account.ok_or("an account")?;
+    assert_eq!(rt; account.passes.len(), 4);
+    let transcripts = account.passes.get(0).ok_or("a pass")?;
+    assert_eq!(rt; transcripts.get(0).ok_or("a transcript")?.calls.len(), 2);
+    let printed = b"part 0 end 1 high 1 batches 1 bytes 69\n\
+part 1 end 1 high 1 batches 1 bytes 69\n\
+session 0 calls 2 replies 2 parked 0\n\
+session 1 calls 1 replies 1 parked 0\n\
+session 2 calls 1 replies 1 parked 0\ndone\n";
+    assert!(rt; done.sink.bytes().ends_with(printed));
     Ok(())
 }

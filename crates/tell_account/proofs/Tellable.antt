@@ -1,12 +1,12 @@
 -- The account of lines that workers played can be told again.
 use Rattle.std.proofs.Common.{◌≡◌, ℕ, Bool, List, [], ◌∷◌, refl, sym, subst}
 use Rattle.audit.specs.declared.account.Account.{Account}
-use Rattle.retelling.specs.Tellable.{IsTellable}
-use Rattle.retelling.proofs.Laws.{run_tellable}
+use Rattle.account_print.specs.Tellable.{IsTellable}
+use Rattle.account_print.proofs.Laws.{run_tellable}
 use Rattle.trace_file.specs.declared.line.Line.{Line}
 use Rattle.trace_file.specs.Trace.{IsTrace}
-use Rattle.worker_runs.specs.WorkerRun.{IsWorkerRun}
-use Rattle.workers.specs.Playable.{AreTraced}
+use Rattle.trace_workers.specs.WorkerRun.{IsWorkerRun}
+use Rattle.trace_workers.specs.Playable.{AreTraced}
 
 pub tellable : (lines slice : List Line) (port : ℕ) (drain : Bool) (account : Account) → AreTraced lines → slice ≡ lines → IsWorkerRun slice port drain account → IsTellable account
 tellable lines slice port drain account traced same worked =

@@ -28,19 +28,19 @@
 #![tactic(auto)]
 
 ghost use Rattle.std.specs.Prelude.{◌≤◌, IfOk};
-ghost use Rattle.retelling.specs.Tellable.{IsTellable};
-ghost use Rattle.workers.specs.Playable.{AreTraced};
+ghost use Rattle.account_print.specs.Tellable.{IsTellable};
+ghost use Rattle.trace_workers.specs.Playable.{AreTraced};
 
 mod fault;
 mod order;
 mod telling;
 mod words;
 
+use account_print::print_workers;
 use audit::Account;
 use fault::Fault;
 use kbytes::{Bytes, List};
 use order::{Order, order_of};
-use retelling::print_workers;
 use std::alloc::Global;
 use std::io::{BufWriter, Read, Write};
 use std::process::ExitCode;
@@ -49,8 +49,7 @@ use std::thread::Threads;
 use std::{env, io};
 use telling::tell;
 use trace_file::{Line, REPLAY_PORT, read_trace};
-use worker_runs::run_lines;
-use workers::NoGate;
+use trace_workers::{NoGate, run_lines};
 
 // What the words of the command line ask for.
 fn asked(rt: &HostRuntime) -> Result<Order, Fault>

@@ -2,7 +2,7 @@ use Rattle.std.proofs.Common.{◌≡◌, ◌+◌, ℕ, List, [], ◌++◌, lengt
 use Rattle.std.proofs.KnownBytes.{Appends-nil, Appends-trans}
 use Rattle.std.proofs.lemmas.Result.{err_from_is_err_and}
 use Rattle.std.specs.Io.KnownBytes.{Appends}
-use Rattle.plain_broker.specs.Board.{opening}
+use Rattle.broker_spec.specs.Board.{opening}
 use Rattle.audit.specs.Printed.{summary_of}
 use Rattle.trace_file.specs.Contents.{configuration_of}
 use Rattle.kafka_room.specs.LinesFront.{IsLinesFront}
@@ -86,7 +86,9 @@ returns-in_err-write_all-clause-front g c text trace =
       take (length here.0.text + front.0) (here.0.text ++ summary_of account),
       record {
         lines = lines;
+        read = text;
         trace = trace;
+        told = refl;
         account = account;
         text = here.0.text ++ summary_of account;
         played = play_of lines here.0 account played (c.in_ok-account.ensures.account here.0.board here.2);

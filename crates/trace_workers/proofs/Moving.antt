@@ -1,0 +1,19 @@
+-- A session that has moved, among those that stand beside it, and sessions that no line has named.
+use Rattle.std.proofs.Common.{◌≡◌, ◌≢◌, ◌∙◌, ℕ, ◌<◌, List, [], get_or, length, set, sym, ap, inl, inr}
+use Rattle.std.proofs.lemmas.List.{get_or-set_same, get_or_default}
+use Rattle.shared_broker.specs.Passes.{BrokerView}
+use Rattle.trace_file.specs.Contents.{input_of}
+use Rattle.trace_workers.specs.Workers.{AllRest, HasDone, WorkerView}
+use Rattle.trace_workers.specs.Sessions.{SessionView}
+use Rattle.trace_workers.proofs.Going.{nothing_of}
+
+-- at its place another stands now
+pub moved_at : (xs : List SessionView) (at : ℕ) (d s : SessionView) → at < length xs → s.pass.going ≢ (get_or xs at d).pass.going → (e : SessionView) → get_or (set xs at s) at e ≢ get_or xs at e
+moved_at xs at d s less moved e is = moved (ap (λ (x : SessionView). x.pass.going) (sym (get_or-set_same xs at s e less) ∙ is ∙ get_or_default xs at e d less))
+
+-- before the first line all sessions rest
+pub fresh_rests : (broker : BrokerView) (worker : WorkerView) → HasDone broker [] worker → AllRest worker
+fresh_rests broker worker h k d less =
+    let s = get_or worker.sessions k d in
+    let t = h.sessions k d less in
+    inr (inl (nothing_of (input_of s.number []) s t.named t.received).going)

@@ -1,0 +1,33 @@
+-- A worker may do each line of a trace that is its own.
+use Rattle.std.proofs.Common.{◌≡◌, ℕ, ◌<◌, ◌≤◌, true, false, List, get_or, length, take, refl, eqb}
+use Rattle.std.proofs.lemmas.Bool.{eq-eqb, eqb-true}
+use Rattle.partlog.specs.declared.clock_event.TheConstants.{MOST_MOMENT}
+use Rattle.trace_file.specs.Contents.{is_shut, names, sessions_of}
+use Rattle.trace_file.specs.declared.line.Line.{Line}
+use Rattle.trace_file.specs.declared.line.Line.TheVariants.{Topic, Feed, Shut, Clock, End}
+use Rattle.trace_file.specs.Trace.{pieces_of}
+use Rattle.trace_workers.specs.Workers.{HasAll, WorkerView}
+use Rattle.trace_workers.specs.Own.{MayTake, is_own}
+use Rattle.trace_workers.specs.Playable.{AreTraced}
+use Rattle.trace_workers.proofs.Traced.{named_below, open_before, within_limit}
+
+may_by_line : (count : ℕ) (before : List Line) (line : Line) (worker : WorkerView) → HasAll count worker → ((session : ℕ) → names session line ≡ true → session < count)
+    → ((session : ℕ) → names session line ≡ true → is_shut session before ≡ false) → ((t : ℕ) → line ≡ Clock t → t ≤ MOST_MOMENT) → is_own worker line ≡ true → MayTake before line worker
+may_by_line count before (Topic name partitions followers) worker all below opened limit own = tt
+may_by_line count before (Feed session bytes) worker all below opened limit own =
+    let named : eqb session session ≡ true = eq-eqb session session refl in
+    (all session (below session named) (eqb-true _ worker.number own), opened session named)
+may_by_line count before (Shut session) worker all below opened limit own =
+    let named : eqb session session ≡ true = eq-eqb session session refl in
+    all session (below session named) (eqb-true _ worker.number own)
+may_by_line count before (Clock t) worker all below opened limit own = limit t refl
+may_by_line count before End worker all below opened limit own = tt
+
+pub may_take : (lines : List Line) (worker : WorkerView) (i : ℕ) (d : Line) → AreTraced lines → HasAll (sessions_of lines) worker → i < length lines → is_own worker (get_or lines i d) ≡ true → MayTake (take i lines) (get_or lines i d) worker
+may_take lines worker i d traced all less own =
+    let trace = traced.1 in
+    may_by_line (sessions_of lines) (take i lines) (get_or lines i d) worker all
+    (λ session named. named_below lines i d session less named)
+    (λ session named. open_before lines i d session trace.order.pairs less named)
+    (λ t is. within_limit (pieces_of traced.0) lines i d t trace.spelled less is)
+    own

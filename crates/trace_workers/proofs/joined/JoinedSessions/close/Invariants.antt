@@ -1,0 +1,10 @@
+use Rattle.std.proofs.Common.{◌≡◌, ℕ, List}
+use Rattle.trace_file.specs.declared.line.Line.{Line}
+use Rattle.trace_workers.specs.Joined.{HasRun}
+use Rattle.trace_workers.proofs.joined.JoinedSessions.close.Given as goal
+
+abbrev pub invariant-loop : goal.invariant-loop
+invariant-loop g l = record {
+  broker : l.broker ≡ l.fn.broker;
+  run : (lines : List Line) (count : ℕ) → HasRun l.fn.broker lines count l.drain l.fn.self → HasRun l.fn.broker lines count l.drain l.joined;
+}

@@ -1,0 +1,63 @@
+use Rattle.std.proofs.Common.{◌+◌, ◌∙◌, ℕ, List, ap, arith, refl}
+use Rattle.std.proofs.lemmas.Result.{IfOk-weaker}
+use Rattle.audit.specs.declared.account.Account.{Account}
+use Rattle.trace_file.specs.Contents.{sessions_of}
+use Rattle.trace_file.specs.declared.line.Line.{Line}
+use Rattle.trace_workers.specs.Closed.{CameTo}
+use Rattle.trace_workers.specs.Joined.{HasRun}
+use Rattle.trace_workers.specs.WorkerRun.{IsWorkerRun}
+use Rattle.trace_workers.proofs.Begun.{begun, declared_topics}
+use Rattle.trace_workers.proofs.Counting.{few_counted}
+use Rattle.trace_workers.proofs.WorkerRun.{worker_run}
+use Rattle.trace_workers.proofs.Working.{worked_again}
+use Rattle.trace_workers.proofs.runs.run_lines.Goals as goal
+
+pub overflow_add-count : goal.overflow_add-count
+overflow_add-count g c = omega (arith, few_counted c.args.lines.now c.requires.traced, c.sessions_of-count.ensures)
+
+pub make-requires-clause-declared : goal.make-requires-clause-declared
+make-requires-clause-declared g c = declared_topics c.args.lines.now c.args.port c.in_ok-config.config c.requires.traced c.in_ok-config.ensures
+
+pub make-requires-clause-passes : goal.make-requires-clause-passes
+make-requires-clause-passes g c =
+    let few = few_counted c.args.lines.now c.requires.traced in
+    (omega arith, omega (arith, few, c.sessions_of-count.ensures))
+
+pub deal-requires-clause-fresh : goal.deal-requires-clause-fresh
+deal-requires-clause-fresh g c =
+    let few = few_counted c.args.lines.now c.requires.traced in
+    (c.in_ok-broker.broker, c.sessions_of-count.result, c.in_ok-broker.ensures.passes, omega (arith, few, c.sessions_of-count.ensures))
+
+pub gather-requires : goal.gather-requires
+gather-requires g c =
+    let broker = c.in_ok-broker.broker in
+    let lines = c.args.lines.now in
+    let count = sessions_of lines in
+    let size = (c.in_ok-workers.ensures broker c.sessions_of-count.result c.in_ok-broker.ensures.passes).size in
+    let worked = worked_again broker lines count c.args.worker_count c.in_ok-workers.workers c.as_mut_slice.result.now c.work_all.new.workers size c.as_mut_slice.ensures.value c.work_all.auto.workers c.work_all.ensures in
+    (broker, lines, count, c.args.worker_count, c.requires.worker_count.0, worked)
+
+pub close-requires : goal.close-requires
+close-requires g c =
+    let broker = c.in_ok-broker.broker in
+    let lines = c.args.lines.now in
+    let count = sessions_of lines in
+    let size = (c.in_ok-workers.ensures broker c.sessions_of-count.result c.in_ok-broker.ensures.passes).size in
+    let worked = worked_again broker lines count c.args.worker_count c.in_ok-workers.workers c.as_mut_slice.result.now c.work_all.new.workers size c.as_mut_slice.ensures.value c.work_all.auto.workers c.work_all.ensures in
+    let run = begun broker lines count c.args.drain c.in_ok-joined.joined (c.in_ok-joined.ensures broker lines count c.args.worker_count c.requires.worker_count.0 worked) in
+    (lines, count, run, c.in_ok-broker.ensures.size ∙ ap (λ (n : ℕ). n + 1) c.sessions_of-count.ensures)
+
+pub returns : goal.returns
+returns g c =
+    let broker = c.in_ok-broker.broker in
+    let lines = c.args.lines.now in
+    let count = sessions_of lines in
+    let drain = c.args.drain in
+    let joined = c.in_ok-joined.joined in
+    let size = (c.in_ok-workers.ensures broker c.sessions_of-count.result c.in_ok-broker.ensures.passes).size in
+    let worked = worked_again broker lines count c.args.worker_count c.in_ok-workers.workers c.as_mut_slice.result.now c.work_all.new.workers size c.as_mut_slice.ensures.value c.work_all.auto.workers c.work_all.ensures in
+    let run = begun broker lines count drain joined (c.in_ok-joined.ensures broker lines count c.args.worker_count c.requires.worker_count.0 worked) in
+    let config = c.in_ok-broker.ensures.config ∙ c.in_ok-config.ensures in
+    IfOk-weaker c.close.result (λ (account : Account). (ls : List Line) (n : ℕ) → HasRun broker ls n drain joined → CameTo broker ls n drain account) (IsWorkerRun lines c.args.port drain)
+    (λ account came. worker_run broker lines c.args.port count drain account c.requires.traced refl config (came lines count run))
+    c.close.ensures

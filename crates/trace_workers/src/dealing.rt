@@ -1,0 +1,153 @@
+//! Sessions and clock are dealt to workers, and come together again.
+ghost use Rattle.std.specs.Prelude.{◌≡◌, ◌+◌, ◌<◌, ◌≤◌, ◌++◌, ◌∷◌, ℕ, [], false, Some, List as Items, IfOk, OnOk, length};
+ghost use Rattle.shared_broker.specs.Making.{fresh_pass, fresh_passes};
+ghost use Rattle.shared_broker.specs.Passes.{BrokerView};
+ghost use Rattle.trace_file.specs.declared.line.Line.{Line as TheLine};
+ghost use Rattle.trace_workers.specs.Dealing.{AreDealing, empty_worker, empty_workers};
+ghost use Rattle.trace_workers.specs.Dealt.{AreDealt, AreWorked};
+ghost use Rattle.trace_workers.specs.Joined.{HasJoined};
+
+use crate::joined::JoinedSessions;
+use crate::{TraceSession, Worker};
+use kbytes::{List, NoMemory};
+use shared_broker::Pass;
+use std::alloc::Global;
+
+// A worker who has nothing.
+fn empty_worker(alloc: Global, number: u32, worker_count: u32) -> Worker
+    requires { number < worker_count }
+    ensures { result ≡ empty_worker worker_count number }
+{
+    Worker {
+        number,
+        worker_count,
+        sessions: List::new(alloc),
+        clock: None,
+        is_stopped: false,
+    }
+}
+
+// So many workers, who have nothing.
+fn empty_workers(alloc: Global, worker_count: u32) -> Result<List<Worker>, NoMemory>
+    ensures { IfOk result (λ workers. workers ≡ empty_workers worker_count) }
+{
+    let mut workers = List::new(alloc);
+    for number in 0..worker_count {
+        workers.push(empty_worker(alloc, number, worker_count))?;
+    }
+    Ok(workers)
+}
+
+// The worker has one more session.
+fn add_session(worker: &mut Worker, session: TraceSession) -> Result<(), NoMemory>
+    ensures { OnOk result (worker.new ≡ record worker.old { sessions = worker.old.sessions ++ session ∷ [] }) }
+{
+    worker.sessions.push(session)
+}
+
+// The worker has the clock.
+fn set_clock(worker: &mut Worker, clock: Pass)
+    ensures { worker.new ≡ record worker.old { clock = Some clock } }
+{
+    worker.clock = Some(clock);
+}
+
+// The session of this number becomes one of the worker's.
+fn deal_session(
+    alloc: Global,
+    workers: &mut [Worker],
+    number: u32,
+    pass: Pass,
+) -> Result<(), NoMemory>
+    requires some { 1 ≤ length workers.old }
+    ensures { OnOk result ((broker : BrokerView) → pass ≡ fresh_pass broker number
+        → AreDealing broker number (length workers.old) workers.old → AreDealing broker (number + 1) (length workers.old) workers.new) }
+{
+    let at = number as usize % workers.len();
+    add_session(&mut workers[at], TraceSession::new(alloc, number, pass))
+}
+
+// Each pass becomes that of a session, by their numbers.
+fn deal_sessions(alloc: Global, workers: &mut [Worker], passes: List<Pass>) -> Result<(), NoMemory>
+    requires some { 1 ≤ length workers.old }
+    requires few { length passes ≤ 64 }
+    ensures { OnOk result ((broker : BrokerView) (count : ℕ) → passes ≡ fresh_passes broker count
+        → AreDealing broker 0 (length workers.old) workers.old → AreDealing broker count (length workers.old) workers.new) }
+{
+    let mut number = 0;
+    for pass in passes.into_vec() {
+        deal_session(alloc, workers, number, pass)?;
+        number += 1;
+    }
+    Ok(())
+}
+
+// The first worker gets the clock.
+fn deal_clock(workers: &mut [Worker], clock: Pass)
+    requires some { 1 ≤ length workers.old }
+    ensures { (broker : BrokerView) (count : ℕ) → clock ≡ fresh_pass broker count
+        → AreDealing broker count (length workers.old) workers.old → AreDealt broker count (length workers.old) workers.new }
+{
+    set_clock(&mut workers[0], clock);
+}
+
+/// Deals the passes to so many workers: the last is the clock's, and each other one a session's.
+pub fn deal(alloc: Global, passes: List<Pass>, worker_count: u32) -> Result<List<Worker>, NoMemory>
+    requires worker_count { (1 ≤ worker_count) × (worker_count ≤ 16) }
+    requires fresh { (broker : BrokerView) × (count : ℕ) × (passes ≡ fresh_passes broker (count + 1)) × (count ≤ 64) }
+    ensures { IfOk result (λ workers. (broker : BrokerView) (count : ℕ) → passes ≡ fresh_passes broker (count + 1) → AreDealt broker count worker_count workers) }
+{
+    let mut workers = empty_workers(alloc, worker_count)?;
+    let mut passes = passes;
+    let Some(clock) = passes.pop() else {
+        unreachable!()
+    };
+    deal_sessions(alloc, workers.as_mut_slice(), passes)?;
+    deal_clock(workers.as_mut_slice(), clock);
+    Ok(workers)
+}
+
+// What the worker has, for the joined sessions. It is refused where it ran out of memory.
+fn take_worker(worker: Worker) -> Result<(List<TraceSession>, Option<Pass>), NoMemory>
+    ensures running { IfOk result (λ parts. worker.is_stopped ≡ false) }
+    ensures sessions { IfOk result (λ parts. parts.0 ≡ worker.sessions) }
+    ensures clock { IfOk result (λ parts. parts.1 ≡ worker.clock) }
+{
+    let Worker {
+        sessions,
+        clock,
+        is_stopped,
+        ..
+    } = worker;
+    if is_stopped {
+        return Err(NoMemory);
+    }
+    Ok((sessions, clock))
+}
+
+// These come behind those that are there.
+fn append(sessions: &mut List<TraceSession>, more: List<TraceSession>) -> Result<(), NoMemory>
+    ensures { OnOk result (sessions.new ≡ sessions.old ++ more) }
+{
+    for session in more.into_vec() {
+        sessions.push(session)?;
+    }
+    Ok(())
+}
+
+/// The sessions and the clock of all workers. It is refused where one of them ran out of memory.
+pub fn gather(alloc: Global, workers: List<Worker>) -> Result<JoinedSessions, NoMemory>
+    requires { (broker : BrokerView) × (lines : Items TheLine) × (count : ℕ) × (worker_count : ℕ) × (1 ≤ worker_count) × AreWorked broker lines count worker_count workers }
+    ensures { IfOk result (λ joined. (broker : BrokerView) (lines : Items TheLine) (count worker_count : ℕ) → 1 ≤ worker_count → AreWorked broker lines count worker_count workers
+        → HasJoined broker lines count joined) }
+{
+    let mut sessions = List::new(alloc);
+    let mut clock = None;
+    for worker in workers.into_vec() {
+        let (own, its_clock) = take_worker(worker)?;
+        append(&mut sessions, own)?;
+        clock = clock.or(its_clock);
+    }
+    let Some(clock) = clock else { unreachable!() };
+    Ok(JoinedSessions { sessions, clock })
+}

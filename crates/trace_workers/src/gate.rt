@@ -1,0 +1,13 @@
+/// What each worker passes before it does a line. A test holds workers up by it.
+pub trait Gate {
+    /// The worker's number, and the place of the line in the list, each counted from 0.
+    fn pass(&self, worker_number: u32, line: u32);
+}
+
+/// Holds nobody up.
+#[derive(Clone, Copy, Debug)]
+pub struct NoGate;
+
+impl Gate for NoGate {
+    fn pass(&self, _worker: u32, _line: u32) {}
+}

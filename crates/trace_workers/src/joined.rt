@@ -1,0 +1,242 @@
+//! All sessions of a run and the clock, in one hand, once the workers have done their lines.
+ghost use Rattle.std.specs.Prelude.{◌≡◌, ◌≢◌, ◌≤◌, ◌<◌, ◌+◌, ℕ, true, false, All, List as Items, IfOk, OnOk, is_some, length, map, slice_index_or};
+ghost use Rattle.std.specs.List.{list_any};
+ghost use Rattle.trace_file.specs.declared.line.Line.{Line as TheLine};
+ghost use Rattle.trace_workers.specs.Resting.{Rests};
+ghost use Rattle.trace_workers.specs.Sessions.{SessionView, desk_of};
+ghost use Rattle.trace_workers.specs.Closed.{CameTo, HasClosed, IsWhole};
+ghost use Rattle.trace_workers.specs.Joined.{JoinedView, HasCome, HasJoined, HasRun, passes_in};
+
+use crate::{Desk, TraceSession};
+use audit::Account;
+use kbytes::{List, NoMemory};
+use partlog::MOST_MOMENT;
+use shared_broker::{Broker, BrokerEnd, Pass};
+use std::alloc::Global;
+use std::marker::Model;
+use std::sync::Wait;
+
+/// How far the clock goes on at a time where a run is drained, in milliseconds.
+pub const DRAIN_STEP: u64 = 1_000;
+
+/// The sessions, and the pass of the clock.
+#[derive(Drop)]
+pub struct JoinedSessions {
+    pub sessions: List<TraceSession>,
+    pub clock: Pass,
+}
+
+impl Model for JoinedSessions {
+    ghost use Rattle.trace_workers.specs.Joined.{JoinedView};
+
+    ghost Value = { JoinedView };
+
+    ghost view = { λ h. record { sessions = h.sessions; clock = h.clock } };
+}
+
+/// What became of a broker that was to be closed.
+#[derive(Drop)]
+pub enum Closing {
+    Closed(Account),
+    /// A request that waited was won.
+    Again {
+        broker: Broker,
+        joined: JoinedSessions,
+    },
+}
+
+// The moment that is a second behind this one. Where the clock has none it waits for ever.
+fn later(rt: &impl Wait, ticked: u64) -> u64
+    ensures second { result ≡ ticked + DRAIN_STEP }
+    ensures limit { result ≤ MOST_MOMENT }
+{
+    if ticked > MOST_MOMENT - DRAIN_STEP {
+        for _ in rt.forever() {}
+        unreachable!()
+    }
+    ticked + DRAIN_STEP
+}
+
+// The sessions of these desks, each with its pass again.
+fn seat_all(
+    alloc: Global,
+    passes: List<Pass>,
+    desks: List<Desk>,
+) -> Result<List<TraceSession>, NoMemory>
+    requires { (sessions : Items SessionView) × (passes ≡ map (λ (s : SessionView). s.pass) sessions) × (desks ≡ map desk_of sessions) }
+    ensures { IfOk result (λ back. (sessions : Items SessionView) → passes ≡ map (λ (s : SessionView). s.pass) sessions → desks ≡ map desk_of sessions → back ≡ sessions) }
+{
+    let mut left = desks.into_vec().into_iter();
+    let mut sessions = List::new(alloc);
+    for pass in passes.into_vec() {
+        let Some(desk) = left.next() else {
+            unreachable!()
+        };
+        sessions.push(desk.with(pass))?;
+    }
+    Ok(sessions)
+}
+
+impl JoinedSessions {
+    // One session does one thing more, where it can. Answers whether it did.
+    fn step(&mut self, rt: &impl Wait, broker: &Broker, at: usize) -> Result<bool, NoMemory>
+        requires there { at < length self.old.sessions }
+        requires whole { (lines : Items TheLine) × (count : ℕ) × HasJoined broker.now lines count self.old }
+        ensures clock { self.new.clock ≡ self.old.clock }
+        ensures size { length self.new.sessions ≡ length self.old.sessions }
+        ensures whole { OnOk result ((lines : Items TheLine) (count : ℕ) → HasJoined broker.now lines count self.old → HasJoined broker.now lines count self.new) }
+        ensures alone { (k : ℕ) (s : SessionView) → k ≢ at → slice_index_or self.new.sessions k s ≡ slice_index_or self.old.sessions k s }
+        ensures moved { IfOk result (λ did. did ≡ true → (s : SessionView) → slice_index_or self.new.sessions at s ≢ slice_index_or self.old.sessions at s) }
+        ensures rests { IfOk result (λ did. did ≡ false → (s : SessionView) → Rests (slice_index_or self.new.sessions at s)) }
+    {
+        self.sessions.as_mut_slice()[at].step(rt, broker)
+    }
+
+    // Each session does one thing more, where it can. Answers whether one did: then they aren't as they were, and else all rest.
+    fn round(&mut self, rt: &impl Wait, broker: &Broker) -> Result<bool, NoMemory>
+        requires whole { (lines : Items TheLine) × (count : ℕ) × HasJoined broker.now lines count self.old }
+        ensures clock { self.new.clock ≡ self.old.clock }
+        ensures whole { OnOk result ((lines : Items TheLine) (count : ℕ) → HasJoined broker.now lines count self.old → HasJoined broker.now lines count self.new) }
+        ensures moved { IfOk result (λ did. did ≡ true → self.new.sessions ≢ self.old.sessions) }
+        ensures rests { IfOk result (λ did. did ≡ false → All Rests self.new.sessions) }
+    {
+        let mut did = false;
+        for at in 0..self.sessions.len() {
+            if self.step(rt, broker, at)? {
+                did = true;
+            }
+        }
+        Ok(did)
+    }
+
+    // The sessions go on until none can.
+    fn go_on(&mut self, rt: &impl Wait, broker: &Broker) -> Result<(), NoMemory>
+        requires whole { (lines : Items TheLine) × (count : ℕ) × HasJoined broker.now lines count self.old }
+        ensures clock { self.new.clock ≡ self.old.clock }
+        ensures whole { OnOk result ((lines : Items TheLine) (count : ℕ) → HasJoined broker.now lines count self.old → HasJoined broker.now lines count self.new) }
+        ensures rests { OnOk result (All Rests self.new.sessions) }
+    {
+        for _ in rt.forever() {
+            if !self.round(rt, broker)? {
+                return Ok(());
+            }
+        }
+        unreachable!()
+    }
+
+    // Some session's request waits.
+    fn waits(&self) -> bool
+        ensures { result ≡ list_any (λ (s : SessionView). is_some s.pass.waits) self.now.sessions }
+    {
+        self.sessions
+            .as_slice()
+            .iter()
+            .any(|session| session.waits())
+    }
+
+    // The clock goes on by a second. It waits for ever where there are no later moments.
+    fn tick(&mut self, rt: &impl Wait, broker: &Broker) -> Result<(), NoMemory>
+        requires { (lines : Items TheLine) × (count : ℕ) × HasRun broker.now lines count true self.old }
+        ensures { OnOk result ((lines : Items TheLine) (count : ℕ) → HasRun broker.now lines count true self.old → HasRun broker.now lines count true self.new) }
+    {
+        self.clock.keeps();
+        let t = later(rt, self.clock.ticked());
+        broker.tick(rt, &mut self.clock, t)
+    }
+
+    // The sessions go on until none can, and where the run is drained the clock too, until nobody waits.
+    fn finish(&mut self, rt: &impl Wait, broker: &Broker, drain: bool) -> Result<(), NoMemory>
+        requires { (lines : Items TheLine) × (count : ℕ) × HasRun broker.now lines count drain self.old }
+        ensures run { OnOk result ((lines : Items TheLine) (count : ℕ) → HasRun broker.now lines count drain self.old → HasRun broker.now lines count drain self.new) }
+        ensures come { OnOk result (HasCome drain self.new) }
+    {
+        for _ in rt.forever() {
+            self.go_on(rt, broker)?;
+            if !drain || !self.waits() {
+                return Ok(());
+            }
+            self.tick(rt, broker)?;
+        }
+        unreachable!()
+    }
+
+    // The passes, that of the clock as the last, and what else there is of the sessions.
+    fn into_parts(self, alloc: Global) -> Result<(List<Pass>, List<Desk>), NoMemory>
+        ensures passes { IfOk result (λ parts. parts.0 ≡ passes_in self) }
+        ensures desks { IfOk result (λ parts. parts.1 ≡ map desk_of self.sessions) }
+    {
+        let JoinedSessions { sessions, clock } = self;
+        let mut passes = List::new(alloc);
+        let mut desks = List::new(alloc);
+        for session in sessions.into_vec() {
+            let (pass, desk) = session.into_parts();
+            passes.push(pass)?;
+            desks.push(desk)?;
+        }
+        passes.push(clock)?;
+        Ok((passes, desks))
+    }
+
+    // These, joined again.
+    fn of_parts(
+        alloc: Global,
+        passes: List<Pass>,
+        desks: List<Desk>,
+    ) -> Result<JoinedSessions, NoMemory>
+        requires { (joined : JoinedView) × (passes ≡ passes_in joined) × (desks ≡ map desk_of joined.sessions) }
+        ensures { IfOk result (λ back. (joined : JoinedView) → passes ≡ passes_in joined → desks ≡ map desk_of joined.sessions → back ≡ joined) }
+    {
+        let mut passes = passes;
+        let Some(clock) = passes.pop() else {
+            unreachable!()
+        };
+        let sessions = seat_all(alloc, passes, desks)?;
+        Ok(JoinedSessions { sessions, clock })
+    }
+
+    // Closes the broker, or hands all back.
+    fn try_close(self, rt: &impl Wait, alloc: Global, broker: Broker) -> Result<Closing, NoMemory>
+        requires whole { (lines : Items TheLine) × (count : ℕ) × HasJoined broker lines count self × IsWhole broker count }
+        ensures { IfOk result (HasClosed broker self) }
+    {
+        let (passes, desks) = self.into_parts(alloc)?;
+        match broker.close(rt, passes) {
+            BrokerEnd::Closed(account) => Ok(Closing::Closed(account)),
+            BrokerEnd::Untaken { broker, passes } => {
+                let joined = JoinedSessions::of_parts(alloc, passes, desks)?;
+                Ok(Closing::Again { broker, joined })
+            }
+            BrokerEnd::NoMemory => Err(NoMemory),
+        }
+    }
+
+    /// All goes on until nobody can act, and the broker is closed. Where a request was won meanwhile, that is done again.
+    pub fn close(
+        self,
+        rt: &impl Wait,
+        alloc: Global,
+        broker: Broker,
+        drain: bool,
+    ) -> Result<Account, NoMemory>
+        requires { (lines : Items TheLine) × (count : ℕ) × HasRun broker lines count drain self × IsWhole broker count }
+        ensures { IfOk result (λ account. (lines : Items TheLine) (count : ℕ) → HasRun broker lines count drain self → CameTo broker lines count drain account) }
+    {
+        let mut broker = broker;
+        let mut joined = self;
+        for _ in rt.forever() {
+            joined.finish(rt, &broker, drain)?;
+            joined.clock.keeps();
+            match joined.try_close(rt, alloc, broker)? {
+                Closing::Closed(account) => return Ok(account),
+                Closing::Again {
+                    broker: again,
+                    joined: back,
+                } => {
+                    broker = again;
+                    joined = back;
+                }
+            }
+        }
+        unreachable!()
+    }
+}

@@ -1,0 +1,17 @@
+//! Laws of sessions. They do nothing.
+ghost use Rattle.std.specs.Prelude.{◌≡◌, ℕ, true, List, [], ◌∷◌, map};
+ghost use Rattle.audit.specs.declared.account.Transcript.{Transcript};
+ghost use Rattle.audit.specs.Fits.{Fits};
+ghost use Rattle.audit.specs.RunOf.{IsTraceEnd};
+ghost use Rattle.pass_books.specs.Told.{told};
+ghost use Rattle.shared_broker.specs.Passes.{transcripts_of};
+ghost use Rattle.trace_workers.specs.Received.{HasReceived};
+ghost use Rattle.trace_workers.specs.Resting.{Rests};
+ghost use Rattle.trace_workers.specs.Sessions.{SessionView};
+
+/// Law: a session that was named and rests has one transcript, as it is told in an account, and that fits all that it received.
+pub fn resting_sessions_fit()
+    ensures { (input : List ℕ) (s : SessionView) → s.is_named ≡ true → HasReceived input s → Rests s
+        → (transcript : Transcript) × (map told (transcripts_of s.pass) ≡ transcript ∷ []) × (transcript.number ≡ s.number)
+        × Fits input s.is_shut transcript × IsTraceEnd transcript.end }
+{}

@@ -1,0 +1,158 @@
+//! What a session does by itself.
+ghost use Rattle.std.specs.Prelude.{◌≡◌, ◌≢◌, ℕ, true, false, List as Items, ◌++◌, drop, None, IsSome, is_some, IfOk, OnOk};
+ghost use Rattle.audit.specs.declared.account.Transcript.{Transcript};
+ghost use Rattle.kwire.specs.declared.frame.Frame.TheVariants.{Whole, NotYet};
+ghost use Rattle.kwire.specs.Frames.{IsFrameBody, framed, next_frame_of};
+ghost use Rattle.purgatory.specs.Polled.{HasPolled};
+ghost use Rattle.room_table.specs.Seats.{CallerView};
+ghost use Rattle.shared_broker.specs.Passes.{made_with};
+ghost use Rattle.trace_workers.specs.Ending.{EndsSo, MayEndSo};
+ghost use Rattle.trace_workers.specs.Received.{HasReceived};
+ghost use Rattle.trace_workers.specs.Resting.{Rests};
+ghost use Rattle.trace_workers.specs.Sessions.{IsSameSession};
+
+use crate::session::TraceSession;
+use audit::SessionEnd;
+use kbytes::NoMemory;
+use kwire::{Frame, next_frame};
+use shared_broker::{Broker, Collected, Handled};
+use std::sync::Wait;
+
+// How a session ends whose input ended with these bytes of a frame, which isn't there whole.
+fn end_of_input(left: &[u8]) -> SessionEnd
+    requires { next_frame_of left.now ≡ NotYet }
+    ensures { (transcript : Transcript) → MayEndSo left.now true result transcript }
+{
+    if left.is_empty() {
+        SessionEnd::Closed
+    } else {
+        SessionEnd::Truncated {
+            got: left.len() as u32,
+        }
+    }
+}
+
+// The body of the frame at the front, which ends before the place `end`.
+fn front_body(bytes: &[u8], end: usize) -> &[u8]
+    requires { next_frame_of bytes.now ≡ Whole end }
+    ensures small { IsFrameBody result.now }
+    ensures parts { bytes.now ≡ framed result.now ++ drop end bytes.now }
+{
+    &bytes[4..end]
+}
+
+impl TraceSession {
+    /// Does one thing more, where it can: it takes the reply to a request that was won, handles the first whole frame, or ends. Answers whether it did; where it
+    /// didn't, it rests, and where its request waits still, this call found that. If memory runs out, it may only be dropped.
+    pub fn step(&mut self, rt: &impl Wait, broker: &Broker) -> Result<bool, NoMemory>
+        requires made { made_with self.old.pass ≡ broker.now }
+        requires received { (input : Items ℕ) × HasReceived input self.old }
+        ensures same { IsSameSession self.old self.new }
+        ensures named { self.new.is_named ≡ self.old.is_named }
+        ensures shut { self.new.is_shut ≡ self.old.is_shut }
+        ensures received { OnOk result ((input : Items ℕ) → HasReceived input self.old → HasReceived input self.new) }
+        ensures moved { IfOk result (λ did. did ≡ true → self.new.pass.going ≢ self.old.pass.going) }
+        ensures rests { IfOk result (λ did. did ≡ false → Rests self.new) }
+        ensures looked { IfOk result (λ did. did ≡ false → is_some self.new.pass.waits ≡ true → HasPolled None self.old.pass.logs.seat self.new.pass.logs.seat) }
+    {
+        if self.pass.waits() {
+            return self.collect(rt, broker);
+        }
+        if !self.pass.is_begun() {
+            return Ok(false);
+        }
+        match next_frame(self.inbox.bytes()) {
+            Frame::Whole { end } => self.handle(rt, broker, end),
+            Frame::TooLong { size } => self.end(broker, SessionEnd::FrameTooLong { size }),
+            Frame::NotYet => {
+                if !self.is_shut {
+                    return Ok(false);
+                }
+                let end = end_of_input(self.inbox.bytes());
+                self.end(broker, end)
+            }
+        }
+    }
+
+    /// Goes on until it can do nothing more.
+    pub fn go_on(&mut self, rt: &impl Wait, broker: &Broker) -> Result<(), NoMemory>
+        requires made { made_with self.old.pass ≡ broker.now }
+        requires received { (input : Items ℕ) × HasReceived input self.old }
+        ensures same { IsSameSession self.old self.new }
+        ensures named { self.new.is_named ≡ self.old.is_named }
+        ensures shut { self.new.is_shut ≡ self.old.is_shut }
+        ensures received { OnOk result ((input : Items ℕ) → HasReceived input self.old → HasReceived input self.new) }
+        ensures rests { OnOk result (Rests self.new) }
+        ensures looked { OnOk result (is_some self.new.pass.waits ≡ true → (before : CallerView) × HasPolled None before self.new.pass.logs.seat) }
+    {
+        for _ in rt.forever() {
+            if !self.step(rt, broker)? {
+                return Ok(());
+            }
+        }
+        unreachable!()
+    }
+
+    // Takes the reply to its request that waits, where that was won.
+    fn collect(&mut self, rt: &impl Wait, broker: &Broker) -> Result<bool, NoMemory>
+        requires made { made_with self.old.pass ≡ broker.now }
+        requires received { (input : Items ℕ) × HasReceived input self.old }
+        requires waits { IsSome self.old.pass.waits }
+        ensures same { IsSameSession self.old self.new }
+        ensures named { self.new.is_named ≡ self.old.is_named }
+        ensures shut { self.new.is_shut ≡ self.old.is_shut }
+        ensures received { OnOk result ((input : Items ℕ) → HasReceived input self.old → HasReceived input self.new) }
+        ensures moved { IfOk result (λ did. did ≡ true → self.new.pass.going ≢ self.old.pass.going) }
+        ensures rests { IfOk result (λ did. did ≡ false → Rests self.new) }
+        ensures looked { IfOk result (λ did. did ≡ false → is_some self.new.pass.waits ≡ true → HasPolled None self.old.pass.logs.seat self.new.pass.logs.seat) }
+    {
+        match broker.collect(rt, &mut self.pass) {
+            Collected::Reply(_frame) => Ok(true),
+            Collected::NotYet => Ok(false),
+            Collected::NoMemory => Err(NoMemory),
+        }
+    }
+
+    // The frame at the front, which ends before the place `end`.
+    fn handle(&mut self, rt: &impl Wait, broker: &Broker, end: usize) -> Result<bool, NoMemory>
+        requires made { made_with self.old.pass ≡ broker.now }
+        requires received { (input : Items ℕ) × HasReceived input self.old }
+        requires begun { IsSome self.old.pass.going }
+        requires none { self.old.pass.waits ≡ None }
+        requires whole { next_frame_of self.old.inbox ≡ Whole end }
+        ensures same { IsSameSession self.old self.new }
+        ensures named { self.new.is_named ≡ self.old.is_named }
+        ensures shut { self.new.is_shut ≡ self.old.is_shut }
+        ensures received { OnOk result ((input : Items ℕ) → HasReceived input self.old → HasReceived input self.new) }
+        ensures did { IfOk result (λ did. did ≡ true) }
+        ensures moved { OnOk result (self.new.pass.going ≢ self.old.pass.going) }
+    {
+        let body = front_body(self.inbox.bytes(), end);
+        match broker.handle(rt, &mut self.pass, body) {
+            Handled::Reply(_) | Handled::Quiet | Handled::Parked { .. } => {
+                self.inbox.drop_front(end);
+                Ok(true)
+            }
+            Handled::Ended(why) => self.end(broker, why),
+            Handled::NoMemory => Err(NoMemory),
+        }
+    }
+
+    // Its transcript ends.
+    fn end(&mut self, broker: &Broker, end: SessionEnd) -> Result<bool, NoMemory>
+        requires made { made_with self.old.pass ≡ broker.now }
+        requires received { (input : Items ℕ) × HasReceived input self.old }
+        requires begun { IsSome self.old.pass.going }
+        requires none { self.old.pass.waits ≡ None }
+        requires shown { EndsSo end self.old }
+        ensures same { IsSameSession self.old self.new }
+        ensures named { self.new.is_named ≡ self.old.is_named }
+        ensures shut { self.new.is_shut ≡ self.old.is_shut }
+        ensures received { OnOk result ((input : Items ℕ) → HasReceived input self.old → HasReceived input self.new) }
+        ensures did { IfOk result (λ did. did ≡ true) }
+        ensures moved { OnOk result (self.new.pass.going ≢ self.old.pass.going) }
+    {
+        broker.finish(&mut self.pass, end)?;
+        Ok(true)
+    }
+}

@@ -1,0 +1,227 @@
+//! One worker's part.
+ghost use Rattle.std.specs.Prelude.{◌≡◌, ◌≢◌, ◌≤◌, ◌<◌, ◌/◌, ℕ, [], ◌∷◌, ◌++◌, true, false, List as Items, IfOk, OnOk, length, slice_index_or};
+ghost use Rattle.partlog.specs.declared.clock_event.TheConstants.{MOST_MOMENT};
+ghost use Rattle.trace_file.specs.Contents.{is_shut, sessions_of};
+ghost use Rattle.trace_file.specs.declared.line.Line.{Line as TheLine};
+ghost use Rattle.trace_file.specs.declared.line.Line.TheVariants.{Feed, Shut, Clock};
+ghost use Rattle.trace_workers.specs.Resting.{Rests};
+ghost use Rattle.trace_workers.specs.Sessions.{SessionView};
+ghost use Rattle.trace_workers.specs.Workers.{AllRest, HasAll, HasDone, IsSameWorker};
+ghost use Rattle.trace_workers.specs.Own.{MayTake, is_own, is_own_session};
+ghost use Rattle.trace_workers.specs.Playable.{AreTraced};
+
+use crate::TraceSession;
+use crate::gate::Gate;
+use kbytes::{List, NoMemory};
+use shared_broker::{Broker, Pass};
+use std::marker::Model;
+use std::sync::Wait;
+use trace_file::Line;
+
+/// A worker: its number and how many there are, the sessions that are its own, by their numbers, the pass of the clock where it has that, and whether it stopped because memory ran
+/// out.
+#[derive(Drop)]
+pub struct Worker {
+    pub number: u32,
+    pub worker_count: u32,
+    pub sessions: List<TraceSession>,
+    pub clock: Option<Pass>,
+    pub is_stopped: bool,
+}
+
+impl Model for Worker {
+    ghost use Rattle.std.specs.Prelude.{◌<◌};
+    ghost use Rattle.trace_workers.specs.Workers.{WorkerView};
+
+    ghost Value = { WorkerView };
+
+    ghost view = { λ l. record { number = l.number; worker_count = l.worker_count; sessions = l.sessions; clock = l.clock; is_stopped = l.is_stopped } };
+
+    ghost invariant = { λ l. l.number < l.worker_count };
+}
+
+impl Worker {
+    // Whether the line is this worker's to do.
+    fn has(&self, line: &Line) -> bool
+        ensures own { result ≡ is_own self.now line.now }
+        ensures below { self.now.number < self.now.worker_count }
+    {
+        match line {
+            Line::Feed { session, .. } | Line::Shut { session } => {
+                *session % self.worker_count == self.number
+            }
+            Line::Clock { .. } => self.clock.is_some(),
+            Line::Topic { .. } | Line::End => false,
+        }
+    }
+
+    // A line brings one of its sessions these bytes.
+    fn feed(&mut self, broker: &Broker, session: u32, bytes: &[u8]) -> Result<(), NoMemory>
+        requires own { is_own_session self.old session ≡ true }
+        requires there { session / self.old.worker_count < length self.old.sessions }
+        requires done { (before : Items TheLine) × HasDone broker.now before self.old × (is_shut session before ≡ false) }
+        ensures same { IsSameWorker self.old self.new }
+        ensures running { self.new.is_stopped ≡ self.old.is_stopped }
+        ensures done { OnOk result ((before : Items TheLine) → HasDone broker.now before self.old → HasDone broker.now (before ++ Feed session bytes.now ∷ []) self.new) }
+    {
+        let at = (session / self.worker_count) as usize;
+        self.sessions.as_mut_slice()[at].feed(broker, bytes)
+    }
+
+    // A line ends the input of one of its sessions.
+    fn shut(&mut self, broker: &Broker, session: u32)
+        requires own { is_own_session self.old session ≡ true }
+        requires there { session / self.old.worker_count < length self.old.sessions }
+        requires done { (before : Items TheLine) × HasDone broker.now before self.old }
+        ensures same { IsSameWorker self.old self.new }
+        ensures running { self.new.is_stopped ≡ self.old.is_stopped }
+        ensures done { (before : Items TheLine) → HasDone broker.now before self.old → HasDone broker.now (before ++ Shut session ∷ []) self.new }
+    {
+        let at = (session / self.worker_count) as usize;
+        self.sessions.as_mut_slice()[at].shut(broker);
+    }
+
+    // A line tells the clock a moment.
+    fn tick(&mut self, rt: &impl Wait, broker: &Broker, t: u64) -> Result<(), NoMemory>
+        requires limit { t ≤ MOST_MOMENT }
+        requires done { (before : Items TheLine) × HasDone broker.now before self.old }
+        ensures same { IsSameWorker self.old self.new }
+        ensures running { self.new.is_stopped ≡ self.old.is_stopped }
+        ensures done { OnOk result ((before : Items TheLine) → HasDone broker.now before self.old → HasDone broker.now (before ++ Clock t ∷ []) self.new) }
+    {
+        match &mut self.clock {
+            Some(clock) => {
+                clock.keeps();
+                broker.tick(rt, clock, t)
+            }
+            None => Ok(()),
+        }
+    }
+
+    // Does a line that is its own.
+    fn take(&mut self, rt: &impl Wait, broker: &Broker, line: &Line) -> Result<(), NoMemory>
+        requires own { is_own self.old line.now ≡ true }
+        requires may { (before : Items TheLine) × HasDone broker.now before self.old × MayTake before line.now self.old }
+        ensures same { IsSameWorker self.old self.new }
+        ensures running { self.new.is_stopped ≡ self.old.is_stopped }
+        ensures done { OnOk result ((before : Items TheLine) → HasDone broker.now before self.old → HasDone broker.now (before ++ line.now ∷ []) self.new) }
+    {
+        match line {
+            Line::Feed { session, bytes } => self.feed(broker, *session, bytes.as_slice()),
+            Line::Shut { session } => {
+                self.shut(broker, *session);
+                Ok(())
+            }
+            Line::Clock { t } => self.tick(rt, broker, *t),
+            Line::Topic { .. } | Line::End => Ok(()),
+        }
+    }
+
+    // One of its sessions does one thing more, where it can. Answers whether it did.
+    fn step(&mut self, rt: &impl Wait, broker: &Broker, at: usize) -> Result<bool, NoMemory>
+        requires there { at < length self.old.sessions }
+        requires done { (lines : Items TheLine) × HasDone broker.now lines self.old }
+        ensures same { IsSameWorker self.old self.new }
+        ensures running { self.new.is_stopped ≡ self.old.is_stopped }
+        ensures done { OnOk result ((lines : Items TheLine) → HasDone broker.now lines self.old → HasDone broker.now lines self.new) }
+        ensures alone { (k : ℕ) (s : SessionView) → k ≢ at → slice_index_or self.new.sessions k s ≡ slice_index_or self.old.sessions k s }
+        ensures moved { IfOk result (λ did. did ≡ true → (s : SessionView) → slice_index_or self.new.sessions at s ≢ slice_index_or self.old.sessions at s) }
+        ensures rests { IfOk result (λ did. did ≡ false → (s : SessionView) → Rests (slice_index_or self.new.sessions at s)) }
+    {
+        self.sessions.as_mut_slice()[at].step(rt, broker)
+    }
+
+    /// Each of its sessions does one thing more, where it can. Answers whether one did: then they aren't as they were, and else all rest.
+    pub fn round(&mut self, rt: &impl Wait, broker: &Broker) -> Result<bool, NoMemory>
+        requires done { (lines : Items TheLine) × HasDone broker.now lines self.old }
+        ensures same { IsSameWorker self.old self.new }
+        ensures running { self.new.is_stopped ≡ self.old.is_stopped }
+        ensures done { OnOk result ((lines : Items TheLine) → HasDone broker.now lines self.old → HasDone broker.now lines self.new) }
+        ensures moved { IfOk result (λ did. did ≡ true → self.new.sessions ≢ self.old.sessions) }
+        ensures rests { IfOk result (λ did. did ≡ false → AllRest self.new) }
+    {
+        let mut did = false;
+        for at in 0..self.sessions.len() {
+            if self.step(rt, broker, at)? {
+                did = true;
+            }
+        }
+        Ok(did)
+    }
+
+    // Its sessions go on until none can.
+    fn go_on(&mut self, rt: &impl Wait, broker: &Broker) -> Result<(), NoMemory>
+        requires done { (lines : Items TheLine) × HasDone broker.now lines self.old }
+        ensures same { IsSameWorker self.old self.new }
+        ensures running { self.new.is_stopped ≡ self.old.is_stopped }
+        ensures done { OnOk result ((lines : Items TheLine) → HasDone broker.now lines self.old → HasDone broker.now lines self.new) }
+        ensures rests { OnOk result (AllRest self.new) }
+    {
+        for _ in rt.forever() {
+            if !self.round(rt, broker)? {
+                return Ok(());
+            }
+        }
+        unreachable!()
+    }
+
+    // One line.
+    fn line<G: Gate>(
+        &mut self,
+        rt: &impl Wait,
+        broker: &Broker,
+        gate: &G,
+        at: u32,
+        line: &Line,
+    ) -> Result<(), NoMemory>
+        requires may { (before : Items TheLine) × HasDone broker.now before self.old × (is_own self.old line.now ≡ true → MayTake before line.now self.old) }
+        ensures same { IsSameWorker self.old self.new }
+        ensures running { self.new.is_stopped ≡ self.old.is_stopped }
+        ensures done { OnOk result ((before : Items TheLine) → HasDone broker.now before self.old → HasDone broker.now (before ++ line.now ∷ []) self.new) }
+        ensures rests { OnOk result (AllRest self.old → AllRest self.new) }
+    {
+        if !self.has(line) {
+            return Ok(());
+        }
+        gate.pass(self.number, at);
+        self.take(rt, broker, line)?;
+        self.go_on(rt, broker)
+    }
+
+    // All lines.
+    fn lines<G: Gate>(
+        &mut self,
+        rt: &impl Wait,
+        broker: &Broker,
+        gate: &G,
+        lines: &[Line],
+    ) -> Result<(), NoMemory>
+        requires traced { AreTraced lines.now }
+        requires begun { HasDone broker.now [] self.old }
+        requires all { HasAll (sessions_of lines.now) self.old }
+        ensures same { IsSameWorker self.old self.new }
+        ensures running { self.new.is_stopped ≡ self.old.is_stopped }
+        ensures done { OnOk result (HasDone broker.now lines.now self.new) }
+        ensures rests { OnOk result (AllRest self.new) }
+    {
+        for at in 0..lines.len() {
+            self.line(rt, broker, gate, at as u32, &lines[at])?;
+        }
+        Ok(())
+    }
+
+    /// Does all lines that are its own, in their order, as far as there is memory, and lets its sessions go on behind each until none can.
+    pub fn work<G: Gate>(&mut self, rt: &impl Wait, broker: &Broker, gate: &G, lines: &[Line])
+        requires traced { AreTraced lines.now }
+        requires begun { HasDone broker.now [] self.old }
+        requires all { HasAll (sessions_of lines.now) self.old }
+        requires running { self.old.is_stopped ≡ false }
+        ensures same { IsSameWorker self.old self.new }
+        ensures done { self.new.is_stopped ≡ false → HasDone broker.now lines.now self.new }
+        ensures rests { self.new.is_stopped ≡ false → AllRest self.new }
+    {
+        if self.lines(rt, broker, gate, lines).is_err() {
+            self.is_stopped = true;
+        }
+    }
+}

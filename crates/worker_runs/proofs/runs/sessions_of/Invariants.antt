@@ -1,6 +1,0 @@
-use Rattle.std.proofs.Common.{◌≡◌, drop, max}
-use Rattle.trace_file.specs.Contents.{sessions_of}
-use Rattle.worker_runs.proofs.runs.sessions_of.Given as goal
-
-abbrev pub invariant-loop-line : goal.invariant-loop-line
-invariant-loop-line l = max l.count (sessions_of (drop l.line-index l.lines)) ≡ sessions_of l.lines
