@@ -1,15 +1,18 @@
 use kbytes::NoMemory;
-use std::alloc::AllocError;
-use std::{fmt, io};
+use std::alloc::{AllocError, AllocFailed};
+use std::io;
+use thiserror::Error;
 
 /// Why nothing more was measured.
-#[derive(Debug, Drop)]
+#[derive(Debug, Drop, Error)]
 pub enum Fault {
+    #[error("no memory is left")]
     NoMemory,
-    /// A thread found another word on the table than it had left there, or an operation in a room didn't wait.
+    #[error("an operation didn't wait, or wasn't answered")]
     Stopped,
     /// The clock can't be read, or the figures can't be written.
-    Io(io::Error),
+    #[error(transparent)]
+    Io(#[from] io::Error),
 }
 
 impl From<NoMemory> for Fault {
@@ -24,18 +27,8 @@ impl From<AllocError> for Fault {
     }
 }
 
-impl From<io::Error> for Fault {
-    fn from(error: io::Error) -> Fault {
-        Fault::Io(error)
-    }
-}
-
-impl fmt::Display for Fault {
-    fn fmt<W: fmt::Write>(&self, f: &mut fmt::Formatter<W>) -> fmt::Result {
-        match self {
-            Fault::NoMemory => f.write_str("no memory is left"),
-            Fault::Stopped => f.write_str("a thread found another state than it had left"),
-            Fault::Io(error) => write!(f, "{error}"),
-        }
+impl<T: Drop> From<AllocFailed<T>> for Fault {
+    fn from(_: AllocFailed<T>) -> Fault {
+        Fault::NoMemory
     }
 }

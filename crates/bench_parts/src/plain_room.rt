@@ -1,230 +1,123 @@
-//! A plain room of std, beside which the room stands: one `Mutex` round a `HashMap` of watchers, the operations, a
-//! `BinaryHeap` of deadlines and the gauges' values.
+//! A plain room of std, beside which the room stands: one `Mutex` round the gauges' values and a list of who waits.
+use crate::operation::waits_past;
+use crate::waiter::Waiter;
 use kbytes::NoMemory;
 use opcond::Op;
-use purgatory::How;
 use std::alloc::Global;
-use std::cmp::Reverse;
-use std::collections::{BinaryHeap, HashMap};
 use std::sync::{Condvar, Mutex, Wait};
 
-/// Which operation watches: its number and its generation.
-#[derive(Clone, Copy)]
-struct Watcher {
-    number: u32,
-    generation: u64,
-}
-
-/// Where the operation of a number stands. Until somebody answers it, it waits.
 #[derive(Drop)]
-struct Slot {
-    generation: u64,
-    waiting: Option<Op>,
-    ended: Option<How>,
+struct Waiting {
+    number: u32,
+    op: Op,
 }
-
-/// When an operation's time runs out, and its number and generation. Who is answered stays in the heap until then.
-type Deadline = Reverse<(u64, u32, u64)>;
 
 /// What stands behind the `Mutex`.
 #[derive(Drop)]
 struct Inside {
     /// By gauge. The last is the clock's.
     values: Vec<u64>,
-    watchers: HashMap<u32, Vec<Watcher>>,
-    slots: Vec<Slot>,
-    deadlines: BinaryHeap<Deadline>,
+    waiting: Vec<Waiting>,
 }
 
-/// The plain room.
 #[derive(Drop)]
 pub struct PlainRoom {
     inside: Mutex<Inside>,
-    ended: Condvar,
+    answered: Condvar,
 }
 
-fn tally(values: &[u64], op: &Op) -> u64 {
-    let mut sum: u64 = 0;
+/// What one thread has of the plain room.
+#[derive(Drop)]
+pub struct PlainSeat<'a> {
+    alloc: Global,
+    room: &'a PlainRoom,
+    number: u32,
+    raised: u64,
+}
+
+// Whether the operation is satisfied, or its deadline has come.
+fn is_answerable(values: &[u64], op: &Op) -> bool {
+    let mut tally: u64 = 0;
     for need in op.needs() {
         let value = values.get(need.gauge as usize).map_or(0, |value| *value);
-        sum = sum.saturating_add(value.saturating_sub(need.start).min(need.cap));
+        tally = tally.saturating_add(value.saturating_sub(need.start).min(need.cap));
     }
-    sum
-}
-
-// How an operation may be answered, if it may.
-fn verdict(values: &[u64], op: &Op) -> Option<How> {
-    if op.min() <= tally(values, op) {
-        return Some(How::Satisfied);
-    }
-    let moment = values.last().map_or(0, |moment| *moment);
-    if op.deadline() <= moment {
-        return Some(How::Expired);
-    }
-    None
-}
-
-impl Slot {
-    // Answers the operation of this generation, if it waits and may be answered. Whether it waits no longer.
-    fn answer(&mut self, values: &[u64], generation: u64) -> bool {
-        if self.generation != generation {
-            return true;
-        }
-        let Some(op) = &self.waiting else {
-            return true;
-        };
-        let Some(how) = verdict(values, op) else {
-            return false;
-        };
-        self.waiting = None;
-        self.ended = Some(how);
-        true
-    }
-}
-
-fn answer(values: &[u64], slots: &mut Vec<Slot>, watcher: Watcher) -> bool {
-    match slots.get_mut(watcher.number as usize) {
-        Some(slot) => slot.answer(values, watcher.generation),
-        None => true,
-    }
-}
-
-// Answers those of the list who may be answered, and drops who waits no longer.
-fn check(values: &[u64], slots: &mut Vec<Slot>, list: &mut Vec<Watcher>) {
-    let mut at = 0;
-    for _ in 0..list.len() {
-        if at >= list.len() {
-            return;
-        }
-        if answer(values, slots, list[at]) {
-            list.swap_remove(at);
-        } else {
-            at += 1;
-        }
-    }
-}
-
-// Answers those whose time has run out.
-fn expire(values: &[u64], slots: &mut Vec<Slot>, deadlines: &mut BinaryHeap<Deadline>, now: u64) {
-    for _ in 0..deadlines.len() {
-        if deadlines.peek().is_none_or(|first| now < first.0.0) {
-            return;
-        }
-        let Some(Reverse((_, number, generation))) = deadlines.pop() else {
-            return;
-        };
-        answer(values, slots, Watcher { number, generation });
-    }
+    op.min() <= tally || values.last().is_some_and(|moment| op.deadline() <= *moment)
 }
 
 impl Inside {
-    fn make(alloc: Global, gauges: u32, operations: u32) -> Result<Inside, NoMemory> {
-        let mut slots = Vec::new(alloc);
-        let mut watchers = HashMap::new(alloc);
-        for _ in 0..operations {
-            slots.push(Slot {
-                generation: 0,
-                waiting: None,
-                ended: None,
-            })?;
-        }
-        for gauge in 0..gauges {
-            watchers.insert(gauge, Vec::new(alloc))?;
-        }
-        Ok(Inside {
-            values: vec![in alloc; 0u64; gauges as usize]?,
-            watchers,
-            slots,
-            deadlines: BinaryHeap::new(alloc),
-        })
-    }
-
-    // Puts the watcher under the gauge of each need.
-    fn watch(&mut self, op: &Op, watcher: Watcher) -> Result<(), NoMemory> {
-        for need in op.needs() {
-            if let Some(list) = self.watchers.get_mut(&need.gauge) {
-                list.push(watcher)?;
-            }
-        }
-        Ok(())
-    }
-
     // Whether it waits.
-    fn register(&mut self, number: u32, op: Op) -> Result<bool, NoMemory> {
-        if verdict(self.values.as_slice(), &op).is_some() {
-            return Ok(false);
-        }
-        let Some(slot) = self.slots.get_mut(number as usize) else {
-            return Ok(false);
-        };
-        let generation = slot.generation.wrapping_add(1);
-        slot.generation = generation;
-        slot.ended = None;
-        self.watch(&op, Watcher { number, generation })?;
-        if self
-            .deadlines
-            .push(Reverse((op.deadline(), number, generation)))
-            .is_err()
-        {
-            return Err(NoMemory);
-        }
-        if let Some(slot) = self.slots.get_mut(number as usize) {
-            slot.waiting = Some(op);
-        }
-        Ok(true)
+    fn register(&mut self, number: u32, op: Op) -> bool {
+        !is_answerable(self.values.as_slice(), &op)
+            && self.waiting.push(Waiting { number, op }).is_ok()
     }
 
     fn raise(&mut self, gauge: u32, value: u64) {
-        let is_clock = gauge as usize + 1 == self.values.len();
-        let Some(place) = self.values.get_mut(gauge as usize) else {
-            return;
-        };
-        *place = value;
-        let values = self.values.as_slice();
-        if is_clock {
-            expire(values, &mut self.slots, &mut self.deadlines, value);
-        } else if let Some(list) = self.watchers.get_mut(&gauge) {
-            check(values, &mut self.slots, list);
+        if let Some(place) = self.values.get_mut(gauge as usize) {
+            *place = value;
         }
+        let values = self.values.as_slice();
+        self.waiting.retain(|one| !is_answerable(values, &one.op));
     }
 
     fn waits(&self, number: u32) -> bool {
-        self.slots
-            .get(number as usize)
-            .is_some_and(|slot| slot.ended.is_none())
+        self.waiting.iter().any(|one| one.number == number)
     }
 }
 
 impl PlainRoom {
-    /// A room with so many gauges, the last of which is the clock, and so many operations at a time.
-    pub fn make(alloc: Global, gauges: u32, operations: u32) -> Result<PlainRoom, NoMemory> {
-        let inside = Inside::make(alloc, gauges, operations)?;
+    pub fn make(alloc: Global, gauges: u32) -> Result<PlainRoom, NoMemory> {
         Ok(PlainRoom {
-            inside: Mutex::new(inside),
-            ended: Condvar::new(),
+            inside: Mutex::new(Inside {
+                values: vec![in alloc; 0u64; gauges as usize]?,
+                waiting: Vec::new(alloc),
+            }),
+            answered: Condvar::new(),
         })
     }
 
-    /// Whether the operation waits, and can't be answered at once.
-    pub fn register(&self, rt: &impl Wait, number: u32, op: Op) -> Result<bool, NoMemory> {
-        self.inside.lock(rt).register(number, op)
+    /// So many seats, by number. The seat of a number raises the gauge of that number.
+    pub fn seats(&self, alloc: Global, count: u32) -> Result<Vec<PlainSeat<'_>>, NoMemory> {
+        let mut seats = Vec::new(alloc);
+        for number in 0..count {
+            seats.push(PlainSeat {
+                alloc,
+                room: self,
+                number,
+                raised: 0,
+            })?;
+        }
+        Ok(seats)
+    }
+}
+
+impl Waiter for PlainSeat<'_> {
+    fn gauge(&self) -> u32 {
+        self.number
     }
 
-    /// Raises a gauge, and answers whom that satisfies.
-    pub fn raise(&self, rt: &impl Wait, gauge: u32, value: u64) {
-        self.inside.lock(rt).raise(gauge, value);
-        self.ended.notify_all();
+    fn register<R: Wait>(&mut self, rt: &R, gauge: u32, past: u64) -> bool {
+        match waits_past(self.alloc, gauge, past) {
+            Ok(op) => self.room.inside.lock(rt).register(self.number, op),
+            Err(_) => false,
+        }
     }
 
-    /// Whether the operation waits.
-    pub fn waits(&self, rt: &impl Wait, number: u32) -> bool {
-        self.inside.lock(rt).waits(number)
+    fn raise<R: Wait>(&mut self, rt: &R) {
+        self.raised = self.raised.saturating_add(1);
+        self.room.inside.lock(rt).raise(self.number, self.raised);
+        self.room.answered.notify_all();
     }
 
-    /// Sleeps until the operation is answered.
-    pub fn wait<R: Wait>(&self, rt: &R, number: u32) {
-        let inside = self.inside.lock(rt);
-        self.ended
+    fn is_answered<R: Wait>(&mut self, rt: &R) -> bool {
+        !self.room.inside.lock(rt).waits(self.number)
+    }
+
+    fn sleep<R: Wait>(&mut self, rt: &R) {
+        let number = self.number;
+        let inside = self.room.inside.lock(rt);
+        self.room
+            .answered
             .wait_while(rt, inside, |inside| inside.waits(number));
     }
 }

@@ -11,7 +11,7 @@ pub enum Size {
 
 impl Size {
     /// So many steps, or the few of a tiny run.
-    pub fn steps(self, whole: u64) -> u64
+    pub fn steps(self, whole: u32) -> u32
         ensures { result ≤ whole }
     {
         match self {

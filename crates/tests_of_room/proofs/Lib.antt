@@ -1,0 +1,2 @@
+-- passes and sources by their places
+pub mod Crews

@@ -1,0 +1,133 @@
+//! `purgatory`, and below it `room_table` and `room_scans`: the room's calls on one thread, and what threads come to that
+//! share it.
+ghost use Rattle.std.specs.Prelude.{◌≡◌, ◌<◌};
+
+mod crew;
+mod many;
+mod shards;
+mod waits;
+mod whole;
+
+use crew::start;
+use kbytes::{List, NoMemory};
+use opcond::{Need, Op};
+use purgatory::{Done, Registered};
+use room_core::How;
+use std::alloc::Global;
+use std::test::*;
+use whole::{Ends, Whole};
+
+// Adds a need, where the operation has room for it.
+fn add_need(op: &mut Op, gauge: u32, start: u64, cap: u64) -> Result<(), NoMemory> {
+    let needs = op.needs();
+    if needs.len() < 64 && cap < 1 << 31 && needs.iter().all(|need| need.gauge != gauge) {
+        op.add(Need { gauge, start, cap })?;
+    }
+    Ok(())
+}
+
+// An operation that is satisfied where so much of these gauges together has come, and overdue at the deadline.
+fn op_of(alloc: Global, gauges: &[u32], least: u64, deadline: u64) -> Result<Op, NoMemory> {
+    let mut op = Op::new(alloc, least.min(1_000_000), deadline);
+    for gauge in gauges {
+        add_need(&mut op, *gauge, 0, 1_000_000)?;
+    }
+    Ok(op)
+}
+
+fn done(how: How, by: u32) -> Option<Done> {
+    Some(Done { how, by })
+}
+
+#[test]
+fn an_operation_waits_and_is_satisfied(rt: HostRuntime) -> Result<(), Fail> {
+    let (room, mut crew) = start(rt.alloc(), 20, 2)?;
+    let op = op_of(rt.alloc(), &[18], 5, 100)?;
+    assert_eq!(rt; crew.register(&rt, &room, 0, op), Some(Registered::Parked));
+    assert_eq!(rt; crew.poll(&room, 0), None);
+    crew.raise(&rt, &room, 1, 18, 4);
+    assert_eq!(rt; crew.poll(&room, 0), None);
+    crew.raise(&rt, &room, 1, 18, 5);
+    assert_eq!(rt; crew.poll(&room, 0), done(How::Satisfied, 2));
+    assert_eq!(rt; crew.gauge(&room, 0, 18), 5);
+    Ok(())
+}
+
+#[test]
+fn a_deadline_comes(rt: HostRuntime) -> Result<(), Fail> {
+    let (room, mut crew) = start(rt.alloc(), 4, 2)?;
+    let op = op_of(rt.alloc(), &[0, 1, 2], 5, 100)?;
+    assert_eq!(rt; crew.register(&rt, &room, 0, op), Some(Registered::Parked));
+    crew.raise(&rt, &room, 1, 3, 99);
+    assert_eq!(rt; crew.poll(&room, 0), None);
+    crew.raise(&rt, &room, 1, 3, 100);
+    assert_eq!(rt; crew.poll(&room, 0), done(How::Expired, 16));
+    Ok(())
+}
+
+#[test]
+fn what_is_satisfied_need_not_wait(rt: HostRuntime) -> Result<(), Fail> {
+    let (room, mut crew) = start(rt.alloc(), 4, 2)?;
+    crew.raise(&rt, &room, 0, 2, 5);
+    let op = op_of(rt.alloc(), &[0, 2], 5, 100)?;
+    let won = crew.register(&rt, &room, 1, op);
+    assert_eq!(rt; won, done(How::Satisfied, 18).map(Registered::Won));
+    Ok(())
+}
+
+#[test]
+fn the_second_shard_wins(rt: HostRuntime) -> Result<(), Fail> {
+    let (room, mut crew) = start(rt.alloc(), 40, 2)?;
+    let op = op_of(rt.alloc(), &[3, 20], 5, 100)?;
+    assert_eq!(rt; crew.register(&rt, &room, 0, op), Some(Registered::Parked));
+    crew.raise(&rt, &room, 1, 3, 3);
+    assert_eq!(rt; crew.poll(&room, 0), None);
+    crew.raise(&rt, &room, 1, 20, 2);
+    assert_eq!(rt; crew.poll(&room, 0), done(How::Satisfied, 4));
+    Ok(())
+}
+
+// What all winners have won together.
+fn sum_of(numbers: &List<u64>) -> u64 {
+    let mut sum = 0u64;
+    for number in numbers.as_slice() {
+        sum = sum.saturating_add(*number);
+    }
+    sum
+}
+
+#[test]
+fn a_room_is_still_once_what_was_won_is_taken(rt: HostRuntime) -> Result<(), Fail> {
+    let (room, mut crew) = start(rt.alloc(), 20, 2)?;
+    let op = op_of(rt.alloc(), &[18], 5, 100)?;
+    assert_eq!(rt; crew.register(&rt, &room, 0, op), Some(Registered::Parked));
+    crew.raise(&rt, &room, 1, 18, 5);
+    let whole = Whole::of(rt.alloc(), room, crew)?.ok_or("all passes and sources")?;
+    let mut whole = whole.close(&rt).err().ok_or("an end that isn't taken")?;
+    assert_eq!(rt;
+        whole.look(),
+        Ends {
+            count: 1,
+            last: done(How::Satisfied, 2)
+        }
+    );
+    let numbers = whole.close(&rt).ok().ok_or("a room that is still")?;
+    assert_eq!(rt; numbers.len(), 19);
+    assert_eq!(rt; numbers.get(2), Some(&1));
+    assert_eq!(rt; sum_of(&numbers), 1);
+    Ok(())
+}
+
+#[test]
+fn who_waits_unanswerably_keeps_no_room_from_being_still(rt: HostRuntime) -> Result<(), Fail> {
+    let (room, mut crew) = start(rt.alloc(), 20, 2)?;
+    let op = op_of(rt.alloc(), &[18], 5, 100)?;
+    assert_eq!(rt; crew.register(&rt, &room, 0, op), Some(Registered::Parked));
+    crew.raise(&rt, &room, 1, 18, 4);
+    crew.raise(&rt, &room, 1, 19, 99);
+    let whole = Whole::of(rt.alloc(), room, crew)?.ok_or("all passes and sources")?;
+    let numbers = whole.close(&rt).ok().ok_or("a room that is still")?;
+    assert_eq!(rt; numbers.len(), 19);
+    assert_eq!(rt; sum_of(&numbers), 0);
+    Ok(())
+}

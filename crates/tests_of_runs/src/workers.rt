@@ -1,0 +1,162 @@
+//! Workers meet, and the account of a run on one of them.
+
+use audit::{Account, Call, CallHow};
+use kbytes::Bytes;
+use std::alloc::Global;
+use std::sync::atomic::{AtomicBool, AtomicU64, Ordering};
+use std::test::*;
+use std::thread;
+use std::time::{Clock, Duration};
+use trace_file::read_trace;
+use trace_workers::{Gate, NoGate, run_lines};
+
+// A batch of one record, whose value is `a`.
+const A: &str =
+    "0000000000000000000000390000000002dbe9c87600000000000000000000000000000000000000000000ffffffffffffffffffffffffffff000000010e00000001026100";
+// What stands before it in a produce with acks 1 to t/0, and to t/1.
+const TO_0: &str =
+    "0000006b0000000300000003000163ffff0001000003e800000001000174000000010000000000000045";
+
+const TO_1: &str =
+    "0000006b0000000300000002000163ffff0001000003e800000001000174000000010000000100000045";
+// Fetches of at least 1 byte from offset 0 of t/0 and of t/1, which wait at most 1000 ms.
+const FROM_0: &str =
+    "000000370001000400000001000163ffffffff000003e8000000010320000000000000010001740000000100000000000000000000000000100000";
+
+const FROM_1: &str =
+    "000000370001000400000003000163ffffffff000003e8000000010320000000000000010001740000000100000001000000000000000000100000";
+// Fetches from t/1: from offset 0 without a wait, and of at least 1 byte from offset 1, which waits at most 100 ms.
+const AT_ONCE: &str =
+    "000000370001000400000004000163ffffffff00000000000000010320000000000000010001740000000100000001000000000000000000100000";
+
+const BEHIND: &str =
+    "000000370001000400000005000163ffffffff00000064000000010320000000000000010001740000000100000001000000000000000100100000";
+
+const TOPIC: &str = "topic t 2 0\n";
+
+fn joined(alloc: Global, pieces: &[&str]) -> Result<Bytes, Fail> {
+    let mut text = Bytes::new(alloc);
+    for piece in pieces {
+        text.extend(piece.as_bytes())?;
+    }
+    Ok(text)
+}
+
+// The calls of the one transcript of a pass.
+fn calls_of(account: &Account, pass: usize) -> Result<&[Call], Fail> {
+    let transcripts = account.passes.get(pass).ok_or("a pass")?;
+    let transcript = transcripts.get(0).ok_or("a transcript")?;
+    Ok(transcript.calls.as_slice())
+}
+
+const TRIES: u32 = 20_000;
+
+// Two workers, each of whom waits at its first line for the other.
+#[derive(Drop)]
+struct Meeting<'a, C> {
+    clock: &'a C,
+    first: AtomicBool,
+    second: AtomicBool,
+    // who waited in vain
+    alone: AtomicU64,
+}
+
+impl<C: Clock> Gate for Meeting<'_, C> {
+    fn pass(&self, worker: u32, _line: u32) {
+        let (own, other) = match worker {
+            0 => (&self.first, &self.second),
+            _ => (&self.second, &self.first),
+        };
+        own.store(true, Ordering::SeqCst);
+        for _ in 0..TRIES {
+            if other.load(Ordering::SeqCst) {
+                return;
+            }
+            thread::sleep(self.clock, Duration::from_millis(1));
+        }
+        self.alone.fetch_add(1, Ordering::SeqCst);
+    }
+}
+
+#[test]
+fn two_workers_meet(rt: HostRuntime) -> Result<(), Fail> {
+    let alloc = rt.alloc();
+    let text = joined(
+        alloc,
+        &[
+            TOPIC,
+            "bytes 0 ",
+            FROM_0,
+            TO_1,
+            A,
+            "\nbytes 1 ",
+            FROM_1,
+            "\nbytes 2 ",
+            TO_0,
+            A,
+            "\nend\n",
+        ],
+    )?;
+    let lines = read_trace(alloc, text.as_slice(), false)?;
+    let gate = Meeting {
+        clock: &rt,
+        first: AtomicBool::new(false),
+        second: AtomicBool::new(false),
+        alone: AtomicU64::new(0),
+    };
+    let account = run_lines(&rt, alloc, lines.as_slice(), 9092, 2, false, &gate)?;
+    assert_eq!(rt; gate.alone.load(Ordering::SeqCst), 0);
+    assert_eq!(rt; account.passes.len(), 4);
+    assert_eq!(rt; calls_of(&account, 0)?.len(), 2);
+    assert_eq!(rt; calls_of(&account, 1)?.len(), 1);
+    assert_eq!(rt; calls_of(&account, 2)?.len(), 1);
+    Ok(())
+}
+
+#[test]
+fn who_wins_on_one_worker(rt: HostRuntime) -> Result<(), Fail> {
+    let alloc = rt.alloc();
+    let text = joined(
+        alloc,
+        &[
+            TOPIC,
+            "bytes 0 ",
+            FROM_0,
+            TO_1,
+            A,
+            "\nbytes 1 ",
+            TO_0,
+            A,
+            "\nbytes 2 ",
+            AT_ONCE,
+            "\nbytes 2 ",
+            BEHIND,
+            "\nclock 100\nend\n",
+        ],
+    )?;
+    let lines = read_trace(alloc, text.as_slice(), false)?;
+    let account = run_lines(&rt, alloc, lines.as_slice(), 9092, 1, false, &NoGate)?;
+    let fetched = calls_of(&account, 0)?.get(0).ok_or("a fetch")?;
+    assert_eq!(rt; fetched.how, CallHow::Satisfied { by: 1 });
+    let waited = calls_of(&account, 2)?.get(1).ok_or("a fetch")?;
+    assert_eq!(rt; waited.how, CallHow::Expired { by: 16 });
+    let mut wins = [0; 21];
+    wins[1] = 1;
+    wins[16] = 1;
+    assert_eq!(rt; account.wins.as_slice(), wins.as_slice());
+    Ok(())
+}
+
+#[test]
+fn nobody_waits_where_a_run_is_drained(rt: HostRuntime) -> Result<(), Fail> {
+    let alloc = rt.alloc();
+    let text = joined(alloc, &[TOPIC, "bytes 0 ", FROM_0, "\nclock 30\nend\n"])?;
+    let lines = read_trace(alloc, text.as_slice(), false)?;
+    let kept = run_lines(&rt, alloc, lines.as_slice(), 9092, 1, false, &NoGate)?;
+    let waits = calls_of(&kept, 0)?.get(0).ok_or("a fetch")?;
+    assert_eq!(rt; waits.how, CallHow::Parked);
+    let drained = run_lines(&rt, alloc, lines.as_slice(), 9092, 1, true, &NoGate)?;
+    let ended = calls_of(&drained, 0)?.get(0).ok_or("a fetch")?;
+    assert_eq!(rt; ended.how, CallHow::Expired { by: 16 });
+    Ok(())
+}
