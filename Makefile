@@ -1,8 +1,13 @@
-.PHONY: run build test check fmt bench compare definitions workers explain clean
+SHELL := bash
+.SHELLFLAGS := -o pipefail -c
+TRACE ?= examples/acks_all.trace
+.PHONY: run build test check fmt edits bench compare definitions workers explain clean
 
-# Without a proof: proving the program takes longer than a first look should. `make build` proves it.
+# Plays TRACE, on WORKERS threads where they are given, and shows what is printed, in bytes and in words. It is a build that
+# proves nothing, and takes a minute or two: proving the program takes longer than a first look should. `make build` proves it.
 run:
-	cd crates/kafka_room && rt try -- replay < ../../examples/produce.trace
+	@(cd crates/kafka_room && rt try -- replay $(if $(WORKERS),--workers $(WORKERS)) < $(abspath $(TRACE))) | \
+		python3 -B -m model.words.explain --printed - $(TRACE)
 
 # The proved program stays as crates/kafka_room/out/kafka_room.
 build:
@@ -14,39 +19,38 @@ test:
 
 # For the day's work: one crate, or with no CRATE every crate with its tests, the edits that must fail left out.
 check:
-ifdef CRATE
-	cd crates/$(CRATE) && rt check
-else
-	rt all test
-endif
+	$(if $(CRATE),cd crates/$(CRATE) && rt check,rt all test)
 
 fmt:
 	for crate in crates/*/; do (cd $$crate && rt fmt) || exit 1; done
 
+# Tries the wrong bodies of edits/CRATE beside those that the gate tries, or with no CRATE those of all crates.
+edits:
+	python3 -B edits/try.py $(CRATE)
+
 # Times the program that `make build` leaves, and then the parts. bench/README.md and crates/bench_parts/README.md say on what.
 bench:
-	python3 bench/run.py
+	python3 -B -m bench.run
 	cd crates/bench_parts && rt run -- measure
 
-# Plays random traces by the model and by the program that `make build` leaves: 1,000 of each kind, or COUNT, or of one KIND.
+# Plays random traces by the model and by the program that `make build` leaves: 1,000 of each kind, or COUNT, or of one KIND. With
+# UNPROVED=yes it is played by a build that proves nothing.
 compare:
-	python3 -B model/compare.py $(if $(COUNT),--count $(COUNT)) $(if $(KIND),--kind $(KIND))
+	python3 -B -m model.checks.compare $(if $(COUNT),--count $(COUNT)) $(if $(KIND),--kind $(KIND)) $(if $(UNPROVED),--unproved)
 
 # Runs the definitions, transcribed, on random traces and on small changes of their accounts: 100 traces, or COUNT.
 definitions:
-	python3 -B model/check_definitions.py $(COUNT)
+	python3 -B -m model.checks.check_definitions $(COUNT)
 
-# Plays random traces on 1, 2, 3 and 16 workers, and checks the account of each run: 200 traces, or COUNT. With UNPROVED=yes it is played
-# by a build that proves nothing; else the proved program is built first.
+# Plays random traces on 1, 2, 3 and 16 workers, and checks the account of each run: 200 traces, or COUNT. With UNPROVED=yes it is
+# played by a build that proves nothing; else the proved program is built first.
 workers:
-ifndef UNPROVED
-	cd crates/tell_account && rt run -- 1 < stdin > /dev/null
-endif
-	python3 -B model/check_workers.py $(if $(COUNT),--count $(COUNT)) $(if $(UNPROVED),--unproved)
+	$(if $(UNPROVED),,cd crates/tell_account && rt run -- 1 < stdin > /dev/null)
+	python3 -B -m model.checks.check_workers $(if $(COUNT),--count $(COUNT)) $(if $(UNPROVED),--unproved)
 
-# Tells a trace and what it prints in words: `make explain TRACE=examples/fetch.trace`.
+# Tells TRACE and what the model prints of it in words.
 explain:
-	@python3 -B model/explain.py $(or $(TRACE),examples/produce.trace)
+	@python3 -B -m model.words.explain $(TRACE)
 
 clean:
-	rm -rf crates/*/out
+	rm -rf out crates/*/out

@@ -1,14 +1,16 @@
 #!/usr/bin/env python3
-"""Times `kafka_room replay` on traces that are made here. README.md says what is run and what is printed."""
+"""Times `kafka_room replay` on traces that are made here. README.md says what is run and what is printed.
+Run it at the top of the repository: `python3 -B -m bench.run`."""
 
 import argparse
 import os
 import pathlib
-import struct
 import subprocess
 import sys
 import tempfile
 import time
+
+from model.broker import batches, wire
 
 ROOT = pathlib.Path(__file__).resolve().parent.parent
 PROGRAM = ROOT / "crates" / "kafka_room" / "out" / "kafka_room"
@@ -25,59 +27,19 @@ class Wrong(Exception):
     """The program didn't do what the trace asks for."""
 
 
-def checksums():
-    table = []
-    for value in range(256):
-        for _ in range(8):
-            value = (value >> 1) ^ (0x82F63B78 if value & 1 else 0)
-        table.append(value)
-    return table
-
-
-def crc32c(data, table=checksums()):
-    kept = 0xFFFFFFFF
-    for byte in data:
-        kept = table[(kept ^ byte) & 0xFF] ^ (kept >> 8)
-    return kept ^ 0xFFFFFFFF
-
-
-def varint(number):
-    rest = number * 2 if number >= 0 else -number * 2 - 1
-    out = bytearray()
-    while rest > 0x7F:
-        out.append(rest & 0x7F | 0x80)
-        rest >>= 7
-    out.append(rest)
-    return bytes(out)
-
-
 def batch(value):
     """A record batch with one record, which has this value and no key."""
-    record = b"\0\0\0" + varint(-1) + varint(len(value)) + value + b"\0"
-    record = varint(len(record)) + record
-    checked = struct.pack(">hiqqqhii", 0, 0, 0, 0, -1, -1, -1, 1) + record
-    front = struct.pack(">qiibI", 0, len(checked) + 9, 0, 2, crc32c(checked))
-    return front + checked
-
-
-def frame(body):
-    return struct.pack(">i", len(body)) + body
-
-
-def header(key, version, correlation):
-    return struct.pack(">hhi", key, version, correlation) + b"\0\1c"
+    return batches.batch([batches.record(0, value)])
 
 
 def produce(correlation, partition, records):
     """A produce of one batch for the topic `t`, with acks 1."""
-    asked = struct.pack(">hhiihcii", -1, 1, 1000, 1, 1, b"t", 1, partition)
-    return frame(header(0, 3, correlation) + asked + struct.pack(">i", len(records)) + records)
+    return wire.produce_request(correlation, [(b"t", [(partition, records)])])
 
 
-def fetch(correlation, partition, offset):
-    """A fetch from the topic `t` that doesn't wait."""
-    asked = struct.pack(">iiiibihc", -1, 0, 1, 52428800, 0, 1, 1, b"t")
-    return frame(header(1, 4, correlation) + asked + struct.pack(">iiqi", 1, partition, offset, 1048576))
+def fetch(correlation, partition, offset, wait=0):
+    """A fetch from the topic `t`."""
+    return wire.fetch_request(correlation, [(b"t", [(partition, offset, 1048576)])], wait=wait)
 
 
 def fed(session, request):
@@ -108,14 +70,13 @@ def draws(seed):
 
 
 def storm_produce(number, partition, acks, timeout):
-    one = batch(b"%016d" % number)
-    asked = struct.pack(">hhii", -1, acks, timeout, 1) + b"\0\5storm" + struct.pack(">ii", 1, partition)
-    return frame(struct.pack(">hhih", 0, 3, number, -1) + asked + struct.pack(">i", len(one)) + one)
+    asked = [(b"storm", [(partition, batch(b"%016d" % number))])]
+    return wire.produce_request(number, asked, acks=acks, timeout=timeout, client=None)
 
 
 def storm_fetch(number, partition, replica, wait, least_bytes, offset):
-    asked = struct.pack(">iiiibi", replica, wait, least_bytes, 65536, 0, 1) + b"\0\5storm" + struct.pack(">ii", 1, partition)
-    return frame(struct.pack(">hhih", 1, 4, number, -1) + asked + struct.pack(">qi", offset, 4096))
+    asked = [(b"storm", [(partition, offset, 4096)])]
+    return wire.fetch_request(number, asked, replica=replica, wait=wait, least=least_bytes, most=65536, client=None)
 
 
 def storm(requests, seed=7):
@@ -155,8 +116,7 @@ def beside(requests, waiting):
     one = batch(b"value")
     yield b"topic t 64 0\n"
     for session in range(1, waiting + 1):
-        asked = struct.pack(">iiiibihc", -1, 2**31 - 1, 1, 52428800, 0, 1, 1, b"t") + struct.pack(">iiqi", 1, session, 0, 1048576)
-        yield fed(session, frame(header(1, 4, session) + asked))
+        yield fed(session, fetch(session, session, 0, wait=2**31 - 1))
     for number in range(requests // 2):
         yield fed(0, produce(2 * number, 0, one))
         yield fed(0, fetch(2 * number + 1, 0, number))

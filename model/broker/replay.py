@@ -1,10 +1,9 @@
 #!/usr/bin/env python3
-"""Replays the trace on standard input by the model alone, whatever the program takes so far."""
+"""Replays the trace on standard input by the model alone: `python3 -B -m model.broker.replay < TRACE`, at the top of the repository."""
 
 import sys
 
-import broker
-import traces
+from model.broker import broker, traces
 
 
 def main():

@@ -1,10 +1,10 @@
 """Reads back the account that `tell_account` tells. How it tells one stands at the head of its main.rt."""
 
-from definitions_of_accounts import (
+from model.definitions.accounts import (
     Account, AtOnce, Call, Cut, Expired, Parked, PartAccount, Point, Quiet, Satisfied, SessionEnd, Transcript,
 )
-from definitions_of_parts import Append, ClockLook, Follow, Look, Tick
-from definitions_of_requests import Configuration, Topic
+from model.definitions.parts import Append, ClockLook, Follow, Look, Tick
+from model.definitions.requests import Configuration, Topic
 
 HOWS = {b"quiet": Quiet, b"at-once": AtOnce, b"satisfied": Satisfied, b"expired": Expired, b"parked": Parked, b"cut": Cut}
 ENTRIES = {b"append": Append, b"follow": Follow, b"look": Look}

@@ -1,13 +1,13 @@
 """What the transcribed definitions say of requests and topics, and the few words of lists in which all of them are written.
 
-How they are transcribed stands in `definitions.py`.
+How they are transcribed stands in `play.py`.
 """
 
 from dataclasses import dataclass
 from functools import lru_cache
 from typing import Any
 
-import wire
+from model.broker import wire
 
 record = dataclass(frozen=True)
 

@@ -4,17 +4,17 @@
 - `run`: a lawful account may be so, but it isn't one of this trace's run;
 - `text`: it may be one of this trace's run, but then it tells otherwise;
 - `same`: it means the same, for the reason that stands beside the kind, and has to be called lawful;
-- `cut`: it is the lawful account of a broker that met want of memory there, which isn't one of a trace's run;
+- `cut`: it is the lawful account of a broker that ran out of memory there, which isn't one of a trace's run;
 - `other`: the same entries in another order. It is refused, or is an account of threads that came in that order, and tells the same.
 """
 
 from dataclasses import replace
 
-from definitions_of_accounts import (
+from model.definitions.accounts import (
     AtOnce, Cut, Expired, IsAccepted, Parked, Point, Quiet, Satisfied, SessionEnd, Transcript, clock_part, is_point, moment_at, operation_in,
     operation_parts, points_of,
 )
-from definitions_of_parts import Append, ClockLook, Follow, Look, Tick, moment_of
+from model.definitions.parts import Append, ClockLook, Follow, Look, Tick, moment_of
 
 # ---- reading and changing
 
@@ -398,7 +398,7 @@ def clock_too_early(account, pass_, seq, call, deadline):
     yield "expired a millisecond early", "lawful", replace(account, clock=early)
 
 
-# ---- want of memory
+# ---- out of memory
 
 
 def ended_by_memory(account, pass_, seq, **fields):
@@ -407,7 +407,7 @@ def ended_by_memory(account, pass_, seq, **fields):
 
 
 def cuts(account):
-    """The last call of a session is cut by want of memory."""
+    """The last call of a session is cut because memory ran out."""
     for pass_, seq, call in each_call(account):
         if call is not account.passes[pass_][0].calls[-1]:
             continue

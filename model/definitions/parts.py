@@ -1,14 +1,13 @@
 """The definitions of the parts, transcribed line by line: partitions, operations, what becomes of a request and what answers it.
 
-How they are transcribed stands in `definitions.py`, which goes on from these.
+How they are transcribed stands in `play.py`, which goes on from these.
 """
 
 from functools import lru_cache
 from typing import Any
 
-import batches as records
-import wire
-from definitions_of_requests import (
+from model.broker import batches as records, wire
+from model.definitions.requests import (
     Fetch, filter_map, flat_map, followers_of, Metadata, minus, part_of, Produce, record, slice_get,
 )
 

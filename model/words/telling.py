@@ -4,9 +4,8 @@ import struct
 from dataclasses import dataclass
 from typing import Any
 
-import broker
-import wire
-import words
+from model.broker import broker, wire
+from model.words import words
 
 CODES = {
     1: "offset out of range", 2: "corrupt message", 3: "unknown topic or partition", 6: "not leader or follower", 7: "request timed out",
@@ -188,6 +187,11 @@ class Teller:
         self.builder = words.Builder()
         self.inboxes = {}
         self.lines = [self.line(kind, what) for kind, what in lines]
+        self.broker.summary()
+
+    def printed(self):
+        """All that the model prints."""
+        return b"".join(self.broker.out)
 
     def line(self, kind, what):
         told, about = self.words(kind, what)
@@ -267,12 +271,53 @@ def event_words(event):
     return None
 
 
-def summary_words(played):
+def summary_line_words(line):
+    """A line at the end of the output, of a partition or of a session that was named, in words; or None."""
+    kind, *rest = line.split()
+    numbers = [int(word) for word in rest if word.isdigit()]
+    if kind == "part":
+        number, log_end, high, count, size = numbers
+        return (f"partition {number}: log end {log_end}, high watermark {high}, "
+                f"{count} {'batch' if count == 1 else 'batches'} of {words.counted(size, 'byte')}")
+    if kind == "session":
+        number, calls, replies, parked = numbers
+        return f"session {number}: {words.counted(calls, 'call')}, {replies} answered{', and waits' if parked else ''}"
+    return None
+
+
+def summary_words(printed):
     """The end of the output: each partition, and each session that was named."""
-    for number, partition in enumerate(played.partitions):
-        yield (f"partition {number}: log end {partition.log_end}, high watermark {partition.high}, "
-               f"{len(partition.batches)} {'batch' if len(partition.batches) == 1 else 'batches'} of {words.counted(partition.bytes, 'byte')}")
-    for number, session in enumerate(played.sessions):
-        if session.is_named:
-            waits = ", and waits" if any(waiting.session == number for waiting in played.waiting) else ""
-            yield f"session {number}: {words.counted(session.calls, 'call')}, {session.replies} answered{waits}"
+    return filter(None, map(summary_line_words, printed.decode().splitlines()))
+
+
+def requests_of(data):
+    """The requests at the front of what a session sent, up to the first that is refused: there the session ends."""
+    for body in frames_of(data)[0]:
+        try:
+            yield wire.read_request(body)
+        except wire.Refused:
+            return
+
+
+def answered_requests(lines):
+    """By session the requests that have a reply, in the order in which it sent them."""
+    sent = {}
+    for kind, what in lines:
+        if kind == "bytes":
+            sent[what[0]] = sent.get(what[0], b"") + what[1]
+    return {session: (request for request in requests_of(data) if request.fields.get("acks") != 0) for session, data in sent.items()}
+
+
+def printed_words(lines, printed):
+    """Each line that a program printed of these lines, in words, but for the last, which says nothing."""
+    requests = answered_requests(lines)
+    for line in printed.decode().splitlines():
+        kind, *rest = line.split(" ", 2)
+        if kind == "reply":
+            request = next(requests.get(int(rest[0]), iter(())), None)
+            told = "a reply to no request" if request is None else reply_words(request, bytes.fromhex(rest[1]))
+            yield f"session {rest[0]} is told: {told}"
+        elif kind == "end":
+            yield f"session {rest[0]} ends: {rest[1]}"
+        elif kind != "done":
+            yield summary_line_words(line) or line

@@ -1,12 +1,15 @@
 #!/usr/bin/env python3
-"""Tells a trace and what it prints in words, builds a trace from such words, and draws a run as a timeline.
+"""Says in words what a trace sends and what comes of it, builds a trace from such words, and draws a run as a timeline. Run it at the
+top of the repository, as `python3 -B -m model.words.explain`:
 
-    explain.py examples/fetch.trace                  what is sent, and indented below it what comes of it
-    explain.py --build words.txt > my.trace          a trace from words; - is the standard input. What is told can be built again
-    explain.py --svg run.svg examples/fetch.trace    a row for each session, a bar where a request waits, and what ended it
-    explain.py --language                            the words of which a trace is built
+    explain examples/fetch.trace                  what is sent, and indented below it what comes of it
+    explain --printed FILE examples/fetch.trace   what a program printed, as it stands in FILE (- is the standard input), and then in words
+    explain --build words.txt > my.trace          a trace from words; - is the standard input. What is told can be built again
+    explain --svg run.svg examples/fetch.trace    a row for each session, a bar where a request waits, and what ended it
+    explain --language                            the words of which a trace is built
 
-What comes of a line is the model's play. Where NAME.out stands beside NAME.trace and is something else, the last line says so.
+What comes of a line is the model's play. Where NAME.out stands beside NAME.trace and is something else, the last line says so. Where a
+program printed something else than the model, as it may on workers, what it printed is told line by line.
 """
 
 import argparse
@@ -14,10 +17,8 @@ import os
 import pathlib
 import sys
 
-import telling
-import timeline
-import traces
-import words
+from model.broker import traces
+from model.words import telling, timeline, words
 
 
 def read(name):
@@ -31,8 +32,26 @@ def tell(teller):
             print(f"    ({about})")
         for told in filter(None, map(telling.event_words, line.events)):
             print(f"    {told}")
-    for told in telling.summary_words(teller.broker):
+    for told in telling.summary_words(teller.printed()):
         print(f"    {told}")
+
+
+def tell_printed(teller, printed):
+    """What was sent, and below it what a program printed, line by line."""
+    for line in teller.lines:
+        print(line.words)
+    print("    (on one thread something else is printed; this, session by session:)")
+    for told in telling.printed_words([(line.kind, line.what) for line in teller.lines], printed):
+        print(f"    {told}")
+
+
+def show(teller, printed):
+    """The bytes that a program printed, and then their words."""
+    sys.stdout.write(printed.decode(errors="replace") + "\nIn words:\n\n")
+    if printed == teller.printed():
+        tell(teller)
+    else:
+        tell_printed(teller, printed)
 
 
 def is_printed_so(name, teller):
@@ -40,8 +59,7 @@ def is_printed_so(name, teller):
     beside = pathlib.Path(name).with_suffix(".out")
     if name == "-" or not beside.is_file() or beside.with_suffix(".args").is_file():
         return True
-    teller.broker.summary()
-    return beside.read_bytes() == b"".join(teller.broker.out)
+    return beside.read_bytes() == teller.printed()
 
 
 def build(name):
@@ -56,6 +74,7 @@ def build(name):
 def main():
     options = argparse.ArgumentParser(description=__doc__, formatter_class=argparse.RawDescriptionHelpFormatter)
     options.add_argument("trace", nargs="?", default="-", help="a trace, or - for the standard input")
+    options.add_argument("--printed", metavar="FILE", help="show what a program printed of the trace, and then its words")
     options.add_argument("--build", metavar="WORDS", help="build a trace from a text of words")
     options.add_argument("--svg", metavar="FILE", type=pathlib.Path, help="draw the run")
     options.add_argument("--language", action="store_true", help="tell the language")
@@ -67,6 +86,7 @@ def main():
         if chosen.build:
             return build(chosen.build)
         teller = telling.Teller(traces.read(read(chosen.trace)))
+        printed = read(chosen.printed) if chosen.printed else None
     except traces.Bad as bad:
         print(f"{chosen.trace}: {bad.told()}", file=sys.stderr)
         return 2
@@ -75,6 +95,9 @@ def main():
         return 2
     if chosen.svg:
         chosen.svg.write_text(timeline.drawn(teller))
+        return 0
+    if printed is not None:
+        show(teller, printed)
         return 0
     tell(teller)
     if not is_printed_so(chosen.trace, teller):

@@ -1,25 +1,20 @@
 #!/usr/bin/env python3
 """Runs the definitions on random traces. Their play prints what the model's broker prints, its account is lawful, is that of a run of
 the trace and tells what was printed. So is the account of each play in which sessions go on beside each other, as threads would. And
-after each of some hundred small changes an account is refused, but for those that mean the same.
+after each of some hundred small changes an account is refused, but for those that mean the same. Run it at the top of the repository:
+`python3 -B -m model.checks.check_definitions`.
 """
 
 import argparse
-import pathlib
 import random
 import sys
 import time
 
-import broker
-import changed_accounts
-import definitions
-import definitions_of_accounts as accounts
-import definitions_of_parts as parts
-import generate
-import loose_play
-import traces
+from model.broker import broker, traces
+from model.checks import changed_accounts, loose_play, repository
+from model.definitions import accounts, parts, play
+from model.traces import generate
 
-ROOT = pathlib.Path(__file__).resolve().parent.parent
 PORT = broker.PORT
 KINDS = ["waiting", "waiting", "mixed", "plain"]
 
@@ -76,7 +71,7 @@ def check_operations(account):
 
 def check_play(lines, config):
     """The account of the one-thread broker."""
-    account, printed = definitions.IsPlay(config, lines)
+    account, printed = play.IsPlay(config, lines)
     need(printed == broker.play(lines), "the play prints something else than the model")
     check_account(account, lines, "of the play")
     need(session_lines(accounts.IsPrintOf(account)) == session_lines(printed), "the account tells other replies than were printed")
@@ -102,17 +97,14 @@ def check_account(account, lines, whose):
 
 def check_files():
     """Each trace that stands in the repository with what it prints. How many they are."""
-    count = 0
-    for trace in sorted([*ROOT.glob("crates/kafka_room/rows/*.trace"), *ROOT.glob("examples/*.trace")]):
-        if not trace.with_suffix(".status").exists():
-            lines = traces.read(trace.read_bytes())
-            account, printed = definitions.IsPlay(accounts.configuration_of(PORT, lines), lines)
-            if trace.with_suffix(".args").exists():  # on workers, which print session by session
-                printed = accounts.IsPrintOf(account)
-            need(printed == trace.with_suffix(".out").read_bytes(), f"{trace} prints something else")
-            check_account(account, lines, f"of {trace}")
-            count += 1
-    return count
+    for trace in repository.played():
+        lines = traces.read(trace.read_bytes())
+        account, printed = play.IsPlay(accounts.configuration_of(PORT, lines), lines)
+        if trace.with_suffix(".args").exists():  # on workers, which print session by session
+            printed = accounts.IsPrintOf(account)
+        need(printed == trace.with_suffix(".out").read_bytes(), f"{trace} prints something else")
+        check_account(account, lines, f"of {trace}")
+    return len(repository.played())
 
 
 def check_changes(account, lines, changes_of_a_kind, random_, counted):

@@ -1,6 +1,6 @@
 """The definitions of the crates' `specs`, transcribed line by line, so that the two can be laid side by side: here the play of the
-one-thread broker, in `definitions_of_accounts.py` the account of a run and when it is lawful, in `definitions_of_parts.py` partitions,
-operations, decisions and answers, and in `definitions_of_requests.py` requests and the words of lists.
+one-thread broker, in `accounts.py` the account of a run and when it is lawful, in `parts.py` partitions,
+operations, decisions and answers, and in `requests.py` requests and the words of lists.
 
 Each heading names the file, and each function has the name that it has there. A list is a tuple, a list of bytes is `bytes`, an
 option is None or the value, and `minus` is the difference of naturals, which is never below 0. What is a relation there is a
@@ -11,21 +11,21 @@ fields spelled and checked, by `wire.py` and `batches.py`.
 from dataclasses import replace
 from typing import Any
 
-import batches as records
-from definitions_of_accounts import (
+from model.broker import batches as records
+from model.definitions.accounts import (
     Account, AtOnce, Call, calls_in, clock_part, end_line, Expired, is_shut, is_won_by, MOST_CALLS, MOST_SESSIONS, no_state,
     operation_parts, Parked, part_in, PartAccount, Point, Quiet, reply_line, Satisfied, SessionEnd, Step, step_points,
     summary_of, Transcript,
 )
-from definitions_of_parts import (
+from model.definitions.parts import (
     answer, Append, becomes_delayed, ClockLook, Decides, Follow, Followed, History, is_quiet, log_end_of, Look, Looked,
     moment_of, operation_of, Put, Refuse, Refused, results_of, Shown, State, state_of, tally, Tick, values_of,
 )
-from definitions_of_requests import (
+from model.definitions.requests import (
     Configuration, flat_map, followers_of, IsRefused, IsRequest, minus, next_frame_of, record, slice_get, slice_set,
 )
 
-# ==== plain_broker/specs/Board.antt
+# ==== broker_spec/specs/Board.antt
 
 
 @record
@@ -104,7 +104,7 @@ def account_of(board):
                    (sum(is_won_by(0, call) for call in flat_map(calls_in, passes)),))
 
 
-# ==== plain_broker/specs/Entering.antt
+# ==== broker_spec/specs/Entering.antt
 
 
 def entered(h, by, seq, entry):
@@ -144,7 +144,7 @@ def shown_of(noted):
     return tuple(Shown(n.step.result, n.state) for n in noted)
 
 
-# ==== plain_broker/specs/Turns.antt
+# ==== broker_spec/specs/Turns.antt
 
 
 @record
@@ -198,7 +198,7 @@ def ended(board, session, end):
     return Turned(replace(board, seats=slice_set(board.seats, session, seat)), end_line(session, end))
 
 
-# ==== plain_broker/specs/Completing.antt
+# ==== broker_spec/specs/Completing.antt
 
 
 def present(parts, part):
@@ -275,7 +275,7 @@ def scanned(board):
     return scan_sessions(range(most_sessions), board)
 
 
-# ==== plain_broker/specs/Acting.antt
+# ==== broker_spec/specs/Acting.antt
 
 
 def is_there(end):
@@ -329,7 +329,7 @@ def Acts(board, session):
     return ActsOn(board, session, next_frame_of(seat_at(board, session).inbox))
 
 
-# ==== plain_broker/specs/Play.antt
+# ==== broker_spec/specs/Play.antt
 
 
 def with_seat(board, session, inbox, is_shut_):

@@ -2,9 +2,9 @@
 
 import random
 
-import generate_crowded
-import generate_requests
-import generate_waiting
+from model.traces import crowded, requests, waiting
+
+KINDS = ["plain", "mixed", "waiting", "crowded", "spoiled"]
 
 
 def events(random_, declared, waits):
@@ -23,21 +23,21 @@ def events(random_, declared, waits):
             closed.add(session)
             yield b"close %d" % session
             continue
-        frame = random_.choice([generate_requests.produce, generate_requests.fetch])(random_, declared, waits)
+        frame = random_.choice([requests.produce, requests.fetch])(random_, declared, waits)
         if random_.random() < 0.15:
-            frame = generate_requests.other(random_, declared)
+            frame = requests.other(random_, declared)
         if random_.random() < 0.05:
-            frame = generate_requests.broken(random_, frame)
+            frame = requests.broken(random_, frame)
         if random_.random() < 0.2:
-            frame += generate_requests.fetch(random_, declared, waits)
-        for piece in generate_requests.cut(random_, frame):
+            frame += requests.fetch(random_, declared, waits)
+        for piece in requests.cut(random_, frame):
             digits = piece.hex() if random_.random() < 0.9 else piece.hex().upper()
             yield b"bytes %d %s" % (session, digits.encode())
 
 
 def text(random_, waits):
     """A trace."""
-    declared = generate_requests.topics(random_, with_followers=waits)
+    declared = requests.topics(random_, with_followers=waits)
     lines = [b"topic %s %d %d" % topic for topic in declared]
     lines += events(random_, declared, waits)
     return b"\n".join(lines + [b"end"]) + (b"" if random_.random() < 0.1 else b"\n")
@@ -81,7 +81,7 @@ def made(kind, seed):
     if kind in ("plain", "mixed"):
         return text(random_, waits=kind == "mixed")
     if kind == "waiting":
-        return generate_waiting.Maker(random_).made()
+        return waiting.Maker(random_).made()
     if kind == "crowded":
-        return generate_crowded.Crowd(random_).made()
+        return crowded.Crowd(random_).made()
     return spoiled(random_, text(random_, waits=random_.random() < 0.5))

@@ -1,11 +1,8 @@
 """Random traces whose requests wait. A broker plays along while a trace is made, so that what comes next can just meet what waits,
 or just miss it: a deadline to the millisecond, a least sum to the byte, a follower's offset, several requests in one line."""
 
-import batches
-import broker
-import generate_requests
-import traces
-import wire
+from model.broker import batches, broker, traces, wire
+from model.traces import requests
 
 TEXTS = [b"a", b"a", b"bc", b"", b"xyz" * 20]
 SESSIONS = [0, 0, 1, 1, 2, 3, 5, 62, 63]
@@ -22,7 +19,7 @@ class Maker:
     def __init__(self, random_):
         self.random = random_
         self.declared = [(name, random_.choice([1, 1, 2, 3]), random_.choice([0, 1, 1, 2, 3]))
-                         for name in random_.sample(generate_requests.NAMES, random_.choice([1, 1, 2, 3]))]
+                         for name in random_.sample(requests.NAMES, random_.choice([1, 1, 2, 3]))]
         self.broker = broker.Broker([traces.Topic(*topic) for topic in self.declared])
         self.lines = [b"topic %s %d %d" % topic for topic in self.declared]
         self.closed = set()
@@ -78,7 +75,7 @@ class Maker:
             told.setdefault(name, []).append((index, *fields))
         topics = list(told.items()) if self.random.random() < 0.98 else []
         if self.random.random() < 0.06:
-            topics.append((generate_requests.UNKNOWN, [(0, *parts[0][1])]))
+            topics.append((requests.UNKNOWN, [(0, *parts[0][1])]))
         return topics
 
     def wait(self):
@@ -92,7 +89,7 @@ class Maker:
     def produce(self):
         random_ = self.random
         self.correlation += 1
-        parts = [(key, (small_batch(random_) if random_.random() < 0.9 else generate_requests.some_batch(random_),)) for key in self.parts()]
+        parts = [(key, (small_batch(random_) if random_.random() < 0.9 else requests.some_batch(random_),)) for key in self.parts()]
         return wire.produce_request(
             self.correlation, self.topics(parts), acks=random_.choice([-1, -1, -1, -1, 1, 1, 1, 0, 2]), timeout=self.wait(),
             transactional=b"x" if random_.random() < 0.02 else None)
@@ -128,7 +125,7 @@ class Maker:
             return self.fetch(random_.choice([1, 1, 1, 2, 2, 3, 4, 0]))
         if kind < 0.96:
             return self.fetch(random_.choice([-1, -1, -1, -2]))
-        return generate_requests.other(random_, self.declared)
+        return requests.other(random_, self.declared)
 
     # ---- what happens
 
@@ -142,7 +139,7 @@ class Maker:
         session = random_.choice(ready)
         data = b"".join(self.request() for _ in range(random_.choice([1, 1, 1, 1, 2, 3])))
         if random_.random() < 0.02:
-            data = generate_requests.broken(random_, data) or data
+            data = requests.broken(random_, data) or data
         self.send(session, data)
 
     def catch_up(self, name, index):

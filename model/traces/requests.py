@@ -2,8 +2,7 @@
 
 import struct
 
-import batches
-import wire
+from model.broker import batches, wire
 
 NAMES = [b"t", b"u", b"orders", b"a.b_c-9"]
 UNKNOWN = b"nowhere"

@@ -33,8 +33,7 @@ Bytes that are no such frames, as the pieces of one, are given as they stand in 
 import re
 import struct
 
-import batches
-import wire
+from model.broker import batches, wire
 
 MOST_OF_PART = 1_048_576
 MOST_OF_REPLY = 52_428_800

@@ -5,31 +5,24 @@ what is printed of it.
 The account has to be lawful, that of a run of the trace, and to tell what is printed, by the definitions as they are transcribed. And
 apart from these a slow broker does each partition's history again, entry by entry, gives each call's reply from what it sees at the
 call's points, and looks whether anything that still waits could have been answered. It stops at the first trace that fails, and leaves
-it in the folder that is named, with what was told of it.
+it in the folder that is named, with what was told of it. Run it at the top of the repository: `python3 -B -m model.checks.check_workers`.
 """
 
 import argparse
 import collections
 import dataclasses
 import pathlib
-import re
 import subprocess
 import sys
 import tempfile
 import time
 
-import broker
-import compare
-import definitions_of_accounts as accounts
-import generate
-import slow_reading
-import told_account
-import traces
-import wire
+from model.broker import broker, traces, wire
+from model.checks import compare, repository, slow_reading, told_account, unproved
+from model.definitions import accounts
+from model.traces import generate
 
-ROOT = pathlib.Path(__file__).resolve().parent.parent
-CRATE = ROOT / "crates" / "tell_account"
-PROGRAM = CRATE / "out" / "tell_account"
+CRATE = "tell_account"
 KINDS = ["waiting", "mixed", "waiting", "mixed", "crowded"]
 WORKERS = [1, 2, 3, 16]
 DRAIN_STEP = 1000
@@ -71,30 +64,27 @@ class Case:
         return "_".join([self.trace, *self.words])
 
 
+def finished(run):
+    """What a run told, or what is wrong with it."""
+    if run is None:
+        return Wrong("the run comes to no end")
+    code, told, errors = run
+    return Wrong(f"the run ends with {code}: {errors.decode(errors='replace').strip()}") if code != 0 or errors else told
+
+
 def ran(program, case):
     """What is told of a run, as bytes, or what is wrong with it."""
     try:
         done = subprocess.run([program, *case.words], input=case.text, capture_output=True, timeout=60)
     except subprocess.TimeoutExpired:
-        return Wrong("the run comes to no end")
-    if done.returncode != 0 or done.stderr:
-        return Wrong(f"the run ends with {done.returncode}: {done.stderr.decode(errors='replace').strip()}")
-    return done.stdout
+        return finished(None)
+    return finished((done.returncode, done.stdout, done.stderr))
 
 
 def ran_unproved(cases):
     """The same of each run, by a build that `rt try` makes for all of them without a proof."""
-    with tempfile.TemporaryDirectory() as folder:
-        for case in cases:
-            (pathlib.Path(folder) / case.name).write_bytes(case.text)
-            (pathlib.Path(folder) / f"{case.name}.args").write_text("".join(f"{word}\n" for word in case.words))
-        done = subprocess.run(["rt", "try", "--cases", folder], cwd=CRATE, capture_output=True)
-    _, *pieces = re.split(rb"^== (\S+)\n", done.stdout, flags=re.MULTILINE)
-    told = dict(zip(pieces[0::2], pieces[1::2]))
-    fine = set(re.findall(rb"^case=(\S+) run=ended status=0 ", done.stderr, re.MULTILINE))
-    for case in cases:
-        name = case.name.encode()
-        yield told[name] if name in fine else Wrong(f"the run fails: {done.stderr.decode(errors='replace')[-1000:]}")
+    told = unproved.ran(CRATE, [(case.name, case.words, case.text) for case in cases])
+    return (finished(told[case.name]) for case in cases)
 
 
 # ---- what has to hold
@@ -155,9 +145,8 @@ def is_drainable(lines):
 
 def files():
     """Each trace that stands in the repository, by its name."""
-    for trace in sorted([*ROOT.glob("crates/kafka_room/rows/*.trace"), *ROOT.glob("examples/*.trace")]):
-        if not trace.with_suffix(".status").exists():
-            yield f"{trace.parent.name}_{trace.stem}", trace.read_bytes()
+    for trace in repository.played():
+        yield f"{trace.parent.name}_{trace.stem}", trace.read_bytes()
 
 
 def made(first, count):
@@ -201,11 +190,14 @@ def tell_failure(chosen, case, told, wrong):
     small = compare.shrunk(case.text, lambda fewer: fails(chosen.program, case, fewer))
     left.with_suffix(".small.trace").write_bytes(small)
     print(f"Of its lines these do, left in {left.with_suffix('.small.trace')}:")
-    for line in small.split(b"\n"):
-        print("  " + (line if len(line) <= 100 else line[:97] + b"...").decode("ascii", "replace"))
+    compare.show_text(small)
 
 
 # ---- the whole
+
+
+def names(counts):
+    return ", ".join(f"{count} {name}" for name, count in sorted(counts.items()))
 
 
 class Counted:
@@ -226,7 +218,6 @@ class Counted:
             self.came.setdefault(case.trace, set()).add(hash((account.parts, account.clock)))
 
     def told(self):
-        names = lambda counts: ", ".join(f"{count} {name}" for name, count in sorted(counts.items()))
         unlike = sum(len(histories) > 1 for histories in self.came.values())
         return (f"{self.runs} runs, {self.drained} of them drained, with {sum(self.hows.values())} calls ({names(self.hows)}) and "
                 f"{sum(self.ends.values())} sessions ({names(self.ends)}): each account is lawful, is that of its trace, and is printed as "
@@ -235,7 +226,7 @@ class Counted:
 
 def main():
     options = argparse.ArgumentParser(description=__doc__)
-    options.add_argument("program", nargs="?", type=pathlib.Path, default=PROGRAM)
+    options.add_argument("program", nargs="?", type=pathlib.Path, default=repository.program(CRATE))
     options.add_argument("--count", type=int, default=200, metavar="N", help="random traces")
     options.add_argument("--first", type=int, default=0, metavar="SEED", help="the seed of the first")
     options.add_argument("--workers", type=int, action="append", metavar="W", help=f"only on so many workers; else on each of {WORKERS}")
@@ -247,7 +238,11 @@ def main():
         return 2
     counted, began = Counted(), time.time()
     cases = cases_of([*files(), *made(chosen.first, chosen.count)], chosen.workers or WORKERS)
-    runs = ran_unproved(cases) if chosen.unproved else (ran(chosen.program, case) for case in cases)
+    try:
+        runs = ran_unproved(cases) if chosen.unproved else (ran(chosen.program, case) for case in cases)
+    except unproved.Failed as failed:
+        print(failed, file=sys.stderr)
+        return 2
     for case, told in zip(cases, runs):
         try:
             counted.add(case, check(case, told))

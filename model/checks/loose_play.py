@@ -3,12 +3,9 @@ other sessions may come. A request that waits is completed at any time from when
 it is both, and by any winner. The account of each such play has to be lawful, and to tell the replies that were given.
 """
 
-import definitions as play
-import definitions_of_accounts as accounts
-import definitions_of_parts as parts
-import definitions_of_requests as requests
-from definitions_of_accounts import Account, Call, Expired, Parked, Point, Quiet, Satisfied, SessionEnd, Step, Transcript, clock_part
-from definitions_of_parts import AskLog, ClockLook, Refused, Shown
+from model.definitions import accounts, parts, play, requests
+from model.definitions.accounts import Account, Call, Expired, Parked, Point, Quiet, Satisfied, SessionEnd, Step, Transcript, clock_part
+from model.definitions.parts import AskLog, ClockLook, Refused, Shown
 
 
 class LoosePlay:

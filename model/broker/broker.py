@@ -2,8 +2,7 @@
 
 from dataclasses import dataclass, field
 
-import batches
-import wire
+from model.broker import batches, wire
 
 PORT = 9092
 LOG_LIMIT = 67_108_864
@@ -66,6 +65,16 @@ class Part:
 
 
 @dataclass
+class Budget:
+    """The bytes that a reply may still take. The first batch of a reply is taken whatever its size."""
+    left: int
+    has_taken: bool = False
+
+    def take(self, count):
+        self.left, self.has_taken = max(0, self.left - count), self.has_taken or count > 0
+
+
+@dataclass
 class Waiting:
     session: int
     request: wire.Request
@@ -104,33 +113,31 @@ class Broker:
 
     def append(self, fields, topic, index, data):
         number, data = self.number_of(topic, index), data or b""
-        refused = lambda code: Part(topic, index, code)
         if fields["transactional"] is not None:
-            return refused(42)
+            return Part(topic, index, 42)
         if number is None:
-            return refused(3)
+            return Part(topic, index, 3)
         if fields["acks"] not in (-1, 0, 1):
-            return refused(21)
+            return Part(topic, index, 21)
         code = batches.fault_code(data)
         if code is not None:
-            return refused(code)
+            return Part(topic, index, code)
         partition = self.partitions[number]
         if partition.bytes + len(data) > LOG_LIMIT:
-            return refused(6)
+            return Part(topic, index, 6)
         base, count = partition.log_end, batches.count_of(data)
         partition.batches.append((base, count, batches.stamped(data, base)))
         return Part(topic, index, 0, number, base, count)
 
     def look(self, fields, topic, index, offset, most):
         number, replica = self.number_of(topic, index), fields["replica"]
-        refused = lambda code: Part(topic, index, code)
         if number is None:
-            return refused(3)
+            return Part(topic, index, 3)
         partition = self.partitions[number]
         if replica >= 0 and not 1 <= replica <= partition.followers:
-            return refused(9)
+            return Part(topic, index, 9)
         if not 0 <= offset <= partition.log_end:
-            return refused(1)
+            return Part(topic, index, 1)
         if replica >= 0:
             partition.positions[replica] = max(offset, partition.positions.get(replica, 0))
         return Part(topic, index, 0, number, start=partition.start_of(offset), most=max(0, most))
@@ -162,7 +169,7 @@ class Broker:
         if request.key == 0:
             return wire.produced(request.correlation, [(name, [self.told_produced(request, part) for part in named]) for name, named in told])
         if request.key == 1:
-            budget = [limit_of(request.fields), False]
+            budget = Budget(limit_of(request.fields))
             topics = [(name, [self.told_fetched(request, part, budget) for part in named]) for name, named in told]
             return wire.fetched(request.correlation, request.fields["isolation"], topics)
         if request.key == 3:
@@ -180,8 +187,8 @@ class Broker:
             return part.index, part.code, -1, b""
         partition = self.partitions[part.number]
         upto = partition.visible if request.fields["replica"] < 0 else partition.bytes
-        data = partition.take(part.start, upto, min(part.most, budget[0]), not budget[1])
-        budget[0], budget[1] = max(0, budget[0] - len(data)), budget[1] or bool(data)
+        data = partition.take(part.start, upto, min(part.most, budget.left), not budget.has_taken)
+        budget.take(len(data))
         return part.index, 0, partition.high, data
 
     def described(self, names):

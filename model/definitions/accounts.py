@@ -1,17 +1,17 @@
 """The definitions of the account of a run, transcribed line by line: what a lawful account is, how it fits its trace, and its print.
 
-How they are transcribed stands in `definitions.py`, which goes on from these.
+How they are transcribed stands in `play.py`, which goes on from these.
 """
 
 from typing import Any
 
-import batches as records
-from definitions_of_parts import (
+from model.broker import batches as records
+from model.definitions.parts import (
     answer, becomes_delayed, bytes_of, ClockLook, Decides, Follow, Followed, high_of, History, is_quiet, IsAnswerable,
     IsOverdue, IsSatisfied, Look, moment_of, operation_of, Put, Refuse, Refused, results_of, Shown, spelling, State, state_at,
     state_before, state_of, StoredBatch, Tick, values_of,
 )
-from definitions_of_requests import (
+from model.definitions.requests import (
     AllZip, Configuration, filter_map, flat_map, followers_of, framed, IsFrameBody, IsRefused, IsRequest,
     IsStrictlyIncreasing, next_frame_of, record, slice_get, Topic,
 )

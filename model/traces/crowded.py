@@ -1,8 +1,7 @@
 """Random traces for threads: many sessions ask of few partitions at once, most of them waiting, and time goes on a little."""
 
-import generate_requests
-import generate_waiting
-import wire
+from model.broker import wire
+from model.traces import requests, waiting
 
 WAITS = [0, 5, 20, 60, 1000]
 
@@ -11,13 +10,13 @@ class Crowd:
     def __init__(self, random_):
         self.random = random_
         self.declared = [(name, random_.choice([1, 1, 2]), random_.choice([0, 1, 1, 2]))
-                         for name in random_.sample(generate_requests.NAMES, random_.choice([1, 1, 2]))]
+                         for name in random_.sample(requests.NAMES, random_.choice([1, 1, 2]))]
         self.sessions = random_.choice([3, 8, 16, 32, 64])
         self.closed, self.moment, self.correlation = set(), 0, 0
 
     def produce(self, name, indices):
         random_ = self.random
-        parts = [(index, generate_waiting.small_batch(random_)) for index in indices]
+        parts = [(index, waiting.small_batch(random_)) for index in indices]
         return wire.produce_request(self.correlation, [(name, parts)], acks=random_.choice([-1, -1, 1, 0]), timeout=random_.choice(WAITS))
 
     def fetch(self, name, indices, replica):
@@ -48,7 +47,7 @@ class Crowd:
                 yield b"close %d" % session
             elif session not in self.closed:
                 data = b"".join(self.request() for _ in range(random_.choice([1, 1, 2, 3])))
-                for piece in generate_requests.cut(random_, data) if random_.random() < 0.2 else [data]:
+                for piece in requests.cut(random_, data) if random_.random() < 0.2 else [data]:
                     yield b"bytes %d %s" % (session, piece.hex().encode())
 
     def made(self):

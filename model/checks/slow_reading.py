@@ -6,8 +6,7 @@ What the whole run has to print follows from that.
 import collections
 from dataclasses import replace
 
-import broker
-import wire
+from model.broker import broker, wire
 
 CLOCK = 64
 
