@@ -1,2 +1,0 @@
--- a seat as it is made
-pub mod Fresh
