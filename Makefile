@@ -28,9 +28,10 @@ fmt:
 edits:
 	python3 -B edits/try.py $(CRATE)
 
-# Times the program that `make build` leaves. bench/README.md says on what.
+# Times the program that `make build` leaves, and then the parts. bench/README.md and crates/bench_parts/README.md say on what.
 bench:
 	python3 -B -m bench.run
+	cd crates/bench_parts && rt run -- measure
 
 # Plays random traces by the model and by the program that `make build` leaves: 1,000 of each kind, or COUNT, or of one KIND. With
 # UNPROVED=yes it is played by a build that proves nothing.

@@ -1,0 +1,2 @@
+-- a seat as it is made
+pub mod Fresh

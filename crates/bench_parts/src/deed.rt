@@ -1,0 +1,219 @@
+//! What is done in the room and in the plain room.
+use crate::fault::Fault;
+use crate::figure::{Cost, Figure, nanoseconds, time};
+use crate::plain_room::PlainRoom;
+use crate::room_seat::{GAUGES, PASSES, room_seats};
+use crate::size::Size;
+use crate::waiter::Waiter;
+use purgatory::{Room, RoomParts};
+use std::alloc::Global;
+use std::sync::Wait;
+use std::thread::{Threads, join, map_vec};
+use std::time::{Clock, Duration, Instant};
+use std::{io, thread};
+
+/// The gauges of two threads are so many apart: they have different scanners, and their words lie in different lines of the
+/// cache.
+const APART: usize = 17;
+
+/// No gauge comes so far.
+const FAR: u64 = 1_000_000_000;
+
+/// So many microseconds before a raise the owner has gone to sleep.
+const BEFORE: u64 = 200;
+
+#[derive(Clone, Copy, Debug)]
+pub enum Deed {
+    /// On so many threads each registers an operation that waits, raises the gauge for which it waits, settles, and polls.
+    Operations {
+        threads: usize,
+    },
+    /// A gauge is raised and settled, while so many operations wait under it and stay waiting.
+    Settles {
+        watchers: usize,
+    },
+    /// One thread sleeps while its operation waits, and another raises the gauge. So many in a hundred wake within this time.
+    Wakes {
+        named: &'static str,
+        hundredths: usize,
+    },
+}
+
+pub const DEEDS: [Deed; 9] = [
+    Deed::Operations { threads: 1 },
+    Deed::Operations { threads: 2 },
+    Deed::Operations { threads: 4 },
+    Deed::Settles { watchers: 0 },
+    Deed::Settles { watchers: 20 },
+    Deed::Settles { watchers: 60 },
+    Deed::Settles { watchers: 79 },
+    Deed::Wakes {
+        named: "median",
+        hundredths: 50,
+    },
+    Deed::Wakes {
+        named: "99th in a hundred",
+        hundredths: 99,
+    },
+];
+
+fn operate<R: Wait, S: Waiter>(rt: &R, mut seat: S, rounds: u32) -> bool {
+    let gauge = seat.gauge();
+    for round in 0..rounds {
+        if !seat.register(rt, gauge, u64::from(round)) {
+            return false;
+        }
+        seat.raise(rt);
+        if !seat.is_answered(rt) {
+            return false;
+        }
+    }
+    true
+}
+
+fn operations<R: Threads + Wait + Clock + Sync, S: Waiter>(
+    rt: &R,
+    seats: Vec<S>,
+    rounds: u32,
+) -> Result<Cost, Fault> {
+    let steps = u64::from(rounds).saturating_mul(seats.len() as u64);
+    time(rt, steps, || {
+        let all = map_vec(rt, seats, &|seat: S| operate(rt, seat, rounds))?;
+        if all.iter().all(|went| *went) {
+            Ok(steps)
+        } else {
+            Err(Fault::Stopped)
+        }
+    })
+}
+
+fn settles<R: Wait + Clock, S: Waiter>(
+    rt: &R,
+    mut seats: Vec<S>,
+    watchers: usize,
+    rounds: u32,
+) -> Result<Cost, Fault> {
+    let mut raiser = seats.pop().ok_or(Fault::Stopped)?;
+    let gauge = raiser.gauge();
+    for seat in seats.iter_mut().take(watchers) {
+        if !seat.register(rt, gauge, FAR) {
+            return Err(Fault::Stopped);
+        }
+    }
+    time(rt, u64::from(rounds), || {
+        for _ in 0..rounds {
+            raiser.raise(rt);
+        }
+        Ok(u64::from(rounds))
+    })
+}
+
+// Sleeps until the seat's operation is answered. When that was.
+fn wake<R: Wait + Clock, S: Waiter>(rt: &R, mut seat: S) -> (S, io::Result<Instant>) {
+    seat.sleep(rt);
+    (seat, Instant::now(rt))
+}
+
+// Lets the other thread go to sleep, and raises the seat's gauge. When that was.
+fn raise<R: Wait + Clock, S: Waiter>(rt: &R, mut seat: S) -> (S, io::Result<Instant>) {
+    thread::sleep(rt, Duration::from_micros(BEFORE));
+    let now = Instant::now(rt);
+    seat.raise(rt);
+    (seat, now)
+}
+
+fn wakes<R: Threads + Wait + Clock + Sync, S: Waiter>(
+    rt: &R,
+    alloc: Global,
+    mut seats: Vec<S>,
+    hundredths: usize,
+    rounds: u32,
+) -> Result<Cost, Fault> {
+    let mut sleeper = seats.pop().ok_or(Fault::Stopped)?;
+    let mut raiser = seats.pop().ok_or(Fault::Stopped)?;
+    let mut times = Vec::new(alloc);
+    for round in 0..rounds {
+        if !sleeper.register(rt, raiser.gauge(), u64::from(round)) {
+            return Err(Fault::Stopped);
+        }
+        let (slept, raised) = join(rt, move || wake(rt, sleeper), move || raise(rt, raiser));
+        times.push(nanoseconds(slept.1?.duration_since(raised.1?)))?;
+        sleeper = slept.0;
+        raiser = raised.0;
+    }
+    times.sort()?;
+    let place = (times.len() / 100).saturating_mul(hundredths);
+    let within = times.get(place).copied().unwrap_or(0);
+    Ok(Cost {
+        each: within.saturating_mul(1_000),
+        came_to: within,
+    })
+}
+
+impl Deed {
+    fn name(self, alloc: Global) -> Result<String, Fault> {
+        Ok(match self {
+            Deed::Operations { threads } => {
+                format!(in alloc; "an operation in the room, threads: {threads}")?
+            }
+            Deed::Settles { watchers } => {
+                format!(in alloc; "raise and settle, watchers: {watchers}")?
+            }
+            Deed::Wakes { named, .. } => {
+                format!(in alloc; "from the raise to the owner's wake, {named}")?
+            }
+        })
+    }
+
+    fn rounds(self, size: Size) -> u32 {
+        size.steps(match self {
+            Deed::Operations { .. } => 50_000,
+            Deed::Settles { .. } => 50_000,
+            Deed::Wakes { .. } => 2_000,
+        })
+    }
+
+    fn time<R: Threads + Wait + Clock + Sync, S: Waiter>(
+        self,
+        rt: &R,
+        alloc: Global,
+        seats: Vec<S>,
+        rounds: u32,
+    ) -> Result<Cost, Fault> {
+        match self {
+            Deed::Operations { threads } => {
+                let seats = seats
+                    .into_iter()
+                    .step_by(APART)
+                    .take(threads)
+                    .collect(alloc)?;
+                operations(rt, seats, rounds)
+            }
+            Deed::Settles { watchers } => settles(rt, seats, watchers, rounds),
+            Deed::Wakes { hundredths, .. } => wakes(rt, alloc, seats, hundredths, rounds),
+        }
+    }
+
+    pub fn figure<R: Threads + Wait + Clock + Sync>(
+        self,
+        rt: &R,
+        alloc: Global,
+        size: Size,
+    ) -> Result<Figure, Fault> {
+        let rounds = self.rounds(size);
+        let RoomParts {
+            room,
+            sources,
+            passes,
+        } = Room::make(alloc, GAUGES, PASSES)?;
+        let plain = PlainRoom::make(alloc, GAUGES)?;
+        let seats = room_seats(alloc, &room, sources, passes)?;
+        let plain_seats = plain.seats(alloc, PASSES)?;
+        Ok(Figure {
+            name: self.name(alloc)?,
+            ours: self.time(rt, alloc, seats, rounds)?,
+            baseline: "a plain room",
+            theirs: self.time(rt, alloc, plain_seats, rounds)?,
+        })
+    }
+}
