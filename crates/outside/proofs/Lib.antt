@@ -1,2 +1,2 @@
--- what a copy from a place in a list consumes
-pub mod Consuming
+-- a list that is turned back to front
+pub mod Turned

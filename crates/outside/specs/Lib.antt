@@ -16,7 +16,19 @@ pub mod Plan
 pub mod Supply
 -- a sink in memory
 pub mod Store
+-- a link in memory
+pub mod Wire
+-- a port in memory
+pub mod Quay
+-- a clock in memory
+pub mod Hand
+-- the links and ports of the real network
+pub mod Connected
 -- ==== the words of private functions
 
+-- the two halves of an object in memory
+pub mod Halves
+-- the links on a shelf
+pub mod Chain
 -- a reader or writer with a count of its faults
 pub mod Counted

@@ -5,8 +5,8 @@ ghost use Rattle.outside.specs.Causes.{HasCause};
 ghost use Rattle.outside.specs.Plan.{planned, called, faulted};
 ghost use Rattle.outside.specs.Store.{IsRefused};
 
-use crate::copy::copy_front;
 use crate::failed::Failed;
+use crate::outlet::Outlet;
 use crate::plan::FaultPlan;
 use crate::sink::Sink;
 use kbytes::{List, NoMemory};
@@ -16,24 +16,20 @@ use std::marker::Model;
 /// A sink in memory, for tests. It tells the bytes that were written.
 #[derive(Debug, Drop)]
 pub struct MemSink {
-    room: Vec<u8>,
-    len: usize,
+    output: Outlet,
     plan: FaultPlan,
 }
 
 impl Model for MemSink {
-    ghost use Rattle.std.specs.Prelude.{◌≤◌, take, vec_len};
     ghost use Rattle.outside.specs.Store.{Store};
 
     ghost Value = { Store };
 
-    ghost view = { λ s. record { written = take s.len s.room.items; room = vec_len s.room; plan = s.plan } };
-
-    ghost invariant = { λ s. s.len ≤ vec_len s.room };
+    ghost view = { λ s. record { written = s.output.written; room = s.output.room; plan = s.plan } };
 }
 
 impl MemSink {
-    /// A sink with room for so many bytes, whose writes with the numbers in `fails`, counted from 0, fail. It takes the
+    /// A sink with room for this many bytes, whose writes with the numbers in `fails`, counted from 0, fail. It takes the
     /// memory for its room here, and none when it is written.
     pub fn new(alloc: Global, room: u64, fails: List<u64>) -> Result<MemSink, NoMemory>
         ensures written { IfOk result (λ sink. sink.written ≡ []) }
@@ -41,8 +37,7 @@ impl MemSink {
         ensures plan { IfOk result (λ sink. sink.plan ≡ planned fails) }
     {
         Ok(MemSink {
-            room: vec![in alloc; 0; room as usize]?,
-            len: 0,
+            output: Outlet::new(alloc, room)?,
             plan: FaultPlan::new(fails),
         })
     }
@@ -51,7 +46,7 @@ impl MemSink {
     pub fn bytes(&self) -> &[u8]
         ensures { result.now ≡ self.now.written }
     {
-        &self.room[..self.len]
+        self.output.bytes()
     }
 }
 
@@ -73,12 +68,10 @@ impl Sink for MemSink {
         ensures called { OnOk result (self.new.plan ≡ called self.old.plan) }
         ensures faulted { OnErr result (self.new.plan ≡ faulted self.old.plan) }
     {
-        let is_full = !part.is_empty() && self.len == self.room.len();
+        let is_full = !part.is_empty() && self.output.is_full();
         if self.plan.is_due() || is_full {
             return Err(self.plan.fail());
         }
-        let count = copy_front(part, &mut self.room[self.len..]);
-        self.len += count;
-        Ok(count)
+        Ok(self.output.keep(part))
     }
 }

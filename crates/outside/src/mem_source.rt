@@ -4,8 +4,8 @@ ghost use Rattle.std.specs.Io.KnownBytes.{ReadConsumes};
 ghost use Rattle.outside.specs.Causes.{HasCause};
 ghost use Rattle.outside.specs.Plan.{planned, is_due, called, faulted};
 
-use crate::copy::copy_front;
 use crate::failed::Failed;
+use crate::intake::Intake;
 use crate::plan::FaultPlan;
 use crate::source::Source;
 use kbytes::{Bytes, List};
@@ -14,20 +14,16 @@ use std::marker::Model;
 /// A source in memory, for tests. It tells the bytes that are left.
 #[derive(Debug, Drop)]
 pub struct MemSource {
-    bytes: Bytes,
-    at: usize,
+    input: Intake,
     plan: FaultPlan,
 }
 
 impl Model for MemSource {
-    ghost use Rattle.std.specs.Prelude.{◌≤◌, drop, length};
     ghost use Rattle.outside.specs.Supply.{Supply};
 
     ghost Value = { Supply };
 
-    ghost view = { λ s. record { left = drop s.at s.bytes; plan = s.plan } };
-
-    ghost invariant = { λ s. s.at ≤ length s.bytes };
+    ghost view = { λ s. record { left = s.input.left; plan = s.plan } };
 }
 
 impl MemSource {
@@ -37,8 +33,7 @@ impl MemSource {
         ensures plan { result.plan ≡ planned fails }
     {
         MemSource {
-            bytes,
-            at: 0,
+            input: Intake::new(bytes),
             plan: FaultPlan::new(fails),
         }
     }
@@ -64,8 +59,6 @@ impl Source for MemSource {
         if self.plan.is_due() {
             return Err(self.plan.fail());
         }
-        let count = copy_front(&self.bytes.as_slice()[self.at..], into);
-        self.at += count;
-        Ok(count)
+        Ok(self.input.give(into))
     }
 }

@@ -1,0 +1,8 @@
+/// A moment that was told.
+#[derive(Clone, Copy, Debug, PartialEq, Eq, Drop)]
+pub struct ToldMoment {
+    /// In milliseconds.
+    pub moment: u64,
+    /// The number of the pass to which it was told first.
+    pub by: u32,
+}
