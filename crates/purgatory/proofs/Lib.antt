@@ -32,7 +32,5 @@ pub mod Made
 pub mod Raises
 -- an operation from its opening to its end
 pub mod Runs
--- sources and passes of an example, between two calls
-pub mod Ready
 -- the passes of the locks, as they are dealt out
 pub mod Rings

@@ -38,7 +38,5 @@ pub mod Noted
 pub mod Holding
 -- a room that nobody can act on any more, as it is kept
 pub mod Still
--- ==== the words of the example
 
--- sources and passes between two calls
-pub mod Ready
+-- ==== the words of the example

@@ -1,4 +1,5 @@
-//! A room that nobody can act on any more is closed.
+//! The close of a room that `Room::still` has found still: its sources' seats come back too, and the words and the winners' counts
+//! are handed out.
 ghost use Rattle.std.specs.Prelude.{◌≡◌, All, length};
 ghost use Rattle.purgatory.specs.Closed.{IsClosed};
 ghost use Rattle.purgatory.specs.Ends.{seats_of};
@@ -11,17 +12,17 @@ use room_core::SCANNER_NUMBERS;
 use room_table::{Closing, TableWords};
 use std::marker::Model;
 
-/// A room that was closed.
+/// What a closed room leaves.
 #[derive(Drop)]
 pub struct ClosedRoom {
     /// How many exchanges each winner has won, by the winners' numbers: first the shards' scanners, then the clock's, whose number is
-    /// `CLOCK_SCANNER`, and then the passes, whose numbers are `SCANNER_NUMBERS` and their own.
+    /// `CLOCK_SCANNER`, and then the passes, whose numbers are `SCANNER_NUMBERS` plus their own.
     pub numbers: List<u64>,
-    /// The words that the threads shared, as they stood at the end.
+    /// The words that the threads shared, as they are at the end.
     pub words: TableWords,
 }
 
-/// A room that nobody can act on any more: everything that was won was taken. It keeps how many operations each winner has won.
+/// A room on which nobody can act any more: everything that was won was taken. It keeps how many operations each winner has won.
 #[derive(Drop)]
 pub struct StillRoom {
     closing: Closing,
@@ -40,7 +41,7 @@ impl Model for StillRoom {
 }
 
 impl StillRoom {
-    /// The room whose scanners' seats are back, once its passes' are too.
+    /// The still room, from its scanners' seats, which are back already, and its passes.
     pub(crate) fn of(
         mut closing: Closing,
         mut passes: List<RoomPass>,
@@ -58,7 +59,7 @@ impl StillRoom {
         StillRoom { closing, wins }
     }
 
-    /// Closes the room: answers how many exchanges each winner has won, by the winners' numbers, as `ClosedRoom` has them.
+    /// Closes the room, and returns how many exchanges each winner has won, by the winners' numbers, as `ClosedRoom` has them.
     pub fn close(self, sources: List<Source>) -> List<u64>
         requires all { length sources ≡ self.table.shape.gauges }
         requires made { All (λ source. source.table ≡ self.table) sources }
@@ -68,8 +69,8 @@ impl StillRoom {
         numbers
     }
 
-    /// The same, and gives the room's words too. They are the words of which the clause speaks: in them the session word of each pass
-    /// that waits is open.
+    /// The same, and returns the room's words too. The clause is about these very words: in them the session word of each pass that
+    /// waits is open.
     pub fn close_with_words(self, mut sources: List<Source>) -> ClosedRoom
         requires all { length sources ≡ self.table.shape.gauges }
         requires made { All (λ source. source.table ≡ self.table) sources }

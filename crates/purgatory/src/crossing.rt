@@ -1,4 +1,5 @@
-//! A room may be shared by threads and go to another one, and so may its passes, its sources, and what is left of it at its end.
+//! A check by the compiler, which nobody calls: threads may share a room, and a room, its passes, its sources and a still room may
+//! go to another thread.
 use crate::closing::StillRoom;
 use crate::pass::RoomPass;
 use crate::room::Room;

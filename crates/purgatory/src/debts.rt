@@ -1,4 +1,4 @@
-//! What a pass owes.
+//! What a pass owes, for `Owner` alone: the values that contracts know, and the range of gauges that settling has to look at.
 ghost use Rattle.std.specs.Prelude.{◌≡◌, ◌≤◌, ◌<◌, All, IfOk, length, max, set, slice_index};
 ghost use Rattle.room_core.specs.Numbers.{most_gauges};
 ghost use Rattle.purgatory.specs.Owing.{AreDebts};
@@ -7,8 +7,8 @@ use kbytes::NoMemory;
 use std::alloc::Global;
 use std::marker::Model;
 
-/// By gauge up to which value a pass owes a scan, 0 for none. It owes nothing of the gauges below `from`, nor of those from `upto` on: so
-/// who settles looks at few gauges, as most calls raise those of one partition.
+/// By gauge: up to which value a pass owes a scan, 0 for none. It owes nothing of the gauges below `from`, nor of those from `upto` on.
+/// So settling looks at few gauges, since most calls raise those of one partition.
 #[derive(Drop)]
 pub(crate) struct Debts {
     owed: Vec<u64>,
@@ -28,7 +28,7 @@ impl Model for Debts {
 }
 
 impl Debts {
-    /// None yet, of so many gauges.
+    /// No debts, for this many gauges.
     pub(crate) fn none(alloc: Global, gauges: u32) -> Result<Debts, NoMemory>
         requires { gauges ≤ most_gauges }
         ensures all { IfOk result (λ debts. length debts ≡ gauges) }
@@ -50,7 +50,7 @@ impl Debts {
         self.owed[gauge as usize]
     }
 
-    /// The gauges of which it may owe something: from the first up to the second.
+    /// The gauges of which it may owe something: from the first number up to, and without, the second.
     pub(crate) fn span(&self) -> (u32, u32)
         ensures there { result.1 ≤ length self.now }
         ensures others { AreDebts result.0 result.1 self.now }
@@ -58,7 +58,7 @@ impl Debts {
         (self.from, self.upto)
     }
 
-    /// It owes a scan of the gauge up to the value, or past it where it did before.
+    /// It owes a scan of the gauge up to the value, or past it if it did before.
     pub(crate) fn add(&mut self, gauge: u32, value: u64)
         requires { gauge < length self.old }
         ensures { self.new ≡ set self.old gauge (max (slice_index self.old gauge) value) }

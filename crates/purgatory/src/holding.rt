@@ -1,5 +1,6 @@
-//! The turns of all locks, held together. Each is held in the frame of a call that takes the next one; the clock's is the last. There
-//! all are held, and what was won is compared with what was taken. On the way back either all turns end, or all are taken.
+//! The turns of all locks, held together for `Room::still`. Each is held in the frame of a call that takes the next one; the clock's is
+//! the last. At that point all are held, and what was won is compared with what was taken. On the way back either all turns end, or
+//! each desk is taken out of its lock for good.
 ghost use Rattle.std.specs.Prelude.{◌≡◌, ◌+◌, ◌-◌, ◌<◌, ◌≤◌, ◌^◌, length, min};
 ghost use Rattle.room_core.specs.Numbers.{clock_scanner, scanner_numbers};
 ghost use Rattle.room_scans.specs.Desks.{desk_name};
@@ -16,24 +17,24 @@ use room_table::{Closing, RoomTable};
 use std::sync::Wait;
 use turn_lock::{TurnLock, TurnPass};
 
-/// What was won, as far as the turns are held, and what was taken.
+/// What was won, as far as turns are held, and what was taken.
 #[derive(Clone, Copy)]
 pub(crate) struct Count {
     pub(crate) won: u64,
     pub(crate) taken: u64,
 }
 
-/// What the turns were held for.
+/// What was found while the turns were held.
 #[derive(Drop)]
 pub(crate) enum Held {
     /// More was won than taken. The turns are ended.
     Untaken(RoomTable),
-    /// Everything that was won was taken. The turns are taken, and the scanners' seats are back in the table.
+    /// Everything that was won was taken. The desks are out of their locks, and the scanners' seats are back in the table.
     Still(Closing),
 }
 
 impl Count {
-    // Where so many more were won. A sum past 64 bits is more than was taken.
+    // The count with this many more wins. A sum past 64 bits is more than was taken.
     fn with(self, wins: u64) -> Count
         ensures won { result.won ≡ min (self.won + wins) (2 ^ 64 - 1) }
         ensures taken { result.taken ≡ self.taken }
@@ -45,7 +46,7 @@ impl Count {
     }
 }
 
-// The clock's turn, while all others are held.
+// Takes the clock's turn, while all others are held, and decides.
 fn hold_clock(
     rt: &impl Wait,
     lock: &TurnLock<ClockDesk>,
@@ -75,7 +76,7 @@ fn hold_clock(
     Held::Still(table.closing(turn.take().into_seat()))
 }
 
-// The turns of the shards from this one on, and the clock's.
+// Takes the turns of the shards from this one on, and the clock's.
 fn hold_from(
     rt: &impl Wait,
     locks: &Locks,
@@ -128,8 +129,8 @@ fn hold_from(
 }
 
 impl Locks {
-    /// Takes the turns of all locks, holds them together, and notes meanwhile how many operations each scanner has won. Where these and
-    /// those won before are more than were taken, it ends the turns; else it takes them, and the scanners' seats come back.
+    /// Takes the turns of all locks, holds them together, and notes meanwhile how many operations each scanner has won. If these and
+    /// what was won before are more than was taken, it ends the turns; else it takes the desks out, and the scanners' seats come back.
     pub(crate) fn hold(
         &self,
         rt: &impl Wait,

@@ -1,4 +1,5 @@
-//! The room's locks, one for each scanner, and what a pass has of them.
+//! The room's locks, one for each scanner, and what a pass has of them. Settling and registering come here for each scan and each
+//! listing: a turn is taken, the desk behind the lock does its work, and the turn ends.
 ghost use Rattle.std.specs.Prelude.{◌≡◌, ◌≤◌, ◌<◌, ◌%◌, ℕ};
 ghost use Rattle.room_core.specs.Gauges.{IsGauge, IsGaugeOf, IsPass, clock_of};
 ghost use Rattle.room_core.specs.Numbers.{clock_scanner, most_needs, shards};
@@ -16,7 +17,7 @@ use std::marker::Model;
 use std::sync::Wait;
 use turn_lock::{Turn, TurnLock, TurnPass};
 
-/// A mark of an operation: whose and which it is, and the number of its need.
+/// A mark of an operation: the pass, the operation's generation, and the number of the need, or `CLOCK_MARK`.
 #[derive(Clone, Copy)]
 pub(crate) struct Mark {
     pub(crate) pass: u32,
@@ -24,7 +25,7 @@ pub(crate) struct Mark {
     pub(crate) at: u32,
 }
 
-/// The locks of the shards, by their scanners' numbers, and the clock's.
+/// The locks of the shards, by their scanners' numbers, and the lock of the clock.
 #[derive(Drop)]
 pub(crate) struct Locks {
     pub(crate) shards: Vec<TurnLock<ShardDesk>>,
@@ -44,7 +45,8 @@ impl Model for Locks {
     ghost invariant = { λ l. length l.shards.items ≡ shard_count };
 }
 
-/// A pass's turns: a pass of each lock. Between any two calls none of them has a turn out: else the view wouldn't show the lock's name.
+/// What a pass of the room has of the locks: a pass of each. Between any two calls none of them has a turn, or the view wouldn't show
+/// the lock's name.
 #[derive(Drop)]
 pub(crate) struct Keys {
     pub(crate) shards: Vec<TurnPass<ShardDesk>>,

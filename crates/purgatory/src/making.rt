@@ -1,4 +1,5 @@
-//! How a room is made: its scanners are put behind locks, and its seats are handed out with passes of these.
+//! How a room is made: `Room::make` has the scanners put behind locks here, and the seats wrapped as sources and passes, each pass
+//! with a pass of every lock.
 ghost use Rattle.std.specs.Prelude.{◌≡◌, ◌-◌, ◌<◌, ℕ, List as Items, [], ◌∷◌, ◌++◌, All, IfOk, length, map};
 ghost use Rattle.room_core.specs.declared.shape.Shape.{Shape as Size};
 ghost use Rattle.room_core.specs.Gauges.{IsShape};
@@ -40,7 +41,7 @@ pub(crate) fn quiet_sources(
     Ok(sources)
 }
 
-/// The passes, each with a pass of each lock.
+/// The passes of the room, each with a pass of each lock.
 pub(crate) fn room_passes(
     alloc: Global,
     callers: List<CallerSeat>,
@@ -63,7 +64,7 @@ pub(crate) fn room_passes(
     Ok(passes)
 }
 
-/// The locks of the scanners, and of each lock's passes one for each pass of the room.
+/// The locks of the scanners, and for each pass of the room a pass of each lock.
 pub(crate) fn behind_locks(
     alloc: Global,
     mut scanners: List<ScanSeat>,
@@ -84,7 +85,7 @@ pub(crate) fn behind_locks(
     Ok((Locks { shards, clock }, keys))
 }
 
-/// So many zeros.
+/// A list with a 0 for each winner.
 pub(crate) fn no_wins(alloc: Global, winners: u32) -> Result<List<u64>, NoMemory>
     ensures { IfOk result (λ wins. length wins ≡ winners) }
 {
@@ -95,7 +96,7 @@ pub(crate) fn no_wins(alloc: Global, winners: u32) -> Result<List<u64>, NoMemory
     Ok(wins)
 }
 
-// A row of no passes, for each pass of the room.
+// An empty row for each pass of the room.
 fn empty_rows(alloc: Global, passes: u32) -> Result<List<List<TurnPass<ShardDesk>>>, NoMemory>
     ensures { IfOk result (λ rows. (length rows ≡ passes) × All (IsKeyring []) rows) }
 {
@@ -106,7 +107,7 @@ fn empty_rows(alloc: Global, passes: u32) -> Result<List<List<TurnPass<ShardDesk
     Ok(rows)
 }
 
-// The shards' locks, and for each pass of the room a row of their passes.
+// The shards' locks, and for each pass of the room a row with a pass of each.
 fn shard_locks(
     alloc: Global,
     scanners: List<ScanSeat>,
@@ -151,7 +152,7 @@ fn longer_rows(
     Ok(longer)
 }
 
-// The rows, each with a pass of the clock's lock.
+// The rows, each completed by a pass of the clock's lock.
 fn key_rings(
     alloc: Global,
     mut rows: List<List<TurnPass<ShardDesk>>>,

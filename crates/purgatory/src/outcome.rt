@@ -1,6 +1,8 @@
+//! What `Room::register` and `Room::poll` answer. `Owner` makes a `Done` of the session word in which it finds its operation won.
 use room_core::How;
 
-/// How an operation ended, and who won it: a shard's scanner (0 to 15), the clock's scanner (16), or a pass itself (17 and its number).
+/// How an operation ended, and the number of its winner: a shard's scanner (0 to 15), the clock's (16), or its own pass (17 plus its
+/// number).
 #[derive(Clone, Copy, Debug, PartialEq, Eq)]
 pub struct Done {
     pub how: How,
@@ -10,7 +12,7 @@ pub struct Done {
 /// What became of an operation that was registered.
 #[derive(Clone, Copy, Debug, PartialEq, Eq)]
 pub enum Registered {
-    /// It waits. Somebody else will win it, and `Room::poll` tells.
+    /// It waits. After a scan has won it, `Room::poll` says so.
     Parked,
     /// It was won in this call.
     Won(Done),

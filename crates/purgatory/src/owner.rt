@@ -1,4 +1,5 @@
-//! A pass as the owner of its operation: its seat, and what it keeps beside it.
+//! A pass as the owner of its operation: its seat, and what it keeps beside it. Every step of a pass on the table is made
+//! here, for the calls of the room.
 ghost use Rattle.std.specs.Prelude.{◌≡◌, ◌≢◌, ◌≤◌, ◌<◌, ◌-◌, ◌^◌, ◌↔◌, ℕ, [], IfOk, IsTrue, length};
 ghost use Rattle.room_core.specs.declared.event.How.{How as Way};
 ghost use Rattle.room_core.specs.declared.parts.Session.{Session as SessionWord};
@@ -25,8 +26,8 @@ use std::marker::Model;
 use std::sync::Wait;
 use std::time::Duration;
 
-/// A pass's seat, its number, the generation of its operation, how many operations it has won and of how many it has taken the end, and by
-/// gauge up to which value it owes a scan, 0 for none.
+/// A pass's seat, its number, the generation of its operation, how many operations it has won, of how many it has taken the end, and
+/// what it owes.
 #[derive(Drop)]
 pub(crate) struct Owner {
     seat: CallerSeat,
@@ -133,7 +134,7 @@ impl Owner {
         }
     }
 
-    /// The gauges of which it may owe something: from the first up to the second. All of them are there.
+    /// The gauges of which it may owe something: from the first number up to, and without, the second. The room has all of them.
     pub(crate) fn debts(&self) -> (u32, u32)
         ensures there { result.1 ≤ self.now.table.shape.gauges }
         ensures others { (gauge : ℕ) → IsOutside result.0 result.1 gauge → (caller_now self.now).owed gauge ≡ 0 }
@@ -141,7 +142,7 @@ impl Owner {
         self.owed.span()
     }
 
-    /// It owes nothing: the next look at its debts is short.
+    /// It owes nothing, so the next look at its debts is short.
     pub(crate) fn close_debts(&mut self)
         requires { OwesNothing (caller_now self.old) }
         ensures { self.new ≡ self.old }
@@ -172,7 +173,7 @@ impl Owner {
         value
     }
 
-    /// Looks whether what it owes of a gauge was paid. True where it owes nothing of it.
+    /// Looks whether what it owes of a gauge was paid. True if it now owes nothing of it.
     pub(crate) fn relieve(&mut self, table: &RoomTable, gauge: u32) -> bool
         requires table { self.old.table ≡ table.now }
         requires gauge { IsGauge self.old.table.shape gauge }
@@ -200,7 +201,7 @@ impl Owner {
         table.describe(&mut self.seat, at, word);
     }
 
-    /// Opens the operation that is described.
+    /// Opens the operation that it has described.
     pub(crate) fn open(&mut self, table: &RoomTable)
         requires table { self.old.table ≡ table.now }
         requires idle { (caller_now self.old).stage ≡ Idle }
@@ -212,7 +213,7 @@ impl Owner {
         self.generation += 1;
     }
 
-    /// Whether a mark of the operation is there: whether it was listed so.
+    /// Looks at a mark of the operation: whether it was listed under this need's gauge, or under the clock.
     pub(crate) fn sees_mark(&mut self, table: &RoomTable, at: u32) -> bool
         requires table { self.old.table ≡ table.now }
         requires listing { (caller_now self.old).stage ≡ Listing }
@@ -253,7 +254,7 @@ impl Owner {
         table.sleep(rt, &self.seat, most);
     }
 
-    /// Looks at its own session word. Where that is won, it takes the end of its operation, and is idle.
+    /// Looks at its own session word. If that is won, it takes the end of its operation, and is idle.
     pub(crate) fn poll(&mut self, table: &RoomTable) -> Option<Done>
         requires table { self.old.table ≡ table.now }
         requires busy { (caller_now self.old).stage ≢ Idle }

@@ -1,10 +1,11 @@
+//! The pass: a thread needs one to act in a room. `Room::make` hands all of them out, and `Room::still` takes them back.
 use crate::locks::Keys;
 use crate::owner::Owner;
 use std::marker::Model;
 
 /// The right to act in the room: to raise gauges, to register operations, one at a time, and to settle what that leaves to do. Between
-/// any two calls it has no operation, or one that waits. One that is dropped while it owes a scan leaves that undone: whom the value
-/// satisfies waits on, until the gauge is raised again. So settle first.
+/// any two calls it has no operation, or one that waits. A pass that is dropped while it owes a scan leaves that undone: an operation
+/// that the value satisfies waits on, until the gauge is raised again. So settle first.
 #[derive(Drop)]
 pub struct RoomPass {
     pub(crate) owner: Owner,
@@ -39,15 +40,15 @@ impl RoomPass {
         self.owner.number()
     }
 
-    /// The generation of its operation, or of the last one that it had: 0 where it had none yet. It may register one more where this is
-    /// below 2^32 - 1.
+    /// The generation of its operation, or of the last one that it had, or 0 if it had none yet. It may register another operation if
+    /// this is below 2^32 - 1.
     pub fn generation(&self) -> u32
         ensures { result ≡ (caller_now self.now.seat).generation }
     {
         self.owner.generation()
     }
 
-    /// Whether its operation waits. Else it has none.
+    /// Whether it has an operation, which then waits.
     pub fn waits(&self) -> bool
         ensures { IsTrue result ↔ IsWaiting self.now }
     {

@@ -1,4 +1,5 @@
-//! What waits for nobody: a pass looks how its operation stands, or at a gauge, or sleeps until there is something to look at.
+//! The calls that take no lock: a pass looks whether its operation has ended, reads a gauge, or sleeps until there may be something
+//! to see.
 ghost use Rattle.std.specs.Prelude.{◌≡◌, ◌≤◌, IfNone, IfSome};
 ghost use Rattle.room_core.specs.declared.parts.Stage.TheVariants.{Waiting};
 ghost use Rattle.room_core.specs.Gauges.{IsGauge};
@@ -15,7 +16,7 @@ use std::sync::Wait;
 use std::time::Duration;
 
 impl Room {
-    /// How the pass's operation ended, if it did: None exactly where the pass's session word is open. After Some the pass is idle.
+    /// How the pass's operation ended, if it did: None exactly if the pass's session word is open. After Some the pass is idle.
     pub fn poll(&self, pass: &mut RoomPass) -> Option<Done>
         requires pass { IsOfRoom self.now pass.old }
         requires waits { (caller_now pass.old.seat).stage ≡ Waiting }
@@ -38,9 +39,9 @@ impl Room {
         pass.owner.read(&self.table, gauge)
     }
 
-    /// Sleeps while the pass's session word is open, for no longer than `most`. Who wins the operation wakes the sleeper. It may also
-    /// return for no reason, and returns at once where the word isn't open: `poll` tells. A pass that owes a scan settles first: whom that
-    /// would win would else sleep as long.
+    /// Sleeps while the pass's session word is open, for no longer than `most`. The winner of the operation wakes the sleeper. It may
+    /// also return for no reason, and returns at once if the word isn't open; `poll` says which. A pass that owes a scan has to settle
+    /// first: operations that its scan would win would wait as long as it sleeps.
     pub fn wait(&self, rt: &impl Wait, pass: &RoomPass, most: Duration)
         requires pass { IsOfRoom self.now pass.now }
         requires paid { OwesNothing (caller_now pass.now.seat) }

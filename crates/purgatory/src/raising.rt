@@ -1,4 +1,4 @@
-//! A gauge is raised.
+//! A gauge is raised: the source stores the new value, and the pass asks for a scan and owes it from then on. `settling` pays.
 ghost use Rattle.std.specs.Prelude.{◌≡◌, ◌≤◌, false};
 ghost use Rattle.room_core.specs.Gauges.{IsGauge};
 ghost use Rattle.room_table.specs.Seats.{caller_now, source_now};
@@ -13,7 +13,7 @@ use crate::source::Source;
 use room_table::{RoomTable, SourceSeat};
 use std::sync::Wait;
 
-// Asks for the scan of what the source stored, until the source finds that somebody did.
+// Asks for a scan up to what the source stored, until the source sees that it was asked for.
 fn ask_for_it(
     rt: &impl Wait,
     table: &RoomTable,
@@ -40,8 +40,8 @@ fn ask_for_it(
 }
 
 impl Room {
-    /// Raises the source's gauge to this value, which is no less than its value, which `Source::value` tells. The pass then owes the scan of it, unless the value is
-    /// 0: `settle` pays that.
+    /// Raises the source's gauge to this value, which is no less than its present one (`Source::value`). The pass then owes a scan of the
+    /// gauge, unless the value is 0; `settle` pays that.
     pub fn raise(&self, rt: &impl Wait, source: &mut Source, pass: &mut RoomPass, value: u64)
         requires pass { IsOfRoom self.now pass.old }
         requires source { IsSourceOf self.now source.old }

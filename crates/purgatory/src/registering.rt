@@ -1,4 +1,5 @@
-//! An operation is registered: described, opened, listed under each of its gauges and under the clock, and checked once more.
+//! An operation is registered: described, opened, listed under each of its gauges and under the clock, and then checked once by its
+//! own pass. It is handed on as parked, or with its end.
 ghost use Rattle.std.specs.Prelude.{◌≡◌, ◌-◌, ◌*◌, ◌+◌, ◌^◌, ◌<◌, ◌≤◌, ◌≢◌, false, All, AllPairs, IfNone, IfSome, length, take};
 ghost use Rattle.opcond.specs.Operation.{IsValid};
 ghost use Rattle.opcond.specs.Tally.{IsSatisfied};
@@ -39,7 +40,7 @@ fn answerable(op: &Op, values: &[u64], moment: u64) -> Option<How>
 }
 
 impl Room {
-    // Writes a need down.
+    // Writes a need into the description.
     fn describe_need(&self, owner: &mut Owner, i: u32, need: Need)
         requires table { owner.old.table ≡ self.now.table }
         requires idle { (caller_now owner.old).stage ≡ Idle }
@@ -52,7 +53,7 @@ impl Room {
         owner.describe(&self.table, at + 2, need.cap);
     }
 
-    // Writes an operation down.
+    // Writes an operation into the description.
     fn describe(&self, owner: &mut Owner, op: &Op)
         requires table { owner.old.table ≡ self.now.table }
         requires idle { (caller_now owner.old).stage ≡ Idle }
@@ -69,7 +70,7 @@ impl Room {
         }
     }
 
-    // Lists the operation under a need's gauge, until the pass sees that, or that the operation is over.
+    // Lists the operation under a need's gauge, until the pass sees it listed, or over.
     fn list_need(
         &self,
         rt: &impl Wait,
@@ -125,7 +126,7 @@ impl Room {
         unreachable!()
     }
 
-    // Lists the operation under every gauge of its needs. Some where it is over before.
+    // Lists the operation under the gauges of all its needs. Some, if it is over before that.
     fn list_needs(
         &self,
         rt: &impl Wait,
@@ -164,7 +165,7 @@ impl Room {
         }
     }
 
-    // Takes the end of the operation, which is won.
+    // Takes the end of the operation, which was won.
     fn take_end(&self, rt: &impl Wait, owner: &mut Owner) -> Done
         requires table { owner.old.table ≡ self.now.table }
         requires busy { (caller_now owner.old).stage ≢ Idle }
@@ -178,7 +179,7 @@ impl Room {
         unreachable!()
     }
 
-    // Reads every gauge, and the clock last, whose value it gives.
+    // Reads every gauge, and the clock last. Returns the clock's value.
     fn read_all(&self, owner: &mut Owner, op: &Op, values: &mut [u64]) -> u64
         requires table { owner.old.table ≡ self.now.table }
         requires checking { (caller_now owner.old).stage ≡ Checking }
@@ -191,7 +192,7 @@ impl Room {
         owner.leave(&self.table, self.shape.gauges - 1)
     }
 
-    // Reads every gauge and the clock, and leaves the operation where it isn't answerable, or wins it.
+    // Reads every gauge and the clock. If the operation isn't answerable, leaves it waiting; else tries to win it, and takes its end.
     fn check(&self, rt: &impl Wait, owner: &mut Owner, op: &Op) -> Registered
         requires table { owner.old.table ≡ self.now.table }
         requires checking { (caller_now owner.old).stage ≡ Checking }
@@ -209,7 +210,7 @@ impl Room {
         Registered::Won(self.take_end(rt, owner))
     }
 
-    // Opens the operation that is described, lists it, and checks it.
+    // Describes the operation, opens it, lists it, and checks it.
     fn run(&self, rt: &impl Wait, owner: &mut Owner, keys: &mut Keys, op: &Op) -> Registered
         requires table { owner.old.table ≡ self.now.table }
         requires keys { keys.old ≡ self.now.locks }
@@ -233,8 +234,8 @@ impl Room {
     }
 
     /// Registers an operation: opens it, lists it under each of its gauges and under the clock, and then reads all of these. `Parked`:
-    /// these last readings don't satisfy it, and the clock is before its deadline, so that it waits, until somebody wins it or the clock
-    /// comes to its deadline. `Won`: it was won in this call, by the pass or by a scanner.
+    /// these last readings don't satisfy it, and the clock's is below its deadline, so it waits until a scan wins it. `Won`: it was won
+    /// during this call, by the pass or by a scanner.
     pub fn register(&self, rt: &impl Wait, pass: &mut RoomPass, op: &Op) -> Registered
         requires pass { IsOfRoom self.now pass.old }
         requires idle { (caller_now pass.old.seat).stage ≡ Idle }

@@ -1,3 +1,5 @@
+//! The room that threads share: its table, its locks and its shape. A program makes it once and gets all sources and passes with
+//! it; the calls are in `raising`, `settling`, `registering`, `polling` and `still`.
 ghost use Rattle.std.specs.Prelude.{◌≡◌, ◌≤◌, IfOk};
 ghost use Rattle.room_core.specs.Gauges.{IsGauge, clock_of};
 ghost use Rattle.room_core.specs.Numbers.{most_gauges, most_passes};
@@ -14,13 +16,13 @@ use room_table::{RoomTable, TableParts};
 use std::alloc::Global;
 use std::marker::Model;
 
-/// The room. Threads share it, each with a pass of its own.
+/// The room. Threads share it; each acts with a pass of its own.
 #[derive(Drop)]
 pub struct Room {
     pub(crate) table: RoomTable,
     pub(crate) locks: Locks,
     pub(crate) shape: Shape,
-    // by winner, for `still` to note there how many exchanges each has won
+    // by winner: how many exchanges each has won. `still` fills it in
     pub(crate) wins: List<u64>,
 }
 
@@ -35,19 +37,19 @@ impl Model for Room {
     ghost invariant = { λ r. (r.shape ≡ r.table.shape) × IsRoom r.table r.locks × (length r.wins ≡ winners r.table) };
 }
 
-/// A room, as it is made.
+/// A new room, with its sources and passes.
 #[derive(Drop)]
 pub struct RoomParts {
     pub room: Room,
-    /// By gauge. The last is the clock's.
+    /// By gauge. The last one is the clock's.
     pub sources: List<Source>,
     /// By number.
     pub passes: List<RoomPass>,
 }
 
 impl Room {
-    /// A room with so many gauges, the last of which is the clock, and so many passes, at most `MOST_GAUGES` and `MOST_PASSES`: its gauges are at 0, and no pass has an operation.
-    /// It is refused where no memory is left; no other call takes memory.
+    /// A room with this many gauges, the last of which is the clock, and this many passes: at most `MOST_GAUGES` and `MOST_PASSES`. Its
+    /// gauges are at 0, and no pass has an operation. Fails only when out of memory; no other call takes memory.
     pub fn make(alloc: Global, gauges: u32, passes: u32) -> Result<RoomParts, NoMemory>
         requires gauges { (1 ≤ gauges) × (gauges ≤ most_gauges) }
         requires passes { (1 ≤ passes) × (passes ≤ most_passes) }
@@ -82,7 +84,7 @@ impl Room {
         })
     }
 
-    /// How many gauges it has, the clock with them.
+    /// How many gauges it has, the clock among them.
     pub fn gauges(&self) -> u32
         ensures { result ≡ self.now.table.shape.gauges }
     {

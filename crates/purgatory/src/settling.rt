@@ -1,4 +1,4 @@
-//! What a pass owes is paid.
+//! What a pass owes is paid: each gauge of which it owes a scan is scanned, in a turn of the lock of its scanner. No other call scans.
 ghost use Rattle.std.specs.Prelude.{◌≡◌};
 ghost use Rattle.room_core.specs.Gauges.{IsGauge};
 ghost use Rattle.room_table.specs.Seats.{caller_now};
@@ -13,7 +13,7 @@ use crate::room::Room;
 use std::sync::Wait;
 
 impl Room {
-    // Scans a gauge until the pass owes nothing of it. Where another scan has paid the debt, no turn is taken.
+    // Scans a gauge until the pass owes nothing of it. If another scan has paid the debt, no turn is taken.
     fn settle_gauge(&self, rt: &impl Wait, owner: &mut Owner, keys: &mut Keys, gauge: u32)
         requires table { owner.old.table ≡ self.now.table }
         requires keys { keys.old ≡ self.now.locks }
@@ -31,7 +31,7 @@ impl Room {
         unreachable!()
     }
 
-    // The same of each gauge.
+    // The same for each gauge.
     fn settle_all(&self, rt: &impl Wait, owner: &mut Owner, keys: &mut Keys)
         requires table { owner.old.table ≡ self.now.table }
         requires keys { keys.old ≡ self.now.locks }
@@ -48,8 +48,8 @@ impl Room {
     }
 
     /// Pays what the pass owes: scans each gauge of which it owes a scan, under the lock of the gauge's scanner, unless another scan has
-    /// done it. A scan checks every operation that is listed under the gauge against all gauges of that operation, and wins it where it is
-    /// answerable. A pass whose operation waits may settle too.
+    /// done it. A scan of a gauge checks every operation that is listed under it against all gauges of that operation, and tries to win
+    /// those that are satisfied; one of the clock tries to win those whose deadline has come. A pass whose operation waits may settle too.
     pub fn settle(&self, rt: &impl Wait, pass: &mut RoomPass)
         requires { IsOfRoom self.now pass.old }
         ensures made { IsOfRoom self.now pass.new }

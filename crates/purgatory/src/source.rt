@@ -1,7 +1,9 @@
+//! The source of a gauge. `Room::make` hands out one for each gauge, `Room::raise` asks for it, and the close of the room takes
+//! it back.
 use room_table::SourceSeat;
 use std::marker::Model;
 
-/// The right to raise one gauge. Between any two calls somebody has asked for all that it stored.
+/// The right to raise one gauge. Between any two calls a scan was asked for up to all that it stored.
 #[derive(Drop)]
 pub struct Source {
     pub(crate) seat: SourceSeat,
@@ -35,7 +37,7 @@ impl Source {
         self.gauge
     }
 
-    /// The value of its gauge, as it stored that last: 0 at first. It may raise the gauge to this value or past it.
+    /// The value of its gauge, as this source stored it last: 0 at first. It may raise the gauge to this value or past it.
     pub fn value(&self) -> u64
         ensures { result ≡ (source_now self.now).stored }
     {

@@ -1,4 +1,5 @@
-//! Whether everything that was won was taken. Then nobody can act on the room any more.
+//! The end of a room: `Room::still` counts what was won and taken while no thread can act. It hands on a `StillRoom`, which `closing`
+//! closes, or gives everything back, since a pass has yet to look at its operation.
 ghost use Rattle.std.specs.Prelude.{◌≡◌, ◌-◌, ◌<◌, ◌≤◌, ◌^◌, ◌↔◌, All, Any, IsTrue, length};
 ghost use Rattle.room_core.specs.Numbers.{most_passes, scanner_numbers};
 ghost use Rattle.purgatory.specs.Ended.{HasEnded};
@@ -17,13 +18,13 @@ use std::sync::Wait;
 use std::sync::atomic::AtomicU64;
 use std::time::Duration;
 
-// A nap of who sleeps for ever, in milliseconds.
+// How long a thread that sleeps forever sleeps at a time, in milliseconds.
 const NAP: u64 = 1_000;
 
 /// How a room ended.
 #[derive(Drop)]
 pub enum RoomEnd {
-    /// Everything that was won was taken. Nobody can act on the room any more.
+    /// Everything that was won was taken. From now on nobody can act on the room.
     Still(StillRoom),
     /// More was won than the passes have taken, and one of them waits: it has yet to look at its operation, by `Room::poll`. The room and
     /// the passes are handed back as they were.
@@ -47,15 +48,15 @@ fn counted(passes: &[RoomPass]) -> Count
     Count { won, taken }
 }
 
-// Whether the operation of one of them waits.
+// Whether the operation of one of the passes waits.
 fn one_waits(passes: &[RoomPass]) -> bool
     ensures { IsTrue result ↔ Any IsWaiting passes.now }
 {
     passes.iter().any(|pass| pass.waits())
 }
 
-// Goes on where one of the passes waits, and else sleeps for ever. Where more was won than they have taken, the room's rule lets it never
-// come to be that none waits, but no clause of the table shows that.
+// Returns if one of the passes waits, and else sleeps forever. If more was won than they have taken, one always waits by the room's
+// rule, but no clause of the table shows that.
 fn wait_till_one_waits(rt: &impl Wait, passes: &[RoomPass])
     ensures { Any IsWaiting passes.now }
 {
@@ -69,7 +70,7 @@ fn wait_till_one_waits(rt: &impl Wait, passes: &[RoomPass])
     unreachable!()
 }
 
-// All turns are held, by the first pass.
+// Holds all turns, with the keys of the first pass.
 fn hold_all(
     rt: &impl Wait,
     locks: &Locks,
@@ -93,9 +94,9 @@ fn hold_all(
 }
 
 impl Room {
-    /// Whether everything that was won was taken, by `poll` and `register`. The turns of all locks are held together while that is counted,
-    /// and all passes are there. Then `Still`: nobody can act on the room any more, and who waits is not won. Else `Untaken`, with the room
-    /// and the passes as they were: look with each pass that waits, and ask again. It takes no memory.
+    /// Whether everything that was won was taken, by `poll` and `register`. This is counted with all passes, and while the turns of all
+    /// locks are held. If it was, the answer is `Still`: nobody can act on the room any more, and no operation that waits is won. Else it
+    /// is `Untaken`, with the room and the passes as they were: poll with each pass that waits, and ask again. It takes no memory.
     pub fn still(self, rt: &impl Wait, mut passes: List<RoomPass>) -> RoomEnd
         requires all { length passes ≡ self.table.shape.passes }
         requires settled { All (IsSettled self) passes }

@@ -1,3 +1,5 @@
+//! Whether readings of the gauges answer an operation. The owner's steps ask all of it; a scanner's checks only look up what was
+//! read.
 ghost use Rattle.std.specs.Prelude.{◌≡◌, ◌↔◌, ◌+◌, ◌*◌, ◌<◌, ◌≤◌, ◌||◌, IsSome, IsTrue, None as Nothing, length};
 ghost use Rattle.opcond.specs.Tally.{counted};
 ghost use Rattle.room_core.specs.CallerTables.{table};
@@ -14,7 +16,7 @@ use crate::gauges::clock;
 use crate::numbers::MOST_NEEDS;
 use crate::shape::Shape;
 
-/// What was read of a gauge, and 0 where nothing was.
+/// What was read of a gauge, or 0 where nothing was.
 pub(crate) fn read_of(readings: &[Option<u64>], gauge: u64) -> u64
     ensures { result ≡ read_only (table readings.now Nothing) gauge }
 {
@@ -34,7 +36,7 @@ pub(crate) fn has_read(readings: &[Option<u64>], gauge: u64) -> bool
     readings[gauge as usize].is_some()
 }
 
-/// What counts of a need.
+/// How much of a need counts.
 fn part_of(words: &[u64], i: u32, readings: &[Option<u64>]) -> u64
     requires words { length words.now ≡ DESCRIPTION_WORDS }
     requires need { i < MOST_NEEDS }
@@ -45,7 +47,7 @@ fn part_of(words: &[u64], i: u32, readings: &[Option<u64>]) -> u64
     words[(CAP_WORD + NEED_WORDS * i) as usize].min(past)
 }
 
-/// Whether the readings satisfy the operation. Words past the 64th need count nothing.
+/// Whether the readings satisfy the operation. Needs past the 64th count nothing.
 pub(crate) fn is_satisfied(words: &[u64], readings: &[Option<u64>]) -> bool
     requires { length words.now ≡ DESCRIPTION_WORDS }
     ensures { result ≡ is_satisfied (table words.now 0) (table readings.now Nothing) }
@@ -58,7 +60,7 @@ pub(crate) fn is_satisfied(words: &[u64], readings: &[Option<u64>]) -> bool
     left == 0
 }
 
-/// Whether the clock was read at the deadline or past it.
+/// Whether the clock's reading is at the deadline or past it.
 pub(crate) fn is_overdue(shape: Shape, words: &[u64], readings: &[Option<u64>]) -> bool
     requires { length words.now ≡ DESCRIPTION_WORDS }
     ensures { result ≡ is_overdue shape (table words.now 0) (table readings.now Nothing) }
@@ -66,7 +68,7 @@ pub(crate) fn is_overdue(shape: Shape, words: &[u64], readings: &[Option<u64>]) 
     words[DEADLINE_WORD as usize] <= read_of(readings, u64::from(clock(shape)))
 }
 
-/// Whether the readings show that the operation is won in this way.
+/// Whether the readings show that the operation may be won in this way.
 pub(crate) fn is_won(shape: Shape, how: How, words: &[u64], readings: &[Option<u64>]) -> bool
     requires { length words.now ≡ DESCRIPTION_WORDS }
     ensures { IsTrue result ↔ IsWon shape how (table words.now 0) (table readings.now Nothing) }
@@ -79,7 +81,7 @@ pub(crate) fn is_won(shape: Shape, how: How, words: &[u64], readings: &[Option<u
     }
 }
 
-/// The gauge of a need, and 0 past the description's end.
+/// The gauge of a need, or 0 past the end of the description.
 fn gauge_of(words: &[u64], i: u32) -> u64
     requires words { length words.now ≡ DESCRIPTION_WORDS }
     requires need { i ≤ MOST_NEEDS }
@@ -98,7 +100,7 @@ pub(crate) fn is_read(readings: &[Option<u64>], last: u32, gauge: u64) -> bool
     has_read(readings, gauge) || gauge == u64::from(last)
 }
 
-/// Whether each need's gauge was read, or is the one that is read last. All needs past the 64th read the same words.
+/// Whether each need's gauge was read, or is the one that is read last. Needs past the 64th all have gauge 0, so one look is enough.
 pub(crate) fn are_read(words: &[u64], readings: &[Option<u64>], last: u32) -> bool
     requires { length words.now ≡ DESCRIPTION_WORDS }
     ensures { IsTrue result ↔ AreRead (table readings.now Nothing) last (table words.now 0) }

@@ -1,3 +1,5 @@
+//! What a pass knows as the owner of its operation, which no other thread sees. `CoreState` keeps one for each pass; asking,
+//! relieving and peeking are here, the owner's other steps in `caller_steps`.
 ghost use Rattle.std.specs.Prelude.{◌≡◌, ◌<◌, IfOk, replicate, false, nat_le, if◌then◌else◌};
 ghost use Rattle.room_core.specs.Passes.{caller_peeks, peeked};
 ghost use Rattle.room_core.specs.Scans.{caller_asks, caller_relieves};
@@ -12,7 +14,7 @@ use crate::shape::Shape;
 use kbytes::NoMemory;
 use std::alloc::Global;
 
-/// A caller's part, in tables by number.
+/// A caller's part, with a table by number for each thing that it knows.
 #[derive(Debug, Drop)]
 pub(crate) struct CallerPart {
     pub(crate) shape: Shape,
@@ -29,7 +31,7 @@ pub(crate) struct CallerPart {
     ghost whole: { CallerIsWhole shape description seen readings },
 }
 
-/// No mark was seen.
+/// A table of marks that were not seen yet.
 fn nothing_seen(alloc: Global) -> Result<Vec<bool>, NoMemory>
     ensures { IfOk result (λ v. v.items ≡ replicate MARKS false) }
 {
@@ -85,14 +87,14 @@ impl CallerPart {
     }
 }
 
-/// What is owed once a scan was begun up to a value.
+/// What is still owed after a scan was begun up to a value.
 fn still_owed(owed: u64, begun: u64) -> u64
     ensures { result ≡ (if nat_le owed begun then 0 else owed) }
 {
     if owed <= begun { 0 } else { owed }
 }
 
-/// The stage of an owner that has looked at its word.
+/// The stage of an owner after it has seen its word in this phase.
 #[tactic(auto, unfolding(crate::specs::Passes::peeked))]
 pub(crate) fn peeked_stage(phase: Phase, stage: Stage) -> Stage
     ensures { result ≡ peeked phase stage }

@@ -1,3 +1,5 @@
+//! The owner's part in the steps of its operation, from its description to its end. `pass_steps` asks here whether a step is
+//! allowed, and has the part changed; the words it changes itself.
 ghost use Rattle.std.specs.Prelude.{◌≡◌, ◌^◌, ◌-◌, ◌<◌, ◌↔◌, IsTrue, if◌then◌else◌, true, ◌≤◌, OnErr, OnOk, false, length};
 ghost use Rattle.room_core.specs.CallerTables.{table};
 ghost use Rattle.room_core.specs.Gauges.{clock_of};
@@ -153,7 +155,7 @@ impl CallerPart {
     }
 }
 
-/// The stage of an owner whose check has ended.
+/// The stage of an owner after the last reading of its check.
 fn stage_of_check(answerable: bool) -> Stage
     ensures { result ≡ (if answerable then Checking else Waiting) }
 {
@@ -174,14 +176,14 @@ fn is_checking(stage: Stage) -> bool
     }
 }
 
-/// Whether a mark was seen, where it shows now or was seen before.
+/// Whether a mark was seen: it shows now, or did before.
 fn was_seen(shows: bool, before: bool) -> bool
     ensures { result ≡ (if shows then true else before) }
 {
     shows || before
 }
 
-/// The stage of an owner that waits for its marks.
+/// The stage of an owner after a look at a mark: it waits for the others, or begins its check.
 fn stage_of_marks(all: bool) -> Stage
     ensures { result ≡ (if all then Checking else Listing) }
 {
@@ -196,7 +198,7 @@ fn unsee(seen: &mut [bool])
     seen.fill(false);
 }
 
-/// Whether the first n were seen.
+/// Whether the first n marks were seen.
 fn is_all_below(seen: &[bool], n: u64) -> bool
     ensures { result ≡ all_below (table seen.now false) n }
 {

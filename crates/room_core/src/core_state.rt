@@ -1,3 +1,5 @@
+//! The whole room as tables, and `step`, which makes any event on it: the steps of gauges are here, those of passes and scanners
+//! in `pass_steps` and `scan_steps`. `run_events` and tests call it; no other program does.
 ghost use Rattle.std.specs.Prelude.{◌≡◌, ◌↔◌, IfOk, IsTrue, All, false, length, replicate, slice_get};
 ghost use Rattle.room_core.specs.declared.parts.Phase.TheVariants.{Idle};
 ghost use Rattle.std.specs.Result.{OnErr};
@@ -26,7 +28,7 @@ use crate::word::Word;
 use kbytes::NoMemory;
 use std::alloc::Global;
 
-/// The state of the room, in tables by number.
+/// The state of the room: a table by number for each kind of word, and for each kind of part.
 #[derive(Debug, Drop)]
 pub struct CoreState {
     pub(crate) shape: Shape,
@@ -43,7 +45,7 @@ pub struct CoreState {
     ghost words: { WordsAreSized shape session description marks },
 }
 
-/// What a source knows once it has seen what is asked.
+/// What a source knows after it has seen up to which value a scan is asked for.
 fn hushed(source: Source, asked: u64) -> Source
     ensures { result ≡ source_hushes source asked }
 {
@@ -171,8 +173,8 @@ impl CoreState {
         }
     }
 
-    /// Makes an event. True: it is allowed, and the room is changed by it. False: it isn't, and nothing changed. Refused for want
-    /// of memory, the room shows what it showed.
+    /// Makes an event. True: it is allowed, and the room is changed by it. False: it isn't allowed, and nothing changed. If memory
+    /// runs out, the room shows what it showed before.
     pub fn step(&mut self, event: CoreEvent) -> Result<bool, NoMemory>
         ensures allowed { IfOk result (λ made. IsTrue made ↔ IsAllowed (state_of self.old) event) }
         ensures yes { IfOk result (λ made. OnTrue made (state_of self.new ≡ changed (state_of self.old) event)) }
@@ -291,7 +293,7 @@ impl CoreState {
         true
     }
 
-    /// A scanner that is there has no duty.
+    /// Whether a scanner of the room has no duty.
     fn has_no_duty(&self, scanner: u32) -> bool
         requires { IsScanner self.now.shape scanner }
         ensures { IsTrue result ↔ HasNoDuty (scanner_at (slice_get self.now.scanner.items scanner)) }
@@ -299,7 +301,7 @@ impl CoreState {
         is_free(&self.scanner[scanner as usize].duties)
     }
 
-    /// A scanner that is there has heard of the gauge.
+    /// Whether a scanner of the room has heard the gauge last.
     fn has_heard(&self, scanner: u32, gauge: u32) -> bool
         requires { IsScanner self.now.shape scanner }
         ensures { IsTrue result ↔ IsHeard (scanner_at (slice_get self.now.scanner.items scanner)).heard gauge }

@@ -1,10 +1,12 @@
+//! The duties of a scan. `ScannerPart::begins` makes them from a row of its listing; `CoreState` asks whether any is left before
+//! it lets the scanner hear or begin again.
 ghost use Rattle.std.specs.Prelude.{◌≡◌, ◌↔◌, ◌<◌, ℕ, IsTrue, None, length, slice_index_or};
 ghost use Rattle.room_core.specs.Scans.{duty_of, is_due};
 
 use crate::parts::{Duty, Entry};
 use crate::shape::Shape;
 
-/// No pass has a duty.
+/// Whether no pass has a duty.
 pub(crate) fn is_free(duties: &[Option<Duty>]) -> bool
     ensures { IsTrue result ↔ ((pass : ℕ) → slice_index_or duties.now pass None ≡ None) }
 {
@@ -16,7 +18,8 @@ pub(crate) fn is_free(duties: &[Option<Duty>]) -> bool
     true
 }
 
-/// An entry is due in a scan of its gauge.
+/// Whether an entry is due in a scan of its gauge. Every entry is, but in the clock's only those whose deadline has come since the
+/// last scan.
 fn is_due(shape: Shape, gauge: u32, begun: u64, heard: u64, entry: Entry) -> bool
     requires { 0 < shape.gauges }
     ensures { result ≡ is_due shape gauge begun heard entry }
@@ -24,7 +27,7 @@ fn is_due(shape: Shape, gauge: u32, begun: u64, heard: u64, entry: Entry) -> boo
     gauge != shape.gauges - 1 || (begun < entry.deadline && entry.deadline <= heard)
 }
 
-/// The duty that a scan makes of a place of the listing.
+/// The duty that a scan makes of one place in the listing.
 #[tactic(auto, unfolding(crate::specs::Scans::duty_of))]
 fn duty_of(shape: Shape, gauge: u32, begun: u64, heard: u64, entry: Option<Entry>) -> Option<Duty>
     requires { 0 < shape.gauges }

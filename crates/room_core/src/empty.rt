@@ -1,3 +1,5 @@
+//! Tables in which nothing was read or learned: the parts of callers and scanners start with them, and go back to them before
+//! each new check.
 ghost use Rattle.std.specs.Prelude.{◌≡◌, IfOk, None, length, replicate};
 ghost use Rattle.room_core.specs.CallerTables.{table};
 ghost use Rattle.room_core.specs.Readings.{unread};
@@ -5,7 +7,7 @@ ghost use Rattle.room_core.specs.Readings.{unread};
 use kbytes::NoMemory;
 use std::alloc::Global;
 
-/// A table of readings, none of which was taken.
+/// A table of readings that were not taken yet.
 pub(crate) fn nothing_read(alloc: Global, count: usize) -> Result<Vec<Option<u64>>, NoMemory>
     ensures { IfOk result (λ v. v.items ≡ replicate count None) }
 {

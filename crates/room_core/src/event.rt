@@ -1,3 +1,5 @@
+//! The eighteen kinds of step that threads make on the room. `CoreState::step` makes them as code; `specs/Step.antt` says when
+//! each is allowed and what it changes.
 /// How an operation was won: its tally was reached, or its deadline came.
 #[derive(Clone, Copy, Debug, PartialEq, Eq)]
 pub enum How {
@@ -5,7 +7,7 @@ pub enum How {
     Expired,
 }
 
-/// Who makes a check: a pass, the owner of its operation, or a scanner.
+/// The party that makes a check: a pass, as the owner of its operation, or a scanner.
 #[derive(Clone, Copy, Debug, PartialEq, Eq)]
 pub enum Party {
     Pass(u32),
@@ -19,7 +21,7 @@ pub enum CoreEvent {
     Store { gauge: u32, value: u64 },
     /// A pass asks that the gauge be scanned up to a value that it has read.
     Ask { pass: u32, gauge: u32, value: u64 },
-    /// The gauge's source sees whether somebody asked for what it stored.
+    /// The gauge's source sees whether a scan was asked for up to what it stored.
     Hush { gauge: u32 },
     /// A scanner sees up to which value of its gauge it is asked to scan.
     Hear { scanner: u32, gauge: u32 },
@@ -47,7 +49,7 @@ pub enum CoreEvent {
     Win { who: Party, pass: u32, how: How },
     /// A pass looks at its own session word.
     Peek { pass: u32 },
-    /// A pass takes what it won or what was won of it, and is idle again.
+    /// A pass takes the end of its operation, won by itself or by a scanner, and is idle again.
     Idle { pass: u32 },
     /// Seats are split or joined.
     Part,

@@ -1,10 +1,11 @@
+//! Which gauge is the clock, and which scanner scans a gauge. The steps ask this before they look into a table.
 ghost use Rattle.std.specs.Prelude.{◌≡◌, ◌↔◌, ◌<◌, IsTrue};
 ghost use Rattle.room_core.specs.Gauges.{IsGaugeOf, IsScanner, IsShape, clock_of, scanner_of};
 
 use crate::numbers::CLOCK_SCANNER;
 use crate::shape::Shape;
 
-/// Whether a scanner has this number.
+/// Whether one of the room's scanners has this number.
 pub(crate) fn is_scanner(shape: Shape, scanner: u32) -> bool
     ensures { IsTrue result ↔ IsScanner shape scanner }
 {
@@ -31,7 +32,7 @@ pub(crate) fn scanner_of(shape: Shape, gauge: u32) -> u32
     }
 }
 
-/// Whether a gauge is there, and the scanner of this number scans it.
+/// Whether there is such a gauge, and the scanner with this number scans it.
 #[tactic(auto, unfolding(crate::specs::Gauges::scanner_of))]
 pub(crate) fn is_gauge_of(shape: Shape, scanner: u32, gauge: u64) -> bool
     requires { IsShape shape }

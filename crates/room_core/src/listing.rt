@@ -1,3 +1,5 @@
+//! What a scanner still has of a pass once it has looked at its session word: a meeting, live entries, a live duty.
+//! `ScannerPart::meets` puts these together.
 ghost use Rattle.std.specs.Prelude.{◌≡◌, ◌<◌, ◌↔◌, ℕ, All, IsTrue, None, length, slice_get};
 ghost use Rattle.room_core.specs.CallerTables.{table};
 ghost use Rattle.room_core.specs.Meetings.{IsMet, live_duty, live_entry, met};
@@ -8,7 +10,7 @@ use crate::parts::{Duty, Entry, Meeting, Phase, Session};
 use crate::session_word::is_live;
 use crate::shape::Shape;
 
-/// Whether the meeting is of this pass.
+/// Whether there is a meeting with this pass.
 pub(crate) fn is_met(meeting: Option<Meeting>, pass: u32) -> bool
     ensures { IsTrue result ↔ IsMet meeting pass }
 {
@@ -18,7 +20,7 @@ pub(crate) fn is_met(meeting: Option<Meeting>, pass: u32) -> bool
     }
 }
 
-/// The meeting with a pass, where its word is open.
+/// The meeting with a pass, if its word is open.
 #[tactic(auto, unfolding(crate::specs::Meetings::met))]
 pub(crate) fn meeting_with(session: Session, pass: u32) -> Option<Meeting>
     ensures { result ≡ met session pass }
@@ -32,7 +34,7 @@ pub(crate) fn meeting_with(session: Session, pass: u32) -> Option<Meeting>
     }
 }
 
-/// An entry, where the word is open at its generation.
+/// An entry, if the word is open at its generation.
 #[tactic(auto, unfolding(crate::specs::Meetings::live_entry))]
 fn still_listed(session: Session, entry: Option<Entry>) -> Option<Entry>
     ensures { result ≡ live_entry session entry }
@@ -49,7 +51,7 @@ fn still_listed(session: Session, entry: Option<Entry>) -> Option<Entry>
     }
 }
 
-/// A duty, where the word is open at its generation.
+/// A duty, if the word is open at its generation.
 #[tactic(auto, unfolding(crate::specs::Meetings::live_duty))]
 pub(crate) fn still_due(session: Session, duty: Option<Duty>) -> Option<Duty>
     ensures { result ≡ live_duty session duty }
@@ -75,7 +77,7 @@ fn drop_dead_entry(row: &mut Vec<Option<Entry>>, pass: u32, session: Session)
     row[pass as usize] = entry;
 }
 
-/// Drops each entry of a pass at a generation that its word shows not open.
+/// Drops each entry of a pass whose generation isn't the one at which its word is open.
 pub(crate) fn drop_dead(
     listing: &mut Vec<Vec<Option<Entry>>>,
     shape: Shape,

@@ -1,21 +1,21 @@
 //! The numbers that bound a room.
 
-/// A room has at most so many gauges, the clock with them.
+/// The most gauges that a room has, the clock among them.
 pub const MOST_GAUGES: u32 = 193;
 
-/// A room has at most so many passes.
+/// The most passes that a room has.
 pub const MOST_PASSES: u32 = 80;
 
-/// An operation has at most so many needs.
+/// The most needs that an operation has.
 pub const MOST_NEEDS: u64 = 64;
 
-/// A room with all scanners has so many shards.
+/// The number of shards in a room with all scanners.
 pub const SHARDS: u32 = 16;
 
-/// A shard of these has at most so many gauges.
+/// The most gauges that one of these shards has.
 pub const SHARD_GAUGES: u32 = 12;
 
-/// The marks of the needs are numbered from 0, and this is the mark of the clock's listing.
+/// The mark of the clock's listing. The marks of the needs are numbered from 0.
 pub const CLOCK_MARK: u32 = 64;
 
 /// A mark for each of 64 needs, and the clock's.
@@ -24,17 +24,17 @@ pub const MARKS: u32 = 65;
 /// The number of the clock's scanner.
 pub const CLOCK_SCANNER: u32 = 16;
 
-/// Scanners have the numbers below this one. As a winner a scanner has its own number, and pass p has this one and p.
+/// Scanners have the numbers below this one. As a winner, a scanner has its own number, and pass p has this one plus p.
 pub const SCANNER_NUMBERS: u32 = 17;
 
-/// A session word has so many phases. As a number it is its phase where it is divided by this.
+/// The number of phases of a session word. Its phase is the remainder when its number is divided by this.
 pub const PHASES: u64 = 4;
 
-/// The phase of a word that is open.
+/// The number of the phase `Open`.
 pub const OPEN_PHASE: u64 = 1;
 
-/// A cap and a least tally are below this.
+/// Caps and least tallies are below this.
 pub(crate) const CAP_LIMIT: u64 = 1 << 31;
 
-/// The last generation, past which no operation is opened.
+/// The last generation: a pass that has reached it opens no operation any more.
 pub(crate) const LAST_GENERATION: u32 = u32::MAX;

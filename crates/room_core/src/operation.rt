@@ -1,3 +1,5 @@
+//! Whether the words that a pass has written describe an operation: `CallerPart::may_open` asks this, so a pass never opens
+//! anything else.
 ghost use Rattle.std.specs.Prelude.{◌≡◌, ◌≢◌, ◌↔◌, ℕ, ◌+◌, ◌*◌, ◌<◌, ◌^◌, IsTrue, length};
 ghost use Rattle.room_core.specs.CallerTables.{table};
 ghost use Rattle.room_core.specs.Description.{IsOperation, gauge_of};
@@ -10,7 +12,7 @@ use crate::gauges::clock;
 use crate::numbers::{CAP_LIMIT, MOST_NEEDS};
 use crate::shape::Shape;
 
-/// Whether a need's gauge is there and isn't the clock, and its cap is below 2^31.
+/// Whether a need's gauge is one of the room's and isn't the clock, and its cap is below 2^31.
 fn is_need(shape: Shape, words: &[u64], i: u32) -> bool
     requires words { length words.now ≡ DESCRIPTION_WORDS }
     requires need { i < MOST_NEEDS }
@@ -21,7 +23,7 @@ fn is_need(shape: Shape, words: &[u64], i: u32) -> bool
         && words[(CAP_WORD + NEED_WORDS * i) as usize] < CAP_LIMIT
 }
 
-/// Whether no earlier need has a need's gauge.
+/// Whether no earlier need has the gauge of need `i`.
 fn is_new(words: &[u64], i: u32) -> bool
     requires words { length words.now ≡ DESCRIPTION_WORDS }
     requires need { i < MOST_NEEDS }

@@ -1,3 +1,5 @@
+//! What session words and parts are made of. The layers above use `Session`, `Phase` and `Entry`; the other types are in the
+//! machine's own tables and in contracts.
 use crate::event::How;
 
 /// What a session word says of its operation.
@@ -5,7 +7,7 @@ use crate::event::How;
 pub enum Phase {
     Idle,
     Open,
-    /// Won by the winner of this number: a scanner's own, or 17 more than a pass's.
+    /// Won by the winner with this number: a scanner's own, or 17 more than a pass's.
     Won { how: How, by: u32 },
 }
 
@@ -29,7 +31,7 @@ pub enum Stage {
     Over { how: How, by: u32 },
 }
 
-/// What a source knows: the value that it stored, and whether it has yet to see that somebody asked for it.
+/// What a source knows: the value that it stored, and whether it has yet to see that a scan up to it was asked for.
 #[derive(Clone, Copy, Debug, PartialEq, Eq)]
 pub struct Source {
     pub stored: u64,
@@ -72,7 +74,7 @@ pub struct Prize {
     pub how: How,
 }
 
-/// What a pass has taken.
+/// The end of an operation, as its pass took it.
 #[derive(Clone, Copy, Debug, PartialEq, Eq)]
 pub struct Taken {
     pub generation: u32,

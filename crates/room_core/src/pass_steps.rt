@@ -1,3 +1,5 @@
+//! The steps of a pass as the owner of its operation, as `CoreState::step` calls them: each looks up the pass's part and the
+//! word, asks whether the step is allowed, and makes it.
 ghost use Rattle.std.specs.Prelude.{◌≡◌, ◌↔◌, IfOk, IsTrue, OnErr};
 ghost use Rattle.std.specs.Bool.{OnFalse, OnTrue};
 ghost use Rattle.room_core.specs.Checks.{CanLeavePass, CanReadPass, CanWinPass, pass_leaving, pass_reading, pass_winning};
@@ -11,7 +13,6 @@ use crate::parts::{Phase, Session, Stage};
 use crate::session_word::exchanged;
 use kbytes::NoMemory;
 
-/// The steps of a pass as the owner of its operation.
 impl CoreState {
     ghost use Rattle.room_core.specs.Tables.{state_of};
 

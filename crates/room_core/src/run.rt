@@ -1,3 +1,4 @@
+//! A whole run from the start, as tests make it: its clauses say of the code's tables what the laws say of every run.
 ghost use Rattle.std.specs.Prelude.{ℕ, IfOk};
 ghost use Rattle.room_core.specs.Carried.{IsCarried};
 ghost use Rattle.room_core.specs.Duty.{IsOpen, IsOverdueNow, IsSatisfiedNow};
@@ -14,8 +15,8 @@ use crate::shape::Shape;
 use kbytes::NoMemory;
 use std::alloc::Global;
 
-/// The room after these events from the start. One that isn't allowed changes nothing. The room is sound, and where nothing is left
-/// to do in it no open operation is answerable.
+/// The room after these events from the start. An event that isn't allowed changes nothing. The room is sound, and where nothing is
+/// left to do in it no open operation is answerable.
 pub fn run_events(alloc: Global, shape: Shape, events: &[CoreEvent]) -> Result<CoreState, NoMemory>
     requires { IsShape shape }
     ensures run { IfOk result (λ s. IsRun (start_of shape) events.now (state_of s)) }

@@ -1,3 +1,5 @@
+//! A scanner's steps other than hearing and beginning, as `CoreState::step` calls them: each looks up the word, asks
+//! `ScannerPart` whether the step is allowed, and makes it.
 ghost use Rattle.std.specs.Prelude.{◌≡◌, ◌↔◌, IfOk, IsTrue, OnErr};
 ghost use Rattle.std.specs.Bool.{OnFalse, OnTrue};
 ghost use Rattle.room_core.specs.Checks.{CanLeaveScanner, CanReadScanner, CanWinScanner, scanner_leaving, scanner_reading, scanner_winning};

@@ -1,3 +1,5 @@
+//! How a scanner's part comes to know and list an operation: it reads, meets, learns and marks. `scan_steps` calls this;
+//! `scanner_checks` and `scanner_wins` build on it.
 ghost use Rattle.std.specs.Prelude.{◌≡◌, ◌≤◌, ◌↔◌, ◌<◌, ◌⊎◌, IsTrue, Some};
 ghost use Rattle.room_core.specs.Checks.{scanner_reads};
 ghost use Rattle.room_core.specs.Description.{marked_gauge};
@@ -48,7 +50,7 @@ impl ScannerPart {
         self.duties[pass as usize] = duty;
     }
 
-    /// The generation met, 0 without a meeting.
+    /// The generation met, or 0 without a meeting.
     pub(crate) fn generation(&self) -> u32
         ensures { result ≡ generation_met (scanner_of self.now).meeting }
     {
@@ -65,7 +67,7 @@ impl ScannerPart {
         self.learned[at as usize].is_some()
     }
 
-    /// A word of the description, 0 where it wasn't learned.
+    /// A word of the description, or 0 where it wasn't learned.
     pub(crate) fn word(&self, at: u32) -> u64
         requires { at < DESCRIPTION_WORDS }
         ensures { result ≡ words_of (scanner_of self.now) at }
@@ -88,7 +90,7 @@ impl ScannerPart {
             && gauge != u64::from(clock(self.shape))
     }
 
-    /// Whether the scanner of this number may list the operation that it has met for a mark.
+    /// Whether the scanner with this number may list the operation that it has met, for this mark.
     pub(crate) fn may_mark(&self, scanner: u32, at: u32) -> bool
         requires { IsShape self.now.shape }
         ensures { IsTrue result ↔ (MayMarkNeed self.now.shape scanner (scanner_of self.now) at ⊎ MayMarkClock scanner (scanner_of self.now) at) }
@@ -100,7 +102,7 @@ impl ScannerPart {
         }
     }
 
-    /// The gauge under which the operation that was met is listed for a mark.
+    /// The gauge under which the operation that was met is listed for this mark.
     #[tactic(auto, unfolding(crate::specs::Description::marked_gauge))]
     fn gauge_marked(&self, at: u32) -> u64
         requires at_in { at ≤ CLOCK_MARK }
@@ -114,7 +116,7 @@ impl ScannerPart {
         }
     }
 
-    /// The entry of a mark.
+    /// The entry that is listed for this mark.
     fn entry(&self, at: u32) -> Entry
         ensures { result ≡ entry_for (scanner_of self.now) at }
     {

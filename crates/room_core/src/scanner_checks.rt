@@ -1,3 +1,5 @@
+//! How a scanner checks the operation that it has met: whether the readings answer it, whether the check may end here, and what
+//! is left of it then. `scan_steps` calls this for the last reading of a check, `scanner_wins` before an exchange.
 ghost use Rattle.std.specs.Prelude.{◌≡◌, ◌≢◌, ◌≤◌, ◌<◌, ◌↔◌, IsTrue, IsSome};
 ghost use Rattle.opcond.specs.Tally.{counted};
 ghost use Rattle.room_core.specs.Checks.{AreRead, IsAllLearned, IsDuty, IsOnCheck, IsRead, is_overdue, is_satisfied, scanner_answers, scanner_leaves, scanner_lets_go, scanner_takes};
@@ -19,7 +21,7 @@ use crate::scanner_part::ScannerPart;
 impl ScannerPart {
     ghost use Rattle.room_core.specs.ScannerTables.{scanner_of};
 
-    /// What was read of a gauge, 0 where nothing was.
+    /// What was read of a gauge, or 0 where nothing was.
     fn reading(&self, gauge: u64) -> u64
         ensures { result ≡ read_only (scanner_of self.now).readings gauge }
     {
@@ -32,7 +34,7 @@ impl ScannerPart {
         has_read(&self.readings, gauge)
     }
 
-    /// What counts of a need's gauge.
+    /// How much of a need's gauge counts.
     fn counts(&self, need: u32) -> u64
         requires { need < MOST_NEEDS }
         ensures { result ≡ counted (need_of (words_of (scanner_of self.now)) need) (read_only (scanner_of self.now).readings (gauge_of (words_of (scanner_of self.now)) need)) }
@@ -135,7 +137,8 @@ impl ScannerPart {
         self.has_read(u64::from(clock)) || gauge == clock
     }
 
-    /// Whether the readings make the operation answerable, by what the scanner of this number wants.
+    /// Whether the readings make the operation answerable for the scanner with this number: the clock's looks at the deadline alone,
+    /// the others at the needs alone.
     fn answers(&self, scanner: u32) -> bool
         requires few { needs_of (words_of (scanner_of self.now)) ≤ MOST_NEEDS }
         requires shape { IsShape self.now.shape }

@@ -1,3 +1,5 @@
+//! What a scanner knows, which no other thread sees. `CoreState` keeps one for each scanner; hearing and beginning are here, its
+//! other steps in `scanner_acts`, `scanner_checks` and `scanner_wins`.
 ghost use Rattle.std.specs.Prelude.{◌≡◌, ◌↔◌, ◌<◌, IfOk, IsTrue, length, All, replicate, None};
 ghost use Rattle.room_core.specs.Scans.{IsHeard, number_heard, scanner_begins, scanner_hears};
 ghost use Rattle.room_core.specs.ScannerSize.{ScannerIsSized};
@@ -10,7 +12,7 @@ use crate::shape::Shape;
 use kbytes::NoMemory;
 use std::alloc::Global;
 
-/// A scanner's part, in tables by number.
+/// A scanner's part, with a table by number for each thing that it knows.
 #[derive(Debug, Drop)]
 pub(crate) struct ScannerPart {
     pub(crate) shape: Shape,
@@ -37,7 +39,7 @@ fn empty_rows(alloc: Global, shape: Shape) -> Result<Vec<Vec<Option<Entry>>>, No
     Ok(rows)
 }
 
-/// No duty with any pass.
+/// A table with no duty for any pass.
 fn no_duties(alloc: Global, shape: Shape) -> Result<Vec<Option<Duty>>, NoMemory>
     ensures { IfOk result (λ v. v.items ≡ replicate shape.passes None) }
 {
@@ -66,7 +68,7 @@ impl ScannerPart {
         })
     }
 
-    /// The scanner has heard of the gauge.
+    /// Whether the gauge is the one that the scanner has heard last.
     pub(crate) fn has_heard(&self, gauge: u32) -> bool
         ensures { IsTrue result ↔ IsHeard self.now.heard gauge }
     {

@@ -1,3 +1,5 @@
+//! How a scanner's check ends with an exchange: the prize is kept if the word was still open, and the entry and the duty go
+//! either way. `scan_steps` calls this.
 ghost use Rattle.std.specs.Prelude.{◌≡◌, ◌<◌, ◌↔◌, IsTrue, OnErr, OnOk};
 ghost use Rattle.room_core.specs.Checks.{IsOnCheck, IsWon, MayWin, gauge_of_duty, other_entry, scanner_wins};
 ghost use Rattle.room_core.specs.Gauges.{IsShape};
@@ -12,7 +14,7 @@ use crate::scanner_part::ScannerPart;
 use crate::session_word::keep_prize;
 use kbytes::NoMemory;
 
-/// An entry, where it isn't of this generation.
+/// An entry, if it isn't of this generation.
 #[tactic(auto, unfolding(crate::specs::Checks::other_entry))]
 fn entry_of_other(entry: Option<Entry>, generation: u32) -> Option<Entry>
     ensures { result ≡ other_entry entry generation }

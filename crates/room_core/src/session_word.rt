@@ -1,3 +1,5 @@
+//! What one exchange of a session word does, for whoever tries it: passes and scanners go through the same two functions, so a
+//! generation is won only once.
 ghost use Rattle.std.specs.Prelude.{◌≡◌, OnErr, OnOk};
 ghost use Rattle.room_core.specs.Checks.{exchanged, with_prize};
 ghost use Rattle.room_core.specs.Meetings.{is_live};
@@ -16,7 +18,7 @@ pub(crate) fn is_live(session: Session, generation: u32) -> bool
     }
 }
 
-/// The session word after an exchange from open at this generation.
+/// The session word after an attempt to exchange it: won if it was open at this generation, and else as it was.
 #[tactic(auto, unfolding(crate::specs::Checks::exchanged))]
 pub(crate) fn exchanged(session: Session, generation: u32, how: How, by: u32) -> Session
     ensures { result ≡ exchanged session generation how by }
@@ -30,7 +32,7 @@ pub(crate) fn exchanged(session: Session, generation: u32, how: How, by: u32) ->
     }
 }
 
-/// Keeps the prize among a winner's, where the session word was open at its generation.
+/// Adds the prize to a winner's wins, if the session word was open at its generation.
 #[tactic(auto, unfolding(crate::specs::Checks::with_prize))]
 pub(crate) fn keep_prize(
     wins: &mut Vec<Prize>,

@@ -1,4 +1,4 @@
-//! Laws of the machine. They do nothing.
+//! Laws of the machine: what no interleaving of events can break. The functions do nothing; their clauses are the laws.
 ghost use Rattle.std.specs.Prelude.{◌≡◌, ◌≢◌, ◌+◌, ◌<◌, ℕ, List, Some, length, slice_get};
 ghost use Rattle.opcond.specs.Operation.{IsValid};
 ghost use Rattle.opcond.specs.Tally.{tally as listed_tally};
@@ -23,7 +23,7 @@ ghost use Rattle.room_core.specs.State.{State};
 ghost use Rattle.room_core.specs.Step.{IsAllowed, changed};
 ghost use Rattle.room_core.specs.Wins.{prizes_as, wins_of};
 
-/// Law: from every state that meets it, every event that is allowed keeps what is carried, soundness with it.
+/// Law: in every state that meets what is carried, every allowed event keeps it, and soundness with it.
 pub fn event_keeps()
     ensures { (s : State) (event : Event) → IsCarried s → IsAllowed s event → IsCarried (changed s event) }
 {}
@@ -43,8 +43,7 @@ pub fn quiet_is_answered()
         → (pass : ℕ) → IsOpen s pass → IsOverdueNow s pass → ⊥ }
 {}
 
-/// Law: a word that is won, and an item that was taken, stands once in the wins of the winner that it names, and in nobody
-/// else's.
+/// Law: a word that is won, and an item that was taken, is once in the wins of the winner that it names, and in nobody else's.
 pub fn wins_stand_once()
     ensures mine { (s : State) → IsSound s → (pass : ℕ) (how : Way) (by : ℕ)
         → (s.session pass).phase ≡ Won how by
@@ -60,25 +59,25 @@ pub fn wins_stand_once()
         → prizes_as (wins_of s.scanner s.caller other) pass item.generation way ≡ 0 }
 {}
 
-/// Law: what stands in a winner's wins is as many as the items taken that name it and the words that it has won.
+/// Law: a winner's wins are as many as the items taken that name it and the words that it has won.
 pub fn wins_are_counted()
     ensures { (s : State) → IsCarried s → (by : ℕ)
         → length (wins_of s.scanner s.caller by) ≡ taken_by s by + won_by s by }
 {}
 
-/// Law: the operation that a described one's words describe is valid, and its tally is that over the words.
+/// Law: the operation that a description's words describe is valid, and its tally is the one computed from the words.
 pub fn described_operations_are_valid()
     ensures valid { (shape : Size) (words : ℕ → ℕ) → IsOperation shape words → IsValid (operation_of words) }
     ensures tally { (words value : ℕ → ℕ)
         → listed_tally (operation_of words).needs (values_in words value) ≡ tally words value }
 {}
 
-/// Law: a session word whose winner has a number below 256 comes out of its number as it was.
+/// Law: a session word whose winner has a number below 256 is unpacked from its number as it was.
 pub fn session_words_unpack()
     ensures { (word : Word) → winner_number word.phase < 256 → unpacked (packed word) ≡ word }
 {}
 
-/// Law: who won a word has a number below 97: there are 17 scanners and at most 80 passes.
+/// Law: a word's winner has a number below 97: there are 17 scanners and at most 80 passes.
 pub fn winners_are_few()
     ensures { (s : State) → IsCarried s → (pass : ℕ) → winner_number (s.session pass).phase < 97 }
 {}

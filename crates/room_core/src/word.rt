@@ -1,3 +1,5 @@
+//! The words that all threads see, and the number that a session word is in memory. The layer above lays its table out by `Word`,
+//! and reads and writes sessions by `packed` and `unpacked`.
 ghost use Rattle.std.specs.Prelude.{◌≡◌, ◌<◌, ◌^◌};
 ghost use Rattle.room_core.specs.Packing.{packed, phase_number, unpacked, winner_number};
 
@@ -5,10 +7,10 @@ use crate::event::How;
 use crate::numbers::PHASES;
 use crate::parts::{Phase, Session};
 
-// A session word counts this for each generation, and `PHASES` for each number before the winner's: there are fewer than 256 winners.
+// A session word has this for each generation, and `PHASES` for each number below the winner's: there are fewer than 256 winners.
 const WINNERS: u64 = 1024;
 
-/// Which of the room's words, all of which every thread sees.
+/// One of the room's words, all of which every thread sees.
 #[derive(Clone, Copy, Debug, PartialEq, Eq)]
 pub enum Word {
     /// The value of a gauge, as its source stored it.
@@ -19,8 +21,8 @@ pub enum Word {
     Begun { gauge: u32 },
     /// The session word of a pass.
     Session { pass: u32 },
-    /// A word of a pass's description: 0 the least tally, 1 the deadline, 2 the number of needs, from 3 on of each need its
-    /// gauge, start and cap.
+    /// A word of a pass's description: 0 the least tally, 1 the deadline, 2 the number of needs, and from 3 on the gauge, start
+    /// and cap of each need.
     Description { pass: u32, at: u32 },
     /// The mark of a need, or, at 64, of the clock's listing.
     Mark { pass: u32, at: u32 },
@@ -51,8 +53,8 @@ fn winner_number(phase: Phase) -> u32
 }
 
 impl Session {
-    /// The session word as a number: 1024 for each generation, 4 for each number before the winner's, and the phase, 0
-    /// idle, 1 open, 2 satisfied, 3 expired.
+    /// The session word as a number: 1024 for each generation, 4 for each number below the winner's, and the phase: 0 idle,
+    /// 1 open, 2 satisfied, 3 expired.
     #[tactic(auto, unfolding(crate::specs::Packing::packed))]
     pub fn packed(self) -> u64
         ensures { result ≡ packed self }

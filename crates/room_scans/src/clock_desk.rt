@@ -1,4 +1,4 @@
-//! What stands behind the wheels' lock.
+//! What is behind the clock's lock. With a turn of it, `purgatory` lists operations here under their deadlines, and scans the clock.
 ghost use Rattle.std.specs.Prelude.{◌≡◌, ◌≤◌, [], IfOk, length};
 ghost use Rattle.room_core.specs.Gauges.{IsPass, IsShape, clock_of};
 ghost use Rattle.room_core.specs.Numbers.{clock_scanner, scanner_numbers};
@@ -38,8 +38,8 @@ impl Model for ClockDesk {
 }
 
 impl ClockDesk {
-    /// The desk of the clock's scanner, from its seat as the table hands it out. It is refused where no memory is left; nothing takes
-    /// memory after this.
+    /// The desk of the clock's scanner, from its seat as the table hands it out. Fails only when out of memory; no later call takes
+    /// memory.
     pub fn make(alloc: Global, seat: ScanSeat, shape: Shape) -> Result<ClockDesk, NoMemory>
         requires shape { (shape ≡ seat.table.shape) × IsShape shape × (shape.scanners ≡ scanner_numbers) }
         requires number { seat.scanner ≡ clock_scanner }
@@ -52,7 +52,7 @@ impl ClockDesk {
     }
 
     /// Scans the clock: hears up to which moment, in milliseconds, begins, and checks each operation whose deadline has come since
-    /// the scan before. Those that are overdue are won.
+    /// the last scan. It tries to win those that are overdue.
     pub fn scan(&mut self, rt: &impl Wait, table: &RoomTable)
         requires table { self.old.seat.table ≡ table.now }
         ensures { HasScanned (clock_of table.now.shape) self.old.seat self.new.seat }
@@ -66,8 +66,8 @@ impl ClockDesk {
         self.listing.is_listed();
     }
 
-    /// Lists the operation that the pass has open at this generation under its deadline, and marks that. Where the pass isn't open at
-    /// it nothing is listed; the pass's own look at the mark shows it.
+    /// Lists the operation that the pass has open at this generation under its deadline, and marks it as listed. If the pass isn't open
+    /// at this generation, nothing is listed; the pass sees that when it looks at the mark.
     pub fn list(&mut self, table: &RoomTable, pass: u32, generation: u32)
         requires table { self.old.seat.table ≡ table.now }
         requires pass { IsPass table.now.shape pass }
@@ -78,7 +78,7 @@ impl ClockDesk {
         self.listing.is_listed();
     }
 
-    /// How many operations the scanner won. Between any two calls the desk keeps what its clause says.
+    /// How many operations the scanner has won. Clause `keeps` is what the desk keeps between any two calls.
     pub fn wins(&self) -> u64
         ensures count { result ≡ length (scanner_now self.now.seat).wins }
         ensures keeps { ClockKeeps self.now }

@@ -1,4 +1,4 @@
-//! The clock's scanner and the timers of its entries.
+//! The clock's scanner beside the timers of its entries: `ClockDesk` calls it, and each call keeps the two alike.
 ghost use Rattle.std.specs.Prelude.{◌≡◌, ◌≢◌, ◌≤◌, ◌<◌, ℕ, List as Items, Option as Maybe, [], IfOk, Some, length, slice_index};
 ghost use Rattle.std.specs.List.Sorted.{IsStrictlyIncreasing};
 ghost use Rattle.room_core.specs.declared.parts.Entry.{Entry as Listed};
@@ -29,7 +29,7 @@ use timing_wheel::{Due, Wheels};
 pub(crate) struct ClockListing {
     scanner: Inspector,
     wheels: Wheels,
-    // by pass: its operation, if it is listed
+    // by pass: the entry of its operation, if that is listed
     entries: Vec<Option<Entry>>,
 }
 
@@ -54,8 +54,8 @@ fn is_stale(entry: Option<Entry>, generation: u32) -> bool
     }
 }
 
-// Gives a pass the timer of its deadline, where that is past the moment. One that lies farther ahead than the wheels take is put as
-// far ahead as they do.
+// Sets a pass's timer to its deadline, if that is past the present moment. A deadline farther ahead than the wheels reach gets a
+// timer as far ahead as they do.
 fn put_timer(wheels: &mut Wheels, pass: u32, deadline: u64)
     requires { pass < ids_of wheels.old }
     ensures moment { wheels.new.moment ≡ wheels.old.moment }
@@ -107,14 +107,14 @@ impl ClockListing {
         scanner.into_seat()
     }
 
-    /// Law: what is kept by pass is exactly the scanner's listing.
+    /// Law: the entries that are kept by pass are exactly the scanner's listing.
     pub(crate) fn is_listed(&self)
         ensures { (kept : Items (Maybe Listed)) × IsClockListing kept self.now }
     {
         let _ = &self.entries;
     }
 
-    /// Begins a scan of the clock, and takes out the timers that come by the moment heard.
+    /// Begins a scan of the clock, and takes out the timers that are due at the moment heard.
     pub(crate) fn begin(&mut self, table: &RoomTable, due: &mut Due) -> u64
         requires table { self.old.seat.table ≡ table.now }
         requires settled { (pass : ℕ) → IsSettled pass self.old }
@@ -134,7 +134,7 @@ impl ClockListing {
         heard
     }
 
-    // Meets a pass. Its entry goes, with its timer, where it isn't open at the entry's generation.
+    // Meets a pass. If that isn't open at its entry's generation, the entry goes, and its timer too.
     fn meet(&mut self, table: &RoomTable, pass: u32) -> Session
         requires table { self.old.seat.table ≡ table.now }
         requires pass { IsPass table.now.shape pass }
@@ -177,7 +177,7 @@ impl ClockListing {
         unreachable!()
     }
 
-    /// Looks at an operation whose timer has come out. Where its deadline has come it is checked; else it has another timer.
+    /// Looks at an operation whose timer has come out. It is checked if its deadline has come, and else gets another timer.
     pub(crate) fn check(&mut self, rt: &impl Wait, table: &RoomTable, pass: u32)
         requires table { self.old.seat.table ≡ table.now }
         requires pass { IsPass table.now.shape pass }

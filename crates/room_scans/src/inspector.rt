@@ -1,4 +1,5 @@
-//! A scanner that looks into operations: it meets a pass, learns its description, reads gauges, and leaves or wins.
+//! A scanner that looks into operations: it meets a pass, learns its description, reads gauges, and leaves or wins. Both listings
+//! do all their steps on the table through it.
 ghost use Rattle.std.specs.Prelude.{◌≡◌, ◌≢◌, ◌≤◌, ◌<◌, ◌+◌, ◌*◌, ◌↔◌, ℕ, [], IfNone, IfOk, IfSome, IsTrue, false, if◌then◌else◌, length};
 ghost use Rattle.room_core.specs.Checks.{AreRead, IsAllLearned, IsDuty, IsOnCheck, IsRead, ScannerMayWin};
 ghost use Rattle.room_core.specs.Gauges.{IsGauge, IsGaugeOf, IsPass, IsScanner, IsShape, clock_of};
@@ -29,7 +30,7 @@ use std::sync::Wait;
 use std::sync::atomic::AtomicU64;
 use std::time::Duration;
 
-// A nap of who sleeps for ever, in milliseconds.
+// How long a thread that sleeps forever sleeps at a time, in milliseconds.
 const NAP: u64 = 1_000;
 
 /// A scanner's seat, and what it keeps of its present meeting.
@@ -38,9 +39,9 @@ pub(crate) struct Inspector {
     seat: ScanSeat,
     shape: Shape,
     number: u32,
-    // the words learned of the description
+    // the words of the description, as it learned them
     words: Vec<u64>,
-    // by gauge, the values read
+    // by gauge: the value that it read
     values: Vec<u64>,
     // how many it has won
     wins: u64,
@@ -57,7 +58,7 @@ impl Model for Inspector {
     ghost invariant = { λ i. IsInspector i.shape i.number i.words.items i.values.items i.wins i.seat };
 }
 
-// One more where the scanner has won. One that has won 2^64 - 1 operations sleeps for ever.
+// The wins, with one more if the scanner has won. A scanner that wins again after 2^64 - 1 wins sleeps forever.
 fn counted(rt: &impl Wait, wins: u64, has_won: bool) -> u64
     ensures { result ≡ wins + (if has_won then 1 else 0) }
 {
@@ -130,7 +131,7 @@ impl Inspector {
         seat
     }
 
-    // Whether a word learned is a gauge of the scanner's own, and not the clock.
+    // Whether a word that was learned is a gauge of the scanner's own, and not the clock.
     fn owns(&self, gauge: u64) -> bool
         requires { (self.now.table.shape.scanners ≡ scanner_numbers) × (self.now.scanner < clock_scanner) }
         ensures own { IsTrue result ↔ (IsGaugeOf self.now.table.shape self.now.scanner gauge × (gauge ≢ clock_of self.now.table.shape)) }
@@ -140,7 +141,7 @@ impl Inspector {
             && gauge % u64::from(SHARDS) == u64::from(self.number)
     }
 
-    /// The key of a gauge of the scanner's own. None where a word learned is no such gauge.
+    /// The key of a gauge of the scanner's own, or None if the word that was learned is no such gauge.
     pub(crate) fn key_of(&self, gauge: u64) -> Option<u32>
         requires { (self.now.table.shape.scanners ≡ scanner_numbers) × (self.now.scanner < clock_scanner) }
         ensures key { IfSome result (λ key. (gauge ≡ gauge_of_key self.now.scanner key) × (key < shard_gauges)) }
@@ -153,7 +154,7 @@ impl Inspector {
         Some((gauge / u64::from(SHARDS)) as u32)
     }
 
-    /// Hears up to which value a gauge of its own is to be scanned, and begins that.
+    /// Hears up to which value a gauge of its own is to be scanned, and begins that scan.
     pub(crate) fn begin(&mut self, table: &RoomTable, gauge: u32) -> u64
         requires table { self.old.table ≡ table.now }
         requires may { MayHear self.old.table.shape self.old.scanner (scanner_now self.old) gauge }
@@ -186,7 +187,7 @@ impl Inspector {
         word
     }
 
-    /// Lists the operation that it has met, and marks that.
+    /// Lists the operation that it has met, and marks it as listed.
     pub(crate) fn mark(&mut self, table: &RoomTable, pass: u32, at: u32, generation: u32)
         requires table { self.old.table ≡ table.now }
         requires may { MayMark self.old.table.shape self.old.scanner (scanner_now self.old) pass at }
@@ -196,7 +197,7 @@ impl Inspector {
         table.mark(&mut self.seat, pass, at, generation);
     }
 
-    // Learns the words from one place up to another.
+    // Learns the words from one place up to, and without, another.
     fn learn_more(&mut self, table: &RoomTable, pass: u32, from: u32, to: u32)
         requires table { self.old.table ≡ table.now }
         requires pass { IsPass self.old.table.shape pass }
@@ -213,7 +214,7 @@ impl Inspector {
         }
     }
 
-    // Learns the whole description of the pass that it has met, and says how many needs it has. None where it has too many.
+    // Learns the whole description of the pass that it has met. The number of its needs, or None if that is too large.
     fn learn_all(&mut self, table: &RoomTable, pass: u32) -> Option<u32>
         requires table { self.old.table ≡ table.now }
         requires pass { IsPass self.old.table.shape pass }
@@ -244,7 +245,7 @@ impl Inspector {
         self.values[gauge as usize] = value;
     }
 
-    // Reads a need's gauge, unless it is the one that is read last. False where there is no such gauge.
+    // Reads a need's gauge, unless it is the one that is read last. False if there is no such gauge.
     fn read_need(&mut self, table: &RoomTable, last: u32, need: u32) -> bool
         requires table { self.old.table ≡ table.now }
         requires met { (pass : ℕ) × IsMet (scanner_now self.old).meeting pass }
@@ -266,7 +267,7 @@ impl Inspector {
         true
     }
 
-    // Reads the gauges of all needs but the one that is read last. False where there is no such gauge.
+    // Reads the gauges of all needs but the one that is read last. False if a need's gauge doesn't exist.
     fn read_needs(&mut self, table: &RoomTable, last: u32, needs: u32) -> bool
         requires table { self.old.table ≡ table.now }
         requires met { (pass : ℕ) × IsMet (scanner_now self.old).meeting pass }
@@ -285,7 +286,7 @@ impl Inspector {
         true
     }
 
-    // Takes the last value that a check of the needs wants. Whether they are satisfied; where they aren't, the check is left.
+    // Reads the last value that a check of the needs wants. True if they are satisfied; if not, the check is left.
     fn leave_needs(&mut self, table: &RoomTable, pass: u32, last: u32, needs: u32) -> bool
         requires table { self.old.table ≡ table.now }
         requires pass { IsPass self.old.table.shape pass }
@@ -306,7 +307,7 @@ impl Inspector {
         u128::from(self.words[LEAST_WORD as usize]) <= total
     }
 
-    // Takes the clock. Whether the operation is overdue; where it isn't, the check is left.
+    // Reads the clock. True if the operation is overdue; if not, the check is left.
     fn leave_clock(&mut self, table: &RoomTable, pass: u32) -> bool
         requires table { self.old.table ≡ table.now }
         requires pass { IsPass self.old.table.shape pass }
@@ -334,7 +335,7 @@ impl Inspector {
         self.wins = counted(rt, self.wins, has_won);
     }
 
-    /// Checks the needs of the operation that it has met, and on which it has a duty. The gauge is read last.
+    /// Checks the needs of the operation that it has met, and on which it has a duty. The gauge that is scanned is read last.
     pub(crate) fn check_needs(
         &mut self,
         rt: &impl Wait,

@@ -1,4 +1,4 @@
-//! What a turn lock knows of the desks: their names. They have no entries.
+//! What a turn lock knows of the desks: their names, by which a pass of a lock knows what is behind it. They have no entries.
 use crate::clock_desk::ClockDesk;
 use crate::shard_desk::ShardDesk;
 use turn_lock::Kept;

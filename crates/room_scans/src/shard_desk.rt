@@ -1,4 +1,5 @@
-//! What stands behind a shard's lock.
+//! What is behind a shard's lock. With a turn of it, `purgatory` lists operations here under the gauges of the shard, and scans one
+//! that was raised.
 ghost use Rattle.std.specs.Prelude.{◌≡◌, ◌<◌, ◌≤◌, [], IfOk, length};
 ghost use Rattle.room_core.specs.Gauges.{IsGaugeOf, IsPass, IsShape};
 ghost use Rattle.room_core.specs.Numbers.{clock_scanner, most_needs, scanner_numbers};
@@ -37,8 +38,8 @@ impl Model for ShardDesk {
 }
 
 impl ShardDesk {
-    /// The desk of the scanner of this number, from its seat as the table hands it out. It is refused where no memory is left;
-    /// nothing takes memory after this.
+    /// The desk of the scanner with this number, from its seat as the table hands it out. Fails only when out of memory; no later
+    /// call takes memory.
     pub fn make(
         alloc: Global,
         seat: ScanSeat,
@@ -55,7 +56,7 @@ impl ShardDesk {
     }
 
     /// Scans a gauge of the scanner's own: hears up to which value, begins, and checks each watcher against all gauges of its
-    /// operation. Those that are satisfied are won.
+    /// operation. It tries to win those that are satisfied.
     pub fn scan(&mut self, rt: &impl Wait, table: &RoomTable, gauge: u32)
         requires table { self.old.seat.table ≡ table.now }
         requires gauge { IsGaugeOf table.now.shape self.old.seat.scanner gauge }
@@ -73,9 +74,9 @@ impl ShardDesk {
         self.listing.is_listed();
     }
 
-    /// Lists the operation that the pass has open at this generation under the gauge of its need of this number, and marks that.
-    /// Where the pass isn't open at it, or the gauge isn't the scanner's, nothing is listed; the pass's own look at the mark shows
-    /// it. A shard with 500 watchers or more is purged first.
+    /// Lists the operation that the pass has open at this generation under the gauge of its need with this number, and marks it as
+    /// listed. If the pass isn't open at this generation, has no such need, or the gauge isn't the scanner's, nothing is listed; the
+    /// pass sees that when it looks at the mark. A shard with 500 watchers or more is purged first.
     pub fn list(&mut self, table: &RoomTable, pass: u32, generation: u32, at: u32)
         requires table { self.old.seat.table ≡ table.now }
         requires pass { IsPass table.now.shape pass }
@@ -88,7 +89,7 @@ impl ShardDesk {
         self.listing.is_listed();
     }
 
-    /// How many operations the scanner won. Between any two calls the desk keeps what its clause says.
+    /// How many operations the scanner has won. Clause `keeps` is what the desk keeps between any two calls.
     pub fn wins(&self) -> u64
         ensures count { result ≡ length (scanner_now self.now.seat).wins }
         ensures keeps { ShardKeeps self.now }

@@ -1,4 +1,4 @@
-//! A shard and its scanner: what is listed there is the scanner's listing.
+//! A shard's scanner beside the watchers of its gauges: `ShardDesk` calls it, and each call keeps the two alike.
 ghost use Rattle.std.specs.Prelude.{◌≡◌, ◌≢◌, ◌≤◌, ◌<◌, ◌/◌, ◌↔◌, ℕ, List as Items, [], IfOk, Some, length, slice_get};
 ghost use Rattle.room_core.specs.Gauges.{IsGaugeOf, IsPass, IsShape};
 ghost use Rattle.room_core.specs.Numbers.{clock_scanner, most_needs, scanner_numbers, shard_gauges, shards};
@@ -30,7 +30,7 @@ use watch_lists::{Shard, Watch};
 pub(crate) struct ShardListing {
     scanner: Inspector,
     shard: Shard,
-    // by pass: the generation of its watchers, if it has any
+    // by pass: the generation of its watchers, if it has any; all its watchers have the same
     generations: Vec<u32>,
 }
 
@@ -46,7 +46,7 @@ impl Model for ShardListing {
     ghost invariant = { λ l. IsShelf l.generations.items (record { seat = l.scanner; watches = l.shard }) };
 }
 
-// Takes the watchers of a pass that have this generation out, under every key.
+// Takes out the watchers of a pass at this generation, under every key.
 fn drop_pass(shard: &mut Shard, pass: u32, generation: u32)
     requires keys { keys_of shard.old ≡ shard_gauges }
     requires pass { pass < shard.old.ids }
@@ -106,7 +106,7 @@ impl ShardListing {
         let _ = &self.shard;
     }
 
-    /// Begins a scan of a gauge of its own. All watchers of the gauge are its duties then.
+    /// Begins a scan of a gauge of its own. All watchers of the gauge are then its duties.
     pub(crate) fn begin(&mut self, table: &RoomTable, gauge: u32) -> u64
         requires table { self.old.seat.table ≡ table.now }
         requires gauge { IsGaugeOf table.now.shape self.old.seat.scanner gauge }
@@ -135,7 +135,7 @@ impl ShardListing {
         passes
     }
 
-    /// The watcher at a place of a key.
+    /// The watcher at this place in the row of a key.
     pub(crate) fn watcher(&self, key: u32, place: u32) -> Option<Watch>
         requires { key < shard_gauges }
         ensures place { result ≡ slice_get (row_of self.now.watches key) place }
@@ -145,7 +145,7 @@ impl ShardListing {
         self.shard.each(key, place)
     }
 
-    // Meets a pass. Its watchers at a generation that isn't open go.
+    // Meets a pass. If that isn't open at the generation of its watchers, they go.
     fn meet(&mut self, table: &RoomTable, pass: u32) -> Session
         requires table { self.old.seat.table ≡ table.now }
         requires pass { IsPass table.now.shape pass }
@@ -192,7 +192,7 @@ impl ShardListing {
         unreachable!()
     }
 
-    // Meets every pass, and takes out all watchers whose operation isn't open.
+    // Meets every pass, and takes out all watchers whose operation isn't open any more.
     fn purge(&mut self, table: &RoomTable)
         requires table { self.old.seat.table ≡ table.now }
         ensures went { GoesOn self.old.seat self.new.seat }
@@ -207,7 +207,7 @@ impl ShardListing {
         self.shard.purge(self.generations.as_slice());
     }
 
-    // Purges the shard where it holds too many watchers.
+    // Purges the shard if it holds too many watchers.
     fn make_room(&mut self, table: &RoomTable)
         requires table { self.old.seat.table ≡ table.now }
         ensures went { GoesOn self.old.seat self.new.seat }
@@ -220,7 +220,7 @@ impl ShardListing {
         self.purge(table);
     }
 
-    /// Lists the operation that the pass has open at this generation under its need of this number.
+    /// Lists the operation that the pass has open at this generation under its need with this number.
     pub(crate) fn list(&mut self, table: &RoomTable, pass: u32, generation: u32, at: u32)
         requires table { self.old.seat.table ≡ table.now }
         requires pass { IsPass table.now.shape pass }

@@ -1,4 +1,5 @@
-//! The tally of an operation's description.
+//! The tally that a shard's scanner computes from the words that it has learned. They may be a mixture of two descriptions, so
+//! `opcond`, which wants a valid operation, can't be asked.
 ghost use Rattle.std.specs.Prelude.{◌≡◌, ◌<◌, ◌≤◌, ◌+◌, ◌*◌, ℕ, length, slice_index};
 ghost use Rattle.opcond.specs.Tally.{counted};
 ghost use Rattle.room_core.specs.Description.{cap_word, gauge_of, gauge_word, need_of, tally_below};
@@ -6,7 +7,7 @@ ghost use Rattle.room_core.specs.Numbers.{most_needs};
 
 use room_core::{CAP_WORD, GAUGE_WORD, NEED_WORDS, START_WORD};
 
-// What counts of a value for the need with this number.
+// How much of a value counts for the need with this number.
 fn part(words: &[u64], values: &[u64], need: u32) -> u64
     requires need { cap_word need < length words.now }
     requires few { need < most_needs }
@@ -19,8 +20,8 @@ fn part(words: &[u64], values: &[u64], need: u32) -> u64
     cap.min(values[gauge].saturating_sub(start))
 }
 
-/// The tally of the first needs of a description at these values of the gauges. The words may be of two descriptions, so that the
-/// caps are of any size.
+/// The tally of the first needs of a description at these values of the gauges. Its caps may be of any size, and their sum above
+/// 64 bits.
 #[tactic(auto, using(room_core::proofs::Laws::tally_more, room_core::proofs::Laws::tally_none))]
 pub(crate) fn tally(words: &[u64], values: &[u64], needs: u32) -> u128
     requires few { needs ≤ most_needs }

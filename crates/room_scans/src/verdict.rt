@@ -1,9 +1,9 @@
-/// What a check of an operation comes to.
+/// The result of a check of an operation.
 pub(crate) enum Verdict {
-    /// What was learned is no description: the pass has described another operation meanwhile.
+    /// The words that were learned are no description: the pass has described another operation meanwhile.
     Unclear,
-    /// The check was left.
+    /// The operation isn't answerable: the check was left.
     Waits,
-    /// The scanner has tried to win it.
+    /// It was answerable: the scanner has tried to win it.
     Over,
 }

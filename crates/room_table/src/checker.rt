@@ -1,4 +1,5 @@
-//! Who makes checks: a pass of its own operation, and a scanner of one that it has met.
+//! The two kinds of seat that make checks: a pass checks its own operation, a scanner one that it has met. `RoomTable::read`,
+//! `leave` and `win` take either of them, by the trait `Checker`; the steps themselves are here.
 ghost use Rattle.std.specs.Prelude.{◌≡◌, ◌≤◌, ◌↔◌, ℕ, true, IsTrue};
 ghost use Rattle.room_core.specs.declared.event.How.{How as Way};
 ghost use Rattle.room_core.specs.declared.parts.Session.{Session as Word};
@@ -19,21 +20,21 @@ pub trait Checker {
     // the table that it was made with
     ghost of_table: { Self → TableView };
 
-    // what it may read, with which gauge it may leave a check of a pass, and how it may win it
+    // what it may read, with which gauge it may leave a check of a pass, and how it may win that pass's operation
     ghost may_read: { Self → ℕ → Type 0 };
 
     ghost may_leave: { Self → ℕ → ℕ → Type 0 };
 
     ghost may_win: { Self → ℕ → Way → Type 0 };
 
-    // the seat after it has read a value, has read the last of a check, or has tried to win and found the session word
+    // the seat after it has read a value, has read the last value of a check, or has tried to win and found the session word
     ghost has_read: { Self → ℕ → ℕ → Self };
 
     ghost has_left: { Self → ℕ → ℕ → ℕ → Self };
 
     ghost has_won: { Self → ℕ → Way → Word → Self };
 
-    // what it knows of a value that it finds, and of the number of a session word
+    // what it knows of a value that it finds, and of a session word that it finds, as a number
     ghost finds: { Self → ℕ → ℕ → Type 0 };
 
     ghost finds_word: { Self → ℕ → Type 0 };
@@ -41,21 +42,21 @@ pub trait Checker {
     // the generation that it checks
     ghost generation: { Self → ℕ };
 
-    /// `RoomTable::read`.
+    /// The step of `RoomTable::read`.
     fn read_value(&mut self, table: &RoomTable, gauge: u32) -> u64
         requires table { of_table self.old ≡ table.now }
         requires may { may_read self.old gauge }
         ensures step { self.new ≡ has_read self.old gauge result }
         ensures value { finds self.old gauge result };
 
-    /// `RoomTable::leave`.
+    /// The step of `RoomTable::leave`.
     fn leave_check(&mut self, table: &RoomTable, pass: u32, gauge: u32) -> u64
         requires table { of_table self.old ≡ table.now }
         requires may { may_leave self.old pass gauge }
         ensures step { self.new ≡ has_left self.old pass gauge result }
         ensures value { finds self.old gauge result };
 
-    /// `RoomTable::win`.
+    /// The step of `RoomTable::win`.
     fn win_operation(&mut self, table: &RoomTable, pass: u32, how: How) -> bool
         requires table { of_table self.old ≡ table.now }
         requires may { may_win self.old pass how }

@@ -1,4 +1,4 @@
-//! The steps of a check: reading, leaving, winning.
+//! The steps of a check, by any seat that makes checks: it reads values, leaves with the last one, or wins.
 ghost use Rattle.std.specs.Prelude.{◌≡◌, ◌↔◌, ℕ, true, IsTrue};
 ghost use Rattle.room_core.specs.Meetings.{is_live};
 ghost use Rattle.room_core.specs.Packing.{unpacked};
@@ -8,7 +8,7 @@ use crate::table::RoomTable;
 use room_core::How;
 
 impl RoomTable {
-    /// A value is read. In a check it is the gauge's reading.
+    /// Reads a gauge's value. In a check this is the reading of the gauge.
     pub fn read<S: Checker>(&self, who: &mut S, gauge: u32) -> u64
         requires table { S.of_table who.old ≡ self.now }
         requires may { S.may_read who.old gauge }
@@ -18,7 +18,7 @@ impl RoomTable {
         who.read_value(self, gauge)
     }
 
-    /// The last value that a check wants is read. The check ends where its readings don't make the operation answerable.
+    /// Reads the last value that a check wants. The check ends here if its readings don't make the operation answerable.
     pub fn leave<S: Checker>(&self, who: &mut S, pass: u32, gauge: u32) -> u64
         requires table { S.of_table who.old ≡ self.now }
         requires may { S.may_leave who.old pass gauge }
@@ -28,8 +28,8 @@ impl RoomTable {
         who.leave_check(self, pass, gauge)
     }
 
-    /// A check that found the operation answerable tries to win it, and says whether it did: whether the session word that it
-    /// found was open at the generation that it checked.
+    /// Tries to win the operation that a check found answerable. True: it was won, because the session word was still open at the
+    /// generation that was checked.
     pub fn win<S: Checker>(&self, who: &mut S, pass: u32, how: How) -> bool
         requires table { S.of_table who.old ≡ self.now }
         requires may { S.may_win who.old pass how }

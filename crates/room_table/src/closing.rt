@@ -1,4 +1,5 @@
-//! A table is closed seat by seat. So who keeps the seats inside other values needs no memory for lists of them.
+//! A table is closed seat by seat, in any order: a caller that keeps the seats inside other values needs no memory to collect
+//! them in lists. `purgatory` closes its room so; `RoomTable::close` does it with lists.
 ghost use Rattle.std.specs.Prelude.{◌≡◌};
 ghost use Rattle.room_table.specs.Closing.{AreAllBack, none_back, with_caller, with_scanner, with_source};
 ghost use Rattle.room_table.specs.Handed.{AreShown};
@@ -8,8 +9,8 @@ use crate::seats::{CallerSeat, ScanSeat, SourceSeat};
 use crate::table::{RoomTable, TableWords};
 use std::marker::Model;
 
-/// A table whose seats come back one after the other, in any order. A contract sees the table, and the seats that came back, the
-/// newest first. None of its calls takes memory.
+/// A table whose seats come back one by one. A contract sees the table and the seats that came back, the newest first. None of
+/// these calls takes memory.
 #[derive(Drop)]
 pub struct Closing {
     table: RoomTable,
@@ -28,7 +29,7 @@ impl Model for Closing {
 }
 
 impl RoomTable {
-    /// Begins to close the table, with the seat of one of its scanners. Nobody can step on it any more.
+    /// Begins to close the table, with the seat of one of its scanners. From then on nobody can step on the table.
     pub fn closing(self, first: ScanSeat) -> Closing
         requires { first.table ≡ self }
         ensures { result ≡ with_scanner (none_back self) first }
@@ -80,8 +81,8 @@ impl Closing {
         self.table.take_back(&mut self.seat, seat);
     }
 
-    /// Gives the words out, where all seats are back. They and what the seats know show a state that the room's machine carries, each
-    /// part of which is one seat's.
+    /// Returns the words, once all seats are back. The words and what the seats know show a state that the room's machine carries,
+    /// and each part of it is one seat's.
     pub fn close(self) -> TableWords
         requires { AreAllBack self }
         ensures { AreShown self.table self.sources self.callers self.scanners result }

@@ -1,4 +1,5 @@
-//! The seats are handed out as the table is made, and come back as it is closed.
+//! The table starts with one seat for the whole room. `RoomTable::make` has it split here into lists of seats, one for each part,
+//! and `RoomTable::close` hands such lists to a `Closing`.
 ghost use Rattle.std.specs.Prelude.{◌≡◌, ◌<◌, ◌++◌, [], All, IfOk};
 ghost use Rattle.room_core.specs.Gauges.{IsShape};
 ghost use Rattle.room_table.specs.Fresh.{all_callers, all_parts, all_scanners};
@@ -70,7 +71,7 @@ fn fresh_scan(seat: Place, scanner: u32) -> ScanSeat
     }
 }
 
-/// What is left after the shards' scanners is the clock's.
+/// The seats of the shards' scanners; what is left of the whole is then the seat of the clock's.
 pub(crate) fn hand_scanners(
     alloc: Global,
     top: &Top,

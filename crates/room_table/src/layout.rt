@@ -1,4 +1,4 @@
-//! Where each word of the room stands in the table.
+//! The place of each word of the room in the table: every step asks `place` for the index of its word.
 ghost use Rattle.std.specs.Prelude.{◌≡◌};
 ghost use Rattle.room_core.specs.Gauges.{IsShape};
 ghost use Rattle.room_core.specs.Words.{IsWord};

@@ -2,13 +2,13 @@
 //! machine.
 //!
 //! The layer above may use the table, its seats and their calls, and cite what a seat knows by its steps (`specs/Seats.antt`).
-//! How a gauge is raised and scanned, with a seat of its source, one of a pass and one of its scanner:
+//! This is how a gauge is raised and scanned, with the seats of its source, of a pass and of its scanner:
 //!
 //! ```text
 //! table.store(&mut source, value);
 //! let read = table.read(&mut caller, gauge);
 //! table.ask(&mut caller, gauge, read);
-//! table.hush(&mut source);                  // again from the read on, where it is above what this finds
+//! table.hush(&mut source);                  // if this finds less than `value` asked for, read and ask again
 //! table.hear(&mut scan, gauge);
 //! table.begin(&mut scan, gauge);            // now every watcher of the gauge is a duty of the scanner
 //! table.relieve(&mut caller, gauge);
@@ -17,10 +17,10 @@
 //! # How the proof goes
 //!
 //! The table is an `atomic_table` without slots. A seat's view is a list of parts, each with the steps that it made; the rule
-//! (`specs/Shown.antt`) says that the words and the parts of all views show one state that the machine carries. A step has one
-//! lemma for its kind (`proofs/Sources.antt`, `Callers`, `Scanners`): which word and which part the event changes, and that the
-//! rest is as it was. One lemma for all kinds (`proofs/Stepping.antt`) makes the rule of it: the machine's events keep what is
-//! carried, no two words have one place, and no two seats one part.
+//! (`specs/Shown.antt`) says that the words and the parts of all views show one state that the machine carries. Each kind of step
+//! has a lemma (`proofs/Sources.antt`, `Callers`, `Scanners`): which word and which part the event changes, and that the rest is as
+//! it was. One lemma for all kinds (`proofs/Stepping.antt`) derives from it that the rule is kept: the machine's events keep what
+//! is carried, no two words share a place, and no two seats share a part.
 #![tactic(auto)]
 
 mod checker;

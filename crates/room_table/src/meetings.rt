@@ -1,4 +1,5 @@
-//! The steps of a scanner that meets a pass: it looks whether the operation is open, learns it, and lists it.
+//! The steps of a scanner that meets a pass: it sees whether the pass's operation is open, learns it, and lists it. A desk of
+//! `room_scans` makes them, both to list an operation and before it checks one.
 ghost use Rattle.std.specs.Prelude.{◌≡◌, ◌≤◌};
 ghost use Rattle.room_core.specs.Gauges.{IsPass, IsScanner};
 ghost use Rattle.room_core.specs.Meetings.{MayLearn, MayMark, generation_met};
@@ -14,8 +15,8 @@ use crate::table::RoomTable;
 use room_core::{Session, Word};
 
 impl RoomTable {
-    /// The scanner looks at the session word of a pass. It has a meeting where that is open, and no meeting where it isn't, and
-    /// loses the entries and duties of the pass at generations that aren't open.
+    /// The scanner looks at the session word of a pass. If that is open, the scanner has a meeting with the pass, and else none.
+    /// It loses its entries and duties of the pass at generations that aren't open.
     pub fn meet(&self, scan: &mut ScanSeat, pass: u32) -> u64
         requires table { scan.old.table ≡ self.now }
         requires may { IsScanner self.now.shape scan.old.scanner × IsPass self.now.shape pass }

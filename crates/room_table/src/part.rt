@@ -1,5 +1,5 @@
-//! What a seat knows: the parts of the room that are its own, each with the steps that it made, the newest first, and the
-//! words that they found. No value of these types is made.
+//! What contracts know of a seat: the parts of the room that are its own, each with the steps that it made, the newest first,
+//! and the words that they found. No value of these types exists at run time.
 use room_core::{How, Session, Shape};
 use std::collections::LinkedList;
 
@@ -45,7 +45,7 @@ pub enum ScannerStep {
     Met { pass: u32, found: Session },
     /// It found a word of the description of the pass that it had met.
     Learned { at: u32, word: u64 },
-    /// It listed the operation that it had met, and marked that.
+    /// It listed the operation that it had met, and marked it as listed.
     Listed { pass: u32, at: u32 },
     /// It found the value of a gauge.
     Read { gauge: u32, value: u64 },

@@ -1,4 +1,5 @@
-//! The steps of a pass as the owner of its operation.
+//! The steps of a pass on its own operation, from the first word of the description to the end that it takes. In `purgatory`
+//! `Owner` makes them.
 ghost use Rattle.std.specs.Prelude.{◌≡◌, ◌≤◌};
 ghost use Rattle.room_core.specs.Packing.{unpacked};
 ghost use Rattle.room_core.specs.Passes.{MayDescribe, MayIdle, MayOpen, MayPeek, MaySeeMark};
@@ -13,8 +14,8 @@ use crate::table::RoomTable;
 use room_core::{Phase, Session, Word};
 
 impl RoomTable {
-    /// The pass writes a word of its operation's description: 0 the least tally, 1 the deadline, 2 the number of needs, from 3
-    /// on of each need its gauge, start and cap.
+    /// The pass writes a word of its operation's description: 0 the least tally, 1 the deadline, 2 the number of needs, and from
+    /// 3 on the gauge, start and cap of each need.
     pub fn describe(&self, caller: &mut CallerSeat, at: u32, word: u64)
         requires table { caller.old.table ≡ self.now }
         requires may { MayDescribe self.now.shape caller.old.pass (caller_now caller.old) at }
@@ -45,7 +46,7 @@ impl RoomTable {
         caller.generation = generation;
     }
 
-    /// The pass looks at a mark of its operation: the generation for which its listing was made last, which is no later than its
+    /// The pass looks at a mark of its operation: the generation that was listed last for it, which is no later than the pass's
     /// own.
     pub fn marked(&self, caller: &mut CallerSeat, at: u32) -> u64
         requires table { caller.old.table ≡ self.now }
@@ -70,7 +71,7 @@ impl RoomTable {
         self.board.shared.load::<Peeks>(&mut caller.seat, at)
     }
 
-    /// The pass takes how its operation was won and by whom, and is idle at its generation.
+    /// The pass takes how its operation was won and by which winner, and is idle at its generation.
     pub fn idle(&self, caller: &mut CallerSeat)
         requires table { caller.old.table ≡ self.now }
         requires may { MayIdle self.now.shape caller.old.pass (caller_now caller.old) }

@@ -1,4 +1,5 @@
-//! What each step on the table tells.
+//! A marker type for each step on the table: it names the definition that says what the step found and what the seat then knows.
+//! The steps pass these to `atomic_table`; they have no values.
 ghost use Rattle.std.specs.Prelude.{[], ◌++◌, take, drop};
 ghost use Rattle.room_table.specs.Tells.{asked, began, caller_left, caller_read, caller_won, described, heard, hushed, idled, learned_word, marked_word, met_word, opened, peeked_own, relieved, saw_mark, scanner_left, scanner_read, scanner_won, stored};
 
@@ -125,7 +126,7 @@ impl Play<u64, Parts> for ScannerWins {
     ghost then = { scanner_won };
 }
 
-/// A seat of one part is handed out.
+/// The first part of a seat is split off, as a seat of its own.
 pub(crate) struct HandOut;
 
 impl Split<Parts> for HandOut {
@@ -134,7 +135,7 @@ impl Split<Parts> for HandOut {
     ghost right = { λ view. take 1 view };
 }
 
-/// A seat comes back.
+/// A seat comes back into another, with its parts first.
 pub(crate) struct TakeBack;
 
 impl Join<Parts> for TakeBack {

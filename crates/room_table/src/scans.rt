@@ -1,4 +1,5 @@
-//! The steps of values: what is stored, asked, heard and begun.
+//! The steps by which a gauge's new value reaches its scanner: the source stores it, a pass asks for a scan, the scanner hears
+//! that and begins, and source and pass see that it was done.
 ghost use Rattle.std.specs.Prelude.{◌≡◌, ◌≤◌};
 ghost use Rattle.room_core.specs.Gauges.{IsGauge, IsPass};
 ghost use Rattle.room_core.specs.Scans.{MayAsk, MayBegin, MayHear, MayStore};
@@ -27,8 +28,8 @@ impl RoomTable {
             .store::<Stores>(&mut source.seat, at, value);
     }
 
-    /// The source looks up to which value a scan is asked for, which is no more than it stored. It is quiet where it is all that
-    /// it stored.
+    /// The source looks up to which value a scan is asked for, which is no more than it stored. If it is all that it stored, the
+    /// source is quiet from then on.
     pub fn hush(&self, source: &mut SourceSeat) -> u64
         requires table { source.old.table ≡ self.now }
         requires there { IsGauge self.now.shape source.old.gauge }
@@ -52,7 +53,7 @@ impl RoomTable {
             .fetch_max::<Asks>(&mut caller.seat, at, value);
     }
 
-    /// The pass looks up to which value a scan was begun. It owes none where that is as much as it owed.
+    /// The pass looks up to which value a scan was begun. If that is as much as it owed, it owes nothing of the gauge any more.
     pub fn relieve(&self, caller: &mut CallerSeat, gauge: u32) -> u64
         requires table { caller.old.table ≡ self.now }
         requires may { IsPass self.now.shape caller.old.pass × IsGauge self.now.shape gauge }
@@ -62,7 +63,7 @@ impl RoomTable {
         self.board.shared.load::<Relieves>(&mut caller.seat, at)
     }
 
-    /// The scanner looks up to which value it is asked to scan a gauge of its own. It is no less than it has begun.
+    /// The scanner looks up to which value it is asked to scan a gauge of its own. That is no less than what it has begun.
     pub fn hear(&self, scan: &mut ScanSeat, gauge: u32) -> u64
         requires table { scan.old.table ≡ self.now }
         requires may { MayHear self.now.shape scan.old.scanner (scanner_now scan.old) gauge }
@@ -75,8 +76,8 @@ impl RoomTable {
         asked
     }
 
-    /// The scanner begins a scan of the gauge up to what it has heard. Its duties are the watchers of the gauge, and in the
-    /// clock's listing those whose deadline has come since it began last.
+    /// The scanner begins a scan of the gauge up to what it has heard. Its duties are then the watchers of the gauge; in the
+    /// clock's listing, those whose deadline has come since it began last.
     pub fn begin(&self, scan: &mut ScanSeat, gauge: u32)
         requires table { scan.old.table ≡ self.now }
         requires may { MayBegin self.now.shape scan.old.scanner (scanner_now scan.old) gauge }

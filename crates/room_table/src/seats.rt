@@ -1,5 +1,6 @@
-//! The seats, by which threads step on the table: one for each gauge's source, each pass and each scanner. A seat may go to
-//! another thread. A contract sees the table that it was made with, its number, and the steps that it made, the newest first.
+//! The seats, by which threads step on the table: one for each gauge's source, each pass and each scanner. `RoomTable::make`
+//! returns them all. A seat may go to another thread. A contract sees the table that it was made with, its number, and the steps
+//! that it made, the newest first.
 use crate::rule::Place;
 use std::marker::Model;
 
@@ -25,7 +26,7 @@ impl Model for SourceSeat {
 pub struct CallerSeat {
     pub(crate) seat: Place,
     pub(crate) pass: u32,
-    // that of its operation
+    // of its operation, or of the last one
     pub(crate) generation: u32,
 }
 

@@ -1,6 +1,6 @@
-//! Sleeping and waking, which are no steps and of which no clause speaks: whether a sleeper wakes and when can't be proved, so
-//! nothing may come to depend on it. A pass that has nothing to do can sleep on its own session word while that is open, so that
-//! it neither polls nor burns a processor. Each sleep is bounded, so that a wake that is lost costs no more than that.
+//! How a pass sleeps. This is no step, and no clause speaks of it: whether a sleeper wakes, and when, can't be proved, so nothing
+//! may depend on it. A pass that has nothing to do can sleep on its own session word while that is open, instead of polling it.
+//! Each sleep is bounded, so a lost wake-up costs no more than that time.
 ghost use Rattle.std.specs.Prelude.{◌≡◌};
 ghost use Rattle.room_core.specs.Gauges.{IsPass};
 
@@ -11,7 +11,7 @@ use room_core::{OPEN_PHASE, PHASES, Word};
 use std::sync::Wait;
 use std::time::Duration;
 
-// The kernel compares the low 32 bits of a word, where the phase lies.
+// The kernel compares the low 32 bits of a word. The phase is in these.
 const LOW: u64 = 0xffff_ffff;
 
 impl RoomTable {

@@ -1,6 +1,6 @@
-//! How many passes sleep, so that a win is no call of the kernel where nobody does. A sleeper first counts itself, then looks at its
-//! session word, and then sleeps; who wins first exchanges the word, and then looks whether anybody is counted. So one of the two sees
-//! the other. No clause speaks of it.
+//! How many passes sleep, so that a win makes no system call where nobody does. A sleeper first counts itself, then looks at its
+//! session word, and then sleeps; a winner first exchanges the word, and then looks whether anybody is counted. So at least one of
+//! the two sees the other. No clause speaks of this.
 use std::sync::atomic::{AtomicU64, Ordering};
 
 // Passes whose numbers agree in the last four bits are counted together.
@@ -43,7 +43,7 @@ impl Sleepers {
         self.rows[(pass % ROWS) as usize].fetch_sub(1, Ordering::SeqCst);
     }
 
-    /// Whether this pass may sleep. False shows that it doesn't.
+    /// Whether this pass might be asleep. If false, it isn't.
     pub(crate) fn may_sleep(&self, pass: u32) -> bool {
         self.rows[(pass % ROWS) as usize].load(Ordering::SeqCst) != 0
     }

@@ -1,4 +1,5 @@
-//! The table: made with its seats, and closed with them.
+//! The table itself: `purgatory` makes it once for a room, and gets all seats with it. When they are all back, only the words
+//! are left.
 ghost use Rattle.std.specs.Prelude.{◌≡◌, ◌<◌, ◌++◌, [], IfOk, length, slice_index};
 ghost use Rattle.room_core.specs.Gauges.{IsShape};
 ghost use Rattle.room_table.specs.Closing.{AreAllBack, closing_view};
@@ -39,7 +40,7 @@ impl Model for RoomTable {
     ghost invariant = { λ t. IsShape t.shape × (t.board.shared.key ≡ t.shape) × (t.board.shared.table_id.words ≡ size_of t.shape) × (t.board.shared.table_id.slots ≡ 0) };
 }
 
-/// A table and its seats, as they are made.
+/// A new table and its seats.
 #[derive(Drop)]
 pub struct TableParts {
     pub table: RoomTable,
@@ -51,7 +52,7 @@ pub struct TableParts {
     pub scanners: List<ScanSeat>,
 }
 
-/// The words of a table that is closed. A contract sees the list of them.
+/// The words of a closed table. A contract sees the list of them.
 pub struct TableWords {
     closed: Closed<u64, Global>,
 }
@@ -75,7 +76,7 @@ impl Drop for TableWords {
 }
 
 impl TableWords {
-    /// The word of this number.
+    /// The word with this number.
     pub fn word(&self, at: u32) -> u64
         requires { at < length self.now }
         ensures { result ≡ slice_index self.now at }
@@ -85,7 +86,7 @@ impl TableWords {
 }
 
 impl RoomTable {
-    /// A table of this shape, whose words are all 0, and its seats. It is refused where no memory is left.
+    /// A table of this shape, whose words are all 0, and its seats. Fails only when out of memory.
     pub fn make(alloc: Global, shape: Shape) -> Result<TableParts, NoMemory>
         requires { IsShape shape }
         ensures shape { IfOk result (λ p. p.table.shape ≡ shape) }
@@ -111,8 +112,8 @@ impl RoomTable {
         })
     }
 
-    /// Takes all seats back, and gives the words out. They and what the seats know show a state that the room's machine carries, each
-    /// part of which is one seat's.
+    /// Takes all seats back, and returns the words. The words and what the seats know show a state that the room's machine carries,
+    /// and each part of it is one seat's.
     pub fn close(
         self,
         sources: List<SourceSeat>,
@@ -146,7 +147,7 @@ impl RoomTable {
         self.board.shared.join_seat::<TakeBack>(seat, other);
     }
 
-    // The words, where all seats came back into this one.
+    // The words, once all seats have come back into this one.
     pub(crate) fn words_by(self, seat: Place) -> TableWords
         requires table { seat.table_id ≡ self.id }
         requires all { AreAllBack (closing_view self seat.me.0) }
