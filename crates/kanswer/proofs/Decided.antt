@@ -1,4 +1,4 @@
--- Of every request that was read from bytes something is decided.
+-- Something is decided of every request whose records are bytes, so of every request that was read from bytes.
 use Rattle.std.proofs.Common.{◌≡◌, ℕ, ℤ, pos, Bool, true, false, List, [], ◌∷◌, length, Option, Some, None, unwrap_or, refl, inl, inr}
 use Rattle.std.specs.Prelude.{MatchOption, MatchBool}
 use Rattle.std.specs.List.{AllByRecursion, AllZip}
@@ -39,11 +39,11 @@ all_decide config id acks (n ∷ named) all =
     let others = all_decide config id acks named all.1 in
     (here.0 ∷ others.0, (here.1, others.1))
 
-decides : (config : Configuration) (ask : Ask) → CarriesBytes ask → (ds : List Decision) × Decides config ask ds
-decides config (Produce id acks timeout topics) all = all_decide config id acks (produce_parts topics) all
-decides config (Fetch replica max_wait min_bytes max_bytes isolation topics) all = (_, refl)
-decides config (Metadata topics) all = ([], refl)
-decides config (Versions version) all = ([], refl)
+pub ask_decided : (config : Configuration) (ask : Ask) → CarriesBytes ask → (ds : List Decision) × Decides config ask ds
+ask_decided config (Produce id acks timeout topics) all = all_decide config id acks (produce_parts topics) all
+ask_decided config (Fetch replica max_wait min_bytes max_bytes isolation topics) all = (_, refl)
+ask_decided config (Metadata topics) all = ([], refl)
+ask_decided config (Versions version) all = ([], refl)
 
 pub requests_decided : (config : Configuration) (body : List ℕ) (request : Request) → IsBytes body → IsRequest body request → (ds : List Decision) × Decides config request.ask ds
-requests_decided config body request fits asked = decides config request.ask (request_bytes body request fits asked)
+requests_decided config body request fits asked = ask_decided config request.ask (request_bytes body request fits asked)

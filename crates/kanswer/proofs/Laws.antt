@@ -12,8 +12,10 @@ pub use Rattle.kanswer.proofs.Values.{values_by_part}
 pub use Rattle.kanswer.proofs.Room.{HasRoom, PutsWithRoom, decided_with_room}
 -- a log's bytes are those of its batches
 pub use Rattle.kanswer.proofs.Putting.{log_bytes}
--- of every request that was read from bytes something is decided
-pub use Rattle.kanswer.proofs.Decided.{requests_decided}
+-- something is decided of every request whose records are bytes, so of every request that was read from bytes
+pub use Rattle.kanswer.proofs.Decided.{ask_decided, requests_decided}
+-- the partitions that a request names, one more at a time
+pub use Rattle.kanswer.proofs.NextNamed.{produce_next, fetch_next, produce_next_topic, fetch_next_topic}
 -- it asks logs that are there, each once, and its outcomes speak of their own logs
 pub use Rattle.kanswer.proofs.NamedOnce.{decided_within, request_asks_once}
 pub use Rattle.kanswer.proofs.Honest.{sound, decides_honest}

@@ -26,8 +26,10 @@ pub mod Fetching
 mod ProduceDecided
 -- what a body of bytes carries are bytes
 mod RequestBytes
--- of every request that was read from bytes something is decided
+-- something is decided of every request
 mod Decided
+-- the partitions that a request names, one more at a time
+mod NextNamed
 -- a request asks no log twice
 mod NamedOnce
 -- the outcomes speak of their own logs

@@ -103,11 +103,15 @@ produce_parts topics = flat_map (λ topic. map (λ part. (topic.name, part)) top
 abbrev pub fetch_parts : List FetchTopic → List (List ℕ × FetchPart)
 fetch_parts topics = flat_map (λ topic. map (λ part. (topic.name, part)) topic.parts) topics
 
+-- what is decided of partitions of a fetch
+abbrev pub fetch_decisions : Configuration → ℤ → List (List ℕ × FetchPart) → List Decision
+fetch_decisions config replica named = map (λ one. fetch_decision config replica one (part_of config one.0 one.1.index)) named
+
 -- one decision for each named partition
 abbrev pub Decides : Configuration → Ask → List Decision → Type 0
 Decides config (Produce transactional acks timeout topics) decisions =
     AllZip (ProduceDecides config transactional acks) (produce_parts topics) decisions
 Decides config (Fetch replica max_wait min_bytes max_bytes isolation topics) decisions =
-    decisions ≡ map (λ named. fetch_decision config replica named (part_of config named.0 named.1.index)) (fetch_parts topics)
+    decisions ≡ fetch_decisions config replica (fetch_parts topics)
 Decides config (Metadata topics) decisions = decisions ≡ []
 Decides config (Versions version) decisions = decisions ≡ []

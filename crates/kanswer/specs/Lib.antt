@@ -10,6 +10,8 @@ pub mod Deciding
 pub mod WithEntry
 -- a log that was asked: its entry, what became of the partition, and where the entry stands
 pub mod Entered
+-- the gauges of a partition, by their numbers
+pub mod PartitionGauges
 -- whether a request waits, and as what
 pub mod Waiting
 -- what became of the named partitions, as it decides whether the request waits

@@ -1,5 +1,5 @@
 -- Whether an accepted request waits, and the operation that it becomes.
-use Rattle.std.specs.Prelude.{ℕ, ◌+◌, ◌-◌, ◌*◌, ◌%◌, min, ℤ, pos, negsuc, Bool, true, false, ◌&&◌, not, List, [], length, map, nat_lt, ◌==◌, if◌then◌else◌, Option, Some, None}
+use Rattle.std.specs.Prelude.{ℕ, ◌+◌, ◌-◌, ◌%◌, min, ℤ, pos, negsuc, Bool, true, false, ◌&&◌, not, List, [], length, map, nat_lt, ◌==◌, if◌then◌else◌, Option, Some, None}
 use Rattle.std.specs.List.{filter_map, list_any, zip}
 use Rattle.std.specs.Ordering.{int_eq}
 use Rattle.partlog.specs.State.{PartState as State}
@@ -14,6 +14,9 @@ use Rattle.opcond.specs.Tally.{tally}
 use Rattle.opcond.specs.declared.need.Need.{Need}
 use Rattle.opcond.specs.Operation.{Operation}
 use Rattle.kanswer.specs.Decisions.{fetch_parts}
+use Rattle.kanswer.specs.PartitionGauges.{fetched_gauge, high_gauge}
+-- whether a replica id is a consumer's
+pub use Rattle.kanswer.specs.PartitionGauges.{is_consumer}
 
 -- what became of a named partition, and a state of it
 pub record Shown : Type 0 where
@@ -32,19 +35,15 @@ reply_limit max_bytes = min (at_least_zero max_bytes) MOST_REPLY_BYTES
 -- an appended partition needs its high watermark after the batch
 abbrev pub produce_need : Accepted → Option Need
 produce_need (Refused code) = None
-produce_need (Appended part base count) = Some (record { gauge = 3 * part; start = base + count - 1; cap = 1 })
+produce_need (Appended part base count) = Some (record { gauge = high_gauge part; start = base + count - 1; cap = 1 })
 produce_need (Seen part start) = None
 
 -- a consumer needs visible bytes, a follower bytes, from the start batch on
-abbrev pub is_consumer : ℤ → Bool
-is_consumer (pos n) = false
-is_consumer (negsuc n) = true
-
 abbrev pub fetch_need : ℤ → FetchPart × Accepted → Option Need
 fetch_need replica (asked, Refused code) = None
 fetch_need replica (asked, Appended part base count) = None
 fetch_need replica (asked, Seen part start) =
-    Some (record { gauge = 3 * part + (if is_consumer replica then 1 else 2); start = start; cap = at_least_zero asked.most })
+    Some (record { gauge = fetched_gauge replica part; start = start; cap = at_least_zero asked.most })
 
 -- for each named partition its need, if any
 abbrev pub needs_by_part : Ask → List Accepted → List (Option Need)

@@ -1,4 +1,5 @@
-//! What became of the named partitions, and what a reply may take.
+//! What the steps of answering hand on to each other: what became of each partition, what was read of it, and what the
+//! reply may still take. Brokers keep these while a request waits.
 
 ghost use Rattle.std.specs.Prelude.{◌≡◌};
 ghost use Rattle.kanswer.specs.Waiting.{reply_limit};
@@ -11,9 +12,9 @@ use partlog::Numbers;
 #[derive(Clone, Copy, Debug, PartialEq, Eq)]
 pub enum Accepted {
     Refused { code: i16 },
-    /// A batch of `count` records was put at the end of the partition's log, at the offset `base`.
+    /// A batch of `count` records was appended to the partition's log, at the offset `base`.
     Appended { part: u32, base: u64, count: u32 },
-    /// The partition is read from the byte place `start` of its log on.
+    /// The partition is to be read, from the byte place `start` of its log on.
     Seen { part: u32, start: u64 },
 }
 
@@ -24,17 +25,17 @@ pub struct Reading {
     pub records: Bytes,
 }
 
-/// How many bytes a reply may still take, and whether it holds a batch yet.
+/// How many bytes a reply may still take, and whether it has a batch already.
 #[derive(Clone, Copy, Debug, PartialEq, Eq)]
 pub struct Budget {
     pub left: u64,
     pub any: bool,
 }
 
-/// The most bytes of records that a reply holds, whatever is asked.
+/// The most bytes of records in a reply, whatever the request asks for.
 pub const MOST_REPLY_BYTES: u64 = 52_428_800;
 
-/// The most bytes of records that a reply takes where so many are asked for.
+/// The most bytes of records in a reply to a fetch that asks for at most `max_bytes`.
 pub(crate) fn reply_limit(max_bytes: i32) -> u64
     ensures { result ≡ reply_limit max_bytes }
 {
@@ -44,7 +45,7 @@ pub(crate) fn reply_limit(max_bytes: i32) -> u64
 impl Budget {
     ghost use Rattle.kanswer.specs.LogReadings.{budget_of};
 
-    /// What a reply to this request may take: for a fetch as many bytes as it asks for, at most 52,428,800.
+    /// What a reply to this request may take: for a fetch as many bytes as it asks for, but at most 52,428,800.
     pub fn of(request: &RequestView<'_>) -> Budget
         ensures { result ≡ budget_of request.now.ask }
     {

@@ -1,4 +1,4 @@
-//! A produce puts a batch into a partition.
+//! Appending the batch of a produce, by the broker that has the log to itself. `put` decided before that it may be.
 ghost use Rattle.std.specs.Prelude.{◌≡◌, IfOk, OnErr};
 ghost use Rattle.kbatch.specs.Kept.{count_of};
 ghost use Rattle.kanswer.specs.Decisions.{append_outcome};
@@ -12,7 +12,7 @@ use kbytes::NoMemory;
 use kwire::codes;
 use partlog::{LogFault, PartLog, Who};
 
-/// Puts a batch at the end of the partition's log, where there is room; else the log is looked at, and the partition is refused with
+/// Appends a batch to the partition's log, where there is room. Else it looks at the log, and refuses the partition with
 /// code 6. `part` is the partition's number. If memory runs out, the log is as it was.
 pub fn enter_batch(
     log: &mut PartLog,

@@ -1,4 +1,4 @@
-//! The error codes of batches that are refused.
+//! Kafka's error code for each fault of a batch. `put` refuses with it.
 
 ghost use Rattle.std.specs.Prelude.{◌≡◌};
 ghost use Rattle.kanswer.specs.Decisions.{code_of};
@@ -6,8 +6,8 @@ ghost use Rattle.kanswer.specs.Decisions.{code_of};
 use kbatch::BatchFault;
 use kwire::codes;
 
-/// The error code of the protocol for bytes that are no batch (Kafka protocol guide, "Error Codes"). Out of memory has none:
-/// it is given as `NONE`, and no reply says so.
+/// The protocol's error code for bytes that are no batch (Kafka protocol guide, "Error Codes"). `NoMemory` has none: the
+/// answer is `NONE`, and no reply ever has it.
 pub fn code_of(fault: &BatchFault) -> i16
     ensures { result ≡ code_of fault.now }
 {

@@ -1,4 +1,4 @@
-//! What metadata tells of topics.
+//! The topics in a reply to a request for metadata, for `replies`.
 ghost use Rattle.std.specs.Prelude.{◌≡◌, Some, map, option_map, IfOk};
 ghost use Rattle.kanswer.specs.Answer.{info_as, info_of, infos_of};
 
@@ -18,7 +18,7 @@ fn declared(alloc: Global, topic: &Topic) -> Result<TopicInfo, NoMemory>
     })
 }
 
-// The topic of a name; one that isn't declared has code 3 and no partitions.
+// The topic with this name. One that isn't declared has code 3 and no partitions.
 fn named(alloc: Global, topics: &[Topic], name: &[u8]) -> Result<TopicInfo, NoMemory>
     ensures { IfOk result (λ info. info ≡ info_of topics.now name.now) }
 {
@@ -55,7 +55,7 @@ fn all_named(alloc: Global, topics: &[Topic], names: &[&[u8]]) -> Result<List<To
     Ok(infos)
 }
 
-/// What is told of the named topics, or of all that are declared.
+/// The named topics, or all that are declared.
 pub fn described(
     alloc: Global,
     topics: &[Topic],

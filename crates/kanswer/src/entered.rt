@@ -1,6 +1,6 @@
 use crate::Accepted;
 
-/// What became of a partition whose log was asked, and where the entry that it left stands.
+/// What became of a partition whose log was asked, and the place of the entry.
 #[derive(Clone, Copy, Debug, PartialEq, Eq)]
 pub struct Entered {
     pub became: Accepted,

@@ -1,4 +1,5 @@
-//! A fetch asks a partition.
+//! Entering the fetch of one partition, by the broker that has the log to itself. What the reply takes of it is read later,
+//! by `one_part`.
 ghost use Rattle.std.specs.Prelude.{◌≡◌, ◌<◌, ◌≤◌, ◌≤ℤ◌, ℕ, pos, IfSome, IfNone, IfOk, OnErr};
 ghost use Rattle.partlog.specs.Start.{start_of};
 ghost use Rattle.partlog.specs.State.{state_of};
@@ -12,7 +13,7 @@ use kbytes::NoMemory;
 use kwire::{FetchPart, codes};
 use partlog::{FollowFault, PartLog, Who};
 
-// The offset that is asked for, where it is from 0 to the log end.
+// The offset, where it is between 0 and the log end.
 fn offset_within(asked: &FetchPart, end: u64) -> Option<u64>
     ensures within { IfSome result (λ offset. (asked.now.offset ≡ pos offset) × (offset ≤ end)) }
     ensures outside { IfNone result ((offset : ℕ) → asked.now.offset ≡ pos offset → end < offset) }
@@ -24,7 +25,7 @@ fn offset_within(asked: &FetchPart, end: u64) -> Option<u64>
     if offset > end { None } else { Some(offset) }
 }
 
-// A consumer's fetch looks at the log.
+// A consumer's fetch only looks at the log.
 fn consume(log: &mut PartLog, who: Who, part: u32, asked: &FetchPart) -> Result<Entered, NoMemory>
     ensures entered { IfOk result (λ entered.
         HasEntered who.by who.seq (in_range_outcome part asked.now.offset Looked) log.old log.new entered) }
@@ -43,7 +44,7 @@ fn consume(log: &mut PartLog, who: Who, part: u32, asked: &FetchPart) -> Result<
     look_at(log, who, Accepted::Seen { part, start })
 }
 
-// Where reading from an offset begins; 0 below 0.
+// The byte place where reading from an offset begins. An offset below 0 counts as 0.
 fn start_at(log: &PartLog, offset: i64) -> u64
     ensures { (at : ℕ) → offset ≡ pos at → result ≡ start_of at (state_of log.now) }
 {
@@ -53,7 +54,7 @@ fn start_at(log: &PartLog, offset: i64) -> u64
     log.locate(offset as u64)
 }
 
-// A replica's fetch is entered where it is a follower's and in range.
+// A replica's fetch is entered where the replica is a follower and the offset in range.
 fn follow(
     log: &mut PartLog,
     who: Who,
@@ -90,9 +91,9 @@ fn follow(
     }
 }
 
-/// Enters what a fetch asks of one partition: a follower's fetch in range moves the follower; every other fetch looks at the log. A
-/// replica of 0 or more that isn't a follower is refused with code 9, and else an offset below 0 or above the log end with code 1.
-/// `part` is the partition's number, and a negative replica is a consumer. If memory runs out, the log is as it was.
+/// Enters the fetch of one partition. A follower's fetch in range moves the follower; every other fetch looks at the log. A
+/// replica of 0 or more that isn't a follower is refused with code 9, else an offset below 0 or above the log end with
+/// code 1. `part` is the partition's number, and a negative replica is a consumer. If memory runs out, the log is as it was.
 pub fn enter_fetch(
     log: &mut PartLog,
     who: Who,

@@ -1,4 +1,4 @@
-//! What is told of the partitions of a fetch.
+//! The topics in a reply to a fetch, for `replies`.
 ghost use Rattle.std.specs.Prelude.{◌≡◌, [], negsuc, length, sum_by, All, IfOk};
 ghost use Rattle.kanswer.specs.LogReadings.{HasCarriable};
 ghost use Rattle.kanswer.specs.ToldParts.{parts_by, fetched_part, fetched_topic, fetched_of};
@@ -76,7 +76,7 @@ fn fetched_topic(
     Ok(FetchedTopic { name, parts })
 }
 
-/// What is told of each topic of a fetch.
+/// The topics of a fetch, with what was read of each partition.
 pub fn fetched_topics(
     alloc: Global,
     topics: &[FetchTopicView<'_>],

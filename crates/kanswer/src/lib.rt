@@ -1,10 +1,10 @@
 //! What Kafka answers: what becomes of each partition that a request names, whether the request waits, and the reply to it.
 //!
-//! A request is decided partition by partition. The layer above asks what is decided of a produce's partition before its log is asked
-//! (`decide_put`), and, with the log to itself, puts the batch (`enter_batch`) or enters the fetch (`enter_fetch`): either leaves exactly
-//! one entry in the log's history, that of the definition. From what became of all partitions it asks whether the request waits
-//! (`needs_op`), and makes its operation (`op_of`). It reads the partitions in whatever turns (`read_asked`, `read_numbers`), and makes
-//! the reply from these readings (`answer`), or the reply's frame (`reply_frame`). `Decides` defines what becomes of each partition.
+//! A request is decided partition by partition; `Decides` defines what becomes of each. For a partition of a produce the
+//! layer above first calls `decide_put`, without the log. Then, with the log to itself, it appends the batch (`enter_batch`) or
+//! enters the fetch (`enter_fetch`): either makes exactly one entry in the log's history. From what became of all partitions it
+//! learns whether the request waits (`needs_op`), and as which operation (`op_of`). In the end it reads the partitions, one
+//! at a time (`read_asked`, `read_numbers`), and makes the reply from the readings (`answer`), or its frame (`reply_frame`).
 #![tactic(auto)]
 
 mod accepted;
@@ -14,6 +14,7 @@ mod described;
 mod entered;
 mod fetch;
 mod fetched;
+mod gauges;
 mod look;
 mod need;
 mod one_part;
@@ -30,7 +31,9 @@ pub use batch::enter_batch;
 pub use code::code_of;
 pub use entered::Entered;
 pub use fetch::enter_fetch;
-pub use need::value_of_gauge;
+pub use gauges::{
+    end_gauge, fetched_gauge, high_gauge, partition_of, value_of_gauge, visible_gauge,
+};
 pub use one_part::{read_asked, read_nothing, read_numbers, read_part};
 pub use promises::requests_are_decided;
 pub use put::decide_put;

@@ -9,7 +9,7 @@ use crate::entered::Entered;
 use kbytes::NoMemory;
 use partlog::{PartLog, Who};
 
-/// The log is looked at, and this became of the partition.
+/// Enters a look at the log, for a partition of which this became.
 pub(crate) fn look_at(log: &mut PartLog, who: Who, became: Accepted) -> Result<Entered, NoMemory>
     requires { IsCarriable became }
     ensures entered { IfOk result (λ entered. (outcome : PartState → Outcome) → outcome (state_of log.old) ≡ look became

@@ -1,40 +1,27 @@
-//! What a request needs of the partitions that it names, and how far that is reached.
+//! What a request needs of each partition: of which gauge, from which value on, and how much. `waiting` makes operations of
+//! these needs.
 ghost use Rattle.std.specs.Prelude.{◌≡◌, ◌<◌, ◌^◌, Some, IfSome, length, slice_get};
 ghost use Rattle.kwire.specs.Views.{ask_of};
 ghost use Rattle.opcond.specs.Tally.{counted};
-ghost use Rattle.partlog.specs.Gauges.{numbers_of};
-ghost use Rattle.partlog.specs.State.{PartState as State};
-ghost use Rattle.kanswer.specs.Reached.{gauge_in, reached_at};
+ghost use Rattle.kanswer.specs.Reached.{reached_at};
 ghost use Rattle.kanswer.specs.Results.{AreResults, IsBounded};
-ghost use Rattle.kanswer.specs.Waiting.{fetch_need, gauge_value, needs_by_part, produce_need};
+ghost use Rattle.kanswer.specs.Waiting.{fetch_need, needs_by_part, produce_need};
 
 use crate::accepted::Accepted;
+use crate::gauges::{fetched_gauge, high_gauge, value_of_gauge};
 use crate::one_part::asked_at;
 use kwire::{AskView, FetchPart};
 use opcond::Need;
 use partlog::Numbers;
 
-/// The value of an operation's gauge, from the numbers of its partition: by the gauge's number the high watermark, the
-/// visible bytes or the end bytes. It takes no memory.
-pub fn value_of_gauge(gauge: u32, numbers: &Numbers) -> u64
-    ensures number { result ≡ gauge_in gauge numbers.now }
-    ensures value { (state : State) → numbers.now ≡ numbers_of state → result ≡ gauge_value gauge state }
-{
-    match gauge % 3 {
-        0 => numbers.high,
-        1 => numbers.visible,
-        _ => numbers.bytes,
-    }
-}
-
-// What counts of a value for a need.
+// How much of a value counts for a need.
 fn counted(need: &Need, value: u64) -> u64
     ensures { result ≡ counted need.now value }
 {
     value.saturating_sub(need.start).min(need.cap)
 }
 
-// A produce needs that the followers have the batch.
+// A produce needs the high watermark after its batch.
 fn produce_need(became: &Accepted) -> Option<Need>
     requires { IsBounded became.now }
     ensures need { result ≡ produce_need became.now }
@@ -42,7 +29,7 @@ fn produce_need(became: &Accepted) -> Option<Need>
 {
     match *became {
         Accepted::Appended { part, base, count } => Some(Need {
-            gauge: 3 * part,
+            gauge: high_gauge(part),
             start: base + u64::from(count) - 1,
             cap: 1,
         }),
@@ -58,7 +45,7 @@ fn fetch_need(replica: i32, asked: &FetchPart, became: &Accepted) -> Option<Need
 {
     match *became {
         Accepted::Seen { part, start } => Some(Need {
-            gauge: 3 * part + if replica < 0 { 1 } else { 2 },
+            gauge: fetched_gauge(replica, part),
             start,
             cap: asked.most.max(0) as u64,
         }),
@@ -66,7 +53,7 @@ fn fetch_need(replica: i32, asked: &FetchPart, became: &Accepted) -> Option<Need
     }
 }
 
-/// What a request needs of the partition that it names at this place, counted from 0 over all topics.
+/// What a request needs of the partition that it names at this place. Places count from 0, over all topics.
 pub(crate) fn need_at(ask: &AskView<'_>, accepted: &[Accepted], at: usize) -> Option<Need>
     requires results { AreResults (ask_of ask.now) accepted.now }
     requires within { at < length accepted.now }
@@ -87,7 +74,7 @@ pub(crate) fn need_at(ask: &AskView<'_>, accepted: &[Accepted], at: usize) -> Op
     }
 }
 
-/// How much of a need is reached by the numbers of its partition.
+/// How much of a need is reached by these numbers of its partition.
 pub(crate) fn reached_at(need: Option<Need>, numbers: &Numbers) -> u64
     requires { IfSome need (λ n. n.cap < 2 ^ 31) }
     ensures reached { result ≡ reached_at need numbers.now }

@@ -1,4 +1,5 @@
-//! One partition read for a reply.
+//! Reading one partition for a reply, when the request is answered. A broker reads the partitions in the order of the
+//! request, each with what the earlier ones left of the budget.
 ghost use Rattle.std.specs.Prelude.{◌≡◌, ◌≤◌, ◌-◌, ◌||◌, [], min, filter, nat_lt, slice_get, if◌then◌else◌, IfOk, OnOk, OnErr};
 ghost use Rattle.std.specs.Option.{option_copied};
 ghost use Rattle.partlog.specs.declared.part_log.TheConstants.{MOST_LOG_BYTES};
@@ -15,7 +16,7 @@ use kwire::{AskView, FetchPart, FetchTopicView, RequestView};
 use partlog::{Numbers, PartLog};
 use std::alloc::Global;
 
-// The most bytes that are taken of one partition.
+// The most bytes that the reply takes of one partition.
 fn limit_of(asked: &FetchPart, left: u64) -> u64
     ensures { result ≡ min (at_least_zero asked.now.most) left }
 {
@@ -42,7 +43,7 @@ fn readable(log: &PartLog, replica: i32, start: u64, limit: u64, any: bool) -> &
     log.read(start, upto, limit, !any)
 }
 
-// The budget after so many bytes of whole batches.
+// The budget after that many bytes of whole batches.
 fn lowered(budget: Budget, bytes: u64) -> Budget
     ensures { result ≡ record { left = budget.left - bytes; any = budget.any || nat_lt 0 bytes } }
 {
@@ -52,9 +53,9 @@ fn lowered(budget: Budget, bytes: u64) -> Budget
     }
 }
 
-/// Reads one partition for a fetch from the byte place `start` of its log on, and lowers the budget by what was taken:
-/// whole batches, as many as fit together. Where not even the first one fits and the reply holds no batch yet, that one is
-/// taken. A negative replica is a consumer, which reads below the high watermark. After a refusal the budget is as it was.
+/// Reads one partition for a fetch, from the byte place `start` of its log on, and lowers the budget by what it takes:
+/// whole batches, as many as fit together. Where not even the first one fits and the reply has no batch yet, it takes that
+/// one. A negative replica is a consumer, which reads below the high watermark. After a refusal the budget is as it was.
 pub fn read_asked(
     alloc: Global,
     replica: i32,
@@ -78,7 +79,7 @@ pub fn read_asked(
     Ok(Reading { numbers, records })
 }
 
-/// What is asked of the partition that a fetch names at this place, counted from 0 over all topics.
+/// What a fetch asks of the partition that it names at this place. Places count from 0, over all topics.
 pub(crate) fn asked_at<'a>(topics: &'a [FetchTopicView<'_>], at: u32) -> Option<&'a FetchPart>
     ensures { option_copied result ≡ slice_get (asked_parts topics.now) at }
 {
@@ -93,9 +94,8 @@ pub(crate) fn asked_at<'a>(topics: &'a [FetchTopicView<'_>], at: u32) -> Option<
     None
 }
 
-/// Reads the partition that a request names at this place, counted from 0 over all topics: for a fetch as `read_asked` does,
-/// from the byte place `start` of its log on. For every other request it gives the numbers and no records. After a refusal
-/// the budget is as it was.
+/// Reads the partition that a request names at this place. Places count from 0, over all topics. For a fetch it does what
+/// `read_asked` does; for every other request it gives the numbers and no records. After a refusal the budget is as it was.
 pub fn read_part(
     alloc: Global,
     request: &RequestView<'_>,
@@ -124,7 +124,7 @@ pub fn read_part(
     Ok(read_numbers(alloc, log))
 }
 
-/// The numbers of a partition that was appended to, and no records. It takes no memory.
+/// The reading of a partition that was appended to: its numbers, and no records. It takes no memory.
 pub fn read_numbers(alloc: Global, log: &PartLog) -> Reading
     ensures reading { result ≡ record { numbers = numbers_of (state_of log.now); records = [] } }
     ensures bounded { result.numbers.high ≤ MOST_LOG_BYTES }
@@ -136,7 +136,7 @@ pub fn read_numbers(alloc: Global, log: &PartLog) -> Reading
     }
 }
 
-/// Nothing was read of a refused partition. It takes no memory.
+/// The reading of a refused partition: nothing. It takes no memory.
 pub fn read_nothing(alloc: Global) -> Reading
     ensures { result ≡ record { numbers = record { end = 0; high = 0; visible = 0; bytes = 0 }; records = [] } }
 {

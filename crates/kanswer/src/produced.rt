@@ -1,4 +1,4 @@
-//! What is told of the partitions of a produce.
+//! The topics in a reply to a produce, for `replies`.
 ghost use Rattle.std.specs.Prelude.{◌≡◌, negsuc, length, sum_by, All, IfOk};
 ghost use Rattle.kanswer.specs.LogReadings.{IsCarriable};
 ghost use Rattle.kanswer.specs.ToldParts.{code_at, parts_by, produced_part, produced_topic, produced_of};
@@ -8,7 +8,7 @@ use kbytes::{List, NoMemory, copied};
 use kwire::{ProducePartView, ProduceTopicView, ProducedPart, ProducedTopic, codes};
 use std::alloc::Global;
 
-// With acks -1 code 7 where some follower hasn't the whole batch yet.
+// With acks -1 it is code 7 where some follower hasn't the whole batch yet.
 fn code_at(acks: i16, after: u64, high: u64) -> i16
     ensures { result ≡ code_at acks after high }
 {
@@ -19,7 +19,7 @@ fn code_at(acks: i16, after: u64, high: u64) -> i16
     }
 }
 
-// A partition that nothing was appended to has the base offset -1.
+// A partition to which nothing was appended has the base offset -1.
 fn without_base(index: i32, code: i16) -> ProducedPart
     ensures { result ≡ record { index = index; code = code; base = negsuc 0 } }
 {
@@ -87,7 +87,7 @@ fn produced_topic(
     Ok(ProducedTopic { name, parts })
 }
 
-/// What is told of each topic of a produce.
+/// The topics of a produce, with what became of each partition.
 pub fn produced_topics(
     alloc: Global,
     acks: i16,

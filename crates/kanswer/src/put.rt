@@ -1,4 +1,4 @@
-//! What a produce puts into one partition.
+//! Deciding a partition of a produce before its log is asked, so without any lock.
 ghost use Rattle.std.specs.Prelude.{◌≡◌, ◌<◌, [], IfErr, IfOk, unwrap_or};
 ghost use Rattle.kbatch.specs.Kept.{count_of};
 ghost use Rattle.kanswer.specs.Decisions.{AskLog, ProduceDecides, Refuse, append_outcome};
@@ -19,8 +19,8 @@ fn records_of<'a>(part: &ProducePartView<'a>) -> &'a [u8]
     }
 }
 
-/// The partition whose log is asked, by its number, and the batch that is put there; or the code with which the partition is refused
-/// before: 42 for a transactional id, 3 for an unknown partition, 21 for unknown acks, and else that of the batch's first fault.
+/// The number of the partition whose log is to be asked, and the batch for it. Or else the code with which the partition is
+/// refused: 42 for a transactional id, 3 for an unknown partition, 21 for unknown acks, or that of the batch's first fault.
 pub fn decide_put<'a>(
     config: &Config,
     terms: Terms,

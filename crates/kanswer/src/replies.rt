@@ -1,4 +1,4 @@
-//! The reply to a request.
+//! Making the reply from what was read, one case for each kind of request.
 ghost use Rattle.std.specs.Prelude.{◌≡◌, List as Items, length, All, IfOk};
 ghost use Rattle.kanswer.specs.Waiting.{Shown};
 ghost use Rattle.kanswer.specs.Answer.{answer, told_to};
@@ -13,7 +13,7 @@ use kbytes::NoMemory;
 use kwire::{AskView, Config, Reply, RequestView, Told, codes};
 use std::alloc::Global;
 
-// What is answered to this.
+// The reply's fields.
 fn told_to(
     alloc: Global,
     config: &Config,
@@ -54,8 +54,8 @@ fn told_to(
     }
 }
 
-/// The reply to a request, from what became of each partition that it names and what was read of each, in the order of
-/// the request over all topics. It is the same whether the request was answered at once, was satisfied or expired.
+/// The reply to a request, from what became of each partition that it names and what was read of each, in the order of the
+/// request. It doesn't matter whether the request was answered at once, was satisfied or expired.
 pub fn answer(
     alloc: Global,
     config: &Config,

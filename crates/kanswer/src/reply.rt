@@ -1,4 +1,4 @@
-//! The reply to a request that was accepted, made and spelled.
+//! The last step of answering: the reply of `replies`, written as a frame.
 
 ghost use Rattle.std.specs.Prelude.{ℕ, ◌≡◌, ◌≤◌, length, All, List as Items, IfOk};
 ghost use Rattle.kanswer.specs.Waiting.{Shown};
@@ -14,8 +14,8 @@ use kbytes::{Bytes, NoMemory};
 use kwire::{Config, RequestView, reply_bytes};
 use std::alloc::Global;
 
-/// The frame of the reply, from what became of each named partition and what was read of it. The request was read from a body, so
-/// that its reply has a frame.
+/// The frame of the reply, from what became of each named partition and what was read of it. The request was read from a
+/// body, so its reply has a frame.
 pub fn reply_frame(
     alloc: Global,
     config: &Config,

@@ -1,7 +1,7 @@
 ghost use Rattle.std.specs.Prelude.{◌≡◌};
 ghost use Rattle.kanswer.specs.Decisions.{is_acks};
 
-/// On what terms a produce is asked: whether it has a transactional id, and which acks.
+/// The terms of a produce: whether it has a transactional id, and its acks.
 #[derive(Clone, Copy, Debug, PartialEq, Eq)]
 pub struct Terms {
     pub is_transactional: bool,

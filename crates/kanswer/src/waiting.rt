@@ -1,4 +1,5 @@
-//! Whether a request waits, and the operation that it becomes.
+//! Whether an accepted request waits, and as which operation. A broker asks when all partitions are accepted; `need` says
+//! what each of them needs.
 ghost use Rattle.std.specs.Prelude.{◌≡◌, ◌<◌, ◌≤◌, ◌^◌, List as Items, count_by, length, IfOk};
 ghost use Rattle.std.specs.List.{list_any};
 ghost use Rattle.kwire.specs.Views.{ask_of};
@@ -27,7 +28,7 @@ fn is_appended(became: &Accepted) -> bool
     }
 }
 
-// How many partitions were appended to.
+// The number of partitions that were appended to.
 fn appended_count(accepted: &[Accepted]) -> usize
     ensures { result ≡ count_by is_appended accepted.now }
 {
@@ -52,14 +53,14 @@ fn any_refused(accepted: &[Accepted]) -> bool
     accepted.iter().any(|became| is_refused(became))
 }
 
-// Some partition is named, and none was refused.
+// At least one partition is named, and none was refused.
 fn all_seen(accepted: &[Accepted]) -> bool
     ensures { result ≡ all_seen accepted.now }
 {
     !accepted.is_empty() && !any_refused(accepted)
 }
 
-// The request would wait if its tally weren't reached.
+// Whether the request would wait while its tally isn't reached.
 fn may_wait(ask: &AskView<'_>, accepted: &[Accepted]) -> bool
     ensures { result ≡ may_wait (ask_of ask.now) accepted.now }
 {
@@ -99,7 +100,7 @@ fn wait_of(ask: &AskView<'_>) -> u64
     }
 }
 
-// How far the needs of the request are reached.
+// The tally of the request's needs.
 fn reached(ask: &AskView<'_>, accepted: &[Accepted], numbers: &[Numbers]) -> u64
     requires results { AreResults (ask_of ask.now) accepted.now }
     requires numbers { length numbers.now ≡ length accepted.now }
@@ -112,9 +113,9 @@ fn reached(ask: &AskView<'_>, accepted: &[Accepted], numbers: &[Numbers]) -> u64
     reached
 }
 
-/// Whether a request waits, from what became of each partition that it names and the numbers of each just after: exactly
-/// where it may wait and the states with these numbers don't satisfy it. The numbers of a refused partition aren't looked
-/// at. It takes no memory.
+/// Whether a request waits, from what became of each partition that it names and its numbers just after that. It waits
+/// exactly where it may and states with these numbers don't satisfy it. The numbers of a refused partition don't matter. It
+/// takes no memory.
 pub fn needs_op(request: &RequestView<'_>, accepted: &[Accepted], numbers: &[Numbers]) -> bool
     requires results { AreResults request.now.ask accepted.now }
     requires numbers { length numbers.now ≡ length accepted.now }
@@ -125,8 +126,8 @@ pub fn needs_op(request: &RequestView<'_>, accepted: &[Accepted], numbers: &[Num
     may_wait(ask, accepted) && reached(ask, accepted, numbers) < least_of(ask, accepted)
 }
 
-/// The operation that a request becomes at a moment, in milliseconds, from what became of each partition that it names:
-/// what it needs of them, the least tally that satisfies it, and its deadline.
+/// The operation of a request that was accepted at a moment, in milliseconds: what it needs of its partitions, the least
+/// tally that satisfies it, and its deadline.
 pub fn op_of(
     alloc: Global,
     request: &RequestView<'_>,

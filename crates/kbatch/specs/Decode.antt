@@ -5,7 +5,7 @@ use Rattle.kbatch.specs.declared.decode.Stop.TheVariants.{Unread, NoMemory}
 use Rattle.kbatch.specs.declared.record.Record.{Record}
 use Rattle.kbatch.specs.Walk.{◌>>=◌, key_at, header_at, parts_at}
 
--- what a function returned is what reading gives; want of memory can come at any time
+-- what a function returned is what reading gives; out of memory can come at any time
 abbrev pub Decodes : {X : Type 0} → Result X Stop → Option X → Type 0
 Decodes (Ok x) read = read ≡ Some x
 Decodes (Err Unread) read = read ≡ None

@@ -1,3 +1,5 @@
+//! The owned batch, for clients and tests. The broker works on a `BatchView` instead; `PartLog` takes either.
+
 ghost use Rattle.std.specs.Prelude.{◌≡◌, ◌<◌, ◌≤◌, ◌^◌, List, length, IfOk};
 ghost use Rattle.kbatch.specs.declared.record.Record.{Record};
 ghost use Rattle.kbatch.specs.Head.{head_size};
@@ -14,7 +16,7 @@ use kbytes::{Bytes, List as Items, NoMemory};
 use std::alloc::Global;
 use std::marker::Model;
 
-/// The bytes of a record batch that were read and found whole, or were written so. A contract sees the bytes.
+/// The bytes of a record batch, which were checked when they were read, or were written as one. A contract sees the bytes.
 #[derive(Debug, Drop)]
 pub struct Batch {
     bytes: Bytes,
@@ -51,7 +53,7 @@ impl Batch {
         self.view().count()
     }
 
-    /// The same batch where its bytes stand here.
+    /// The same batch, borrowed.
     pub fn view(&self) -> BatchView<'_>
         ensures { result ≡ self.now }
     {
@@ -68,10 +70,10 @@ impl Batch {
         self.view().bytes()
     }
 
-    /// The records, each copied with all that it holds. After `NoMemory` nothing is handed out.
+    /// The records, each copied with all that it has. After `NoMemory` there are none.
     pub fn records(&self, alloc: Global) -> Result<Items<Record>, NoMemory>
         ensures records { IfOk result (λ records. IsBatch self.now records) }
-        // They are its only ones.
+        // The batch has no others.
         ensures only { (records : List Record) → IsBatch self.now records → IfOk result (λ found. found ≡ records) }
     {
         let (_, bytes) = self.bytes.as_slice().split_at(HEAD);

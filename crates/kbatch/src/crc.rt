@@ -1,4 +1,5 @@
-//! CRC-32C, eight bytes at a time.
+//! The CRC-32C of bytes, eight at a time, by the table in `remainders`. `head` compares it with the one in a batch, and
+//! `write` puts it into a new one.
 
 ghost use Rattle.std.specs.Prelude.{◌≡◌, ◌<◌, ◌+◌, ◌*◌, [], ◌∷◌, length, fold};
 ghost use Rattle.kbatch.specs.Crc.{after_bit, message_bits, crc32c_of};
@@ -6,7 +7,7 @@ ghost use Rattle.kbatch.specs.Zeros.{after_zeros};
 
 use crate::remainders::REMAINDERS;
 
-/// The remainder of a byte and so many bytes of zeros after it, from nothing.
+/// The remainder of a byte and that many bytes of zeros after it, from the remainder 0.
 #[inline(always)]
 fn remainder_of(byte: u8, zeros: usize) -> u32
     requires { zeros < 8 }

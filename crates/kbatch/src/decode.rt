@@ -1,4 +1,4 @@
-//! Records, read with all that they hold.
+//! Records, read with copies of their keys, values and headers: what `Batch::records` hands out. `walk` finds the places.
 
 ghost use Rattle.std.specs.Prelude.{◌≡◌, IfOk};
 ghost use Rattle.kbatch.specs.Walk.{header_at};
@@ -12,9 +12,9 @@ use std::alloc::Global;
 /// Why no record is read.
 #[derive(Clone, Copy, Debug, Drop)]
 pub(crate) enum Stop {
-    /// It doesn't read.
+    /// The bytes are no record.
     Unread,
-    /// No memory was left.
+    /// Out of memory.
     NoMemory,
 }
 
@@ -28,7 +28,7 @@ impl From<Memory> for Stop {
     }
 }
 
-// So many headers.
+// That many headers.
 fn headers(alloc: Global, count: u32, bytes: &[u8]) -> Result<List<Header>, Stop>
     ensures { Decodes result (list_at header_at count bytes.now) }
 {
@@ -47,7 +47,7 @@ fn headers(alloc: Global, count: u32, bytes: &[u8]) -> Result<List<Header>, Stop
     Ok(headers)
 }
 
-// What stands after a record's length.
+// The fields after a record's length.
 #[tactic(auto, unfolding(crate::specs::Decode::body_at))]
 fn record(alloc: Global, bytes: &[u8]) -> Result<Record, Stop>
     ensures { Decodes result (body_at bytes.now) }
@@ -64,7 +64,7 @@ fn record(alloc: Global, bytes: &[u8]) -> Result<Record, Stop>
     })
 }
 
-// So many records.
+// That many records.
 pub(crate) fn records(alloc: Global, count: u32, bytes: &[u8]) -> Result<List<Record>, Stop>
     ensures { Decodes result (list_at record_at count bytes.now) }
 {

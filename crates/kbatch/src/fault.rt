@@ -1,4 +1,4 @@
-//! Why bytes are no batch.
+//! The causes for which `read_batch` and `view_batch` refuse bytes, and their texts.
 
 ghost use Rattle.std.specs.Prelude.{◌≡◌};
 
@@ -6,14 +6,14 @@ use kbytes::NoMemory as Memory;
 use std::error::Error;
 use std::fmt;
 
-/// Why bytes are no batch: the first of these, in this order, that applies. Want of memory comes after all of them.
+/// Why bytes are no batch: the first of these, in this order, that applies. `NoMemory` comes after all the others.
 #[derive(Clone, Copy, Debug, PartialEq, Eq)]
 pub enum BatchFault {
     /// More than 1,048,588 bytes.
     TooLarge { len: usize },
     /// Fewer bytes than a header has.
     Short,
-    /// The length in the header and the number of bytes differ.
+    /// The length in the header doesn't fit the number of bytes.
     Length { kept: i32 },
     /// The magic isn't 2.
     Magic { found: i8 },
@@ -25,9 +25,9 @@ pub enum BatchFault {
     Control,
     /// The number of records is below 1, or the last offset delta isn't one less.
     Count { count: i32, last: i32 },
-    /// A record doesn't read at this place, or bytes remain there after the last record.
+    /// At this place there is no well-formed record, or there are bytes after the last one.
     Records { at: usize },
-    /// No memory was left.
+    /// Out of memory.
     NoMemory,
 }
 

@@ -1,4 +1,4 @@
-//! The header, check by check.
+//! The checks of a batch's header, one function each. `read` calls them in the order of `BatchFault`.
 
 ghost use Rattle.std.specs.Prelude.{◌≡◌, ◌<◌, ◌≤◌, ◌+◌, ◌^◌, length, pos, ◌+ℤ◌, OnOk, IfOk, IfErr, drop};
 ghost use Rattle.std.specs.Int.{w8, w16, w32, IsBitSet};

@@ -1,7 +1,7 @@
 //! Kafka's record batch, version 2, and its CRC-32C.
 //!
-//! The layer above may take each `Batch` for the bytes of a batch of some records (`IsBatch`), count its records, and
-//! stamp it with a base offset, which keeps it a batch of the same records.
+//! For the layer above a `Batch` is always the bytes of a batch of some records (`IsBatch`). It counts the records, and
+//! stamps the batch with a base offset, after which it is still a batch of the same records.
 #![tactic(auto)]
 
 mod batch;

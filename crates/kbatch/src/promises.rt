@@ -6,8 +6,8 @@ ghost use Rattle.kbatch.specs.Batch.{IsBatch};
 ghost use Rattle.kbatch.specs.Head.{head_size};
 ghost use Rattle.kbatch.specs.Written.{written};
 
-/// Law: bytes are a batch of one list of records at most, so what is written is read again. And what is read of a batch is
-/// written again as the same bytes after the header.
+/// Law: bytes are a batch of at most one list of records, so reading what was written gives the same records. And writing
+/// what was read gives the same bytes after the header.
 pub fn written_is_read()
     ensures once { (bytes : List ℕ) (records others : List Record) → IsBatch bytes records → IsBatch bytes others
         → records ≡ others }

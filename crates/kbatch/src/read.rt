@@ -1,3 +1,5 @@
+//! Reading bytes as a batch: all checks in order, those of the header from `head` and the records by `walk`.
+
 ghost use Rattle.std.specs.Prelude.{◌≡◌, ◌≢◌, ◌<◌, ◌≤◌, ◌^◌, ◌↔◌, List, length, drop, OnOk, IfOk, IfErr, IsOk, IsErrOf};
 ghost use Rattle.std.specs.List.{AllByRecursion};
 ghost use Rattle.kbatch.specs.declared.fault.BatchFault.{BatchFault};
@@ -17,7 +19,7 @@ use crate::view::BatchView;
 use crate::walk::after_record;
 use std::alloc::Global;
 
-// The bytes after the header are this many records and nothing more.
+// The bytes after the header are that many records and nothing more.
 fn check_records(bytes: &[u8], count: u32) -> Result<(), BatchFault>
     requires most { length bytes.now ≤ most_bytes }
     requires least { 61 ≤ length bytes.now }
@@ -45,7 +47,7 @@ fn check_records(bytes: &[u8], count: u32) -> Result<(), BatchFault>
     Ok(())
 }
 
-// Each fault in its order.
+// All checks, in the order of the faults.
 fn check(bytes: &[u8]) -> Result<(), BatchFault>
     ensures batch { OnOk result ((records : List Record) × IsBatch bytes.now records) }
     ensures fault { IfErr result (λ f. IsFirstFault bytes.now f) }
@@ -59,8 +61,8 @@ fn check(bytes: &[u8]) -> Result<(), BatchFault>
     check_records(bytes, count)
 }
 
-/// The batch that these bytes are, where they stand. The faults come in the order of `BatchFault`. It takes no memory, so
-/// `NoMemory` never comes.
+/// These bytes as a batch, borrowed. The faults come in the order of `BatchFault`. It takes no memory and never answers
+/// `NoMemory`.
 pub fn view_batch(bytes: &[u8]) -> Result<BatchView<'_>, BatchFault>
     ensures bytes { IfOk result (λ batch. batch ≡ bytes.now) }
     // Whatever is read is a batch.
@@ -75,17 +77,17 @@ pub fn view_batch(bytes: &[u8]) -> Result<BatchView<'_>, BatchFault>
     Ok(BatchView::whole(bytes))
 }
 
-/// The batch with exactly these bytes, which are copied once. The faults come in the order of `BatchFault`, and want of
-/// memory after all of them.
+/// The batch with exactly these bytes, which are copied once. The faults come in the order of `BatchFault`, `NoMemory`
+/// after all the others.
 pub fn read_batch(alloc: Global, bytes: &[u8]) -> Result<Batch, BatchFault>
     ensures bytes { IfOk result (λ batch. batch ≡ bytes.now) }
     // Whatever is read is a batch.
     ensures batch { OnOk result ((records : List Record) × IsBatch bytes.now records) }
-    // A batch is refused for want of memory alone.
+    // A batch is refused only for `NoMemory`.
     ensures only { (records : List Record) → IsBatch bytes.now records → IfErr result (λ f. f ≡ NoMemory) }
     // Each other fault comes exactly where it is the first.
     ensures fault { (f : BatchFault) → f ≢ NoMemory → (IsErrOf result f ↔ IsFirstFault bytes.now f) }
-    // Want of memory comes after all faults.
+    // `NoMemory` comes after all the others.
     ensures memory { IsErrOf result NoMemory → (records : List Record) × IsBatch bytes.now records }
 {
     let batch = view_batch(bytes)?;

@@ -1,6 +1,6 @@
-//! The remainders of the 256 bytes, with zeros after them.
+//! The table by which `crc` takes eight bytes at a time.
 
-/// Row k tells of each byte what its bits and k bytes of zeros after it leave, from no remainder.
+/// Row k has for each byte the remainder of that byte and k bytes of zeros after it, from the remainder 0.
 pub(crate) static REMAINDERS: [[u32; 256]; 8] = [
     [
         0x00000000, 0xF26B8303, 0xE13B70F7, 0x1350F3F4, 0xC79A971F, 0x35F1141C, 0x26A1E7E8,

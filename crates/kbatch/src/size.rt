@@ -1,4 +1,5 @@
-//! How many bytes a record takes, before it is written. A number that no u64 holds counts as the greatest one.
+//! The number of bytes that records will take: `write` compares it with the most that a batch may have, before it takes
+//! any memory. A number above the greatest `u64` counts as that one.
 
 ghost use Rattle.std.specs.Prelude.{◌≡◌, ◌≤◌, ◌<◌, ◌+◌, ◌-◌, ◌^◌, min, length, pos, Some};
 ghost use Rattle.std.specs.List.{flat_map, AllByRecursion};
@@ -8,7 +9,7 @@ ghost use Rattle.kbatch.specs.Record.{IsRecord, sized, header_bytes, body_bytes,
 use crate::record::{Header, Record};
 use kbytes::Bytes;
 
-// The groups of seven bits of a number, at most `more` and one.
+// The number of groups of seven bits in a number, at most `more` and one.
 fn group_count(number: u64, more: u64) -> u64
     requires { more < 10 }
     ensures count { result ≡ length (groups more number) }
@@ -26,7 +27,7 @@ fn group_count(number: u64, more: u64) -> u64
     count
 }
 
-// Those of a length.
+// The bytes of a length.
 fn length_size(number: u64) -> u64
     ensures size { result ≡ length (field (Varint (pos number))) }
     ensures most { result ≤ 5 }
@@ -38,7 +39,7 @@ fn length_size(number: u64) -> u64
     }
 }
 
-// 0, -1, 1, -2, 2 and so on become 0, 1, 2, 3, 4.
+// 0, -1, 1, -2, 2 .. become 0, 1, 2, 3, 4 ..
 fn zigzag_of(time: i64) -> u64
     ensures { result ≡ zigzag time }
 {
@@ -49,7 +50,7 @@ fn zigzag_of(time: i64) -> u64
     }
 }
 
-// Those of a time.
+// The bytes of a time.
 fn time_size(time: i64) -> u64
     ensures size { result ≡ length (field (Varlong time)) }
     ensures most { result ≤ 10 }
@@ -90,7 +91,7 @@ fn headers_size(headers: &[Header]) -> u64
     size
 }
 
-// What stands after a record's length.
+// The fields after a record's length.
 pub(crate) fn body_size(delta: u64, record: &Record) -> u64
     ensures size { result ≡ min (length (body_bytes delta record.now)) (2 ^ 64 - 1) }
     ensures record { IsRecord record.now }
@@ -113,7 +114,7 @@ fn record_size(delta: u64, record: &Record) -> u64
     length_size(size).saturating_add(size)
 }
 
-/// Those of records, whose offset deltas rise from 0.
+/// The bytes of records whose offset deltas rise from 0.
 pub(crate) fn records_size(records: &[Record]) -> u64
     ensures each { AllByRecursion IsRecord records.now }
     ensures size { result ≡ min (length (records_from 0 records.now)) (2 ^ 64 - 1) }

@@ -3,7 +3,7 @@ ghost use Rattle.kbatch.specs.Stamp.{stamped};
 
 use byteorder::{BigEndian, ByteOrder};
 
-/// Writes a base offset and the leader epoch 0 into the bytes of a batch, where these stand in a log. It takes no memory.
+/// Writes a base offset and the leader epoch 0 into the bytes of a batch, for example within a log. It takes no memory.
 pub fn stamp(bytes: &mut [u8], base: u64)
     requires { 61 ≤ length bytes.old }
     ensures { bytes.new ≡ stamped base bytes.old }

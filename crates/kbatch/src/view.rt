@@ -1,3 +1,5 @@
+//! The borrowed batch: what `view_batch` gives, and what is appended to a log.
+
 ghost use Rattle.std.specs.Prelude.{◌≡◌, ◌<◌, ◌≤◌, List, length, IfOk};
 ghost use Rattle.kbatch.specs.declared.record.Record.{Record};
 ghost use Rattle.kbatch.specs.Head.{head_size};
@@ -10,7 +12,7 @@ use kbytes::{NoMemory, copied};
 use std::alloc::Global;
 use std::marker::Model;
 
-/// A record batch where its bytes stand, which were found whole. A contract sees the bytes, as it does of a `Batch`.
+/// A record batch whose bytes are borrowed and were checked. A contract sees the bytes, as it does of a `Batch`.
 #[derive(Debug, Drop)]
 pub struct BatchView<'a> {
     bytes: &'a [u8],

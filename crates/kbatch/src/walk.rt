@@ -1,11 +1,12 @@
-//! A record, read from the left. Nothing is copied.
+//! Finding where the parts of a record begin and end, from the left. Nothing is copied: `read` only checks with it,
+//! `decode` copies the parts that it finds.
 
 ghost use Rattle.std.specs.Option.{option_copied};
 ghost use Rattle.kbatch.specs.Walk.{Gives, after_varint, after_varlong, after_int8, part_at, key_at, value_at, header_at, parts_at, after_header, after_headers, after_body, after_record};
 
 use kbytes::Reader;
 
-/// A record's parts, with its headers as bytes.
+/// A record's parts; its headers are still bytes.
 #[derive(Clone, Copy)]
 pub(crate) struct Parts<'a> {
     pub(crate) attributes: i8,

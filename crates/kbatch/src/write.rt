@@ -1,4 +1,5 @@
-//! Writing a batch.
+//! Writing records as a batch, for clients and tests: the size is checked first, then come the fields around the crc, and
+//! the crc last.
 
 ghost use Rattle.std.specs.Prelude.{◌≡◌, ◌≤◌, ◌<◌, ◌+◌, ◌^◌, ◌↔◌, ℕ, ◌++◌, [], length, take, drop, map, fold, pos, Some, IfOk, OnOk, IsErrOf};
 ghost use Rattle.std.specs.List.{flat_map};
@@ -58,7 +59,7 @@ fn put_headers(out: &mut Bytes, headers: &[Header]) -> Result<(), Memory>
     Ok(())
 }
 
-// What stands after a record's length.
+// The fields after a record's length.
 fn put_body(out: &mut Bytes, delta: u32, record: &Record) -> Result<(), Memory>
     requires delta { delta < 2 ^ 31 }
     requires size { length (body_bytes delta record.now) < 2 ^ 31 }
@@ -120,7 +121,7 @@ fn put_back(out: &mut Bytes, count: u32, latest: i64) -> Result<(), Memory>
     put_i32(out, count as i32)
 }
 
-// The greatest of a time and those of the records.
+// The greatest of a time and the times of the records.
 fn latest(first: i64, others: &[Record]) -> i64
     ensures { result ≡ fold int_max first (map (λ r. r.time) others.now) }
 {
@@ -160,9 +161,9 @@ fn unsigned(alloc: Global, records: &[Record]) -> Result<Bytes, Memory>
 }
 
 /// The batch of these records, with base offset, leader epoch, attributes and base timestamp 0, the greatest `time` as its
-/// max timestamp, and producer id, epoch and sequence -1. `NoRecords` comes exactly on an empty list, and `TooLarge`
-/// exactly where the batch would have more than 1,048,588 bytes, with their number. Numbers of 2^63 and above, which no
-/// memory holds, count as want of memory.
+/// max timestamp, and producer id, epoch and sequence -1. It answers `NoRecords` exactly for an empty list, and `TooLarge`,
+/// with the number of bytes, exactly where the batch would have more than 1,048,588. A number of 2^63 or more, which fits
+/// no memory, is answered with `NoMemory`.
 pub fn write_batch(alloc: Global, records: &[Record]) -> Result<Batch, WriteFault>
     ensures bytes { IfOk result (λ batch. batch ≡ written records.now) }
     ensures batch { OnOk result (IsBatch (written records.now) records.now) }

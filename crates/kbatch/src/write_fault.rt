@@ -1,4 +1,4 @@
-//! Why records make no batch.
+//! The causes for which `write_batch` refuses records, and their texts.
 
 ghost use Rattle.std.specs.Prelude.{◌≡◌};
 
@@ -6,14 +6,14 @@ use kbytes::NoMemory as Memory;
 use std::error::Error;
 use std::fmt;
 
-/// Why records make no batch.
+/// Why no batch is written.
 #[derive(Clone, Copy, Debug, PartialEq, Eq)]
 pub enum WriteFault {
     /// There are no records.
     NoRecords,
-    /// The batch would have so many bytes, which are more than 1,048,588.
+    /// The batch would have that many bytes, more than 1,048,588.
     TooLarge { bytes: u64 },
-    /// No memory was left.
+    /// Out of memory.
     NoMemory,
 }
 

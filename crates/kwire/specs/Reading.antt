@@ -76,7 +76,7 @@ layout_at (Many kind things each next) named c =
     times_at (layout_at each) (layout_at next) (count_of count.0) (named_with things named (count_of count.0)) count.1 >>= λ others.
     Ok (count.0 ∷ others.0, others.1, others.2)
 
--- this fault is what reading gives, unless it tells want of memory
+-- this fault is what reading gives, unless it is out of memory
 abbrev pub IsFaultOf : {X : Type 0} → Result X WireFault → WireFault → Type 0
 IsFaultOf read (BadRequest at) = read ≡ Err (BadRequest at)
 IsFaultOf read (UnknownApi key) = read ≡ Err (UnknownApi key)

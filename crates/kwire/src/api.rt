@@ -1,4 +1,5 @@
-//! The apis that are answered.
+//! The apis that the broker answers, with their keys and versions: `body` finds the api of a request by them, and
+//! `put_metadata` lists them.
 
 ghost use Rattle.std.specs.Prelude.{◌≡◌, ◌≢◌, IsNone, IfSome};
 ghost use Rattle.kwire.specs.declared.api.Api.{Api as AnApi};
@@ -30,7 +31,7 @@ pub fn api_of(key: i16) -> Option<Api>
     }
 }
 
-/// The version of an api that is read whole.
+/// The one version of an api that is read in full.
 pub fn version_of(api: Api) -> i16
     ensures { result ≡ version_of_api api }
 {
@@ -42,7 +43,7 @@ pub fn version_of(api: Api) -> i16
     }
 }
 
-/// The api that is asked.
+/// The api of a request.
 pub fn asked_api(ask: &Ask) -> Api
     ensures { result ≡ api_of_ask ask.now }
 {

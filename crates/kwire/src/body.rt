@@ -1,4 +1,5 @@
-//! Reading a request from the body of a frame.
+//! Reading a request from the body of a frame: the header here, then the fields of its api by `read_produce`, `read_fetch`
+//! or `read_metadata`.
 
 ghost use Rattle.std.specs.Prelude.{◌≡◌, ◌≢◌, ◌≤◌, AllPairs, IfOk, IfErr};
 ghost use Rattle.kwire.specs.Apis.{version_of_api, head_layout, ask_layout};
@@ -20,7 +21,7 @@ use crate::view::{AskView, RequestView};
 use kbytes::Reader;
 use std::alloc::Global;
 
-/// The front of a request's body.
+/// The first fields of a request's body.
 #[derive(Clone, Copy, Debug)]
 pub struct Head {
     key: i16,
@@ -42,7 +43,7 @@ fn read_head(reader: &mut Reader<'_>) -> Result<Head, WireFault>
     })
 }
 
-// What is asked of an api in the version that is read whole.
+// The fields of an api's request, in the version that is read in full.
 #[tactic(auto, unfolding(crate::specs::Reading::layout_at))]
 fn read_ask<'a>(alloc: Global, reader: &mut Reader<'a>, api: Api) -> Result<AskView<'a>, WireFault>
     ensures exact { Reads (λ ask. ask_fields (ask_of ask)) reader.new result (fields_at (ask_layout api) reader.old) }
@@ -58,7 +59,7 @@ fn read_ask<'a>(alloc: Global, reader: &mut Reader<'a>, api: Api) -> Result<AskV
     }
 }
 
-// The client's id, and what is asked; nothing stands after it.
+// The client's id and the api's fields, and no bytes after them.
 fn read_body<'a>(
     alloc: Global,
     mut reader: Reader<'a>,
@@ -83,9 +84,9 @@ fn read_body<'a>(
     })
 }
 
-/// The request that the body of a frame is, or why it is none; its names and records are those of the body. The first fault
-/// from the left is told: the header, the api and its version, the fields, bytes after them, a partition named twice. A
-/// request for the versions of the apis in an unknown version is one whatever stands after its correlation id.
+/// The body of a frame as a request, or why it is none. The request borrows its names and records from the body. A refusal
+/// is the first fault from the left: the header, the api and its version, the fields, bytes after them, a partition named
+/// twice. A request for the api versions in an unknown version is one, whatever comes after its correlation id.
 pub fn view_request<'a>(alloc: Global, body: &'a [u8]) -> Result<RequestView<'a>, WireFault>
     ensures request { IfOk result (λ request. IsRequest body.now request) }
     ensures refused { IfErr result (λ why. why ≢ OutOfMemory → IsRefused body.now why) }
@@ -113,7 +114,7 @@ pub fn view_request<'a>(alloc: Global, body: &'a [u8]) -> Result<RequestView<'a>
     }
 }
 
-/// The same request, with bytes of its own.
+/// The same, with copies of the names and records.
 pub fn read_request(alloc: Global, body: &[u8]) -> Result<Request, WireFault>
     ensures request { IfOk result (λ request. IsRequest body.now request) }
     ensures refused { IfErr result (λ why. why ≢ OutOfMemory → IsRefused body.now why) }

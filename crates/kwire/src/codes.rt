@@ -1,18 +1,18 @@
 //! The protocol's error codes, by Kafka's names (Kafka protocol guide, "Error Codes").
 
-/// All is well.
+/// No error.
 pub const NONE: i16 = 0;
 
 /// The offset is below the log's start or beyond its end.
 pub const OFFSET_OUT_OF_RANGE: i16 = 1;
 
-/// The batch's checksum isn't that of its bytes.
+/// The checksum in the batch isn't that of its bytes.
 pub const CORRUPT_MESSAGE: i16 = 2;
 
-/// There is no such topic, or it has no such partition.
+/// There is no such topic, or no such partition of it.
 pub const UNKNOWN_TOPIC_OR_PARTITION: i16 = 3;
 
-/// This broker takes nothing more for the partition: its log is full.
+/// The partition's log is full.
 pub const NOT_LEADER_OR_FOLLOWER: i16 = 6;
 
 /// The followers didn't have the batch in time.
@@ -21,16 +21,16 @@ pub const REQUEST_TIMED_OUT: i16 = 7;
 /// The partition has no such follower.
 pub const REPLICA_NOT_AVAILABLE: i16 = 9;
 
-/// The batch has more bytes than one may have.
+/// The batch has too many bytes.
 pub const MESSAGE_TOO_LARGE: i16 = 10;
 
 /// The produce asks for acks other than 0, 1 and all.
 pub const INVALID_REQUIRED_ACKS: i16 = 21;
 
-/// The api's version isn't one that is answered.
+/// The broker doesn't answer this version of the api.
 pub const UNSUPPORTED_VERSION: i16 = 35;
 
-/// The request asks for what isn't offered: here a transaction.
+/// The request asks for something that the broker doesn't offer: a transaction.
 pub const INVALID_REQUEST: i16 = 42;
 
 /// The batch is compressed.

@@ -1,4 +1,5 @@
-//! The topics that are declared, and the numbers of their partitions.
+//! The declared topics, and the numbers of their partitions over all topics. A trace declares them; each layer above looks
+//! partitions up here.
 
 ghost use Rattle.std.specs.Prelude.{◌≡◌, ◌↔◌, ◌+◌, ◌≤◌, Contains, IsTrue, Some, None, Err, OnOk, OnErr, nat_lt, if◌then◌else◌};
 ghost use Rattle.std.specs.List.{list_all};
@@ -35,7 +36,7 @@ pub enum ConfigFault {
     /// The name isn't 1 to 249 letters, digits, `.`, `_` and `-`, or is `.` or `..`.
     BadName,
     TopicTwice,
-    /// No partitions, more than 64 in all, or more than 8 followers.
+    /// There are no partitions, more than 64 over all topics, or more than 8 followers.
     BadCount,
     NoMemory,
 }
@@ -64,7 +65,7 @@ impl From<NoMemory> for ConfigFault {
     }
 }
 
-/// The port that metadata tells, and the declared topics.
+/// The declared topics, and the port that metadata names.
 #[derive(Debug, Drop)]
 pub struct Config {
     alloc: Global,
@@ -122,7 +123,7 @@ fn is_declared(topics: &[Topic], name: &[u8]) -> bool
     false
 }
 
-// A partition of a topic, before which so many partitions are declared.
+// The number over all topics of a topic's partition, where `before` partitions are declared before the topic.
 fn part_in(topic: &Topic, before: u32, number: u32) -> Option<u32>
     requires { before + topic.now.partitions ≤ MOST_PARTITIONS }
     ensures { result ≡ (if nat_lt number topic.now.partitions then Some (before + number) else None) }
@@ -150,9 +151,9 @@ impl Config {
         }
     }
 
-    /// Declares a topic after the others. `BadName` comes exactly where the name isn't one of a topic, then `TopicTwice`
-    /// exactly where it is declared, then `BadCount` exactly where the number of partitions or followers is out of range.
-    /// After a refusal the configuration is as before.
+    /// Declares a topic after the others. It answers `BadName` exactly where this is no topic's name, else `TopicTwice`
+    /// exactly where the topic is declared already, else `BadCount` exactly where the number of partitions or followers is
+    /// out of range. After a refusal the configuration is as before.
     pub fn add(&mut self, name: &[u8], partitions: u32, followers: u32) -> Result<(), ConfigFault>
         ensures added { OnOk result (self.new ≡ record self.old {
           topics = self.old.topics
@@ -189,7 +190,7 @@ impl Config {
         Ok(())
     }
 
-    /// The port that metadata tells.
+    /// The port that metadata names.
     pub fn port(&self) -> u16
         ensures { result ≡ self.now.port }
     {
@@ -203,7 +204,7 @@ impl Config {
         self.topics.as_slice()
     }
 
-    /// How many partitions there are over all topics, at most 64. Each topic is one that may be declared.
+    /// The number of partitions over all topics, at most 64. Each topic could be declared by itself.
     pub fn parts(&self) -> u32
         ensures count { result ≡ partitions_of self.now.topics }
         ensures few { result ≤ MOST_PARTITIONS }
@@ -212,7 +213,7 @@ impl Config {
         self.parts
     }
 
-    // The number of a topic's partition, where its number in the topic is known to be none below 0.
+    // The number over all topics of a topic's partition, which isn't below 0.
     fn find_part(&self, name: &[u8], number: u32) -> Option<u32>
         ensures number { result ≡ part_from 0 self.now.topics name.now (pos number) }
         ensures within { IfSome result (λ part. part < partitions_of self.now.topics) }
@@ -228,7 +229,7 @@ impl Config {
         None
     }
 
-    /// The number of a topic's partition, counted over all topics, and `None` exactly where there is no such partition.
+    /// The number over all topics of a topic's partition, or `None` exactly where there is no such partition.
     pub fn part_of(&self, topic: &[u8], index: i32) -> Option<u32>
         ensures number { result ≡ part_of self.now topic.now index }
         ensures within { IfSome result (λ part. part < partitions_of self.now.topics) }

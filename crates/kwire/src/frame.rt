@@ -1,4 +1,4 @@
-//! Frames, and the faults of their bodies.
+//! What `next_frame` finds at the front of a stream, and the causes for which `view_request` refuses a frame's body.
 
 ghost use Rattle.std.specs.Prelude.{◌≡◌};
 ghost use Rattle.kwire.specs.declared.frame.WireFault.TheVariants.{BadRequest, NoMemory as OutOfMemory};
@@ -8,12 +8,12 @@ use kbytes::{ByteFault, NoMemory};
 use std::error::Error;
 use std::fmt;
 
-/// What stands at the front of a stream.
+/// What is at the front of a stream.
 #[derive(Clone, Copy, Debug, PartialEq, Eq)]
 pub enum Frame {
-    /// A frame that ends before the place `end`.
+    /// A whole frame, which ends before the place `end`.
     Whole { end: usize },
-    /// Less than a frame.
+    /// Not a whole frame yet.
     NotYet,
     /// A size below 0 or above 8,388,608.
     TooLong { size: i32 },
@@ -22,7 +22,7 @@ pub enum Frame {
 /// Why the body of a frame is no request.
 #[derive(Clone, Copy, Debug, PartialEq, Eq)]
 pub enum WireFault {
-    /// The field at this place doesn't read, or bytes stand there after the request.
+    /// The field at this place is malformed, or there are bytes after the request.
     BadRequest { at: usize },
     UnknownApi { key: i16 },
     Unsupported { key: i16, version: i16 },

@@ -1,4 +1,4 @@
-//! Frames at the front of a stream.
+//! Cutting a stream into frames. A broker asks for the next frame whenever bytes have come in or a request is answered.
 
 ghost use Rattle.std.specs.Prelude.{◌≡◌};
 ghost use Rattle.kwire.specs.Frames.{next_frame_of};
@@ -8,8 +8,8 @@ use crate::frame::Frame;
 /// The most bytes that may follow the size of a frame.
 pub const MOST_FRAME_BYTES: u32 = 8_388_608;
 
-/// What stands at the front of these bytes. `Whole` ends after the frame's body, whose size is the four bytes before it.
-/// `TooLong` comes as soon as the four bytes of a size below 0 or above 8,388,608 are there.
+/// What is at the front of these bytes. A frame is the four bytes of a size and a body of that size. It answers `TooLong`
+/// as soon as the four bytes of a size below 0 or above 8,388,608 are there.
 pub fn next_frame(bytes: &[u8]) -> Frame
     ensures { result ≡ next_frame_of bytes.now }
 {

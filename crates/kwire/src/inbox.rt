@@ -1,4 +1,4 @@
-//! Bytes that have come and aren't taken yet.
+//! The bytes of a session that have come in and aren't taken yet.
 
 ghost use Rattle.std.specs.Prelude.{◌≡◌, ◌≤◌, [], ◌++◌, length, drop, OnOk, OnErr};
 
@@ -6,12 +6,12 @@ use kbytes::{Bytes, NoMemory};
 use std::alloc::Global;
 use std::marker::Model;
 
-/// Bytes that are put at the end and taken from the front. A contract sees those that are left.
+/// Bytes that are added at the end and taken from the front. A contract sees those that are left.
 #[derive(Debug, Drop)]
 pub struct Inbox {
     alloc: Global,
     bytes: Bytes,
-    // Up to here they were taken.
+    // The bytes before this place were taken.
     start: usize,
 }
 
@@ -37,7 +37,7 @@ impl Inbox {
         }
     }
 
-    /// Puts the piece at the end. Bytes that were taken before are given back here.
+    /// Adds the piece at the end. The memory of bytes that were taken is freed here.
     pub fn feed(&mut self, piece: &[u8]) -> Result<(), NoMemory>
         ensures ok { OnOk result (self.new ≡ self.old ++ piece.now) }
         ensures err { OnErr result (self.new ≡ self.old) }
@@ -60,7 +60,7 @@ impl Inbox {
         &self.bytes.as_slice()[self.start..]
     }
 
-    /// Takes so many bytes from the front. It takes the same time for any number of bytes.
+    /// Takes that many bytes from the front, in constant time.
     pub fn drop_front(&mut self, count: usize)
         requires { count ≤ length self.old }
         ensures { self.new ≡ drop count self.old }

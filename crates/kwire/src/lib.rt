@@ -1,7 +1,7 @@
 //! Kafka's wire format: frames of a stream, requests, the topics that they name, and replies.
 //!
-//! The layer above may declare topics in a `Config`, take frames from an `Inbox`, read the body of a frame as a `Request`
-//! or learn the first fault from the left, and spell a `Reply` as the bytes of its frame.
+//! The layer above declares topics in a `Config`, takes frames from an `Inbox`, reads the body of a frame as a `Request`
+//! or learns its first fault from the left, and writes a `Reply` as the bytes of its frame.
 #![tactic(auto)]
 
 mod api;

@@ -1,4 +1,4 @@
-//! Copies of borrowed requests.
+//! Copying a borrowed request into an owned one, for `read_request`.
 
 ghost use Rattle.std.specs.Prelude.{◌≡◌, map, option_map, IfOk};
 ghost use Rattle.kwire.specs.Views.{ask_of};
@@ -8,7 +8,7 @@ use crate::view::{AskView, FetchTopicView, ProducePartView, ProduceTopicView, Re
 use kbytes::{Bytes, List, NoMemory, copied, copied_or_null};
 use std::alloc::Global;
 
-/// What has a copy with bytes of its own.
+/// A part of a request that can be copied into an owned one.
 pub trait Borrowed {
     type Owned: Drop;
 
@@ -138,7 +138,7 @@ fn owned_ask(alloc: Global, ask: &AskView<'_>) -> Result<Ask, NoMemory>
 }
 
 impl<'a> RequestView<'a> {
-    /// The same request, with bytes of its own.
+    /// The same request, with copies of its names and records.
     pub fn to_owned(&self, alloc: Global) -> Result<Request, NoMemory>
         ensures { IfOk result (λ copy. copy ≡ self.now) }
     {

@@ -9,13 +9,13 @@ ghost use Rattle.kwire.specs.Refusal.{IsRefused};
 ghost use Rattle.kwire.specs.declared.frame.WireFault.{WireFault};
 ghost use Rattle.kwire.specs.declared.request.Request.{Request};
 
-/// Law: a stream is cut into whole frames and a rest in one way.
+/// Law: a stream is cut into whole frames and a rest in only one way.
 pub fn frames_are_one()
     ensures { (stream : List ℕ) (bodies others : List (List ℕ)) (rest more : List ℕ) → AreFramesOf stream bodies rest
         → AreFramesOf stream others more → (bodies ≡ others) × (rest ≡ more) }
 {}
 
-/// Law: bytes begin with the fields of a layout in one way, or have one first fault, and not both.
+/// Law: bytes begin with the fields of a layout in only one way, or have one first fault, and not both.
 pub fn layouts_are_one()
     ensures fields { (layout : Layout) (fs gs : List Field) (rest more : List ℕ) → AreOf layout fs → AreOf layout gs
         → fields fs ++ rest ≡ fields gs ++ more → (fs ≡ gs) × (rest ≡ more) }
@@ -28,7 +28,7 @@ pub fn layouts_are_one()
         ⊎ ((why : WireFault) × IsFirstFault layout bytes why) }
 {}
 
-/// Law: a body is one request, or is refused for one cause, and not both.
+/// Law: a body is exactly one request, or is refused for exactly one cause, and not both.
 pub fn requests_are_one()
     ensures request { (body : List ℕ) (r s : Request) → IsRequest body r → IsRequest body s → r ≡ s }
     ensures refusal { (body : List ℕ) (v w : WireFault) → IsRefused body v → IsRefused body w → v ≡ w }
@@ -37,8 +37,8 @@ pub fn requests_are_one()
         → ((r : Request) × IsRequest body r) ⊎ ((w : WireFault) × IsRefused body w) }
 {}
 
-/// Law: the frames of a stream don't depend on where it was cut: those of its front, and then those of what was left and of
-/// the bytes that came after it, are those of the whole.
+/// Law: the frames of a stream don't depend on the pieces in which it came. The frames of a first piece, and then those of
+/// what was left of it with the bytes that came after, are the frames of the whole.
 pub fn frames_in_pieces()
     ensures { (stream piece : List ℕ) (bodies more : List (List ℕ)) (rest last : List ℕ) → AreFramesOf stream bodies rest
         → AreFramesOf (rest ++ piece) more last → AreFramesOf (stream ++ piece) (bodies ++ more) last }

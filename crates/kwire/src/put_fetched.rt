@@ -1,4 +1,4 @@
-//! The topics of a reply to a fetch.
+//! Writing the topics of a reply to a fetch, for `put_reply`.
 
 ghost use Rattle.std.specs.Prelude.{◌≡◌, ◌++◌, ◌∷◌, Some, length, OnOk};
 ghost use Rattle.std.specs.List.{flat_map};
@@ -9,7 +9,7 @@ ghost use Rattle.kwire.specs.IsSpellable.{AreInRange};
 use crate::reply::{FetchedPart, FetchedTopic};
 use kbytes::{Bytes, NoMemory, put_array, put_i16, put_i32, put_i64, put_records, put_string};
 
-// Null for the isolation level 0, and none for 1.
+// The aborted transactions: null for the isolation level 0, an empty list for 1.
 fn put_aborted(out: &mut Bytes, isolation: i8) -> Result<(), NoMemory>
     ensures { OnOk result (out.new ≡ out.old ++ field (Array (aborted isolation))) }
 {

@@ -1,4 +1,4 @@
-//! What replies and requests share: fields, and lists of items.
+//! What all `put_` modules share: items that are written one after the other, and the frame around a body.
 
 ghost use Rattle.std.specs.Prelude.{◌≡◌, ◌<◌, ◌^◌, ◌++◌, List as Items, length, IfOk, OnOk};
 ghost use Rattle.std.specs.Option.{option_copied};
@@ -10,7 +10,7 @@ ghost use Rattle.kwire.specs.IsSpellable.{AreInRange};
 use kbytes::{Bytes, NoMemory, put_i32};
 use std::alloc::Global;
 
-/// What is written as fields, one after the other.
+/// An item that is written as its fields, one after the other.
 pub trait Written {
     ghost written: { Self → Items Field };
 

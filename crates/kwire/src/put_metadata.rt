@@ -1,4 +1,4 @@
-//! The brokers and the topics of a reply to a request for metadata, and the versions of the apis.
+//! Writing what the broker says about itself, for `put_reply`: its address and topics, and the versions of its apis.
 
 ghost use Rattle.std.specs.Prelude.{◌≡◌, ◌+◌, ◌<◌, ◌^◌, ◌++◌, ◌∷◌, Some, length, OnOk};
 ghost use Rattle.std.specs.List.{flat_map, range_with_len};
@@ -14,7 +14,7 @@ use kbytes::{
     Bytes, NoMemory, put_array, put_i8, put_i16, put_i32, put_nullable_string, put_string,
 };
 
-// The replicas 0 to so many followers.
+// The replicas of a partition: 0, and one for each follower.
 fn put_replicas(out: &mut Bytes, followers: u32) -> Result<(), NoMemory>
     requires { followers + 1 < 2 ^ 31 }
     ensures { OnOk result (out.new ≡ out.old ++ fields (replica_fields followers)) }
@@ -26,7 +26,7 @@ fn put_replicas(out: &mut Bytes, followers: u32) -> Result<(), NoMemory>
     Ok(())
 }
 
-// A partition that is led by this broker, with all replicas in sync.
+// A partition: this broker leads it, and all replicas are in sync.
 fn put_partition(out: &mut Bytes, followers: u32, index: u32) -> Result<(), NoMemory>
     requires replicas { followers + 1 < 2 ^ 31 }
     requires index { index < 2 ^ 31 }
@@ -86,7 +86,7 @@ pub fn put_metadata(out: &mut Bytes, port: u16, topics: &[TopicInfo]) -> Result<
     put_items(out, topics)
 }
 
-// An api, with its least and its greatest version.
+// An api, with its lowest and its highest version.
 fn put_api(out: &mut Bytes, api: Api) -> Result<(), NoMemory>
     ensures { OnOk result (out.new ≡ out.old ++ fields (api_fields api)) }
 {

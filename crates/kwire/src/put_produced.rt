@@ -1,4 +1,4 @@
-//! The topics of a reply to a produce.
+//! Writing the topics of a reply to a produce, for `put_reply`.
 
 ghost use Rattle.std.specs.Prelude.{◌≡◌, ◌++◌, ◌∷◌, Some, length, OnOk};
 ghost use Rattle.std.specs.List.{flat_map};

@@ -1,4 +1,4 @@
-//! The frame of a reply.
+//! Writing a reply as a frame: the last step of each answer. The fields of each kind are in the other `put_` modules.
 
 ghost use Rattle.std.specs.Prelude.{◌≡◌, ◌++◌, IfOk, OnOk};
 ghost use Rattle.kbytes.specs.Field.{fields};
@@ -14,7 +14,7 @@ use crate::reply::{FetchedTopic, ProducedTopic, Reply, Told};
 use kbytes::{Bytes, NoMemory, put_i32};
 use std::alloc::Global;
 
-// The throttle time 0 stands after the topics.
+// The topics, and after them the throttle time 0.
 fn put_produced_told(out: &mut Bytes, topics: &[ProducedTopic]) -> Result<(), NoMemory>
     requires { AreInRange (told_fields (Produced topics.now)) }
     ensures { OnOk result (out.new ≡ out.old ++ fields (told_fields (Produced topics.now))) }
@@ -23,7 +23,7 @@ fn put_produced_told(out: &mut Bytes, topics: &[ProducedTopic]) -> Result<(), No
     put_i32(out, 0)
 }
 
-// The throttle time 0 stands before the topics.
+// The throttle time 0, and after it the topics.
 fn put_fetched_told(out: &mut Bytes, isolation: i8, topics: &[FetchedTopic]) -> Result<(), NoMemory>
     requires { AreInRange (told_fields (Fetched isolation topics.now)) }
     ensures { OnOk result (out.new ≡ out.old ++ fields (told_fields (Fetched isolation topics.now))) }
@@ -46,7 +46,7 @@ fn put_told(out: &mut Bytes, told: &Told) -> Result<(), NoMemory>
     }
 }
 
-/// The frame of a reply: its size, the correlation id, and the reply's fields.
+/// The frame of a reply: the size, the correlation id and the fields.
 pub fn reply_bytes(alloc: Global, reply: &Reply) -> Result<Bytes, NoMemory>
     requires { IsSpellable reply.now }
     ensures { IfOk result (λ frame. frame ≡ spelling reply.now) }

@@ -1,4 +1,4 @@
-//! The frame of a request.
+//! Writing a request as a frame, for clients and tests: the broker itself only reads requests.
 
 ghost use Rattle.std.specs.Prelude.{◌≡◌, ◌≤◌, ◌<◌, ◌^◌, ◌++◌, length, IfOk, OnOk};
 ghost use Rattle.kbytes.specs.Field.{fields};
@@ -107,7 +107,7 @@ impl Written for Ask {
     }
 }
 
-// The version that the header tells.
+// The version in the header.
 fn asked_version(ask: &Ask) -> i16
     ensures { result ≡ asked_version ask.now }
 {
@@ -132,8 +132,8 @@ impl Written for Request {
     }
 }
 
-/// The frame of a request that is whole: one of the version that is read whole, that names at most 64 topics and partitions,
-/// and none of these twice. Its body is that request, so it is read again as it was.
+/// The frame of a request in the version that is read in full, which names at most 64 topics and partitions, and no
+/// partition twice. Its body is that request, so reading it gives the same request.
 pub fn request_bytes(alloc: Global, request: &Request) -> Result<Bytes, NoMemory>
     requires whole { IsWhole (fields (request_fields request.now)) request.now }
     requires short { length (fields (request_fields request.now)) < 2 ^ 31 }

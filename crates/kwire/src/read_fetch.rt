@@ -1,4 +1,4 @@
-//! The fields of a fetch.
+//! Reading the fields of a fetch, for `body`.
 
 ghost use Rattle.std.specs.Prelude.{◌≡◌, ◌≤◌, IfOk};
 ghost use Rattle.kbytes.specs.Field.{Int8};
@@ -59,7 +59,7 @@ impl<'a> Item<'a> for FetchTopicView<'a> {
     }
 }
 
-// 0 or 1.
+// The isolation level: 0 or 1.
 fn read_isolation(reader: &mut Reader<'_>) -> Result<i8, WireFault>
     ensures { Reads Int8 reader.new result (field_at (INT8_OF isolation_levels) reader.old) }
 {
@@ -71,7 +71,7 @@ fn read_isolation(reader: &mut Reader<'_>) -> Result<i8, WireFault>
     Err(WireFault::BadRequest { at })
 }
 
-/// What is asked by a fetch.
+/// The fields of a fetch.
 #[tactic(auto, unfolding(crate::specs::Reading::layout_at))]
 pub fn read_fetch<'a>(alloc: Global, reader: &mut Reader<'a>) -> Result<AskView<'a>, WireFault>
     ensures exact { Reads (λ ask. ask_fields (ask_of ask)) reader.new result (fields_at (ask_layout FetchApi) reader.old) }

@@ -1,4 +1,4 @@
-//! What several requests share: counts, and lists of items.
+//! What all `read_` modules share: counts, lists of items, and the limit on what a request names.
 
 ghost use Rattle.std.specs.Prelude.{◌≡◌, ◌<◌, ◌≤◌, ◌^◌, List as Items, Some, length, IfOk};
 ghost use Rattle.std.specs.List.{flat_map};
@@ -12,7 +12,7 @@ use crate::request::MOST_NAMED;
 use kbytes::{List, Reader};
 use std::alloc::Global;
 
-/// What is read one after the other. `named` counts the partitions that were named so far.
+/// An item of a list that is read from the left. `named` counts the partitions that were named so far.
 pub trait Item<'a>: Drop + Sized {
     ghost layout: { Layout };
 
@@ -36,7 +36,7 @@ pub fn read_count(reader: &mut Reader<'_>) -> Result<u32, WireFault>
     Ok(count)
 }
 
-/// `TooMany`, exactly where more than 64 topics or partitions are named.
+/// Refuses with `TooMany` exactly where more than 64 topics or partitions are named.
 pub fn refuse_many(count: u32) -> Result<(), WireFault>
     ensures exact { result ≡ within count }
     ensures few { IfOk result (λ _. count ≤ MOST_NAMED) }
@@ -47,7 +47,7 @@ pub fn refuse_many(count: u32) -> Result<(), WireFault>
     Ok(())
 }
 
-/// So many items.
+/// That many items.
 pub fn read_items<'a, T: Item<'a>>(
     alloc: Global,
     reader: &mut Reader<'a>,

@@ -1,4 +1,4 @@
-//! The fields of a request for metadata.
+//! Reading the fields of a request for metadata, for `body`.
 
 ghost use Rattle.std.specs.Prelude.{◌≡◌, ◌≤◌, IfOk};
 ghost use Rattle.kwire.specs.Apis.{name_layout, version_of_api, ask_layout};

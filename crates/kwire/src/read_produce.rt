@@ -1,4 +1,4 @@
-//! The fields of a produce.
+//! Reading the fields of a produce, for `body`.
 
 ghost use Rattle.std.specs.Prelude.{◌≡◌, ◌≤◌, IfOk};
 ghost use Rattle.kwire.specs.Apis.{produce_part_layout, produce_topic_layout, version_of_api, ask_layout};
@@ -51,7 +51,7 @@ impl<'a> Item<'a> for ProduceTopicView<'a> {
     }
 }
 
-/// What is asked by a produce.
+/// The fields of a produce.
 #[tactic(auto, unfolding(crate::specs::Reading::layout_at))]
 pub fn read_produce<'a>(alloc: Global, reader: &mut Reader<'a>) -> Result<AskView<'a>, WireFault>
     ensures exact { Reads (λ ask. ask_fields (ask_of ask)) reader.new result (fields_at (ask_layout ProduceApi) reader.old) }

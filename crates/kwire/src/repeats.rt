@@ -1,4 +1,4 @@
-//! Partitions that are named twice.
+//! The last check of `body`: no request names a partition twice.
 
 ghost use Rattle.std.specs.Prelude.{◌≡◌, ◌≢◌, ℕ, ℤ, List as Items, [], ◌++◌, ◌<◌, ◌≤◌, ◌^◌, length, map, option_map, AllPairs, OnOk, IfOk, IfErr};
 ghost use Rattle.std.specs.List.{list_any};
@@ -35,7 +35,7 @@ fn is_mentioned(mention: &Mention<'_>, before: &[Mention<'_>]) -> bool
     before.iter().any(|other| is_same(mention, other))
 }
 
-// The entry and the number of the first that was mentioned before.
+// The first mention that repeats an earlier one: its topic entry, and the partition's number.
 fn first_repeat(mentions: &[Mention<'_>]) -> Option<(u32, i32)>
     ensures { result ≡ option_map place_of (repeat_after [] (map view mentions.now)) }
 {
@@ -154,7 +154,7 @@ fn all_mentions<'a, T: HasParts>(
     Ok(mentions)
 }
 
-// The partitions that are named, in order over all topics.
+// The partitions that are named, in the order of the request.
 fn mentions_of<'a>(alloc: Global, ask: &'a AskView<'_>) -> Result<List<Mention<'a>>, NoMemory>
     requires { topics_named (ask_of ask.now) ≤ MOST_NAMED }
     ensures { IfOk result (λ mentions. map view mentions ≡ mentions_of (ask_of ask.now)) }
@@ -166,7 +166,7 @@ fn mentions_of<'a>(alloc: Global, ask: &'a AskView<'_>) -> Result<List<Mention<'
     }
 }
 
-/// `Twice`, exactly where a partition is named twice: the first that is named again.
+/// Refuses with `Twice` exactly where a partition is named twice, and reports the first that is named again.
 pub fn refuse_repeats(alloc: Global, ask: &AskView<'_>) -> Result<(), WireFault>
     requires { topics_named (ask_of ask.now) ≤ MOST_NAMED }
     ensures once { OnOk result (AllPairs (λ a b. a ≢ b) (named_of (ask_of ask.now))) }

@@ -1,4 +1,4 @@
-//! Replies, as they are before they are spelled.
+//! A reply as data: `kanswer` builds it, `put_reply` writes it as bytes.
 
 use kbytes::{Bytes, List};
 
@@ -37,7 +37,7 @@ pub struct TopicInfo {
     pub followers: u32,
 }
 
-/// What is answered.
+/// The fields of a reply, by the kind of its request.
 #[derive(Debug, Drop)]
 pub enum Told {
     Produced {

@@ -1,11 +1,11 @@
-//! Requests, as they are once they are read.
+//! A request as data, with names and records of its own. `view` has the same types with borrowed bytes.
 
 use kbytes::{Bytes, List};
 
-/// The most topics that a request names, and the most partitions.
+/// The most topics that a request may name, and the most partitions.
 pub const MOST_NAMED: u32 = 64;
 
-/// What is appended to one partition: the bytes of a record batch, where they aren't null.
+/// What a produce brings for one partition: the bytes of a record batch, or null.
 #[derive(Debug, Drop)]
 pub struct ProducePart {
     pub index: i32,
@@ -18,7 +18,7 @@ pub struct ProduceTopic {
     pub parts: List<ProducePart>,
 }
 
-/// What is read of one partition: from `offset` on, at most `most` bytes.
+/// What a fetch asks of one partition: the records from `offset` on, at most `most` bytes.
 #[derive(Debug, Drop)]
 pub struct FetchPart {
     pub index: i32,
@@ -32,7 +32,7 @@ pub struct FetchTopic {
     pub parts: List<FetchPart>,
 }
 
-/// What is asked. Times are in milliseconds.
+/// The fields of a request, by its kind. Times are in milliseconds.
 #[derive(Debug, Drop)]
 pub enum Ask {
     Produce {
@@ -53,7 +53,7 @@ pub enum Ask {
     Metadata {
         topics: Option<List<Bytes>>,
     },
-    /// The versions of the apis, asked in this version.
+    /// Asks for the api versions, in this version of that request.
     Versions {
         version: i16,
     },

@@ -1,10 +1,11 @@
-//! Requests that borrow their bytes from the body of their frame.
+//! A request as data that borrows names and records from the body of its frame: what `view_request` gives, and what a broker
+//! works on while it has the frame.
 
 use crate::request::FetchPart;
 use kbytes::List;
 use std::marker::Model;
 
-/// What is appended to one partition, as in a `ProducePart`.
+/// What a produce brings for one partition: a `ProducePart` with borrowed bytes.
 #[derive(Debug, Drop)]
 pub struct ProducePartView<'a> {
     pub index: i32,
@@ -20,7 +21,7 @@ impl<'a> Model for ProducePartView<'a> {
     ghost view = { λ p. record { index = p.index; records = option_copied p.records } };
 }
 
-/// A topic, as in a `ProduceTopic`.
+/// A `ProduceTopic` with borrowed bytes.
 #[derive(Debug, Drop)]
 pub struct ProduceTopicView<'a> {
     pub name: &'a [u8],
@@ -35,7 +36,7 @@ impl<'a> Model for ProduceTopicView<'a> {
     ghost view = { λ t. record { name = t.name.now; parts = t.parts } };
 }
 
-/// A topic, as in a `FetchTopic`.
+/// A `FetchTopic` with borrowed bytes.
 #[derive(Debug, Drop)]
 pub struct FetchTopicView<'a> {
     pub name: &'a [u8],
@@ -50,7 +51,7 @@ impl<'a> Model for FetchTopicView<'a> {
     ghost view = { λ t. record { name = t.name.now; parts = t.parts } };
 }
 
-/// What is asked, as in an `Ask`.
+/// An `Ask` with borrowed bytes.
 #[derive(Debug, Drop)]
 pub enum AskView<'a> {
     Produce {
@@ -71,13 +72,13 @@ pub enum AskView<'a> {
     Metadata {
         topics: Option<List<&'a [u8]>>,
     },
-    /// The versions of the apis, asked in this version.
+    /// Asks for the api versions, in this version of that request.
     Versions {
         version: i16,
     },
 }
 
-/// A request, as in a `Request`. A contract sees that request.
+/// A `Request` with borrowed bytes. A contract sees that request.
 #[derive(Debug, Drop)]
 pub struct RequestView<'a> {
     pub correlation: i32,

@@ -4,7 +4,7 @@ pub const MOST_MOMENT: u64 = 1_000_000_000_000_000;
 /// One entry of the clock's history.
 #[derive(Clone, Copy, Debug, PartialEq, Eq)]
 pub enum ClockEvent {
-    /// The moment rose to this one, in milliseconds.
+    /// The moment rose to this one.
     Tick { t: u64 },
     /// A call looked at the moment.
     Look { by: u32, seq: u32 },

@@ -1,3 +1,5 @@
+//! The clock. A broker ticks it for each line of time in a trace, and looks at it when it accepts or completes a request.
+
 ghost use Rattle.std.specs.Prelude.{◌≡◌, ◌↔◌, ◌<◌, ◌≤◌, [], ◌∷◌, ◌++◌, length, IfOk, OnOk, OnErr, IsTrue};
 ghost use Rattle.partlog.specs.declared.clock_event.TheConstants.{MOST_MOMENT};
 
@@ -7,7 +9,7 @@ use kbytes::{List, NoMemory};
 use std::alloc::Global;
 use std::marker::Model;
 
-/// The clock's history. It begins at moment 0, and its moment only rises.
+/// The clock's history. It begins at the moment 0, and its moment never falls.
 #[derive(Debug, Drop)]
 pub struct ClockLog {
     events: List<ClockEvent>,
@@ -32,7 +34,7 @@ impl ClockLog {
     ghost use Rattle.partlog.specs.Moment.{moment_of};
     ghost use Rattle.partlog.specs.Ticked.{ticked};
 
-    /// A clock at moment 0, without entries. It takes no memory.
+    /// A clock at the moment 0, without entries. It takes no memory.
     pub fn new(alloc: Global) -> ClockLog
         ensures { result ≡ [] }
     {
@@ -42,8 +44,8 @@ impl ClockLog {
         }
     }
 
-    /// Tells the clock a moment in milliseconds, and answers whether the clock's moment rose to it. Where it isn't above
-    /// that, the history stays as it was. After a refusal it is as it was, too.
+    /// Raises the clock's moment to this one, in milliseconds, and enters that. A moment that isn't above the clock's
+    /// changes nothing. The answer is whether the moment rose. After a refusal the history is as it was.
     pub fn tick(&mut self, t: u64) -> Result<bool, NoMemory>
         requires { t ≤ MOST_MOMENT }
         ensures ticked { OnOk result (self.new ≡ ticked self.old t) }
@@ -58,7 +60,7 @@ impl ClockLog {
         Ok(true)
     }
 
-    /// Enters a look at the moment, and answers the place of the entry. After a refusal the history is as it was.
+    /// Enters that the moment was looked at, and answers the place of the entry. After a refusal the history is as it was.
     pub fn look(&mut self, who: Who) -> Result<u64, NoMemory>
         ensures looked { OnOk result (self.new ≡ self.old ++ Look who.by who.seq ∷ []) }
         ensures moment { OnOk result (moment_of self.new ≡ moment_of self.old) }
@@ -73,7 +75,7 @@ impl ClockLog {
         Ok(place)
     }
 
-    /// The moment: the greatest that the clock was told, or 0. It takes no memory.
+    /// The clock's moment: the greatest of its ticks, or 0. It takes no memory.
     pub fn now(&self) -> u64
         ensures moment { result ≡ moment_of self.now }
         ensures limit { result ≤ MOST_MOMENT }
@@ -88,7 +90,7 @@ impl ClockLog {
         self.events.as_slice()
     }
 
-    /// The history, handed over as it stands. Nothing is copied, and it takes no memory.
+    /// Gives the history away as it is. It takes no memory.
     pub fn into_events(self) -> List<ClockEvent>
         ensures events { result ≡ self }
         ensures limit { moment_of result ≤ MOST_MOMENT }

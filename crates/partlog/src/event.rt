@@ -1,8 +1,8 @@
-/// One entry of a partition's history. `by` is the number of the pass that left it, and `seq` the number of the call among
+/// One entry of a partition's history. `by` is the number of the pass that made it, and `seq` the number of the call among
 /// those of the pass.
 #[derive(Clone, Copy, Debug, PartialEq, Eq)]
 pub enum PartEvent {
-    /// A batch of `count` records in `len` bytes was put at the end of the log.
+    /// A batch of `count` records in `len` bytes was appended to the log.
     Append {
         by: u32,
         seq: u32,

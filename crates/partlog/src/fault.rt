@@ -1,15 +1,17 @@
+//! The causes for which a `PartLog` refuses a batch or a follower's fetch, and their texts.
+
 ghost use Rattle.std.specs.Prelude.{◌≡◌};
 
 use kbytes::NoMemory;
 use std::error::Error;
 use std::fmt;
 
-/// Why a batch isn't put into a log. The log is as it was.
+/// Why a batch isn't appended. The log is as it was.
 #[derive(Clone, Copy, Debug, PartialEq, Eq)]
 pub enum LogFault {
     /// The log would have more than `MOST_LOG_BYTES` bytes.
     LogFull,
-    /// No memory was left.
+    /// Out of memory.
     NoMemory,
 }
 
@@ -41,7 +43,7 @@ pub enum FollowFault {
     NoReplica,
     /// The offset is below 0 or above the log end.
     OutOfRange { log_end: u64 },
-    /// No memory was left.
+    /// Out of memory.
     NoMemory,
 }
 

@@ -2,10 +2,10 @@ ghost use Rattle.std.specs.Prelude.{◌≡◌};
 
 use crate::batch_start::BatchStart;
 
-/// The numbers of a partition.
+/// A partition's offsets and gauges.
 #[derive(Clone, Copy, Debug, PartialEq, Eq)]
 pub struct Numbers {
-    /// The log end offset: that of the next record.
+    /// The log end offset: the offset of the next record.
     pub end: u64,
     /// The high watermark: the offset up to which every replica has fetched.
     pub high: u64,

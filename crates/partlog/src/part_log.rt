@@ -1,3 +1,6 @@
+//! The log of one partition with its history. A broker appends to it, reads it, and enters each fetch and each look;
+//! `search` finds batches in it.
+
 ghost use Rattle.std.specs.Prelude.{◌≡◌, ◌↔◌, ◌+◌, ◌<◌, ◌≤◌, ℕ, pos, [], ◌++◌, length, not, max, slice_index, slice_set, IfOk, IfSome, IfNone, OnOk, OnErr, IsErrOf};
 ghost use Rattle.kbatch.specs.Head.{head_size};
 ghost use Rattle.kbatch.specs.Stamp.{stamped};
@@ -17,7 +20,7 @@ use kbytes::{Bytes, List, NoMemory};
 use std::alloc::Global;
 use std::marker::Model;
 
-/// The most bytes that a log has.
+/// The most bytes that a log may have.
 pub const MOST_LOG_BYTES: usize = 67_108_864;
 
 /// One partition's log and its history.
@@ -45,7 +48,7 @@ impl Model for PartLog {
     ghost invariant = { λ p. IsTracked p.log p.followers p.events p.starts.items p.positions p.numbers };
 }
 
-/// The positions of so many followers that fetched nothing.
+/// The positions of that many followers before their first fetch.
 fn unfetched(alloc: Global, followers: u32) -> Result<List<u64>, NoMemory>
     ensures { IfOk result (λ positions. positions ≡ positions_of followers []) }
 {
@@ -56,7 +59,7 @@ fn unfetched(alloc: Global, followers: u32) -> Result<List<u64>, NoMemory>
     Ok(positions)
 }
 
-/// The place of a replica among so many followers, which are numbered from 1.
+/// The place of a replica among that many followers, which are numbered from 1.
 fn follower_place(replica: i32, followers: u32) -> Option<usize>
     ensures follower { IfSome result (λ at. (replica ≡ pos (at + 1)) × (at < followers)) }
     ensures no_replica { IfNone result (IsFollower replica followers → ⊥) }
@@ -67,7 +70,7 @@ fn follower_place(replica: i32, followers: u32) -> Option<usize>
     Some(replica as usize - 1)
 }
 
-/// An offset, where it is from 0 to the log end.
+/// The offset, where it is between 0 and the log end.
 fn offset_within(offset: i64, end: u64) -> Option<u64>
     ensures within { IfSome result (λ at. (offset ≡ pos at) × (at ≤ end)) }
     ensures outside { IfNone result (IsInRange offset end → ⊥) }
@@ -78,7 +81,7 @@ fn offset_within(offset: i64, end: u64) -> Option<u64>
     Some(offset as u64)
 }
 
-/// A follower has fetched as far as this offset, or farther.
+/// Raises a follower's position to this offset, or leaves it where it is farther already.
 fn raise_position(positions: &mut [u64], at: usize, offset: u64)
     requires { at < length positions.old }
     ensures { positions.new ≡ slice_set positions.old at (max (slice_index positions.old at) offset) }
@@ -86,7 +89,7 @@ fn raise_position(positions: &mut [u64], at: usize, offset: u64)
     positions[at] = positions[at].max(offset);
 }
 
-/// Puts a batch's bytes at the end of a log, stamped with this base offset. They are copied once.
+/// Appends a batch's bytes to a log, stamped with this base offset. They are copied once.
 fn put_stamped(log: &mut Bytes, bytes: &[u8], base: u64) -> Result<(), NoMemory>
     requires { head_size ≤ length bytes.now }
     ensures put { OnOk result (log.new ≡ log.old ++ stamped base bytes.now) }
@@ -112,7 +115,7 @@ impl PartLog {
     ghost use Rattle.partlog.specs.declared.part_log.TheConstants.{MOST_LOG_BYTES};
     ghost use Rattle.partlog.specs.Taken.{batches_past, batches_upto, joined, taken};
 
-    /// An empty log with so many followers.
+    /// An empty log with that many followers.
     pub fn new(alloc: Global, followers: u32) -> Result<PartLog, NoMemory>
         ensures empty { IfOk result (λ part. part ≡ record { log = []; followers = followers; events = [] }) }
         ensures kept { IfOk result (λ part. IsKept part.log part.events) }
@@ -132,9 +135,9 @@ impl PartLog {
         })
     }
 
-    /// Puts a batch at the end of the log, with the log end as its base offset and leader epoch 0, and enters it. Its bytes
-    /// are copied once, from where they stand into the log. It answers the base offset and the place of the entry. `LogFull`
-    /// comes exactly where the log would have more than `MOST_LOG_BYTES`. After a refusal the log is as it was.
+    /// Appends a batch, with the log end as its base offset and leader epoch 0, and enters it. Its bytes are copied once,
+    /// into the log. It answers the base offset and the place of the entry, or `LogFull` exactly where the log would have
+    /// more than `MOST_LOG_BYTES`. After a refusal the log is as it was.
     pub fn append_view(&mut self, who: Who, batch: &BatchView<'_>) -> Result<Placed, LogFault>
         ensures appended { OnOk result (self.new ≡ appended self.old who.by who.seq batch.now) }
         ensures base { IfOk result (λ placed. placed.base ≡ log_end_of self.old.events) }
@@ -179,7 +182,7 @@ impl PartLog {
         Ok(Placed { base, place })
     }
 
-    /// The same with a batch that is owned.
+    /// The same for an owned batch.
     pub fn append(&mut self, who: Who, batch: &Batch) -> Result<Placed, LogFault>
         ensures appended { OnOk result (self.new ≡ appended self.old who.by who.seq batch.now) }
         ensures base { IfOk result (λ placed. placed.base ≡ log_end_of self.old.events) }
@@ -193,9 +196,9 @@ impl PartLog {
         self.append_view(who, &batch.view())
     }
 
-    /// Enters a follower's fetch from an offset, and answers the place of the entry. `NoReplica` comes exactly where the
-    /// replica isn't one of the followers. Else `OutOfRange` comes exactly where the offset is below 0 or above the log end.
-    /// After a refusal the log is as it was.
+    /// Enters a follower's fetch from an offset. It answers the place of the entry, or `NoReplica` exactly where the replica
+    /// isn't one of the followers, or else `OutOfRange` exactly where the offset is below 0 or above the log end. After a
+    /// refusal the log is as it was.
     pub fn follow(&mut self, who: Who, replica: i32, offset: i64) -> Result<u64, FollowFault>
         ensures followed { OnOk result ((at : ℕ) × (offset ≡ pos at)
             × (self.new ≡ followed self.old who.by who.seq replica at)) }
@@ -228,7 +231,7 @@ impl PartLog {
         Ok(place)
     }
 
-    /// Enters a look, and answers the place of the entry. After a refusal the log is as it was.
+    /// Enters that the log was looked at, and answers the place of the entry. After a refusal the log is as it was.
     pub fn look(&mut self, who: Who) -> Result<u64, NoMemory>
         ensures looked { OnOk result (self.new ≡ looked self.old who.by who.seq) }
         ensures place { IfOk result (λ place. place ≡ length self.old.events) }
@@ -244,8 +247,8 @@ impl PartLog {
         Ok(place)
     }
 
-    /// The byte place of the first batch whose last offset is at least this one; the log's length where there is none. It
-    /// takes no memory.
+    /// The byte place of the first batch whose last offset is at least this one, or the log's length where there is none.
+    /// It takes no memory.
     pub fn locate(&self, offset: u64) -> u64
         ensures start { result ≡ start_of offset (state_of self.now) }
         ensures within { result ≤ length self.now.log }
@@ -255,9 +258,9 @@ impl PartLog {
         start_of(self.starts.as_slice(), self.numbers.next_start(), offset)
     }
 
-    /// The bytes of whole batches: of those that begin at or after the byte place `from` and end at or before the byte
-    /// place `upto`, as many from the first on as have `limit` bytes together. Where not even the first fits, `force` gives
-    /// that one. It takes no memory.
+    /// The bytes of whole batches. Of those that begin at or after the byte place `from` and end at or before the byte place
+    /// `upto`, it takes as many as have at most `limit` bytes together, from the first on. Where not even the first fits,
+    /// `force` takes that one. It takes no memory.
     pub fn read(&self, from: u64, upto: u64, limit: u64, force: bool) -> &[u8]
         ensures bytes { result.now ≡ joined (taken limit (not force)
             (batches_past from (batches_upto upto (state_of self.now).batches))) }
@@ -280,7 +283,7 @@ impl PartLog {
         self.log.as_slice()
     }
 
-    /// How many followers the partition has.
+    /// The number of the partition's followers.
     pub fn followers(&self) -> u32
         ensures { result ≡ self.now.followers }
     {
@@ -308,7 +311,7 @@ impl PartLog {
         self.events.as_slice()
     }
 
-    /// The log's bytes and the history, handed over as they stand. Nothing is copied, and it takes no memory.
+    /// Gives the log's bytes and the history away as they are. It takes no memory.
     pub fn into_parts(self) -> (Bytes, List<PartEvent>)
         ensures log { result.0 ≡ self.log }
         ensures events { result.1 ≡ self.events }

@@ -1,4 +1,4 @@
-/// Where a batch was put.
+/// Where a batch was appended.
 #[derive(Clone, Copy, Debug, PartialEq, Eq)]
 pub struct Placed {
     /// The offset of its first record.

@@ -10,9 +10,9 @@ ghost use Rattle.partlog.specs.Moment.{moment_of};
 ghost use Rattle.partlog.specs.Readable.{IsReadable};
 ghost use Rattle.partlog.specs.State.{state_of, state_before, front_of};
 
-/// Law: to read a log up to its visible bytes is to read the batches wholly below the high watermark, and to read it up to
-/// its end bytes is to read all. The same holds of each earlier state of the log and the numbers of that state, whatever
-/// was appended since.
+/// Law: reading a log up to its visible bytes reads the batches wholly below the high watermark, and reading it up to its
+/// end bytes reads all. The same holds of each earlier state of the log with the numbers of that state, whatever was
+/// appended since.
 pub fn visible_is_readable()
     ensures now { (history : History) → IsKept history.log history.events
         → IsReadable (state_of history).batches (state_of history) }
@@ -20,14 +20,14 @@ pub fn visible_is_readable()
         → IsReadable (state_of history).batches (state_before history place) }
 {}
 
-/// Law: what holds of a log and its history also held at each place of the history.
+/// Law: the invariant of a log and its history also held at each earlier place of the history.
 pub fn fronts_are_kept()
     ensures { (history : History) (place : ℕ) → IsKept history.log history.events
         → IsKept (front_of history place).log (front_of history place).events }
 {}
 
-/// Law: along a history that only grows nothing falls: not the log end, nor the high watermark, the visible bytes or the
-/// end bytes, nor the clock's moment.
+/// Law: while a history only grows, neither the log end, the high watermark, the visible bytes, the end bytes nor the
+/// clock's moment falls.
 pub fn numbers_never_fall()
     ensures grown { (log bytes : List ℕ) (followers : ℕ) (events more : List PartEvent) → IsKept log events
         → NoneFell (numbers_of (state_of (record { log = log; followers = followers; events = events })))

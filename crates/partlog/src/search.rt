@@ -1,4 +1,4 @@
-//! Where whole batches begin and end, by halving the list of their starts. `next` is where the next batch will begin.
+//! Binary search in the starts of a log's batches, for `PartLog`. `next` is where the next batch will begin.
 ghost use Rattle.std.specs.Prelude.{◌≡◌, ◌+◌, ◌≤◌, ◌<◌, ◌^◌, List, ℕ, length, not, min, fold};
 ghost use Rattle.std.specs.List.Sorted.{IsNonDecreasingBy, IsPartitionPoint};
 ghost use Rattle.partlog.specs.Batches.{StoredBatch};
@@ -92,7 +92,7 @@ pub(crate) fn taken_end(
     if after <= upto { after } else { start }
 }
 
-/// The numbers of a log with these batches, of which the followers have fetched as far as the positions say.
+/// The numbers of a log with these batches, where its followers have these positions.
 pub(crate) fn numbers_at(starts: &[BatchStart], next: BatchStart, positions: &[u64]) -> Numbers
     requires { (batches : List StoredBatch) × AreStarts starts.now next batches }
     ensures end { result.end ≡ next.base }

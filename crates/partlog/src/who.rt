@@ -1,4 +1,4 @@
-/// Who made an entry of a history.
+/// The call that made an entry of a history.
 #[derive(Clone, Copy, Debug, PartialEq, Eq)]
 pub struct Who {
     /// The number of the pass.
