@@ -1,12 +1,10 @@
 -- No log of a lawful account has more than a log may have: each append was a lawful call's, which found room for its batch,
 -- and a batch has fewer records than bytes.
-use Rattle.std.proofs.Common.{◌≡◌, ◌≢◌, ℕ, zero, suc, ◌+◌, ◌^◌, ◌<◌, ◌≤◌, ◌&&◌, Bool, true, false, cond, eqb, List, [], ◌∷◌, ◌++◌, length, map, take, drop, get_or, count_by, sum_by, Option, Some, None, All, ◌⊎◌, inl, inr, refl, sym, ap, subst, ◌∙◌, arith, append-nil, length-append, replicate, option_map}
+use Rattle.std.proofs.Common.{◌≡◌, ◌≢◌, ℕ, zero, suc, ◌+◌, ◌^◌, ◌<◌, ◌≤◌, List, [], ◌∷◌, ◌++◌, length, take, drop, get_or, sum_by, Option, Some, All, refl, sym, ap, subst, ◌∙◌, arith, append-nil, length-append, replicate}
 use Rattle.std.specs.Prelude.{slice_get}
-use Rattle.std.specs.List.{AllByRecursion, AllZip, cons_option}
-use Rattle.std.proofs.lemmas.Bool.{eqb-true}
 use Rattle.std.proofs.lemmas.List.{length-map, length-replicate}
 use Rattle.std.proofs.lemmas.List.Sums.{sum_by_push, sum_by-cons}
-use Rattle.std.proofs.lemmas.Option.{slice_get-get_or, slice_get-map}
+use Rattle.std.proofs.lemmas.Option.{slice_get-get_or}
 use Rattle.std.proofs.Math.Seq.{take-suc, take-length}
 use Rattle.kbatch.specs.Stamp.{stamped}
 use Rattle.partlog.specs.declared.event.PartEvent.{PartEvent}
@@ -18,41 +16,16 @@ use Rattle.partlog.specs.State.{PartState, state_before}
 use Rattle.kwire.specs.Configuration.{followers_of, partitions_of}
 use Rattle.kwire.specs.declared.config.Topic.{Topic}
 use Rattle.partlog.proofs.Laws.{batches-append, batches-take}
-use Rattle.kanswer.specs.Decisions.{Entry, Put, Followed, Looked, Decision, Refuse, AskLog}
+use Rattle.kanswer.specs.Decisions.{Entry, Put, Followed, Looked}
 use Rattle.kanswer.proofs.Laws.{HasRoom, PutsWithRoom, decided_with_room}
 use Rattle.audit.specs.declared.account.Account.{Account}
-use Rattle.audit.specs.declared.account.Call.{Call}
 use Rattle.audit.specs.declared.account.PartAccount.{PartAccount}
 use Rattle.audit.specs.declared.account.Point.{Point}
-use Rattle.audit.specs.Histories.{clock_owner_of, at_in, at_point, before_in, before_point, event_at, event_in, history_of, owner_of, owners_in, owners_of, points_of}
-use Rattle.audit.specs.IsLawful.{IsLawful, is_point}
-use Rattle.audit.specs.LawfulCall.{IsClockLook, IsEntry, IsLawfulCall, IsLook, IsStep, LooksAtClock, Step, step_points}
-use Rattle.kbytes.proofs.Laws.{all_append, some_is}
-use Rattle.audit.proofs.Prints.{looks_stand}
-
--- ---- an item that passes is among those that are counted
-
-found : {X G : Type 0} (test : X → Bool) (xs : List X) → AllByRecursion (λ x. test x ≡ true → G) xs → count_by test xs ≡ 1 → G
-found test [] each one = absurd (omega (arith, one))
-found {X} {G} test (x ∷ xs) each one = by_test (test x) refl (found test xs each.1)
-  where
-    by_test : (b : Bool) → test x ≡ b → (count_by test xs ≡ 1 → G) → G
-    by_test true is later = each.0 is
-    by_test false is later =
-        let rest = sum_by-cons (λ (y : X). cond (test y) 1 0) x xs in
-        let none = ap {B = ℕ} (λ (b : Bool). cond b 1 0) is in
-        later (omega (arith, one, rest, none))
-
-both_true : (a b : Bool) → (a && b) ≡ true → (a ≡ true) × (b ≡ true)
-both_true true true e = (refl, refl)
-both_true true false e = absurd cc
-both_true false b e = absurd cc
-
-point_is : (part place : ℕ) (point : Point) → is_point part place point ≡ true → point ≡ record { part = part; place = place }
-point_is part place point is =
-    let both = both_true (eqb point.part part) (eqb point.place place) is in
-    ap (λ (n : ℕ). let q : Point = record { part = n; place = point.place } in q) (eqb-true point.part part both.0)
-    ∙ ap (λ (n : ℕ). let q : Point = record { part = part; place = n } in q) (eqb-true point.place place both.1)
+use Rattle.audit.specs.Histories.{Owner, at_in, at_point, before_in, before_point, event_at, event_in, history_of}
+use Rattle.audit.specs.IsLawful.{IsLawful}
+use Rattle.audit.specs.LawfulCall.{IsEntry}
+use Rattle.kbytes.proofs.Laws.{some_is}
+use Rattle.audit.proofs.EntryOfCall.{entry_owned, entry_shows}
 
 module _ (account : Account) (number : ℕ) (part : PartAccount) (there : slice_get account.parts number ≡ Some part) (apart : number ≢ 64) where
   abbrev batches_at : ℕ → List StoredBatch
@@ -101,81 +74,13 @@ module _ (account : Account) (number : ℕ) (part : PartAccount) (there : slice_
             differ is = cc
     by_entry Looked is room = absurd (no_look is.0 is.1 is.2)
 
-    abbrev Grows : Point → Type 0
-    Grows point = is_point number k point ≡ true → Grew k
-
-    by_step : (decision : Decision) (step : Step) (point : Point) → IsStep account decision step → PutsWithRoom decision → step.point ≡ Some point → Grows point
-    by_step (Refuse code) step point is room left passes = absurd (no_point (sym (ap (λ (s : Step). s.point) is) ∙ left))
-      where
-        no_point : ◌≡◌ {A = Option Point} None (Some point) → ⊥
-        no_point e = cc
-    by_step (AskLog asked outcome) step point is room left passes =
-        let at : is.point ≡ here = some_is is.point point (sym is.left ∙ left) ∙ point_is number k point passes in
-        let Is : Point → Type 0 = λ p. IsEntry account p (outcome (before_point account p)).entry in
-        by_entry (outcome (before_point account here)).entry (subst Is at is.entry) (room (before_point account here))
-
-    one_point : (o : Option Point) (points : List Point) → ((point : Point) → o ≡ Some point → Grows point) → AllByRecursion Grows points → AllByRecursion Grows (cons_option o points)
-    one_point None points one rest = rest
-    one_point (Some point) points one rest = (one point refl, rest)
-
-    by_steps : (decisions : List Decision) (steps : List Step) → AllZip (IsStep account) decisions steps → AllByRecursion PutsWithRoom decisions → AllByRecursion Grows (step_points steps)
-    by_steps [] [] each room = tt
-    by_steps [] (step ∷ steps) each room = absurd each
-    by_steps (decision ∷ decisions) [] each room = absurd each
-    by_steps (decision ∷ decisions) (step ∷ steps) each room =
-        one_point step.point (step_points steps) (λ point left. by_step decision step point each.0 room.0 left) (by_steps decisions steps each.1 room.1)
-
-    no_clock : (point : Point) → IsClockLook account point → Grows point
-    no_clock point look passes = absurd (apart (sym (ap (λ (p : Point). p.part) (point_is number k point passes)) ∙ look.0))
-
-    by_looks : (waits : Bool) (looks : List Point) → LooksAtClock account waits looks → AllByRecursion Grows looks
-    by_looks true looks are = subst (AllByRecursion Grows) (sym are.1) (no_clock are.0 are.2, tt)
-    by_looks false looks are = subst (AllByRecursion Grows) (sym are) tt
-
-    by_finish : (points : List Point) → AllByRecursion (λ point. IsLook account point.part point ⊎ IsClockLook account point) points → AllByRecursion Grows points
-    by_finish [] stand = tt
-    by_finish (point ∷ points) stand = (one stand.0, by_finish points stand.1)
-      where
-        one : IsLook account point.part point ⊎ IsClockLook account point → Grows point
-        one (inl look) passes = absurd (no_look look.1 look.2 (sym (ap (event_at account) (point_is number k point passes)) ∙ look.3))
-        one (inr look) passes = no_clock point look passes
-
-    front_of : (n : ℕ) (decisions : List Decision) → AllByRecursion PutsWithRoom decisions → AllByRecursion PutsWithRoom (take n decisions)
-    front_of zero decisions room = tt
-    front_of (suc n) [] room = tt
-    front_of (suc n) (d ∷ decisions) room = (room.0, front_of n decisions room.1)
-
-    by_accept : (call : Call) → IsLawfulCall account call → AllByRecursion Grows call.accept
-    by_accept call (inl w) =
-        let a = w.whole.accepted in
-        subst (AllByRecursion Grows) (sym w.whole.entries.points)
-        (all_append Grows (step_points w.whole.steps) w.whole.looks
-        (by_steps a.decisions w.whole.steps a.each (decided_with_room account.config w.whole.request.ask a.decisions a.decided))
-        (by_looks _ w.whole.looks w.whole.entries.clock))
-    by_accept call (inr c) =
-        subst (AllByRecursion Grows) (sym c.points)
-        (by_steps (take c.reached c.decisions) c.steps c.each (front_of c.reached c.decisions (decided_with_room account.config c.request.ask c.decisions c.decided)))
-
     grew : IsLawful account → Grew k
     grew lawful =
-        let owner : slice_get (owners_of account number) k ≡ Some (Some (record { by = by; seq = seq })) = owned in
-        let left = lawful.entries.left number k by seq owner in
-        let is = lawful.calls by seq left.0 left.1 in
-        found (is_point number k) (points_of left.0)
-        (all_append Grows left.0.accept left.0.finish (by_accept left.0 is) (by_finish left.0.finish (looks_stand account left.0 is))) left.2
-      where
-        other : eqb number 64 ≡ false
-        other = apart_false (eqb number 64) refl
-          where
-            apart_false : (b : Bool) → eqb number 64 ≡ b → b ≡ false
-            apart_false true e = absurd (apart (eqb-true number 64 e))
-            apart_false false e = refl
-
-        owned : slice_get (owners_of account number) k ≡ Some (Some (record { by = by; seq = seq }))
-        owned =
-            ap (λ (b : Bool). slice_get (cond b (map clock_owner_of account.clock) (owners_in (slice_get account.parts number))) k) other
-            ∙ ap (λ (o : Option PartAccount). slice_get (owners_in o) k) there
-            ∙ slice_get-map owner_of part.events k ∙ ap (option_map owner_of) event
+        let owner : Owner = record { by = by; seq = seq } in
+        entry_shows account number k apart (Grew k) PutsWithRoom (decided_with_room account.config)
+        (λ outcome is room. by_entry (outcome (before_point account here)).entry is (room (before_point account here)))
+        (λ b s e. absurd (no_look b s e))
+        lawful owner (entry_owned account number k apart part there (Append by seq count len) event owner refl)
 
   -- ---- all entries, one after the other
 

@@ -20,6 +20,8 @@ pub mod WorkedRequests
 pub mod WorkedRuns
 -- what holds of a call that went well
 pub mod Ends
+-- each entry of a lawful account was left by a lawful call
+mod EntryOfCall
 -- the logs of a lawful account are bounded
 pub mod Bounded
 -- what became of the partitions of a request

@@ -1,5 +1,5 @@
 -- A transcript fits the input of its session, and what a session was sent.
-use Rattle.std.specs.Prelude.{ℕ, ◌+◌, ◌≡◌, ◌<◌, ◌⊎◌, Bool, true, false, List, [], ◌∷◌, ◌++◌, length, filter, Option, Some, None}
+use Rattle.std.specs.Prelude.{ℕ, ◌+◌, ◌≡◌, ◌<◌, ◌⊎◌, Bool, true, false, List, [], ◌∷◌, ◌++◌, length, filter, ◌==◌, if◌then◌else◌, Option, Some, None}
 use Rattle.std.specs.List.{flat_map, AllByRecursion, AllZip}
 use Rattle.audit.specs.declared.account.TheConstants.{MOST_CALLS}
 use Rattle.audit.specs.declared.account.Account.{Account}
@@ -47,6 +47,10 @@ EndFits rest ended transcript (Some CallsFull) = BeginsWhole rest × (transcript
 EndFits rest ended transcript (Some ReadFault) = IsUnfinished rest
 EndFits rest ended transcript (Some WriteFault) = Unit {0}
 EndFits rest ended transcript (Some NoMemory) = Unit {0}
+
+-- the input ended between frames, or with the front of one
+abbrev pub end_of_input : ℕ → SessionEnd
+end_of_input got = if got == 0 then Closed else Truncated got
 
 -- the frames of the calls stand at the front of the input, one after the other, and the end is as the rest shows
 pub record Fits (input : List ℕ) (ended : Bool) (transcript : Transcript) : Type 0 where

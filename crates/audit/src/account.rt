@@ -1,41 +1,41 @@
-//! What an account is made of.
+//! The account as data. A broker records calls and transcripts while it runs, and makes the account of them when it closes.
 
 use kbytes::{Bytes, List};
 use kwire::{Config, WireFault};
 use partlog::{ClockEvent, PartEvent};
 
-/// The number of the clock's history, behind those of the partitions.
+/// The number of the clock's history, after those of the partitions.
 pub const CLOCK_PART: u32 = 64;
 
 /// The most calls of a pass.
 pub const MOST_CALLS: u32 = 4_294_967_295;
 
-/// A place in the history of a partition, or of the clock, which has the number `CLOCK_PART`.
+/// A place in the history of a partition, or in that of the clock, which has the number `CLOCK_PART`.
 #[derive(Clone, Copy, Debug, PartialEq, Eq)]
 pub struct Point {
     pub part: u32,
     pub place: u64,
 }
 
-/// How a call came to its end, and by which winner.
+/// How a call ended, and by which winner.
 #[derive(Clone, Copy, Debug, PartialEq, Eq)]
 pub enum CallHow {
     /// It asked for no reply.
     Quiet,
-    /// It was answered as it was accepted.
+    /// It was answered when it was accepted.
     AtOnce,
-    /// It waited, and its partitions' states satisfied it.
+    /// It waited until its partitions' states satisfied it.
     Satisfied { by: u32 },
     /// It waited until its deadline.
     Expired { by: u32 },
-    /// It waits still.
+    /// It still waits.
     Parked,
-    /// It ran out of memory; `won` is its winner where it had been won.
+    /// It ran out of memory. `won` is its winner, if it had been won.
     Cut { won: Option<u32> },
 }
 
-/// A request that was handled: its frame without the size, the entries that it left as it was accepted, and those that it
-/// left as it was completed. The reply is computed from these and isn't kept.
+/// A request that was handled: its frame without the size, the entries that it made when it was accepted, and those that it
+/// made when it was completed. The reply isn't kept: it is computed from these.
 #[derive(Debug, Drop)]
 pub struct Call {
     pub frame: Bytes,
@@ -49,7 +49,7 @@ pub struct Call {
 pub enum SessionEnd {
     /// The input ended between frames.
     Closed,
-    /// The input ended with so many bytes of a frame.
+    /// The input ended with that many bytes of a frame.
     Truncated { got: u32 },
     FrameTooLong { size: i32 },
     Refused { why: WireFault },
@@ -60,7 +60,7 @@ pub enum SessionEnd {
     NoMemory,
 }
 
-/// What one session did. Its call k has the pass's call number `first + k`.
+/// What one session did. Its call k is the pass's call number `first + k`.
 #[derive(Debug, Drop)]
 pub struct Transcript {
     pub number: u64,
@@ -76,8 +76,8 @@ pub struct PartAccount {
     pub events: List<PartEvent>,
 }
 
-/// The account of a run: the topics, each partition's log and history, the clock's history, each pass's transcripts in
-/// the order in which they were begun, and how many operations each winner completed.
+/// The account of a run: the topics, each partition's log and history, the clock's history, each pass's transcripts in the
+/// order in which they began, and the number of operations that each winner completed.
 #[derive(Debug, Drop)]
 pub struct Account {
     pub config: Config,

@@ -1,4 +1,4 @@
-//! What is printed where a session ends.
+//! Printing the line `end S ..` when a session ends. The one-thread broker calls it while it plays, `account_print` afterwards.
 
 ghost use Rattle.std.specs.Prelude.{◌≡◌, [], ◌∷◌, ◌++◌, Some, OnOk};
 ghost use Rattle.std.specs.Fmt.{decimal, signed_decimal};
@@ -11,7 +11,7 @@ use itoa::Buffer;
 use kbytes::{Bytes, NoMemory};
 use kwire::WireFault;
 
-// The same as `put_number` of a number that may be below 0.
+// Like `put_number`, for a number that may be below 0.
 fn put_signed(out: &mut Bytes, word: &[u8], number: i32) -> Result<(), NoMemory>
     ensures { OnOk result (out.new ≡ out.old ++ (word.now ++ signed_decimal number)) }
 {
@@ -20,7 +20,7 @@ fn put_signed(out: &mut Bytes, word: &[u8], number: i32) -> Result<(), NoMemory>
     out.extend(buffer.format(number).as_bytes())
 }
 
-// Puts a word and a number that end a line.
+// Adds a word and a number that end a line.
 fn put_last_number(out: &mut Bytes, word: &[u8], number: u64) -> Result<(), NoMemory>
     ensures { OnOk result (out.new ≡ out.old ++ (word.now ++ (decimal number ++ 10 ∷ []))) }
 {
@@ -35,7 +35,7 @@ fn put_last_signed(out: &mut Bytes, word: &[u8], number: i32) -> Result<(), NoMe
     out.push(b'\n')
 }
 
-// Puts why a request was refused, as the last words of a line.
+// Adds why a request was refused, as the last words of a line.
 fn put_refusal(out: &mut Bytes, why: &WireFault) -> Result<(), NoMemory>
     ensures { OnOk result (out.new ≡ out.old ++ line_of (refusal_words why.now)) }
 {
@@ -55,7 +55,7 @@ fn put_refusal(out: &mut Bytes, why: &WireFault) -> Result<(), NoMemory>
     }
 }
 
-// Puts how a session ended, as the last words of a line.
+// Adds how a session ended, as the last words of a line.
 fn put_end(out: &mut Bytes, end: &SessionEnd) -> Result<(), NoMemory>
     ensures { OnOk result (out.new ≡ out.old ++ line_of (end_words end.now)) }
 {
@@ -74,8 +74,7 @@ fn put_end(out: &mut Bytes, end: &SessionEnd) -> Result<(), NoMemory>
     }
 }
 
-/// Puts the line that tells how a session of a trace ended at the end of the bytes. If memory runs out, a part of it may stand
-/// there.
+/// Adds the line that says how a session of a trace ended. If memory runs out, a part of it may be there.
 pub fn put_end_line(out: &mut Bytes, session: u32, end: &SessionEnd) -> Result<(), NoMemory>
     ensures { OnOk result (out.new ≡ out.old ++ end_line session (Some end.now)) }
 {

@@ -1,10 +1,11 @@
-//! The account of a run: what each session did and what each partition holds, what of it is lawful, and what is printed of it.
+//! The account of a run: what each session did and what each partition has, when an account is lawful, and what is printed.
 //!
-//! The layer above makes an `Account`, shows it lawful, and prints its summary.
+//! The layer above makes an `Account`, proves that it is lawful, and prints its summary.
 #![tactic(auto)]
 
 mod account;
 mod ending;
+mod input_end;
 mod numbers;
 mod parts;
 mod promises;
@@ -15,6 +16,7 @@ pub use account::{
     Account, CLOCK_PART, Call, CallHow, MOST_CALLS, PartAccount, Point, SessionEnd, Transcript,
 };
 pub use ending::put_end_line;
+pub use input_end::end_of_input;
 pub use parts::part_accounts;
 pub use promises::{
     lawful_logs_are_bounded, looks_stand, one_print, one_reply, results_stand, worked_account,

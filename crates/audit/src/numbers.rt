@@ -1,4 +1,5 @@
-//! Numbers of a history that stands without its log, by going over the whole of it.
+//! The log end and the high watermark of a history, computed from all its entries. `summary` prints them; a `PartLog` would
+//! have them at hand, but the account has none.
 
 ghost use Rattle.std.specs.Prelude.{◌≡◌, ◌<◌, ◌^◌, pos, min, fold};
 ghost use Rattle.partlog.specs.Added.{added_count, log_end_of};
@@ -6,7 +7,7 @@ ghost use Rattle.partlog.specs.Position.{offset_by, position_of, positions_of};
 
 use partlog::PartEvent;
 
-// The records that an entry added.
+// The number of records that an entry added.
 fn added_count(event: &PartEvent) -> u64
     ensures { result ≡ added_count event.now }
 {
@@ -16,7 +17,7 @@ fn added_count(event: &PartEvent) -> u64
     }
 }
 
-// The offset that the replica fetched by it.
+// The offset from which this replica fetched, where the entry is a fetch of it.
 fn offset_by(event: &PartEvent, replica: u32) -> Option<u64>
     ensures { result ≡ offset_by (pos replica) event.now }
 {
@@ -30,7 +31,7 @@ fn offset_by(event: &PartEvent, replica: u32) -> Option<u64>
     }
 }
 
-/// The log end offset of a history: that of the next record. It is the number of records that were added.
+/// The log end offset of a history: the number of records that were added.
 pub fn log_end(events: &[PartEvent]) -> u64
     requires { log_end_of events.now < 2 ^ 64 }
     ensures { result ≡ log_end_of events.now }
@@ -48,8 +49,8 @@ fn position(events: &[PartEvent], replica: u32) -> u64
         .fold(0, |greatest, offset| greatest.max(offset))
 }
 
-/// The high watermark of a history, an offset: the least of `end`, its log end, and the offsets that the replicas 1 to
-/// `followers` have fetched.
+/// The high watermark of a history: the least of `end`, its log end, and the offsets that the replicas 1 to `followers` have
+/// fetched.
 #[tactic(auto, using(partlog::proofs::Laws::high_more))]
 pub fn high_watermark(events: &[PartEvent], followers: u32, end: u64) -> u64
     ensures { result ≡ fold min end (positions_of followers events.now) }

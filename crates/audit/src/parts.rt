@@ -1,4 +1,4 @@
-//! The partitions of an account, from their logs.
+//! Making the partitions of an account from their logs, when a broker closes.
 
 ghost use Rattle.std.specs.Prelude.{◌≡◌, map, IfOk};
 ghost use Rattle.audit.specs.Histories.{part_account};
@@ -8,7 +8,7 @@ use kbytes::{List, NoMemory};
 use partlog::PartLog;
 use std::alloc::Global;
 
-// A partition's log and history, handed over as they stand.
+// A partition's log and history, moved out of its `PartLog`.
 fn part_account(part: PartLog) -> PartAccount
     ensures { result ≡ part_account part }
 {
@@ -21,7 +21,7 @@ fn part_account(part: PartLog) -> PartAccount
     }
 }
 
-/// What an account has of these partitions, in their order: each log and its history, handed over as they stand.
+/// What an account has of these partitions, in their order: each log and its history, moved out of its `PartLog`.
 pub fn part_accounts(alloc: Global, parts: List<PartLog>) -> Result<List<PartAccount>, NoMemory>
     ensures { IfOk result (λ accounts. accounts ≡ map part_account parts) }
 {

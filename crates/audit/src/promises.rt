@@ -26,7 +26,7 @@ ghost use Rattle.audit.specs.declared.account.Call.{Call as TheCall};
 ghost use Rattle.audit.specs.declared.account.SessionEnd.TheVariants.{Closed, NoMemory};
 ghost use Rattle.kwire.specs.declared.reply.Reply.{Reply};
 
-/// Law: a call has one reply at most. It has none where it isn't answered, and one where it is and is lawful.
+/// Law: a call has at most one reply: none where it isn't answered, and one where it is answered and lawful.
 pub fn one_reply()
     ensures once { (account : TheAccount) (call : TheCall) (reply other : Reply) → IsReplyOf account call reply
         → IsReplyOf account call other → reply ≡ other }
@@ -36,8 +36,8 @@ pub fn one_reply()
         → (reply : Reply) × IsReplyOf account call reply }
 {}
 
-/// Law: a lawful account has a print, no account has two. What a session was sent is one sequence of bytes: the frames
-/// of its replies, one after the other, and nothing else.
+/// Law: a lawful account has a print, and no account has two. What a session was sent is one sequence of bytes: the frames of
+/// its replies, one after the other, and nothing else.
 pub fn one_print()
     ensures there { (account : TheAccount) → IsLawful account → (text : List ℕ) × IsPrintOf account text }
     ensures once { (account : TheAccount) (text other : List ℕ) → IsPrintOf account text → IsPrintOf account other → text ≡ other }
@@ -47,22 +47,22 @@ pub fn one_print()
         → AllByRecursion IsFrameBody bodies → AreFramesOf (sent replies) bodies [] }
 {}
 
-/// Law: no log of a lawful account has more records than a log may have bytes. Each append is a lawful call's, which found
-/// room for its batch, and a batch has fewer records than bytes.
+/// Law: no log of a lawful account has more records than a log may have bytes. Each append was made by a lawful call, which
+/// found room for its batch, and a batch has fewer records than bytes.
 pub fn lawful_logs_are_bounded()
     ensures { (account : TheAccount) → IsLawful account → partitions_of account.config.topics ≤ MOST_PARTITIONS
         → All (λ part. log_end_of part.events ≤ MOST_LOG_BYTES) account.parts }
 {}
 
-/// Law: a lawful call names no last entry that nobody left: each is a look at its partition or at the clock.
+/// Law: the last entries that a lawful call names are there: each is a look at its partition or at the clock.
 pub fn looks_stand()
     ensures { (account : TheAccount) (call : TheCall) → IsLawfulCall account call
         → AllByRecursion (λ point. IsLook account point.part point ⊎ IsClockLook account point) call.finish }
 {}
 
-/// Law: worked calls that waited. One expired, one is parked, two were cut off behind the first of their looks, a fetch was
-/// satisfied by a record that came, and a produce by its follower's fetch. What isn't lawful: a last entry that nobody left,
-/// looks of a call that nobody won, a parked call that is overdue, and a satisfied one whose look shows too little.
+/// Law: worked calls that waited. One expired, one is parked, two were cut off after the first of their looks, a fetch was
+/// satisfied by a record that came, and a produce by its follower's fetch. Not lawful are a last entry that isn't there,
+/// looks of a call that nobody won, a parked call that is overdue, and a satisfied call whose look shows too little.
 pub fn worked_calls()
     ensures expired { (one both : List ℕ) → IsRequest one fetch_one → IsLawfulCall (three_waits one both) (expired_call one) }
     ensures parked { (one both : List ℕ) → IsRequest one fetch_one → IsLawfulCall (three_waits one both) (parked_call one) }
@@ -79,8 +79,8 @@ pub fn worked_calls()
     ensures early { (one : List ℕ) → IsRequest one fetch_one → IsLawfulCall filled (satisfied_call one 1) → ⊥ }
 {}
 
-/// Law: the replies to worked calls. Of two reads of a partition, before a record came and behind it, neither has the
-/// other's reply, nor of two produces to one: not in a list of replies, nor in bytes that were sent, nor in a print.
+/// Law: the replies to worked calls. Of two reads of a partition, before a record came and after it, neither has the other's
+/// reply; nor of two produces to one partition. That is so for a list of replies, for the bytes sent, and for a print.
 pub fn worked_replies()
     ensures before { (now : List ℕ) → IsRequest now fetch_now → IsReplyOf filled (read_call now 0) (reply_of 0 []) }
     ensures behind { (now : List ℕ) → IsRequest now fetch_now → IsReplyOf filled (read_call now 3) (reply_of 1 (9 ∷ [])) }
@@ -99,14 +99,14 @@ pub fn worked_replies()
         → IsPrintOf (replicated plain batch) (swapped_print plain batch) → ⊥ }
 {}
 
-/// Law: a worked account is lawful, in which one call expired, one is parked and one was cut off. With a wrong count of a
+/// Law: a worked account in which one call expired, one is parked and one was cut off is lawful. With a wrong count of a
 /// winner it isn't.
 pub fn worked_account()
     ensures lawful { (one both : List ℕ) → IsRequest one fetch_one → IsRequest both fetch_both → IsLawful (three_waits one both) }
     ensures miscounted { (one both : List ℕ) → IsLawful (record (three_waits one both) { wins = 1 ∷ [] }) → ⊥ }
 {}
 
-/// Law: what a worked account prints, by the thread that plays a trace and by a storm, and what is told of a link.
+/// Law: what a worked account prints, where one thread plays a trace and where a storm runs, and what is printed of a link.
 pub fn worked_prints()
     ensures summary { (one both : List ℕ) → summary_of (three_waits one both) ≡ lines_of (codes "part 0 end 0 high 0 batches 0 bytes 0"
         ∷ codes "part 1 end 0 high 0 batches 0 bytes 0" ∷ codes "session 0 calls 1 replies 1 parked 0"
@@ -136,15 +136,15 @@ pub fn worked_requests()
         → IsRequest (fields (request_fields (produce_of (negsuc 0) batch))) (produce_of (negsuc 0) batch) }
 {}
 
-/// Law: a worked account is that of the run of its lines, with the clock's pass and a tick of the command beside them. It
-/// is that of no run without the one or the other.
+/// Law: a worked account is that of the run of its lines, with the clock's pass and one tick that the command adds. Without
+/// either of the two it isn't.
 pub fn worked_run()
     ensures run { IsRunOf closed_lines 9092 ([] ∷ []) (1000 ∷ []) closed_run }
     ensures pass { IsRunOf closed_lines 9092 [] (1000 ∷ []) closed_run → ⊥ }
     ensures tick { IsRunOf closed_lines 9092 ([] ∷ []) [] closed_run → ⊥ }
 {}
 
-/// Law: what became of the partitions of a request is one result for each, of partitions that are there, each log asked once.
+/// Law: a request has one result for each partition that it names, each of a partition that is there, and asks no log twice.
 pub fn results_stand()
     ensures { (config : Configuration) (account : TheAccount) (body : List ℕ) (request : Request) (decisions : List Decision) (steps : List Step)
         → IsRequest body request → Decides config request.ask decisions → partitions_of config.topics ≤ MOST_PARTITIONS

@@ -1,4 +1,4 @@
-//! What is printed behind the `end` of a trace.
+//! Printing the summary of an account, after the `end` of a trace.
 
 ghost use Rattle.std.specs.Prelude.{◌≡◌, ◌<◌, ◌^◌, ◌∷◌, ◌++◌, [], codes, length, OnOk, OnErr};
 ghost use Rattle.std.specs.Fmt.{decimal};
@@ -15,7 +15,7 @@ use kbytes::{Bytes, List, NoMemory};
 use kwire::MOST_PARTITIONS;
 use std::alloc::Global;
 
-/// Puts a word and a number at the end. If memory runs out, a part of them may stand there.
+/// Adds a word and a number at the end. If memory runs out, a part of them may be there.
 pub fn put_number(out: &mut Bytes, word: &[u8], number: u64) -> Result<(), NoMemory>
     ensures { OnOk result (out.new ≡ out.old ++ (word.now ++ decimal number)) }
 {
@@ -24,7 +24,7 @@ pub fn put_number(out: &mut Bytes, word: &[u8], number: u64) -> Result<(), NoMem
     out.extend(buffer.format(number).as_bytes())
 }
 
-// Puts the line of a partition at the end.
+// Adds the line of a partition at the end.
 fn put_part(out: &mut Bytes, number: usize, part: &PartAccount) -> Result<(), NoMemory>
     requires { log_end_of part.now.events < 2 ^ 64 }
     ensures { OnOk result (out.new ≡ out.old ++ part_line (number, part.now)) }
@@ -40,7 +40,7 @@ fn put_part(out: &mut Bytes, number: usize, part: &PartAccount) -> Result<(), No
     out.push(b'\n')
 }
 
-// Puts the line of a session at the end.
+// Adds the line of a session at the end.
 fn put_session(out: &mut Bytes, transcript: &Transcript) -> Result<(), NoMemory>
     ensures { OnOk result (out.new ≡ out.old ++ session_line transcript.now) }
 {
@@ -52,7 +52,7 @@ fn put_session(out: &mut Bytes, transcript: &Transcript) -> Result<(), NoMemory>
     out.push(b'\n')
 }
 
-// The same of each partition, numbered from 0 on.
+// The same for each partition, numbered from 0.
 fn put_parts(out: &mut Bytes, parts: &[PartAccount]) -> Result<(), NoMemory>
     requires { All (λ part. log_end_of part.events < 2 ^ 64) parts.now }
     ensures { OnOk result (out.new ≡ out.old ++ flat_map part_line (numbered 0 parts.now)) }
@@ -63,7 +63,7 @@ fn put_parts(out: &mut Bytes, parts: &[PartAccount]) -> Result<(), NoMemory>
     Ok(())
 }
 
-// The same of each session of a pass.
+// The same for each session of a pass.
 fn put_sessions(out: &mut Bytes, transcripts: &[Transcript]) -> Result<(), NoMemory>
     ensures { OnOk result (out.new ≡ out.old ++ flat_map session_line transcripts.now) }
 {
@@ -73,7 +73,7 @@ fn put_sessions(out: &mut Bytes, transcripts: &[Transcript]) -> Result<(), NoMem
     Ok(())
 }
 
-// The same of each session of each pass.
+// The same for each session of each pass.
 fn put_passes(out: &mut Bytes, passes: &[List<Transcript>]) -> Result<(), NoMemory>
     ensures { OnOk result (out.new ≡ out.old ++ flat_map session_line (flat_map (λ transcripts. transcripts) passes.now)) }
 {
@@ -83,14 +83,14 @@ fn put_passes(out: &mut Bytes, passes: &[List<Transcript>]) -> Result<(), NoMemo
     Ok(())
 }
 
-/// Puts what is printed behind the `end` of a trace at the end of the bytes: each partition, each session, and `done`. If
-/// memory runs out, the bytes are as before.
+/// Adds what is printed after the `end` of a trace: each partition, each session, and `done`. If memory runs out, the bytes
+/// are as before.
 pub fn print_replay(alloc: Global, account: &Account, out: &mut Bytes) -> Result<(), NoMemory>
     requires { IsPrintable account.now }
     ensures ok { OnOk result (out.new ≡ out.old ++ summary_of account.now) }
     ensures err { OnErr result (out.new ≡ out.old) }
 {
-    // so few partitions that none has the clock's number
+    // there are too few partitions for one to have the clock's number
     prove!(account.config.parts() <= MOST_PARTITIONS);
     let mut text = Bytes::new(alloc);
     put_parts(&mut text, account.parts.as_slice())?;

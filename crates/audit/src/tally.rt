@@ -1,4 +1,4 @@
-//! The numbers that a summary tells, by going over the whole of a history, or of a session's calls.
+//! The counts in a summary, over all entries of a history or all calls of a session.
 
 ghost use Rattle.std.specs.Prelude.{◌≡◌, ◌≤◌, ◌∷◌, [], List, ℕ, length};
 ghost use Rattle.partlog.specs.Batches.{batches_of};
@@ -8,7 +8,7 @@ ghost use Rattle.audit.specs.Printed.{is_parked, parked_of};
 use crate::account::{Call, CallHow};
 use partlog::PartEvent;
 
-// The batches that an entry added.
+// The number of batches that an entry added.
 fn put(event: &PartEvent) -> usize
     ensures counted { (log : List ℕ) → result ≡ length (batches_of (event.now ∷ []) log) }
     ensures few { result ≤ 1 }
@@ -19,7 +19,7 @@ fn put(event: &PartEvent) -> usize
     }
 }
 
-/// How many batches a history has.
+/// The number of batches in a history.
 pub fn batch_count(events: &[PartEvent]) -> usize
     ensures { (log : List ℕ) → result ≡ length (batches_of events.now log) }
 {
@@ -39,7 +39,7 @@ fn is_answered(how: CallHow) -> bool
     }
 }
 
-/// How many of the calls have a reply.
+/// The number of calls that have a reply.
 pub fn reply_count(calls: &[Call]) -> usize
     ensures { result ≡ length (answered_of calls.now) }
 {
@@ -59,7 +59,7 @@ fn is_parked(how: CallHow) -> bool
     }
 }
 
-/// 1 where the last call is parked, else 0.
+/// 1 if the last call is parked, else 0.
 pub fn parked_count(calls: &[Call]) -> usize
     ensures { result ≡ parked_of calls.now }
 {

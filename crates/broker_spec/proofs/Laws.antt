@@ -48,7 +48,7 @@ pub use Rattle.broker_spec.proofs.Resting.{IsUnmoved, unmoved_answerable, scanne
 -- its account is lawful where nothing that waits is answerable
 pub use Rattle.broker_spec.proofs.Lawful.{Still, account_goes, board_lawful}
 -- how much is left to do on a board, and whose turn it is
-pub use Rattle.broker_spec.proofs.Work.{AreSeats, IsOpen, work_of, work_on, seats_set, inbox_bytes, opening_seats, scanned_as_much, acts_less, open_work, its_turn}
+pub use Rattle.broker_spec.proofs.Work.{AreSeats, IsOpen, work_of, work_on, seats_set, inbox_bytes, opening_seats, scanned_as_much, scanned_seats, acts_less, acts_seats, open_work, its_turn}
 -- ---- plays
 
 -- lines that are played, one more at a time

@@ -1,25 +1,19 @@
 -- Every configuration and list of lines plays to something, where what its sessions receive are bytes.
-use Rattle.std.proofs.Common.{◌≡◌, ◌⊎◌, ℕ, zero, suc, ◌-◌, ◌≤◌, ◌<◌, ℤ, pos, Bool, true, false, cond, List, [], ◌∷◌, ◌++◌, length, drop, Option, Some, None, MatchBool, unwrap_or, refl, subst, arith, inl, inr, eq-eqb}
-use Rattle.std.specs.Prelude.{MatchOption, nat_lt, ◌==◌}
-use Rattle.std.specs.List.{AllByRecursion, AllZip}
+use Rattle.std.proofs.Common.{◌≡◌, ◌⊎◌, ℕ, zero, suc, ◌-◌, ◌≤◌, ◌<◌, Bool, true, false, cond, List, [], ◌∷◌, ◌++◌, length, drop, Option, Some, None, MatchBool, refl, subst, arith, inl, inr, eq-eqb}
+use Rattle.std.specs.Prelude.{nat_lt, ◌==◌}
+use Rattle.std.specs.List.{AllZip}
 use Rattle.hex.proofs.HexLemmas.{decode_of-ok}
 use Rattle.kbytes.specs.Octets.{IsBytes}
 use Rattle.kbytes.proofs.Laws.{IsBytes-take, IsBytes-drop}
-use Rattle.kbatch.proofs.Laws.{batch_or_fault}
 use Rattle.partlog.specs.Moment.{moment_of}
 use Rattle.audit.specs.declared.account.Account.{Account}
 use Rattle.audit.specs.declared.account.SessionEnd.TheVariants.{Refused}
 use Rattle.kwire.specs.declared.frame.Frame.{Frame}
 use Rattle.kwire.specs.declared.frame.Frame.TheVariants.{Whole, NotYet, TooLong}
 use Rattle.kwire.specs.declared.frame.WireFault.{WireFault}
-use Rattle.kwire.specs.declared.request.Ask.{Ask}
-use Rattle.kwire.specs.declared.request.Ask.TheVariants.{Produce, Fetch, Metadata, Versions}
-use Rattle.kwire.specs.declared.request.ProducePart.{ProducePart}
 use Rattle.kwire.specs.declared.request.Request.{Request}
 use Rattle.trace_file.specs.declared.line.Line.{Line}
 use Rattle.trace_file.specs.declared.line.Line.TheVariants.{Topic, Feed, Shut, Clock, End}
-use Rattle.kanswer.specs.Decisions.{Decision, Refuse, AskLog, Decides, ProduceDecides, BatchDecides, append_outcome, code_of, produce_parts, is_acks}
-use Rattle.kwire.specs.Configuration.{part_of}
 use Rattle.broker_spec.specs.Acting.{is_there, next_to_act, Acts, ActsOn, HandlesFrame}
 use Rattle.broker_spec.specs.Board.{Board, seat_at, transcript_at, next_call, opening, account_of}
 use Rattle.broker_spec.specs.Completing.{scanned}
@@ -34,44 +28,10 @@ use Rattle.trace_file.specs.Contents.{bytes_in, input_of}
 use Rattle.trace_file.specs.IsLine.{IsLine}
 use Rattle.trace_file.specs.Trace.{pieces_of, IsTrace}
 use Rattle.broker_spec.proofs.Cases.{either_way}
-use Rattle.kanswer.proofs.Laws.{HasBytes, CarriesBytes, request_bytes, none_are_bytes, front_bytes, back_bytes, both_bytes}
+use Rattle.kanswer.proofs.Laws.{ask_decided, request_bytes, none_are_bytes, front_bytes, back_bytes, both_bytes}
 use Rattle.kwire.proofs.Laws.{request_or_refusal}
-use Rattle.broker_spec.proofs.Work.{AreSeats, work_on, seats_set, inbox_bytes, opening_seats, scanned_as_much, acts_less, its_turn}
+use Rattle.broker_spec.proofs.Work.{AreSeats, work_on, seats_set, inbox_bytes, opening_seats, scanned_as_much, scanned_seats, acts_less, acts_seats, its_turn}
 use Rattle.audit.specs.declared.account.TheConstants.{MOST_CALLS}
-
--- ---- what is decided
-
-batch_decides : (part : ℕ) (bytes : List ℕ) → IsBytes bytes → (d : Decision) × BatchDecides part bytes d
-batch_decides part bytes fits =
-    elim (batch_or_fault bytes fits) [
-      | inl batch ↦ (AskLog part (append_outcome part (length batch.0) bytes), inr (batch.0, batch.1, refl))
-      | inr fault ↦ (Refuse (code_of fault.0), inl (fault.0, fault.1, refl))
-    ]
-
-acks_decide : (b : Bool) (part : ℕ) (bytes : List ℕ) → IsBytes bytes → (d : Decision) × MatchBool b (BatchDecides part bytes d) (d ≡ Refuse (pos 21))
-acks_decide true part bytes fits = batch_decides part bytes fits
-acks_decide false part bytes fits = (Refuse (pos 21), refl)
-
-part_decides : (o : Option ℕ) (b : Bool) (bytes : List ℕ) → IsBytes bytes → (d : Decision) × MatchOption o (d ≡ Refuse (pos 3)) (λ part. MatchBool b (BatchDecides part bytes d) (d ≡ Refuse (pos 21)))
-part_decides None b bytes fits = (Refuse (pos 3), refl)
-part_decides (Some part) b bytes fits = acks_decide b part bytes fits
-
-produce_decides : (config : Configuration) (id : Option (List ℕ)) (acks : ℤ) (named : List ℕ × ProducePart) → HasBytes named → (d : Decision) × ProduceDecides config id acks named d
-produce_decides config (Some id) acks named fits = (Refuse (pos 42), refl)
-produce_decides config None acks named fits = part_decides (part_of config named.0 named.1.index) (is_acks acks) (unwrap_or named.1.records []) fits
-
-all_decide : (config : Configuration) (id : Option (List ℕ)) (acks : ℤ) (named : List (List ℕ × ProducePart)) → AllByRecursion HasBytes named → (ds : List Decision) × AllZip (ProduceDecides config id acks) named ds
-all_decide config id acks [] all = ([], tt)
-all_decide config id acks (n ∷ named) all =
-    let here = produce_decides config id acks n all.0 in
-    let others = all_decide config id acks named all.1 in
-    (here.0 ∷ others.0, (here.1, others.1))
-
-decides : (config : Configuration) (ask : Ask) → CarriesBytes ask → (ds : List Decision) × Decides config ask ds
-decides config (Produce id acks timeout topics) all = all_decide config id acks (produce_parts topics) all
-decides config (Fetch replica max_wait min_bytes max_bytes isolation topics) all = (_, refl)
-decides config (Metadata topics) all = ([], refl)
-decides config (Versions version) all = ([], refl)
 
 -- ---- what is done
 
@@ -80,7 +40,7 @@ frame_acts board session body fits = by_reading (request_or_refusal body fits)
   where
     by_reading : ((request : Request) × IsRequest body request) ⊎ ((why : WireFault) × IsRefused body why) → (turned : Turned) × HandlesFrame board session body turned
     by_reading (inl known) =
-        let d = decides board.config known.0.ask (request_bytes body known.0 fits known.1) in
+        let d = ask_decided board.config known.0.ask (request_bytes body known.0 fits known.1) in
         (handled board session body known.0 d.0, inl (known.0, d.0, known.1, d.1, refl))
     by_reading (inr known) = (ended board session (Refused known.0), inr (known.0, known.1, refl))
 
@@ -108,14 +68,14 @@ rests_on board session k act rest is acts rests = (session, act, rest, is, acts,
 
 rests_by : (board : Board) → AreSeats board.seats → (next : Option ℕ) → next_to_act (scanned board).board ≡ next
     → ((later : Board) → AreSeats later.seats → work_on later.seats < work_on board.seats → ComesToRest later) → ComesToRest board
-rests_by board are None is on = (0, scanned board, (is, refl), (scanned_as_much board).seats are)
+rests_by board are None is on = (0, scanned board, (is, refl), scanned_seats board are)
 rests_by board are (Some session) is on =
-    let scan = scanned_as_much board in
     let here = (scanned board).board in
-    let still = scan.seats are in
+    let still = scanned_seats board are in
     let act = on_frame here session (next_frame_of (seat_at here session).inbox) (inbox_bytes here session still) in
-    let less = acts_less here session act.0 still (its_turn here session is) act.1 in
-    let rest = on act.0.board less.seats (omega (arith, less.work, scan.work)) in
+    let turn = its_turn here session is in
+    let less = acts_less here session act.0 still.count turn act.1 in
+    let rest = on act.0.board (acts_seats here session act.0 still turn act.1) (omega (arith, less, (scanned_as_much board).work)) in
     (suc rest.0, _, rests_on board session rest.0 act.0 rest.1 is act.1 rest.2, rest.3)
 
 rests : (least : ℕ) (board : Board) → AreSeats board.seats → work_on board.seats ≤ least → ComesToRest board

@@ -57,7 +57,7 @@ use Rattle.broker_spec.proofs.PlaySome.{brought_seats, input_bytes, line_bytes}
 use Rattle.broker_spec.proofs.Playing.{brought_sound, answered_sound, scanned_sound, acts_sound, waits_own}
 use Rattle.kanswer.proofs.Laws.{back_bytes}
 use Rattle.broker_spec.proofs.Resting.{IsSettled, opening_settled, plays_settled}
-use Rattle.broker_spec.proofs.Work.{AreSeats, IsOpen, acts_less, inbox_bytes, its_turn, opening_seats, scanned_as_much}
+use Rattle.broker_spec.proofs.Work.{AreSeats, IsOpen, acts_seats, inbox_bytes, its_turn, opening_seats, scanned_seats}
 
 -- ---- the passes
 
@@ -238,15 +238,15 @@ record IsFedOn (fed : List Line) (board : Board) : Type 0 where
 rests_fed : (fed : List Line) (acts : ℕ) (board : Board) (turned : Turned) → IsFedOn fed board → Rests acts board turned → IsFedOn fed turned.board
 rests_fed fed zero board turned h rests =
     subst (λ (x : Turned). IsFedOn fed x.board) (sym rests.1)
-    (record { sound = scanned_sound board h.sound; seats = (scanned_as_much board).seats h.seats; fed_by = scanned_fed fed board h.sound h.fed_by })
+    (record { sound = scanned_sound board h.sound; seats = scanned_seats board h.seats; fed_by = scanned_fed fed board h.sound h.fed_by })
 rests_fed fed (suc acts) board turned h rests =
     let here = (scanned board).board in
     let sound = scanned_sound board h.sound in
-    let seats = (scanned_as_much board).seats h.seats in
+    let seats = scanned_seats board h.seats in
     let turn = its_turn here rests.0 rests.3 in
     let acted : IsFedOn fed rests.1.board = record {
       sound = acts_sound here rests.0 rests.1 sound turn rests.4;
-      seats = (acts_less here rests.0 rests.1 seats turn rests.4).seats;
+      seats = acts_seats here rests.0 rests.1 seats turn rests.4;
       fed_by = acts_fed fed here rests.0 (scanned_fed fed board h.sound h.fed_by) seats turn rests.1 rests.4;
     } in
     subst (λ (x : Turned). IsFedOn fed x.board) (sym rests.6) (rests_fed fed acts rests.1.board rests.2 acted rests.5)

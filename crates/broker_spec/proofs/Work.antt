@@ -1,7 +1,7 @@
--- How much is left to do on a board: over the sessions that haven't ended, one and what nobody has handled yet. A scan changes
--- nothing of it, and each act leaves less.
-use Rattle.std.proofs.Common.{◌≡◌, ℕ, zero, suc, ◌+◌, ◌<◌, ◌≤◌, Bool, true, false, cond, not, ◌&&◌, List, [], ◌∷◌, length, set, drop, replicate, Option, Some, None, unwrap_or, MatchBool, refl, sym, ap, subst, ◌∙◌, arith, inl, inr}
-use Rattle.std.proofs.lemmas.List.{length-set, length-drop, length-replicate}
+-- How much is left to do on a board: for each session that hasn't ended, one and the bytes that nobody has handled yet. A scan
+-- leaves as much, and each act leaves less. Nothing here asks that what a session received are bytes: that they are is shown apart.
+use Rattle.std.proofs.Common.{◌≡◌, ℕ, zero, suc, ◌+◌, ◌<◌, ◌≤◌, Bool, true, false, cond, not, ◌&&◌, List, [], ◌∷◌, length, map, set, drop, replicate, Option, Some, None, unwrap_or, MatchBool, refl, sym, ap, subst, ◌∙◌, arith, inl, inr}
+use Rattle.std.proofs.lemmas.List.{length-set, length-drop, length-map, length-replicate}
 use Rattle.std.specs.Prelude.{slice_get, ◌==◌}
 use Rattle.std.specs.List.{AllByRecursion, find, list_any, range_with_len}
 use Rattle.kbytes.specs.Octets.{IsBytes}
@@ -21,7 +21,7 @@ use Rattle.broker_spec.specs.Completing.{is_satisfied_now, is_answerable_now, co
 use Rattle.kanswer.specs.Waiting.{becomes_delayed}
 use Rattle.kwire.specs.Frames.{next_frame_of}
 use Rattle.broker_spec.specs.Turns.{Turned, seat_with, answered_at_once, left_waiting, handled, ended}
-use Rattle.kwire.proofs.Laws.{whole_parts}
+use Rattle.kwire.proofs.Laws.{whole_ends, whole_within}
 use Rattle.kbytes.proofs.Laws.{some_is}
 use Rattle.broker_spec.proofs.Cases.{either_way}
 use Rattle.kanswer.proofs.Laws.{none_are_bytes}
@@ -75,6 +75,24 @@ seats_set seats session seat are here = record { count = length-set seats sessio
 pub inbox_bytes : (board : Board) (session : ℕ) → AreSeats board.seats → IsBytes (seat_at board session).inbox
 inbox_bytes board session are = all_at board.seats session are.bytes
 
+abbrev inboxes_of : List Seat → List (List ℕ)
+inboxes_of seats = map (λ seat. seat.inbox) seats
+
+all_to_inboxes : (seats : List Seat) → AllByRecursion HasByteInbox seats → AllByRecursion IsBytes (inboxes_of seats)
+all_to_inboxes [] all = tt
+all_to_inboxes (s ∷ seats) all = (all.0, all_to_inboxes seats all.1)
+
+all_from_inboxes : (seats : List Seat) → AllByRecursion IsBytes (inboxes_of seats) → AllByRecursion HasByteInbox seats
+all_from_inboxes [] all = tt
+all_from_inboxes (s ∷ seats) all = (all.0, all_from_inboxes seats all.1)
+
+-- the seats have the same inboxes
+seats_alike : (seats later : List Seat) → inboxes_of later ≡ inboxes_of seats → AreSeats seats → AreSeats later
+seats_alike seats later same are = record {
+  count = sym (length-map later (λ (seat : Seat). seat.inbox)) ∙ ap length same ∙ length-map seats (λ (seat : Seat). seat.inbox) ∙ are.count;
+  bytes = all_from_inboxes later (subst (AllByRecursion IsBytes) (sym same) (all_to_inboxes seats are.bytes));
+}
+
 empty_seats : (n : ℕ) → AllByRecursion HasByteInbox (replicate n empty_seat)
 empty_seats zero = tt
 empty_seats (suc n) = (none_are_bytes, empty_seats n)
@@ -84,20 +102,25 @@ opening_seats = record { count = length-replicate 64 empty_seat; bytes = empty_s
 
 -- ---- scans
 
+same_inboxes : (seats : List Seat) (session : ℕ) (seat : Seat) → seat.inbox ≡ (seat_in seats session).inbox → inboxes_of (set seats session seat) ≡ inboxes_of seats
+same_inboxes [] session seat e = refl
+same_inboxes (s ∷ seats) zero seat e = ap (λ (inbox : List ℕ). inbox ∷ inboxes_of seats) e
+same_inboxes (s ∷ seats) (suc session) seat e = ap (λ (inboxes : List (List ℕ)). s.inbox ∷ inboxes) (same_inboxes seats session seat e)
+
 over_is : (transcript : Option Transcript) (session : ℕ) → is_there (unwrap_or transcript (new_transcript session)).end ≡ has_ended transcript
 over_is None session = refl
 over_is (Some transcript) session = refl
 
--- as much is left, and the seats are still such
+-- as much is left, and no inbox changed
 pub record IsAsMuch (board later : Board) : Type 0 where
-  pub seats : AreSeats board.seats → AreSeats later.seats
+  pub inboxes : inboxes_of later.seats ≡ inboxes_of board.seats
   pub work : work_on later.seats ≡ work_on board.seats
 
 as_before : (board : Board) → IsAsMuch board board
-as_before board = record { seats = λ are. are; work = refl }
+as_before board = record { inboxes = refl; work = refl }
 
 as_then : (a b c : Board) → IsAsMuch a b → IsAsMuch b c → IsAsMuch a c
-as_then a b c one two = record { seats = λ are. two.seats (one.seats are); work = two.work ∙ one.work }
+as_then a b c one two = record { inboxes = two.inboxes ∙ one.inboxes; work = two.work ∙ one.work }
 
 -- the calls of a session become others
 abbrev recalled : Board → ℕ → List Call → Seat
@@ -108,7 +131,7 @@ calls_changed board later session calls is =
     let seat = seat_at board session in
     let same : work_of (recalled board session calls) ≡ work_of seat = ap (λ (b : Bool). cond b 0 (suc (length seat.inbox))) (over_is seat.transcript session) in
     record {
-      seats = λ are. subst AreSeats (sym is) (seats_set board.seats session (recalled board session calls) are (inbox_bytes board session are));
+      inboxes = ap inboxes_of is ∙ same_inboxes board.seats session (recalled board session calls) refl;
       work = ap work_on is ∙ same_work board.seats session (recalled board session calls) same;
     }
 
@@ -129,12 +152,10 @@ scan_as_much (session ∷ sessions) board =
 pub scanned_as_much : (board : Board) → IsAsMuch board (scanned board).board
 scanned_as_much board = scan_as_much (range_with_len 0 64) board
 
--- ---- acts
+pub scanned_seats : (board : Board) → AreSeats board.seats → AreSeats (scanned board).board.seats
+scanned_seats board are = seats_alike board.seats (scanned board).board.seats (scanned_as_much board).inboxes are
 
--- less is left, and the seats are still such
-pub record IsLess (board later : Board) : Type 0 where
-  pub seats : AreSeats later.seats
-  pub work : work_on later.seats < work_on board.seats
+-- ---- acts
 
 -- a session that can act is one of the 64, hasn't ended, no request of it waits, and it has something to do
 pub record IsOpen (board : Board) (session : ℕ) : Type 0 where
@@ -148,65 +169,68 @@ open_work board session h =
     let seat = seat_at board session in
     ap (λ (b : Bool). cond b 0 (suc (length seat.inbox))) (sym (over_is seat.transcript session) ∙ h.goes_on)
 
-acted : (board later : Board) (session : ℕ) (seat : Seat) → AreSeats board.seats → IsOpen board session → later.seats ≡ set board.seats session seat → IsBytes seat.inbox
-    → work_of seat < suc (length (seat_at board session).inbox) → IsLess board later
-acted board later session seat are h is fits less =
-    let there : session < length board.seats = omega (arith, h.there, are.count) in
-    let less_here : work_of seat < work_of (seat_at board session) = subst (λ (n : ℕ). work_of seat < n) (sym (open_work board session h)) less in
-    record {
-      seats = subst AreSeats (sym is) (seats_set board.seats session seat are fits);
-      work = subst (λ (seats : List Seat). work_on seats < work_on board.seats) (sym is) (less_work board.seats session seat there less_here);
-    }
+-- the seat of the session changed: the front of its inbox was taken, and it leaves less work
+record IsActed (board : Board) (session : ℕ) (later : Board) : Type 0 where
+  pub seat : Seat
+  pub seats : later.seats ≡ set board.seats session seat
+  pub taken : ℕ
+  pub inbox : seat.inbox ≡ drop taken (seat_at board session).inbox
+  pub work : work_of seat < suc (length (seat_at board session).inbox)
 
-ended_less : (board : Board) (session : ℕ) (end : SessionEnd) → AreSeats board.seats → IsOpen board session → IsLess board (ended board session end).board
-ended_less board session end are h = acted board (ended board session end).board session _ are h refl (inbox_bytes board session are) (omega arith)
+module _ (board : Board) (session : ℕ) (goes_on : is_there (transcript_at board session).end ≡ false) where
+  abbrev Acted : Turned → Type 0
+  Acted turned = IsActed board session turned.board
 
-called_less : (board later : Board) (session : ℕ) (body : List ℕ) (call : Call) → AreSeats board.seats → IsOpen board session → 4 + length body ≤ length (seat_at board session).inbox
-    → later.seats ≡ set board.seats session (seat_with board session body call) → IsLess board later
-called_less board later session body call are h within is =
-    let inbox = (seat_at board session).inbox in
-    let still : work_of (seat_with board session body call) ≡ suc (length (drop (4 + length body) inbox)) = ap (λ (b : Bool). cond b 0 (suc (length (drop (4 + length body) inbox)))) h.goes_on in
-    acted board later session (seat_with board session body call) are h is (IsBytes-drop (4 + length body) inbox (inbox_bytes board session are))
-    (omega (arith, still, length-drop (4 + length body) inbox, within))
+  ended_acts : (end : SessionEnd) → Acted (ended board session end)
+  ended_acts end = record { seat = _; seats = refl; taken = 0; inbox = refl; work = omega arith }
 
-at_once_less : (board : Board) (session : ℕ) (body : List ℕ) (request : Request) (came : List Noted × List History) → AreSeats board.seats → IsOpen board session → 4 + length body ≤ length (seat_at board session).inbox
-    → IsLess board (answered_at_once board session body request came).board
-at_once_less board session body request came are h within = called_less board _ session body _ are h within refl
+  called_acts : (later : Board) (body : List ℕ) (call : Call) → 4 + length body ≤ length (seat_at board session).inbox → later.seats ≡ set board.seats session (seat_with board session body call)
+      → IsActed board session later
+  called_acts later body call within is =
+      let inbox = (seat_at board session).inbox in
+      let rest = drop (4 + length body) inbox in
+      let left : work_of (seat_with board session body call) ≡ suc (length rest) = ap (λ (b : Bool). cond b 0 (suc (length rest))) goes_on in
+      record { seat = seat_with board session body call; seats = is; taken = 4 + length body; inbox = refl; work = omega (arith, left, length-drop (4 + length body) inbox, within) }
 
-waiting_less : (board : Board) (session : ℕ) (body : List ℕ) (request : Request) (came : List Noted × List History) → AreSeats board.seats → IsOpen board session → 4 + length body ≤ length (seat_at board session).inbox
-    → IsLess board (left_waiting board session body request came).board
-waiting_less board session body request came are h within = called_less board _ session body _ are h within refl
+  handled_acts : (body : List ℕ) (request : Request) (decisions : List Decision) → 4 + length body ≤ length (seat_at board session).inbox → Acted (handled board session body request decisions)
+  handled_acts body request decisions within =
+      let came = accept_all session (next_call board session) decisions board.parts in
+      either_way Acted (becomes_delayed request.ask (shown_of came.0)) (left_waiting board session body request came) (answered_at_once board session body request came)
+      (called_acts (left_waiting board session body request came).board body _ within refl) (called_acts (answered_at_once board session body request came).board body _ within refl)
 
-handled_less : (board : Board) (session : ℕ) (body : List ℕ) (request : Request) (decisions : List Decision) → AreSeats board.seats → IsOpen board session → 4 + length body ≤ length (seat_at board session).inbox
-    → IsLess board (handled board session body request decisions).board
-handled_less board session body request decisions are h within =
-    let came = accept_all session (next_call board session) decisions board.parts in
-    either_way (λ (x : Turned). IsLess board x.board) (becomes_delayed request.ask (shown_of came.0)) (left_waiting board session body request came) (answered_at_once board session body request came)
-    (waiting_less board session body request came are h within) (at_once_less board session body request came are h within)
+  frame_acts : (body : List ℕ) (turned : Turned) → 4 + length body ≤ length (seat_at board session).inbox → HandlesFrame board session body turned → Acted turned
+  frame_acts body turned within handles =
+      elim handles [
+        | inl took ↦ subst Acted (sym took.4) (handled_acts body took.0 took.1 within)
+        | inr refused ↦ subst Acted (sym refused.2) (ended_acts _)
+      ]
 
-frame_less : (board : Board) (session : ℕ) (body : List ℕ) (turned : Turned) → AreSeats board.seats → IsOpen board session → 4 + length body ≤ length (seat_at board session).inbox
-    → HandlesFrame board session body turned → IsLess board turned.board
-frame_less board session body turned are h within handles =
-    elim handles [
-      | inl took ↦ subst (λ (t : Turned). IsLess board t.board) (sym took.4) (handled_less board session body took.0 took.1 are h within)
-      | inr refused ↦ subst (λ (t : Turned). IsLess board t.board) (sym refused.2) (ended_less board session _ are h)
-    ]
+  whole_acts : (full : Bool) (body : List ℕ) (end : SessionEnd) (turned : Turned) → 4 + length body ≤ length (seat_at board session).inbox
+      → MatchBool full (turned ≡ ended board session end) (HandlesFrame board session body turned) → Acted turned
+  whole_acts true body end turned within is = subst Acted (sym is) (ended_acts end)
+  whole_acts false body end turned within handles = frame_acts body turned within handles
 
-whole_less : (full : Bool) (board : Board) (session : ℕ) (body : List ℕ) (end : SessionEnd) (turned : Turned) → AreSeats board.seats → IsOpen board session → 4 + length body ≤ length (seat_at board session).inbox
-    → MatchBool full (turned ≡ ended board session end) (HandlesFrame board session body turned) → IsLess board turned.board
-whole_less true board session body end turned are h within is = subst (λ (t : Turned). IsLess board t.board) (sym is) (ended_less board session end are h)
-whole_less false board session body end turned are h within handles = frame_less board session body turned are h within handles
-
-act_less : (board : Board) (session : ℕ) (frame : Frame) (turned : Turned) → AreSeats board.seats → IsOpen board session → next_frame_of (seat_at board session).inbox ≡ frame → ActsOn board session frame turned → IsLess board turned.board
-act_less board session (Whole end) turned are h is acts =
-    let parts = whole_parts (seat_at board session).inbox end (inbox_bytes board session are) is in
-    whole_less (next_call board session == MOST_CALLS) board session _ _ turned are h (omega (arith, parts.ends, parts.within)) acts
-act_less board session NotYet turned are h is acts = subst (λ (t : Turned). IsLess board t.board) (sym acts) (ended_less board session _ are h)
-act_less board session (TooLong size) turned are h is acts = subst (λ (t : Turned). IsLess board t.board) (sym acts) (ended_less board session _ are h)
+  acts_by : (frame : Frame) (turned : Turned) → next_frame_of (seat_at board session).inbox ≡ frame → ActsOn board session frame turned → Acted turned
+  acts_by (Whole end) turned is acts =
+      let inbox = (seat_at board session).inbox in
+      whole_acts (next_call board session == MOST_CALLS) _ _ turned (omega (arith, whole_ends inbox end is, whole_within inbox end is)) acts
+  acts_by NotYet turned is acts = subst Acted (sym acts) (ended_acts _)
+  acts_by (TooLong size) turned is acts = subst Acted (sym acts) (ended_acts _)
 
 -- what a session does leaves less
-pub acts_less : (board : Board) (session : ℕ) (turned : Turned) → AreSeats board.seats → IsOpen board session → Acts board session turned → IsLess board turned.board
-acts_less board session turned are h acts = act_less board session (next_frame_of (seat_at board session).inbox) turned are h refl acts
+pub acts_less : (board : Board) (session : ℕ) (turned : Turned) → length board.seats ≡ 64 → IsOpen board session → Acts board session turned → work_on turned.board.seats < work_on board.seats
+acts_less board session turned count h acts =
+    let a = acts_by board session h.goes_on (next_frame_of (seat_at board session).inbox) turned refl acts in
+    let there : session < length board.seats = omega (arith, h.there, count) in
+    let less_here : work_of a.seat < work_of (seat_at board session) = subst (λ (n : ℕ). work_of a.seat < n) (sym (open_work board session h)) a.work in
+    subst (λ (seats : List Seat). work_on seats < work_on board.seats) (sym a.seats) (less_work board.seats session a.seat there less_here)
+
+-- and its inbox still has bytes
+pub acts_seats : (board : Board) (session : ℕ) (turned : Turned) → AreSeats board.seats → IsOpen board session → Acts board session turned → AreSeats turned.board.seats
+acts_seats board session turned are h acts =
+    let a = acts_by board session h.goes_on (next_frame_of (seat_at board session).inbox) turned refl acts in
+    let fits : IsBytes a.seat.inbox = subst IsBytes (sym a.inbox) (IsBytes-drop a.taken (seat_at board session).inbox (inbox_bytes board session are)) in
+    subst AreSeats (sym a.seats) (seats_set board.seats session a.seat are fits)
 
 -- ---- whose turn it is
 

@@ -1,8 +1,8 @@
 -- Which sessions of the one-thread broker can act, and what one does when it acts once: it handles its first whole frame, or ends.
-use Rattle.std.specs.Prelude.{ℕ, ◌-◌, ◌≡◌, ◌⊎◌, Bool, true, false, ◌&&◌, not, List, length, take, drop, ◌==◌, if◌then◌else◌, Option, Some, None, MatchBool}
+use Rattle.std.specs.Prelude.{ℕ, ◌-◌, ◌≡◌, ◌⊎◌, Bool, true, false, ◌&&◌, not, List, length, take, drop, ◌==◌, Option, Some, None, MatchBool}
 use Rattle.std.specs.List.{find, list_any, range_with_len}
 use Rattle.audit.specs.declared.account.SessionEnd.{SessionEnd}
-use Rattle.audit.specs.declared.account.SessionEnd.TheVariants.{Closed, Truncated, FrameTooLong, Refused, CallsFull}
+use Rattle.audit.specs.declared.account.SessionEnd.TheVariants.{FrameTooLong, Refused, CallsFull}
 use Rattle.kwire.specs.declared.frame.Frame.{Frame}
 use Rattle.kwire.specs.declared.frame.Frame.TheVariants.{Whole, NotYet, TooLong}
 use Rattle.kwire.specs.declared.frame.WireFault.{WireFault}
@@ -15,6 +15,8 @@ use Rattle.audit.specs.declared.account.Transcript.{Transcript}
 use Rattle.broker_spec.specs.Board.{Board, Seat, seat_at, transcript_at, next_call, most_sessions}
 use Rattle.broker_spec.specs.Turns.{Turned, handled, ended}
 use Rattle.audit.specs.declared.account.TheConstants.{MOST_CALLS}
+-- how a session ends whose input ended
+pub use Rattle.audit.specs.Fits.{end_of_input}
 
 abbrev pub is_there : Option SessionEnd → Bool
 is_there None = false
@@ -50,10 +52,6 @@ HandlesFrame board session body turned =
     ((request : Request) × (decisions : List Decision) × IsRequest body request × Decides board.config request.ask decisions
     × (turned ≡ handled board session body request decisions))
     ⊎ ((why : WireFault) × IsRefused body why × (turned ≡ ended board session (Refused why)))
-
--- the input ended between frames, or with the front of one
-abbrev pub end_of_input : ℕ → SessionEnd
-end_of_input got = if got == 0 then Closed else Truncated got
 
 -- a pass has at most 4,294,967,295 calls
 abbrev pub ActsOn : Board → ℕ → Frame → Turned → Type 0

@@ -1,4 +1,4 @@
-//! Laws of the play. They do nothing.
+//! Laws of playing lines. They do nothing.
 
 ghost use Rattle.std.specs.Prelude.{◌≡◌, ◌∷◌, [], ℕ, List};
 ghost use Rattle.kbytes.specs.Octets.{IsBytes};
@@ -22,9 +22,9 @@ ghost use Rattle.audit.specs.Worked.{at, followed};
 ghost use Rattle.broker_spec.specs.WorkedPlay.{body_of, polled, produce, worked_lines};
 ghost use Rattle.trace_file.specs.Contents.{configuration_of, input_of};
 
-/// Law: with any configuration, lines play to one account and one text. What the lines bring need only be bytes: they may be
-/// requests that wait, expire or are refused, frames that are too long or cut off, and bytes for a session that ended; there
-/// may be followers and clock lines, and sessions may be closed.
+/// Law: with any configuration, lines play to one account and one text. The lines may bring any bytes: requests that wait,
+/// expire or are refused, frames that are too long or cut off, and bytes for a session that ended. There may be followers and
+/// clock lines, and sessions may be closed.
 pub fn lines_play()
     ensures some { (config : Configuration) (lines : List Line) → ((session : ℕ) → IsBytes (input_of session lines))
         → (account : Account) × (text : List ℕ) × IsPlay config lines account text }
@@ -32,28 +32,28 @@ pub fn lines_play()
         → IsPlay config lines account text → IsPlay config lines other more → (account ≡ other) × (text ≡ more) }
 {}
 
-/// Law: whatever lines play to, with topics as they may be declared, is a lawful account: with followers, requests that wait,
-/// are satisfied, expire or are parked at the end, clock lines, closes, and whatever bytes the lines bring.
+/// Law: with topics as they may be declared, playing any lines gives a lawful account: with followers, requests that wait, are
+/// satisfied, expire or are parked at the end, clock lines, closes, and whatever bytes the lines bring.
 pub fn play_is_lawful()
     ensures { (config : Configuration) (lines : List Line) (account : Account) (text : List ℕ) → AreDeclared config.topics
         → IsPlay config lines account text → IsLawful account }
 {}
 
-/// Law: what the lines of a trace play to, with its own topics, is the account of their run: each session's transcript fits its
-/// input, nobody is cut off, and the ticks are those of the clock lines.
+/// Law: playing the lines of a trace, with its own topics, gives the account of their run: each session's transcript fits its
+/// input, no call is cut off, and the ticks are those of the clock lines.
 pub fn play_is_run()
     ensures { (text : List ℕ) (lines : List Line) (port : ℕ) (account : Account) (printed : List ℕ) → IsTrace text lines
         → IsPlay (configuration_of port lines) lines account printed → IsRunOf lines port [] [] account }
 {}
 
-/// Law: after any lines nothing that waits is answerable by the histories and the clock as they are, and no session can act.
+/// Law: after any lines no waiting request is answerable by the histories and the clock as they are, and no session can act.
 pub fn play_rests()
     ensures { (config : Configuration) (lines : List Line) (last : Turned) → AreDeclared config.topics
         → Plays (opening config) lines last → IsAtRest last.board }
 {}
 
-/// Law: worked scans of a produce that waits for its follower. It waits on until the follower fetched behind its record, or its
-/// deadline has come; where both hold it is satisfied. It is answered once, with a look at the clock first where it expired.
+/// Law: worked scans of a produce that waits for its follower. It waits until the follower has fetched past its record, or its
+/// deadline has come; where both hold it is satisfied. It is answered once, and where it expired it looks at the clock first.
 pub fn worked_scans()
     ensures waits { (all batch : List ℕ) → (scanned (board_with all batch fetched_it [])).board ≡ board_with all batch fetched_it [] }
     ensures early { (all batch : List ℕ) → (scanned (board_with all batch [] (Tick 99 ∷ []))).board ≡ board_with all batch [] (Tick 99 ∷ []) }
@@ -66,7 +66,7 @@ pub fn worked_scans()
     ensures once { (all batch : List ℕ) → (scanned (board_with all batch fetched_behind [])).board.waiting ≡ [] }
 {}
 
-/// Law: a worked trace. A produce for all replicas waits, and is satisfied as its follower fetches behind its record; a
+/// Law: a worked trace. A produce for all replicas waits, and is satisfied when its follower fetches past its record; a
 /// consumer's fetch waits until its deadline, and expires; the account is lawful.
 pub fn worked_play()
     ensures satisfied { (account : Account) (text : List ℕ) → IsPlay followed worked_lines account text

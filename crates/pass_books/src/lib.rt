@@ -1,7 +1,7 @@
-//! What each pass of a broker knows of what it saw and did, whatever other passes do meanwhile, and the account that the books of
-//! all passes come to.
+//! The book of a pass: what the pass of a broker knows of what it saw and did, whatever other passes do meanwhile. And the
+//! account that the books of all passes give together.
 //!
-//! The layer above may cite that this account is lawful, and how a book goes on as its pass acts (`proofs/Laws.antt`). No code of
+//! The layer above cites that this account is lawful, and how a book goes on when its pass acts (`proofs/Laws.antt`). No code of
 //! this crate runs.
 #![tactic(auto)]
 

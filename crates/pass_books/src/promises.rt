@@ -1,4 +1,4 @@
-//! Laws of the books. They do nothing.
+//! Laws of books. They do nothing.
 
 ghost use Rattle.std.specs.Prelude.{◌≡◌, ◌<◌, ◌≤◌, ◌+◌, ◌∷◌, ◌++◌, [], ℕ, ℤ, count_by, if◌then◌else◌, length, sum_by, false, true, List, None, Option, Some, slice_get};
 ghost use Rattle.kbatch.specs.Batch.{IsBatch};
@@ -47,8 +47,8 @@ ghost use Rattle.pass_books.specs.Underway.{begun_amid, book_amid, earlier_calls
 ghost use Rattle.pass_books.specs.Worked.{books_before, clock_looked, fetched, first_waits, follower, looked, none_waits, one_put, producer, satisfied_books, waiting_books};
 ghost use Rattle.pass_books.specs.WorkedWaits.{cut_book, expired_book, fetch_waits, last_clock, last_parts, parked_book, second_waits, three_books};
 
-/// Law: the books of all passes come to a lawful account, in whatever order the passes acted. Each pass knows only the fronts that
-/// it saw; the final histories go on from these, and nothing that waits is answerable by them.
+/// Law: the books of all passes give a lawful account, in whatever order the passes acted. Each pass knows only the prefixes of
+/// the histories that it saw; the final histories go on from these, and no waiting request is answerable by them.
 pub fn books_are_lawful()
     ensures { (config : Configuration) (books : List Book) (waits : ℕ → Option Waiting) (finals : List History) (clock : List ClockEvent)
         (wins : List ℕ) → AreTogether config books waits finals clock wins
@@ -56,8 +56,8 @@ pub fn books_are_lawful()
         → IsLawful (account_of config books finals clock wins) }
 {}
 
-/// Law: a book between two calls. A pass that has done nothing has one. It stays one whatever others do, as the pass tells the clock a
-/// later moment, and as a transcript is begun or ended, which is because memory ran out where its last call was cut off.
+/// Law: a book between two calls. A pass that has done nothing has one. It stays a book whatever others do, when the pass ticks
+/// the clock, and when it begins or ends a transcript. Where the last call was cut off, the transcript ends as out of memory.
 pub fn books_go_on()
     ensures opened { (config : Configuration) (number : ℕ) → partitions_of config.topics ≤ MOST_PARTITIONS
         → IsBook (opening_book config number) None }
@@ -73,9 +73,9 @@ pub fn books_go_on()
         → IsBook (record book { transcripts = front ++ record last { end = Some end } ∷ [] }) None }
 {}
 
-/// Law: a call is accepted. It is written down as cut off, and what was decided of it is carried out, one partition after the other,
-/// each in a turn of its partition, while others act too. Wherever it stops, its book is one; at last it is answered at once, or it
-/// looks at the clock and is delayed.
+/// Law: a call is accepted. It is recorded as cut off at first. Then its decisions are carried out, one partition after the
+/// other, each in a turn of its partition, while others act too. Wherever that stops, there is a book. In the end the call is
+/// answered at once, or it looks at the clock and is delayed.
 pub fn calls_are_accepted()
     ensures called { (book : Book) (front : List Transcript) (transcript : Transcript) (frame : List ℕ) (request : Request)
         (decisions : List Decision) → transcript.end ≡ None → last_is_cut transcript.calls ≡ false → IsRequest frame request
@@ -108,8 +108,8 @@ pub fn calls_are_accepted()
         → IsDelayed (clock_seen u) (left_waiting u request noted) }
 {}
 
-/// Law: a delayed call waits, and comes to its end. It waits as the last call of its book, while others act; once it is won, it looks
-/// at the clock where it expired, and at each partition of its operation. Wherever it stops, its book is one.
+/// Law: a delayed call waits, and is completed. It waits as the last call of its book, while others act. Once it is won, it looks
+/// at the clock if it expired, and then at each partition of its operation. Wherever that stops, there is a book.
 pub fn calls_are_completed()
     ensures parked { (u : Underway) (w : Waiting) → IsDelayed u w → u.call.finish ≡ [] → IsBook (book_amid (with_end u Parked)) (Some w) }
     ensures unwon { (u : Underway) (w : Waiting) → IsDelayed u w → u.call.finish ≡ [] → IsBook (book_amid (with_end u (Cut None))) None }
@@ -139,7 +139,7 @@ pub fn calls_are_completed()
         → length states ≡ length (operation_parts w.steps) → IsBook (book_amid (with_end u (Expired by))) None }
 {}
 
-/// Law: a reply stays. What a pass answers is the reply of its call in every account that goes on from what it saw.
+/// Law: a reply stays true. What a pass answers is the reply of its call in every account that goes on from what it saw.
 pub fn replies_stay()
     ensures answered { (u : Underway) (request : Request) (decisions : List Decision) (noted : List Noted)
         → IsAccepting u request decisions (length decisions) noted → becomes_delayed request.ask (shown_of noted) ≡ false
@@ -153,8 +153,8 @@ pub fn replies_stay()
         → Carried u.config u.parts u.clock (λ account. IsReplyOf account u.call (answer u.config w.request (shown_with w.steps states))) }
 {}
 
-/// Law: how many calls of a book a winner completed. Amid a call it is one more where the call itself names the winner; a transcript
-/// that is begun or ended changes nothing, nor do others, and over all books the numbers are summed.
+/// Law: the number of calls of a book that a winner completed. In the middle of a call it is one more if that call names the
+/// winner. Beginning or ending a transcript doesn't change it, nor do others. Over all books the numbers are added up.
 pub fn winners_are_counted()
     ensures amid { (u : Underway) (winner : ℕ)
         → won_by winner (book_amid u) ≡ count_by (is_won_by winner) (earlier_calls u) + (if is_won_as winner u.call.how then 1 else 0) }
@@ -166,10 +166,10 @@ pub fn winners_are_counted()
     ensures all { (books : List Book) (winner : ℕ) → count_by (is_won_by winner) (all_calls_in books) ≡ sum_by (won_by winner) books }
 {}
 
-/// Law: worked books. A produce waits for its follower, whose fetch another pass brings; it is won, and looks at its partition. The two
-/// books go together and come to a lawful account, though the second never saw that look. So does the first alone, while the produce
-/// waits or where it was cut off. Books don't go together where a pass left an entry that it didn't see, where what waits is
-/// answerable, or with a wrong count of a winner.
+/// Law: worked books. A produce waits for its follower, and another pass makes that fetch; the produce is won, and looks at its
+/// partition. The two books go together and give a lawful account, though the second pass never saw that look. So does the first
+/// book alone, while the produce waits or where it was cut off. Books don't go together where a pass made an entry that it didn't
+/// see, where a waiting request is answerable, or with a wrong count of a winner.
 pub fn worked_books()
     ensures waits { (all : List ℕ) (one : Record) → IsBatch batch (one ∷ []) → IsRequest all produce
         → IsBook (producer all [] [] Parked) (Some (waits_for_all 0 batch)) }
@@ -192,9 +192,9 @@ pub fn worked_books()
         → AreTogether followed (satisfied_books all frame) waits (one_put looked ∷ []) clock_looked (1 ∷ []) → ⊥ }
 {}
 
-/// Law: worked books of three passes that waited. A fetch expired, one waits still, and one was won and cut off behind the first of its
-/// looks. Each pass saw another front of the histories, turn by turn; the books go together, and come to an account that is written
-/// out elsewhere, in which the transcript of the third ends because memory ran out.
+/// Law: worked books of three passes that waited. One fetch expired, one still waits, and one was won and cut off after the first
+/// of its looks. Each pass saw another prefix of the histories, turn by turn. The books go together, and give an account that is
+/// written out elsewhere; in it the transcript of the third ends as out of memory.
 pub fn worked_waits()
     ensures expired { (one : List ℕ) → IsRequest one fetch_one → IsBook (expired_book one) None }
     ensures parked { (one : List ℕ) → IsRequest one fetch_one → IsBook (parked_book one) (Some fetch_waits) }

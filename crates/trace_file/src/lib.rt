@@ -1,7 +1,7 @@
 //! Recorded traces: their lines, the texts that are traces, and the printed line of a reply.
 //!
-//! The layer above may read a text as the lines of a trace or learn its first bad line, make the configuration of its topics,
-//! write a line, and print the frames that a session is sent.
+//! The layer above reads a text as the lines of a trace, or learns its first bad line; it makes the configuration of the
+//! trace's topics, writes lines, and prints the frames that a session is sent.
 #![tactic(auto)]
 
 mod line;

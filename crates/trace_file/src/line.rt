@@ -1,24 +1,25 @@
-//! The lines of a trace, and what can be wrong with one.
+//! A line of a trace as data, the limits of a trace, and what can be wrong with a line. `reading` makes lines of a text, and
+//! brokers play them.
 
 use kbytes::Bytes;
 use thiserror::Error;
 
-/// The sessions of a trace have the numbers below this one.
+/// The number of sessions that a trace may have. They are numbered from 0.
 pub const MOST_SESSIONS: u32 = 64;
 
 /// The greatest number of a session of a trace.
 pub const LAST_SESSION: u32 = MOST_SESSIONS - 1;
 
-/// The greatest number of partitions or followers that a line may write. What a topic may have is less.
+/// The greatest number of partitions or followers that a line may write. A topic may have fewer.
 pub const MOST_NUMBER: u32 = 4_294_967_295;
 
-/// The last moment, in milliseconds.
+/// The greatest moment that a line may write, in milliseconds.
 pub const LAST_MOMENT: u64 = 1_000_000_000_000_000;
 
-/// The most bytes of a trace.
+/// The most bytes that a trace may have.
 pub const MOST_TRACE_BYTES: usize = 67_108_864;
 
-/// The port that metadata tells in a replay.
+/// The port that metadata names in a replay.
 pub const REPLAY_PORT: u16 = 9092;
 
 /// A line of a trace.
@@ -35,11 +36,11 @@ pub enum Line {
         session: u32,
         bytes: Bytes,
     },
-    /// `close S`: the input of the session ended.
+    /// `close S`: the input of the session ends.
     Shut {
         session: u32,
     },
-    /// `clock T`: the moment becomes this one, in milliseconds.
+    /// `clock T`: the clock's moment rises to this one, in milliseconds.
     Clock {
         t: u64,
     },
@@ -47,9 +48,9 @@ pub enum Line {
     End,
 }
 
-/// What is wrong with a line. The first that applies is the line's kind: the order is that of the variants, but that `Order`
-/// comes before `BadTopic`. `NoEnd` is told of the line after the last one, where no line is bad. `TooLong` is told of the line
-/// that goes past the limit, before every other.
+/// What is wrong with a line. A line's kind is the first that applies, in the order of the variants, except that `Order`
+/// comes before `BadTopic`. Where no line is bad, `NoEnd` is the kind of the line after the last one. `TooLong` is the kind
+/// of the line that goes past the limit, and comes before every other.
 #[derive(Debug, Drop, Error, Clone, Copy, PartialEq, Eq)]
 pub enum LineKind {
     #[error("a line begins with topic, bytes, close, clock or end")]
@@ -80,7 +81,7 @@ pub struct LineFault {
     pub kind: LineKind,
 }
 
-/// Why a text isn't read as a trace.
+/// Why a text isn't read as a trace: its first bad line, or out of memory.
 #[derive(Debug, Drop, Error)]
 pub enum TraceFault {
     #[error(transparent)]

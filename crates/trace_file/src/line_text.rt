@@ -1,4 +1,4 @@
-//! The text of a line of a trace.
+//! Writing a line of a trace as text. What is written is read back as that line (`promises`).
 
 ghost use Rattle.std.specs.Prelude.{◌≡◌, ◌∷◌, ◌++◌, [], codes, length, take, OnOk, OnErr};
 ghost use Rattle.std.specs.Fmt.{decimal};
@@ -19,7 +19,7 @@ fn put_number(out: &mut Bytes, n: u64) -> Result<(), NoMemory>
     Ok(())
 }
 
-// Puts the line at the end. If memory runs out, some of it may stand there, as with those below.
+// Adds the line at the end. If memory runs out, a part of it may be there; that is so for the functions below, too.
 fn put_topic(out: &mut Bytes, name: &[u8], partitions: u32, followers: u32) -> Result<(), NoMemory>
     ensures ok { OnOk result (out.new ≡ out.old ++ line_of (codes "topic" ∷ name.now ∷ decimal partitions ∷ decimal followers ∷ [])) }
     ensures front { OnErr result (take (length out.old) out.new ≡ out.old) }
@@ -86,7 +86,7 @@ fn put_text(out: &mut Bytes, line: &Line) -> Result<(), NoMemory>
     }
 }
 
-/// Puts the line's text at the end, with its line feed. If memory runs out, the bytes are as before.
+/// Adds the line's text at the end, with its line feed. If memory runs out, the bytes are as before.
 pub fn put_line(out: &mut Bytes, line: &Line) -> Result<(), NoMemory>
     ensures ok { OnOk result (out.new ≡ out.old ++ text_of line.now) }
     ensures err { OnErr result (out.new ≡ out.old) }

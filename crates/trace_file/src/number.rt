@@ -7,8 +7,8 @@ ghost use Rattle.std.specs.Str.Parse.{AllDigits, digits_value};
 
 const ZERO: u8 = b'0';
 
-/// The number that the word is: decimal digits without sign or leading zeros. `None` comes where it is written otherwise or
-/// is above `most`.
+/// The number that the word is: decimal digits without sign or leading zeros. `None` comes where the word is something else,
+/// or the number is above `most`.
 pub fn number(word: &[u8], most: u64) -> Option<u64>
     ensures some { IfSome result (λ n. word.now ≡ decimal n) }
     ensures in_range { IfSome result (λ n. n ≤ most) }
@@ -24,7 +24,7 @@ pub fn number(word: &[u8], most: u64) -> Option<u64>
     if n <= most { Some(n) } else { None }
 }
 
-// The number with one more digit behind it.
+// The number with one more digit at its end.
 fn with_digit(n: u64, c: u8) -> Option<u64>
     ensures { SomeIff result ((digit_value c < 10) × (n * 10 + digit_value c < 2 ^ 64)) (n * 10 + digit_value c) }
 {

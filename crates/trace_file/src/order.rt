@@ -1,13 +1,13 @@
-//! What the lines so far say of those that may come.
+//! Which lines may come next, from the lines so far. `reading` asks it before it takes a line.
 
 use crate::line::{Line, MOST_SESSIONS};
 
-/// What is kept of the lines so far.
+/// What is remembered of the lines so far.
 #[derive(Debug, Drop)]
 pub struct Order {
-    /// The last line is the end.
+    /// The last line was `end`.
     ended: bool,
-    /// A line that is no topic came.
+    /// A line other than `topic` came.
     begun: bool,
     moment: u64,
     /// The sessions whose input ended.
@@ -55,7 +55,7 @@ impl Order {
         }
     }
 
-    /// The line came.
+    /// Remembers a line that came.
     pub fn pass(&mut self, line: &Line)
         requires { NamesOne line.now }
         ensures { (lines : Items Line) → Sees self.old lines → Sees self.new (lines ++ line.now ∷ []) }

@@ -1,4 +1,4 @@
-//! The pieces of a text: what stands between its line feeds, and between the spaces of a line.
+//! Cutting bytes at a byte: a text at its line feeds here, a line at its spaces in `words`.
 
 ghost use Rattle.std.specs.Prelude.{◌≡◌, ◌<◌, ◌==◌, [], ◌∷◌, length, IfSome, IfNone, MatchOption};
 ghost use Rattle.std.specs.List.{slice_split};
@@ -6,7 +6,7 @@ ghost use Rattle.trace_file.specs.Trace.{pieces_of};
 
 use memchr::memchr;
 
-/// What stands before the first such byte, and what stands after it. `None` comes where there is none.
+/// The bytes before the first such byte, and those after it. `None` comes where there is no such byte.
 pub fn cut(text: &[u8], byte: u8) -> Option<(&[u8], &[u8])>
     ensures front { IfSome result (λ p. slice_split (λ c. c == byte) text.now ≡ p.0.now ∷ slice_split (λ c. c == byte) p.1.now) }
     ensures whole { IfNone result (slice_split (λ c. c == byte) text.now ≡ text.now ∷ []) }
@@ -18,7 +18,7 @@ pub fn cut(text: &[u8], byte: u8) -> Option<(&[u8], &[u8])>
     }
 }
 
-/// The first line of a text, without its line feed, and what stands after it. `None` comes where no line is left.
+/// The first line of a text, without its line feed, and the text after it. `None` comes where no line is left.
 pub fn next_piece(text: &[u8]) -> Option<(&[u8], &[u8])>
     ensures piece { MatchOption result (text.now ≡ []) (λ p. pieces_of text.now ≡ p.0.now ∷ pieces_of p.1.now) }
     ensures shorter { IfSome result (λ p. length p.1.now < length text.now) }

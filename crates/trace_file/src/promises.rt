@@ -14,7 +14,7 @@ pub fn no_bad_line()
         → IsTraceRead text only_topics lines → IsFirstBad text only_topics fault → ⊥ }
 {}
 
-/// Law: a text has one first bad line at most.
+/// Law: a text has at most one first bad line.
 pub fn one_first_bad_line()
     ensures { (text : List ℕ) (only_topics : Bool) (a b : LineFault)
         → IsFirstBad text only_topics a → IsFirstBad text only_topics b → a ≡ b }

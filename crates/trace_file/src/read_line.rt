@@ -1,4 +1,4 @@
-//! One line of a trace, read.
+//! Reading one line, by its words alone. Whether it may come at its place is for `order`.
 
 ghost use Rattle.std.specs.Prelude.{◌≡◌, ◌≢◌, ◌≤◌, ℕ, List, [], ◌∷◌, codes, Ok, IfOk, IfErr, IfSome, IfNone};
 ghost use Rattle.std.specs.Fmt.{decimal};
@@ -49,7 +49,7 @@ fn topic(alloc: Global, rest: &[u8]) -> Result<Line, Refusal>
     })
 }
 
-// The bytes that hex digits stand for.
+// The bytes that the hex digits are.
 fn decoded(alloc: Global, digits: &[u8]) -> Result<Bytes, Refusal>
     ensures bytes { IfOk result (λ bytes. decode_of digits.now ≡ Ok bytes) }
     ensures fault { IfErr result (λ e. Tells e (λ kind. (kind ≡ kinds.Hex)
@@ -123,7 +123,7 @@ fn lone(word: &[u8]) -> Result<Line, Refusal>
     Err(Refusal::Bad(LineKind::Word))
 }
 
-/// Reads a line, given without its line feed, or tells what is wrong with its text.
+/// Reads a line, given without its line feed, or answers what is wrong with its text.
 pub fn read_line(alloc: Global, piece: &[u8]) -> Result<Line, Refusal>
     ensures line { IfOk result (IsLine piece.now) }
     ensures fault { IfErr result (λ e. Tells e (IsLineFault piece.now)) }

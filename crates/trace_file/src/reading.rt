@@ -1,4 +1,4 @@
-//! The text of a trace, read.
+//! Reading a whole text, line by line: what the program does first with a trace.
 
 ghost use Rattle.std.specs.Prelude.{Bool, ◌==◌, ◌≡◌, ◌<◌, ◌≤◌, ◌++◌, ◌∷◌, [], length, IfOk, IfErr, OnOk, List as Items};
 ghost use Rattle.std.specs.List.{count_by, flat_map};
@@ -19,7 +19,7 @@ use kbytes::{List, NoMemory};
 use kwire::Config;
 use std::alloc::Global;
 
-/// The lines so far, all of them good, and what they say of those to come.
+/// The lines so far, all of them good, and which may come next.
 #[derive(Debug, Drop)]
 pub struct Reading {
     lines: List<Line>,
@@ -65,7 +65,7 @@ impl Reading {
         }
     }
 
-    // Reads the next line, or tells what is wrong with it.
+    // Reads the next line, or answers what is wrong with it.
     fn take(&mut self, alloc: Global, only_topics: bool, piece: &[u8]) -> Result<(), Refusal>
         requires { AreRead only_topics self.old }
         ensures read { OnOk result (AreRead only_topics self.new) }
@@ -125,8 +125,8 @@ fn read_lines(alloc: Global, text: &[u8], only_topics: bool) -> Result<List<Line
     Ok(reading.lines)
 }
 
-/// Reads the text of a trace, or with `only_topics` that of a server's topics, which has no other lines than `topic` and `end`.
-/// `Bad` comes exactly where the text is no such trace, with its first bad line.
+/// Reads the text of a trace, or with `only_topics` that of a server's topics, which has only lines `topic` and `end`. It
+/// answers `Bad`, with the first bad line, exactly where the text is no such trace.
 pub fn read_trace(alloc: Global, text: &[u8], only_topics: bool) -> Result<List<Line>, TraceFault>
     ensures trace { IfOk result (IsTraceRead text.now only_topics) }
     ensures bad { IfErr result (TellsFirstBad text.now only_topics) }

@@ -1,4 +1,4 @@
-//! Why a line isn't taken.
+//! Why one line isn't taken, before `reading` adds its number.
 
 ghost use Rattle.std.specs.Prelude.{◌≡◌};
 ghost use Rattle.trace_file.specs.declared.refusal.Refusal.TheVariants.{NoMemory as OutOfMemory};

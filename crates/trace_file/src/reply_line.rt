@@ -1,4 +1,4 @@
-//! The printed line of a reply.
+//! Printing a reply that a session is sent, as a line of hex digits.
 
 ghost use Rattle.std.specs.Prelude.{◌≡◌, ◌≤◌, ◌∷◌, ◌++◌, [], codes, length, take, OnOk, OnErr};
 ghost use Rattle.std.specs.Fmt.{decimal};
@@ -9,10 +9,10 @@ ghost use Rattle.trace_file.specs.declared.reply_line.TheConstants.{AT_A_TIME};
 use itoa::Buffer;
 use kbytes::{Bytes, NoMemory};
 
-// So many bytes are written at a time, as twice as many digits.
+// The number of bytes that are written at a time, as twice that many digits.
 const AT_A_TIME: usize = 128;
 
-// Puts the digits of a few bytes at the end, or none of them.
+// Adds the digits of a few bytes at the end, or none of them.
 fn put_part(out: &mut Bytes, part: &[u8]) -> Result<(), NoMemory>
     requires { length part.now ≤ AT_A_TIME }
     ensures ok { OnOk result (out.new ≡ out.old ++ encode_lower part.now) }
@@ -24,7 +24,7 @@ fn put_part(out: &mut Bytes, part: &[u8]) -> Result<(), NoMemory>
     out.extend(digits)
 }
 
-/// Puts the digits of the bytes at the end. If memory runs out, some of them may stand there.
+/// Adds the digits of the bytes at the end. If memory runs out, some of them may be there.
 pub fn put_hex(out: &mut Bytes, bytes: &[u8]) -> Result<(), NoMemory>
     ensures ok { OnOk result (out.new ≡ out.old ++ encode_lower bytes.now) }
     ensures front { OnErr result (take (length out.old) out.new ≡ out.old) }
@@ -35,7 +35,7 @@ pub fn put_hex(out: &mut Bytes, bytes: &[u8]) -> Result<(), NoMemory>
     Ok(())
 }
 
-// Puts the line at the end. If memory runs out, some of it may stand there.
+// Adds the line at the end. If memory runs out, a part of it may be there.
 fn put_words(out: &mut Bytes, session: u32, frame: &[u8]) -> Result<(), NoMemory>
     ensures ok { OnOk result (out.new ≡ out.old ++ line_of (codes "reply" ∷ decimal session ∷ encode_lower frame.now ∷ [])) }
     ensures front { OnErr result (take (length out.old) out.new ≡ out.old) }
@@ -49,7 +49,7 @@ fn put_words(out: &mut Bytes, session: u32, frame: &[u8]) -> Result<(), NoMemory
     Ok(())
 }
 
-/// Puts the line `reply S HEX` of a whole frame, sent to the session, at the end. If memory runs out, the bytes are as before.
+/// Adds the line `reply S HEX` for a frame that the session is sent. If memory runs out, the bytes are as before.
 pub fn put_reply_line(out: &mut Bytes, session: u32, frame: &[u8]) -> Result<(), NoMemory>
     ensures ok { OnOk result (out.new ≡ out.old ++ line_of (codes "reply" ∷ decimal session ∷ encode_lower frame.now ∷ [])) }
     ensures err { OnErr result (out.new ≡ out.old) }

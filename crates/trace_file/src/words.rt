@@ -6,7 +6,7 @@ ghost use Rattle.trace_file.specs.LineFaults.{AreFilled};
 
 use crate::pieces::cut;
 
-// The word before the first space, and what stands after it. `None` comes where there is no such word.
+// The word before the first space, and the bytes after it. `None` comes where there is no such word.
 fn word_before(text: &[u8]) -> Option<(&[u8], &[u8])>
     ensures some { IfSome result (λ p. words_of text.now ≡ p.0.now ∷ words_of p.1.now) }
     ensures filled { IfSome result (λ p. p.0.now ≢ []) }
@@ -19,7 +19,7 @@ fn word_before(text: &[u8]) -> Option<(&[u8], &[u8])>
     Some((word, rest))
 }
 
-/// The word that stands alone. `None` comes where no words stand there, or several.
+/// The one word of the bytes. `None` comes where they aren't exactly one word.
 pub fn one_word(text: &[u8]) -> Option<&[u8]>
     ensures some { IfSome result (λ word. words_of text.now ≡ word.now ∷ []) }
     ensures filled { OnSome result (AreFilled (words_of text.now) 1) }
@@ -34,7 +34,7 @@ pub fn one_word(text: &[u8]) -> Option<&[u8]>
     }
 }
 
-/// The two words that stand alone.
+/// The two words of the bytes, or `None`.
 pub fn two_words(text: &[u8]) -> Option<(&[u8], &[u8])>
     ensures some { IfSome result (λ p. words_of text.now ≡ p.0.now ∷ p.1.now ∷ []) }
     ensures filled { OnSome result (AreFilled (words_of text.now) 2) }
@@ -45,7 +45,7 @@ pub fn two_words(text: &[u8]) -> Option<(&[u8], &[u8])>
     Some((first, second))
 }
 
-/// The three words that stand alone.
+/// The three words of the bytes, or `None`.
 pub fn three_words(text: &[u8]) -> Option<(&[u8], &[u8], &[u8])>
     ensures some { IfSome result (λ p. words_of text.now ≡ p.0.now ∷ p.1.now ∷ p.2.now ∷ []) }
     ensures filled { OnSome result (AreFilled (words_of text.now) 3) }

@@ -1,0 +1,14 @@
+-- ==== the words of public contracts
+
+-- the numbers that are drawn from a seed
+pub mod Generator
+-- where a request is sent and to which partition, and what comes before it
+pub mod Places
+-- what a request asks
+pub mod Requests
+-- the lines of a load
+pub mod Lines
+-- ==== the words of private functions
+
+-- a request that can be sent as a frame
+pub mod Sendable

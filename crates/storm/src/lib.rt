@@ -1,0 +1,19 @@
+//! A generated load: the lines of a trace that many sessions play, made of a seed and a number of requests.
+//!
+//! The layer above calls `storm`, and plays the lines as it plays those of a trace that was read: they are lines of a trace
+//! (`loads_are_traces`).
+#![tactic(auto)]
+
+mod asking;
+mod draws;
+mod kind;
+mod load;
+mod promises;
+#[cfg(test)]
+mod same_as_model;
+mod sending;
+
+pub use asking::Wish;
+pub use kind::Kind;
+pub use load::{MOST_REQUESTS, storm};
+pub use promises::{each_block_is_counted, loads_are_traces};
