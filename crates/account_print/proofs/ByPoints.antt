@@ -15,14 +15,14 @@ use Rattle.kwire.specs.declared.request.FetchTopic.{FetchTopic}
 use Rattle.kwire.specs.Configuration.{Configuration, part_of}
 use Rattle.kanswer.specs.declared.accepted.Accepted.{Accepted}
 use Rattle.kanswer.specs.declared.accepted.Accepted.TheVariants.{Refused}
-use Rattle.kanswer.specs.Decisions.{Outcome, Decision, Refuse, AskLog, ProduceDecides, produce_parts, fetch_decision, fetch_parts}
+use Rattle.kanswer.specs.Decisions.{Outcome, Decision, Refuse, AskLog, ProduceDecides, produce_parts, fetch_decision, fetch_parts, fetch_decisions}
 use Rattle.audit.specs.declared.account.Account.{Account}
 use Rattle.audit.specs.declared.account.PartAccount.{PartAccount}
 use Rattle.audit.specs.declared.account.Point.{Point}
 use Rattle.audit.specs.Histories.{at_in, at_point, before_in, before_point, history_of}
 use Rattle.audit.specs.LawfulCall.{IsStep, Step, step_points}
 use Rattle.kbytes.proofs.Laws.{some_is}
-use Rattle.account_print.specs.Retells.{IsRetold, Retells, RetellsProduce, SoFar, fetch_decisions, place_of}
+use Rattle.account_print.specs.Retells.{IsRetold, Retells, RetellsProduce, SoFar, place_of}
 
 -- ---- a partition of an account and its past
 
@@ -177,11 +177,11 @@ both_retell pasts points xs ys a b c f g = record { each = both_steps pasts poin
 
 -- some topics, and then others
 pub fetched_on : (config : Configuration) (replica : ℤ) (pasts : List History) (points : List Point) (ts us vs : List FetchTopic) (a b c : SoFar) → fetch_parts vs ≡ fetch_parts ts ++ fetch_parts us
-    → Retells pasts points (fetch_decisions config replica ts) a b → Retells pasts points (fetch_decisions config replica us) b c → Retells pasts points (fetch_decisions config replica vs) a c
+    → Retells pasts points (fetch_decisions config replica (fetch_parts ts)) a b → Retells pasts points (fetch_decisions config replica (fetch_parts us)) b c → Retells pasts points (fetch_decisions config replica (fetch_parts vs)) a c
 fetched_on config replica pasts points ts us vs a b c same f g =
     let decide = λ (named : List ℕ × FetchPart). fetch_decision config replica named (part_of config named.0 named.1.index) in
     subst (λ (ds : List Decision). Retells pasts points ds a c) (sym (ap (map decide) same ∙ map-append decide (fetch_parts ts) (fetch_parts us)))
-    (both_retell pasts points (fetch_decisions config replica ts) (fetch_decisions config replica us) a b c f g)
+    (both_retell pasts points (fetch_decisions config replica (fetch_parts ts)) (fetch_decisions config replica (fetch_parts us)) a b c f g)
 
 -- ---- produces
 

@@ -1,10 +1,9 @@
 -- Each entry of a lawful account can be put into a log again: it is that of a lawful call, which asked the log soundly.
-use Rattle.std.proofs.Common.{◌≡◌, ◌≢◌, ℕ, zero, suc, ◌+◌, ◌≤◌, ◌&&◌, Bool, true, false, cond, eqb, List, [], ◌∷◌, ◌++◌, length, map, take, drop, count_by, Option, Some, None, ◌⊎◌, inl, inr, refl, sym, ap, subst, ◌∙◌, arith, option_map}
+use Rattle.std.proofs.Common.{◌≡◌, ◌≢◌, ℕ, zero, suc, ◌+◌, ◌≤◌, List, [], ◌∷◌, ◌++◌, length, take, drop, Option, Some, refl, sym, ap, subst, ◌∙◌, arith, option_map}
 use Rattle.std.specs.Prelude.{slice_get, slice_index}
-use Rattle.std.specs.List.{AllByRecursion, AllZip, cons_option}
-use Rattle.std.proofs.lemmas.Bool.{eqb-true}
+use Rattle.std.specs.List.{AllByRecursion}
 use Rattle.std.proofs.lemmas.List.{append_cancel_left, drop-take, take-take, take_more, length-take-le, length-drop, length-map}
-use Rattle.std.proofs.lemmas.List.Sums.{sum_by_push, sum_by-cons, sum_by-take-le}
+use Rattle.std.proofs.lemmas.List.Sums.{sum_by_push, sum_by-take-le}
 use Rattle.std.proofs.lemmas.Option.{slice_get-map, slice_get_within, get_or_from_slice_get}
 use Rattle.kbatch.specs.Stamp.{stamped}
 use Rattle.partlog.specs.declared.event.PartEvent.{PartEvent}
@@ -16,44 +15,19 @@ use Rattle.partlog.specs.History.{History}
 use Rattle.partlog.specs.State.{PartState, state_before}
 use Rattle.partlog.proofs.Laws.{batches-append, batches-take, bytes_in-batches}
 use Rattle.kwire.specs.Configuration.{followers_of, partitions_of}
-use Rattle.kanswer.specs.Decisions.{Entry, Put, Followed, Looked, Decision, Refuse, AskLog}
+use Rattle.kanswer.specs.Decisions.{Entry, Put, Followed, Looked, Outcome, AskLog}
 use Rattle.kanswer.proofs.Laws.{batch_sized}
 use Rattle.audit.specs.declared.account.Account.{Account}
-use Rattle.audit.specs.declared.account.Call.{Call}
 use Rattle.audit.specs.declared.account.PartAccount.{PartAccount}
 use Rattle.audit.specs.declared.account.Point.{Point}
-use Rattle.audit.specs.Histories.{Owner, clock_owner_of, at_in, at_point, before_in, before_point, event_at, event_in, history_of, owner_of, owners_in, owners_of, points_of}
-use Rattle.audit.specs.IsLawful.{HasLogs, IsLawful, IsWholeLog, is_point}
-use Rattle.audit.specs.LawfulCall.{IsClockLook, IsEntry, IsLawfulCall, IsLook, IsStep, LooksAtClock, Step, step_points}
-use Rattle.kbytes.proofs.Laws.{all_append, some_is}
-use Rattle.audit.proofs.Laws.{looks_stand}
+use Rattle.audit.specs.Histories.{Owner, at_in, at_point, before_in, before_point, event_at, event_in, history_of, owner_of}
+use Rattle.audit.specs.IsLawful.{HasLogs, IsLawful, IsWholeLog}
+use Rattle.audit.specs.LawfulCall.{IsEntry}
+use Rattle.kbytes.proofs.Laws.{some_is}
+use Rattle.audit.proofs.Laws.{entry_owned, entry_shows}
 use Rattle.broker_spec.proofs.Laws.{followers_size}
 use Rattle.account_print.specs.Playable.{CanPlay, IsPlayable, put_at}
 use Rattle.account_print.proofs.Sound.{IsSound, IsSoundEntry, decided_soundly}
-
--- ---- an item that passes is among those that are counted
-
-found : {X G : Type 0} (test : X → Bool) (xs : List X) → AllByRecursion (λ x. test x ≡ true → G) xs → count_by test xs ≡ 1 → G
-found test [] each one = absurd (omega (arith, one))
-found {X} {G} test (x ∷ xs) each one = by_test (test x) refl (found test xs each.1)
-  where
-    by_test : (b : Bool) → test x ≡ b → (count_by test xs ≡ 1 → G) → G
-    by_test true is later = each.0 is
-    by_test false is later =
-        let rest = sum_by-cons (λ (y : X). cond (test y) 1 0) x xs in
-        let none = ap {B = ℕ} (λ (b : Bool). cond b 1 0) is in
-        later (omega (arith, one, rest, none))
-
-both_true : (a b : Bool) → (a && b) ≡ true → (a ≡ true) × (b ≡ true)
-both_true true true e = (refl, refl)
-both_true true false e = absurd cc
-both_true false b e = absurd cc
-
-point_is : (part place : ℕ) (point : Point) → is_point part place point ≡ true → point ≡ record { part = part; place = place }
-point_is part place point is =
-    let both = both_true (eqb point.part part) (eqb point.place place) is in
-    ap (λ (n : ℕ). let q : Point = record { part = n; place = point.place } in q) (eqb-true point.part part both.0)
-    ∙ ap (λ (n : ℕ). let q : Point = record { part = part; place = n } in q) (eqb-true point.place place both.1)
 
 owned_by : (event : PartEvent) → (owner : Owner) × (owner_of event ≡ Some owner)
 owned_by (Append by seq count len) = (record { by = by; seq = seq }, refl)
@@ -176,85 +150,16 @@ module _ (account : Account) (number : ℕ) (part : PartAccount) (there : slice_
         subst (CanPlay h k) (some_is (Follow is.0 is.1 replica offset) event (sym is.2 ∙ event_here)) sound
     by_entry Looked is sound = by_look is.0 is.1 is.2
 
-    abbrev Plays : Point → Type 0
-    Plays point = is_point number k point ≡ true → CanPlay h k event
-
-    by_step : (decision : Decision) (step : Step) (point : Point) → IsStep account decision step → IsSound account.config decision → step.point ≡ Some point → Plays point
-    by_step (Refuse code) step point is sound left passes = absurd (no_point (sym (ap (λ (s : Step). s.point) is) ∙ left))
-      where
-        no_point : ◌≡◌ {A = Option Point} None (Some point) → ⊥
-        no_point e = cc
-    by_step (AskLog asked outcome) step point is sound left passes =
-        let at : is.point ≡ here = some_is is.point point (sym is.left ∙ left) ∙ point_is number k point passes in
-        let own : asked ≡ number = sym is.there ∙ ap (λ (p : Point). p.part) at in
-        let Is : Point → Type 0 = λ p. IsEntry account p (outcome (before_point account p)).entry in
-        let Sound : ℕ → Type 0 = λ n. IsSoundEntry n (outcome (state_before h k)).entry (state_before h k) in
-        by_entry (outcome (state_before h k)).entry
-        (subst (λ (s : PartState). IsEntry account here (outcome s).entry) before (subst Is at is.entry))
-        (subst Sound (ap (slice_index (followers_of account.config.topics)) own ∙ follows) (sound (state_before h k)).entry)
-
-    one_point : (o : Option Point) (points : List Point) → ((point : Point) → o ≡ Some point → Plays point) → AllByRecursion Plays points → AllByRecursion Plays (cons_option o points)
-    one_point None points one rest = rest
-    one_point (Some point) points one rest = (one point refl, rest)
-
-    by_steps : (decisions : List Decision) (steps : List Step) → AllZip (IsStep account) decisions steps → AllByRecursion (IsSound account.config) decisions → AllByRecursion Plays (step_points steps)
-    by_steps [] [] each sound = tt
-    by_steps [] (step ∷ steps) each sound = absurd each
-    by_steps (decision ∷ decisions) [] each sound = absurd each
-    by_steps (decision ∷ decisions) (step ∷ steps) each sound =
-        one_point step.point (step_points steps) (λ point left. by_step decision step point each.0 sound.0 left) (by_steps decisions steps each.1 sound.1)
-
-    no_clock : (point : Point) → IsClockLook account point → Plays point
-    no_clock point look passes = absurd (apart (sym (ap (λ (p : Point). p.part) (point_is number k point passes)) ∙ look.0))
-
-    by_looks : (waits : Bool) (looks : List Point) → LooksAtClock account waits looks → AllByRecursion Plays looks
-    by_looks true looks are = subst (AllByRecursion Plays) (sym are.1) (no_clock are.0 are.2, tt)
-    by_looks false looks are = subst (AllByRecursion Plays) (sym are) tt
-
-    by_finish : (points : List Point) → AllByRecursion (λ point. IsLook account point.part point ⊎ IsClockLook account point) points → AllByRecursion Plays points
-    by_finish [] stand = tt
-    by_finish (point ∷ points) stand = (one stand.0, by_finish points stand.1)
-      where
-        one : IsLook account point.part point ⊎ IsClockLook account point → Plays point
-        one (inl look) passes = by_look look.1 look.2 (sym (ap (event_at account) (point_is number k point passes)) ∙ look.3)
-        one (inr look) passes = no_clock point look passes
-
-    front_sound : (n : ℕ) (decisions : List Decision) → AllByRecursion (IsSound account.config) decisions → AllByRecursion (IsSound account.config) (take n decisions)
-    front_sound zero decisions sound = tt
-    front_sound (suc n) [] sound = tt
-    front_sound (suc n) (d ∷ decisions) sound = (sound.0, front_sound n decisions sound.1)
-
-    by_accept : (call : Call) → IsLawfulCall account call → AllByRecursion Plays call.accept
-    by_accept call (inl w) =
-        let a = w.whole.accepted in
-        subst (AllByRecursion Plays) (sym w.whole.entries.points)
-        (all_append Plays (step_points w.whole.steps) w.whole.looks
-        (by_steps a.decisions w.whole.steps a.each (decided_soundly account.config w.whole.request.ask a.decisions a.decided))
-        (by_looks _ w.whole.looks w.whole.entries.clock))
-    by_accept call (inr c) =
-        subst (AllByRecursion Plays) (sym c.points)
-        (by_steps (take c.reached c.decisions) c.steps c.each (front_sound c.reached c.decisions (decided_soundly account.config c.request.ask c.decisions c.decided)))
+    by_asked : (outcome : PartState → Outcome) → IsEntry account here (outcome (before_point account here)).entry → IsSound account.config (AskLog number outcome) → CanPlay h k event
+    by_asked outcome is sound =
+        by_entry (outcome (state_before h k)).entry (subst (λ (s : PartState). IsEntry account here (outcome s).entry) before is)
+        (subst (λ (n : ℕ). IsSoundEntry n (outcome (state_before h k)).entry (state_before h k)) follows (sound (state_before h k)).entry)
 
     plays : IsLawful account → CanPlay h k event
     plays lawful =
         let by = owned_by event in
-        let left = lawful.entries.left number k by.0.by by.0.seq (owned by.0 by.1) in
-        let is = lawful.calls by.0.by by.0.seq left.0 left.1 in
-        found (is_point number k) (points_of left.0)
-        (all_append Plays left.0.accept left.0.finish (by_accept left.0 is) (by_finish left.0.finish (looks_stand account left.0 is))) left.2
-      where
-        other : eqb number 64 ≡ false
-        other = apart_false (eqb number 64) refl
-          where
-            apart_false : (b : Bool) → eqb number 64 ≡ b → b ≡ false
-            apart_false true e = absurd (apart (eqb-true number 64 e))
-            apart_false false e = refl
-
-        owned : (owner : Owner) → owner_of event ≡ Some owner → slice_get (owners_of account number) k ≡ Some (Some owner)
-        owned owner is =
-            ap (λ (b : Bool). slice_get (cond b (map clock_owner_of account.clock) (owners_in (slice_get account.parts number))) k) other
-            ∙ ap (λ (o : Option PartAccount). slice_get (owners_in o) k) there
-            ∙ slice_get-map owner_of part.events k ∙ ap (option_map owner_of) at ∙ ap Some is
+        entry_shows account number k apart (CanPlay h k event) (IsSound account.config) (decided_soundly account.config) by_asked by_look lawful by.0
+        (entry_owned account number k apart part there event at by.0 by.1)
 
   playable : IsLawful account → IsPlayable h
   playable lawful = record { each = λ k event at. plays k event at lawful; whole = whole }

@@ -2,5 +2,5 @@
 
 -- the account of a run may be printed, and its sessions have few numbers
 pub use Rattle.account_print.proofs.Printing.{printable, numbers_below}
--- the account of a trace's run can be told again
+-- the account of a trace's run can be printed session by session
 pub use Rattle.account_print.proofs.Runs.{run_tellable}

@@ -2,25 +2,23 @@
 pub mod Sound
 -- each entry of a lawful account can be put into a log again
 pub mod LawfulParts
--- an entry of a history, put behind the front before it
+-- an entry of a history, put after those before it
 pub mod Entries
 -- the numbers before each entry, and what was readable there
 pub mod Befores
--- the partitions of a produce or a fetch, one after the other
-pub mod NextParts
--- the steps of decisions, told one after the other by their points
+-- the steps of decisions, computed one after the other by their points
 pub mod ByPoints
 -- what is read again of the partitions of a call
 pub mod Reread
--- what is told again of a call that was answered
+-- what is computed of a call that was answered
 pub mod Answered
 -- the replies of calls and of sessions, one after the other
 pub mod Tellings
--- sessions that are told in shares
+-- sessions that are printed in shares
 pub mod Sharing
 -- the account of a run, and the numbers of its sessions
 pub mod Printing
--- the account of a trace's run can be told again
+-- the account of a trace's run can be printed session by session
 pub mod Runs
 -- what the crates above may cite
 pub mod Laws

@@ -1,13 +1,10 @@
--- The account of a trace's run can be told again.
-use Rattle.std.proofs.Common.{◌≡◌, ◌^◌, ℕ, List, [], sym, subst, arith}
+-- The account of a trace's run can be printed session by session.
+use Rattle.std.proofs.Common.{◌≡◌, ◌^◌, ℕ, List, [], arith}
 use Rattle.std.specs.List.{AllByRecursion}
 use Rattle.audit.specs.declared.account.Account.{Account}
 use Rattle.audit.specs.declared.account.Transcript.{Transcript}
 use Rattle.audit.specs.IsLawful.{IsLawful}
 use Rattle.audit.specs.RunOf.{IsRunOf}
-use Rattle.kwire.specs.Configuration.{Configuration}
-use Rattle.kwire.specs.DeclaredTopics.{AreDeclared}
-use Rattle.broker_spec.proofs.Laws.{trace_declared}
 use Rattle.account_print.specs.Tellable.{IsTellable}
 use Rattle.account_print.proofs.Printing.{printable, numbers_below}
 use Rattle.trace_file.specs.declared.line.Line.{Line}
@@ -19,6 +16,5 @@ pub run_tellable : (text : List ℕ) (lines : List Line) (port : ℕ) (further :
     → IsRunOf lines port further added account → AllByRecursion (λ ts. ts ≡ []) further → IsTellable account
 run_tellable text lines port further added account trace lawful run bare = record {
   printable = printable lines port further added account lawful run bare;
-  declared = subst (λ (c : Configuration). AreDeclared c.topics) (sym run.config) (trace_declared text lines port trace);
   numbered = numbers_below (2 ^ 32) lines port further added account run bare (λ session named. omega (arith, few_sessions text lines session trace named));
 }

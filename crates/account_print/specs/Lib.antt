@@ -2,9 +2,9 @@
 
 -- a history whose entries can be put into an empty log again
 pub mod Playable
--- what became of the partitions of a call, told again
+-- what became of the partitions of a call, computed again
 pub mod Retells
--- an account that can be told again
+-- an account that can be printed session by session
 pub mod Tellable
 -- ==== the words of private functions
 
@@ -12,5 +12,5 @@ pub mod Tellable
 pub mod NumbersUpTo
 -- what is shown of the partitions of a call
 pub mod WasShown
--- what is told of a part of an account's sessions
+-- what is printed of some of an account's sessions
 pub mod Shares

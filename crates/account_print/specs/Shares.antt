@@ -1,4 +1,4 @@
--- What is told of a part of an account's sessions.
+-- What is printed of some of an account's sessions.
 use Rattle.std.specs.Prelude.{ℕ, ◌≡◌, ◌<◌, ◌≤◌, ◌*◌, List, drop, get_or, length, take, IfOk, Result}
 use Rattle.std.specs.List.{AllZip, flat_map, zip}
 use Rattle.kbytes.specs.declared.no_memory.NoMemory.{NoMemory}
@@ -17,7 +17,7 @@ abbrev pub IsTextOf : Account → List Transcript → List ℕ → Type 0
 IsTextOf account transcripts text =
     (all : List (List Reply)) × AllZip (λ transcript sent. HasReplies account transcript.calls sent) transcripts all × (text ≡ flat_map session_text (zip transcripts all))
 
--- the passes are told in shares of so many, in order; each text, where it was told, is that of its share's sessions
+-- the passes are cut into shares of `size`, in order; each text for which there was memory is that of its share's sessions
 pub record AreShares (account : Account) (size : ℕ) (texts : List (Result (List ℕ) NoMemory)) : Type 0 where
   pub whole : length account.passes ≤ length texts * size
   pub each : (n : ℕ) (d : Result (List ℕ) NoMemory) → n < length texts → IfOk (get_or texts n d) (IsTextOf account (sessions_in (take size (drop (n * size) account.passes))))

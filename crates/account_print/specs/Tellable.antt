@@ -1,8 +1,6 @@
--- An account that can be told again: a printable account of topics that may be declared, each of whose sessions has a number of
--- 32 bits.
+-- An account that can be printed session by session: each of its sessions has a number of 32 bits.
 use Rattle.std.specs.Prelude.{◌<◌, ◌^◌}
 use Rattle.std.specs.List.{AllByRecursion}
-use Rattle.kwire.specs.DeclaredTopics.{AreDeclared}
 use Rattle.audit.specs.declared.account.Account.{Account}
 use Rattle.audit.specs.declared.account.Transcript.{Transcript}
 use Rattle.audit.specs.LawfulCall.{IsLawfulCall}
@@ -11,7 +9,6 @@ use Rattle.audit.specs.Printed.{transcripts_of}
 
 pub record IsTellable (account : Account) : Type 0 where
   pub printable : IsPrintable account
-  pub declared : AreDeclared account.config.topics
   pub numbered : AllByRecursion (λ transcript. transcript.number < 2 ^ 32) (transcripts_of account)
 
 -- a session whose calls are lawful, with such a number

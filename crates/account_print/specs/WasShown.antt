@@ -10,7 +10,7 @@ use Rattle.audit.specs.declared.account.CallHow.{CallHow}
 use Rattle.audit.specs.declared.account.CallHow.TheVariants.{Quiet, AtOnce, Satisfied, Expired, Parked, Cut}
 use Rattle.audit.specs.declared.account.Point.{Point}
 
--- of so many pasts, that of the partition whose log was asked is one
+-- with `count` pasts, the partition whose log was asked has one
 abbrev pub HasPast : ℕ → Accepted → Type 0
 HasPast count (Refused code) = ⊤
 HasPast count (Appended part base n) = part < count
@@ -36,7 +36,7 @@ look_places (Appended part base count ∷ results) (look ∷ looks) = look.place
 look_places (Seen part start ∷ results) [] = 0 ∷ look_places results []
 look_places (Seen part start ∷ results) (look ∷ looks) = look.place ∷ look_places results looks
 
--- the places at which the reply of a call that came to its end so tells its partitions
+-- the places at which the reply of a call that ended in this way shows its partitions
 abbrev pub told_places : CallHow → List Accepted → List ℕ → List Point → List ℕ
 told_places Quiet results own finish = own
 told_places AtOnce results own finish = own

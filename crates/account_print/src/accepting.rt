@@ -1,4 +1,5 @@
-//! What became of each partition that a call names, from its frame, the points of its entries and the pasts of the partitions.
+//! Computes again what became of each partition that a call names. `reply_to` calls `retell` with the call's request, the points of its
+//! entries and the pasts of the partitions.
 
 ghost use Rattle.std.specs.Prelude.{◌≡◌, ◌≤◌, ◌<◌, ◌∷◌, [], List as Items, length, map, is_some, OnOk, IfSome, IfNone, ℕ, pos, true, false, IsTrue, ◌⊎◌};
 ghost use Rattle.kbatch.specs.Kept.{count_of};
@@ -9,8 +10,8 @@ ghost use Rattle.partlog.specs.State.{PartState, state_before};
 ghost use Rattle.kwire.specs.Configuration.{partitions_of, part_of};
 ghost use Rattle.kanswer.specs.LogReadings.{IsCarriable};
 ghost use Rattle.kanswer.specs.Waiting.{is_consumer};
-ghost use Rattle.kanswer.specs.Decisions.{AskLog, Decision, Decides, append_outcome, fetch_decision, fetch_outcome};
-ghost use Rattle.account_print.specs.Retells.{Retells, RetellsProduce, fetch_decisions};
+ghost use Rattle.kanswer.specs.Decisions.{AskLog, Decision, Decides, append_outcome, fetch_decision, fetch_decisions, fetch_outcome, fetch_parts};
+ghost use Rattle.account_print.specs.Retells.{Retells, RetellsProduce};
 
 use crate::past::Past;
 use crate::retold::Retold;
@@ -24,7 +25,7 @@ use kwire::{
 };
 use partlog::{MOST_LOG_BYTES, Numbers};
 
-/// From what a call is told again: the topics, the past of each partition, and the points of the call's acceptance.
+/// What a call's results are computed from: the topics, the past of each partition, and the points of the call's acceptance.
 #[derive(Clone, Copy, Debug)]
 pub struct Scene<'a> {
     pub config: &'a Config,
@@ -32,7 +33,7 @@ pub struct Scene<'a> {
     pub points: &'a [Point],
 }
 
-// What became of a batch of so many records and bytes, where a log had these numbers.
+// What became of a batch of `count` records and `len` bytes at a log with these numbers.
 fn put(part: u32, before: &Numbers, count: u32, len: usize) -> Accepted
     requires bytes { before.now.bytes ≤ MOST_LOG_BYTES }
     requires end { before.now.end ≤ MOST_LOG_BYTES }
@@ -52,7 +53,7 @@ fn put(part: u32, before: &Numbers, count: u32, len: usize) -> Accepted
     }
 }
 
-// The next point is that of the batch. The points of a call that ran out of memory end before its partitions do.
+// What became of a batch, whose point is the next one. A call that ran out of memory can have fewer points than partitions.
 fn retell_put(
     scene: &Scene<'_>,
     part: u32,
@@ -122,7 +123,7 @@ fn retell_produce(
     Ok(())
 }
 
-// The offset that is asked for, where it is from 0 to the log end.
+// The offset that is asked for, if it is from 0 to the log end.
 fn offset_within(asked: &FetchPart, end: u64) -> Option<u64>
     ensures within { IfSome result (λ offset. (asked.now.offset ≡ pos offset) × (offset ≤ end)) }
     ensures outside { IfNone result ((offset : ℕ) → asked.now.offset ≡ pos offset → end < offset) }
@@ -134,7 +135,7 @@ fn offset_within(asked: &FetchPart, end: u64) -> Option<u64>
     if offset > end { None } else { Some(offset) }
 }
 
-// A replica is a consumer or one of the followers.
+// Whether a replica is a consumer or one of the followers.
 fn is_known(replica: i32, followers: u32) -> bool
     ensures known { IsTrue result → (is_consumer replica ≡ true) ⊎ IsFollower replica followers }
     ensures other { result ≡ false → (is_consumer replica ≡ false) × (IsFollower replica followers → ⊥) }
@@ -203,7 +204,8 @@ fn retell_fetch_topic(
     retold: &mut Retold,
 ) -> Result<(), NoMemory>
     requires { length scene.now.pasts.now ≡ partitions_of scene.now.config.now.topics }
-    ensures { OnOk result (Retells scene.now.pasts.now scene.now.points.now (fetch_decisions scene.now.config.now replica (topic.now ∷ []))
+    ensures { OnOk result (Retells scene.now.pasts.now scene.now.points.now
+        (fetch_decisions scene.now.config.now replica (fetch_parts (topic.now ∷ [])))
         retold.old retold.new) }
 {
     for asked in topic.parts.as_slice() {
@@ -219,7 +221,7 @@ fn retell_fetch(
     retold: &mut Retold,
 ) -> Result<(), NoMemory>
     requires { length scene.now.pasts.now ≡ partitions_of scene.now.config.now.topics }
-    ensures { OnOk result (Retells scene.now.pasts.now scene.now.points.now (fetch_decisions scene.now.config.now replica topics.now)
+    ensures { OnOk result (Retells scene.now.pasts.now scene.now.points.now (fetch_decisions scene.now.config.now replica (fetch_parts topics.now))
         retold.old retold.new) }
 {
     for topic in topics {
@@ -228,7 +230,7 @@ fn retell_fetch(
     Ok(())
 }
 
-/// Tells again what became of each partition that a request names, in order, as far as the points go.
+/// Adds what became of each partition that a request names, in order, as far as the points go.
 pub fn retell(
     scene: &Scene<'_>,
     request: &RequestView<'_>,

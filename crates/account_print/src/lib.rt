@@ -1,7 +1,7 @@
-//! What each session was sent, told again from the account of a run.
+//! Prints what each session was sent, computed again from the account of a run.
 //!
 //! An account keeps no replies. A reply follows from the call's frame, the points of its entries and the partitions as they were
-//! there, so that the layer above can print what each session was sent once a run has ended.
+//! there, so the layer above can print what each session was sent once a run has ended.
 #![tactic(auto)]
 
 mod accepting;

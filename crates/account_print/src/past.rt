@@ -1,4 +1,4 @@
-//! What a partition was at each place of its history.
+//! What a partition was at each place of its history. Replies are computed from these pasts.
 
 ghost use Rattle.std.specs.Prelude.{◌≡◌, ◌≤◌, ◌+◌, ◌-◌, ◌||◌, nat_lt, filter, map, if◌then◌else◌, OnOk, OnErr, IfOk};
 ghost use Rattle.partlog.specs.declared.part_log.TheConstants.{MOST_LOG_BYTES};
@@ -40,7 +40,7 @@ impl Model for Past {
     ghost invariant = { λ p. p.numbers ≡ numbers_upto p.log (length p.log.events + 1) };
 }
 
-// The byte place up to which this replica may read.
+// The place in the log's bytes up to which this replica may read.
 fn upto(replica: i32, numbers: &Numbers) -> u64
     ensures { result ≡ (if is_consumer replica then numbers.now.visible else numbers.now.bytes) }
 {
@@ -67,7 +67,7 @@ impl Past {
         Ok(Past { log, numbers })
     }
 
-    /// The numbers before the entry at a place, and past the last entry those of the whole history. It takes no memory.
+    /// The numbers before the entry at a place, and after the last entry those of the whole history. It takes no memory.
     pub fn before(&self, place: u64) -> Numbers
         ensures numbers { result ≡ numbers_of (state_before self.now place) }
         ensures end { result.end ≤ MOST_LOG_BYTES }
@@ -83,7 +83,7 @@ impl Past {
         }
     }
 
-    /// The byte place at which reading from an offset began before the entry at a place. It takes no memory.
+    /// The place in the log's bytes at which reading from an offset began before the entry at a place. It takes no memory.
     pub fn start_before(&self, place: u64, offset: u64) -> u64
         requires { offset ≤ (state_before self.now place).log_end }
         ensures { result ≡ start_of offset (state_before self.now place) }
@@ -91,7 +91,7 @@ impl Past {
         self.log.locate(offset)
     }
 
-    /// The numbers just after the entry at a place, and past the last entry those of the whole history. It takes no memory.
+    /// The numbers just after the entry at a place, and after the last entry those of the whole history. It takes no memory.
     pub fn at(&self, place: u64) -> Numbers
         ensures numbers { result ≡ numbers_of (state_at self.now place) }
         ensures high { result.high ≤ MOST_LOG_BYTES }
@@ -107,9 +107,9 @@ impl Past {
         }
     }
 
-    /// The bytes that this replica could read just after the entry at a place, from the byte place `start` on: whole batches, as
-    /// many from the first on as have `limit` bytes together; the first whatever its length, unless the reply holds `any` batch
-    /// yet. It takes no memory.
+    /// The bytes that this replica could read just after the entry at a place, from `start` in the log's bytes on: whole batches, as
+    /// many from the first on as fit into `limit` bytes, and the first one whatever its length unless the reply holds `any` batch
+    /// already. It takes no memory.
     pub fn readable_at(&self, place: u64, replica: i32, start: u64, limit: u64, any: bool) -> &[u8]
         ensures { let state = state_at self.now place in
             result.now ≡ joined (taken limit any (filter (is_readable replica state) (batches_past start state.batches))) }
@@ -125,7 +125,7 @@ pub fn pasts_of(alloc: Global, account: &Account) -> Result<List<Past>, NoMemory
     requires { IsLawful account.now }
     ensures { IfOk result (λ pasts. pasts ≡ map history_of account.now.parts) }
 {
-    // so few partitions that none has the clock's number
+    // few enough partitions that none has the clock's number
     prove!(account.config.parts() <= MOST_PARTITIONS);
     let mut pasts = List::new(alloc);
     for part in account.parts.as_slice() {

@@ -1,4 +1,4 @@
-//! The entries of a history put into a log again.
+//! Puts the entries of a history into a log again, one at a time: `Past::of` takes the log's numbers after each.
 
 ghost use Rattle.std.specs.Prelude.{◌≡◌, ◌≤◌, ◌<◌, ◌+◌, length, OnOk, List as Items};
 ghost use Rattle.kbatch.specs.Batch.{IsBatch};
@@ -17,7 +17,7 @@ use kbatch::view_batch;
 use kbytes::NoMemory;
 use partlog::{FollowFault, LogFault, PartEvent, PartLog, Who};
 
-// A batch that there is room for.
+// Appends a batch that there is room for.
 fn put_again(log: &mut PartLog, who: Who, bytes: &[u8]) -> Result<(), NoMemory>
     requires batch { (records : Items Record) × IsBatch bytes.now records }
     requires room { length log.old.log + length bytes.now ≤ MOST_LOG_BYTES }
@@ -33,7 +33,7 @@ fn put_again(log: &mut PartLog, who: Who, bytes: &[u8]) -> Result<(), NoMemory>
     }
 }
 
-// The fetch of a follower, in range.
+// Enters the fetch of a follower, which is in range.
 fn follow_again(log: &mut PartLog, who: Who, replica: i32, offset: u64) -> Result<(), NoMemory>
     requires follower { IsFollower replica log.old.followers }
     requires within { offset ≤ log_end_of log.old.events }
@@ -49,7 +49,7 @@ fn follow_again(log: &mut PartLog, who: Who, replica: i32, offset: u64) -> Resul
     }
 }
 
-/// Puts the entry at a place of a history behind those before it. If memory runs out, the log is as it was.
+/// Puts the entry at a place of a history after those before it. If memory runs out, the log is as it was.
 pub fn play(log: &mut PartLog, part: &PartAccount, place: usize) -> Result<(), NoMemory>
     requires playable { IsPlayable (history_of part.now) }
     requires before { log.old ≡ front_of (history_of part.now) place }

@@ -1,4 +1,4 @@
-//! Laws of accounts that are told again. They do nothing.
+//! Laws of accounts from which replies are computed. Their bodies do nothing.
 
 ghost use Rattle.std.specs.Prelude.{◌≤◌};
 ghost use Rattle.std.specs.List.{AllByRecursion};

@@ -1,4 +1,4 @@
-//! The reply of a call, told again.
+//! Computes the reply of a call again: what became of its partitions (`retell`), what was read of them (`reread`), and the answer.
 
 ghost use Rattle.std.specs.Prelude.{ℕ, ◌≡◌, ◌<◌, ◌≤◌, ◌+◌, ◌^◌, ◌∷◌, true, drop, length, map, List as Items, All, IfOk};
 ghost use Rattle.std.specs.List.{AllByRecursion};
@@ -8,7 +8,6 @@ ghost use Rattle.kanswer.specs.Answer.{answer};
 ghost use Rattle.kanswer.specs.LogReadings.{IsCarriable, named_count};
 ghost use Rattle.kanswer.specs.Waiting.{Shown};
 ghost use Rattle.kanswer.specs.declared.accepted.Accepted.{Accepted as TheAccepted};
-ghost use Rattle.kwire.specs.DeclaredTopics.{AreDeclared};
 ghost use Rattle.audit.specs.Fits.{IsReplyOf, is_answered};
 ghost use Rattle.audit.specs.Histories.{history_of};
 ghost use Rattle.audit.specs.IsLawful.{HasLogs};
@@ -22,10 +21,10 @@ use crate::retold::Retold;
 use audit::{Account, Call, CallHow, Point};
 use kanswer::{Accepted, answer};
 use kbytes::{List, NoMemory};
-use kwire::{Config, Reply, RequestView, view_request};
+use kwire::{MOST_PARTITIONS, Reply, RequestView, view_request};
 use std::alloc::Global;
 
-// The place at which a partition was looked at, or 0, and how many looks are taken then.
+// The place at which a partition was looked at, or 0, and how many looks are used up after it.
 fn next_place(became: &Accepted, looks: &[Point], next: usize) -> (u64, usize)
     requires { next < 2 ^ 62 }
     ensures place { (results : Items TheAccepted) → look_places (became.now ∷ results) (drop next looks.now)
@@ -55,7 +54,7 @@ fn look_places(alloc: Global, accepted: &[Accepted], looks: &[Point]) -> Result<
     Ok(places)
 }
 
-// Those behind the first.
+// The points after the first.
 fn behind_first(points: &[Point]) -> &[Point]
     ensures { result.now ≡ drop 1 points.now }
 {
@@ -65,8 +64,8 @@ fn behind_first(points: &[Point]) -> &[Point]
     &points[1..]
 }
 
-// The places at which a reply tells the partitions: those of the call's own entries, or of its last looks. An expired call looked
-// at the clock before.
+// The places at which a reply shows the partitions: those of the call's own entries, or of its last looks. An expired call looked
+// at the clock before them.
 fn told_places(
     alloc: Global,
     call: &Call,
@@ -83,32 +82,31 @@ fn told_places(
     }
 }
 
-// The reply to a request, from what became of each partition and the place at which it is told.
+// The reply to a request, from what became of each partition and the place at which it is shown.
 fn answer_at(
     alloc: Global,
-    config: &Config,
-    pasts: &[Past],
+    scene: &Scene<'_>,
     request: &RequestView<'_>,
     accepted: &[Accepted],
     places: &[u64],
 ) -> Result<Reply, NoMemory>
     requires results { length accepted.now ≡ named_count request.now.ask }
     requires places { length places.now ≡ length accepted.now }
-    requires pasts { AllByRecursion (HasPast (length pasts.now)) accepted.now }
+    requires pasts { AllByRecursion (HasPast (length scene.now.pasts.now)) accepted.now }
     requires carried { All IsCarriable accepted.now }
     requires asked { (body : Items ℕ) × IsRequest body request.now }
-    requires declared { AreDeclared config.now.topics }
-    ensures reply { IfOk result (λ reply. (shown : Items Shown) → AreShown pasts.now accepted.now places.now shown
-        → reply ≡ answer config.now request.now shown) }
-    ensures framed { IfOk result (λ reply. (shown : Items Shown) → AreShown pasts.now accepted.now places.now shown
+    ensures reply { IfOk result (λ reply. (shown : Items Shown) → AreShown scene.now.pasts.now accepted.now places.now shown
+        → reply ≡ answer scene.now.config.now request.now shown) }
+    ensures framed { IfOk result (λ reply. (shown : Items Shown) → AreShown scene.now.pasts.now accepted.now places.now shown
         → IsSpellable reply) }
 {
-    let readings = reread(alloc, pasts, request, accepted, places)?;
-    answer(alloc, config, request, accepted, readings.as_slice())
+    // topics as they may be declared, whose descriptions fit in a frame
+    prove!(scene.config.parts() <= MOST_PARTITIONS);
+    let readings = reread(alloc, scene.pasts, request, accepted, places)?;
+    answer(alloc, scene.config, request, accepted, readings.as_slice())
 }
 
-/// The reply that an answered call of an account was given. The topics are such as may be declared, so that it has a frame. `pasts`
-/// are those of the account's partitions.
+/// The reply that an answered call of an account was given. It has a frame. `pasts` are those of the account's partitions.
 pub fn reply_to(
     alloc: Global,
     account: &Account,
@@ -119,11 +117,10 @@ pub fn reply_to(
     requires answered { is_answered call.now.how ≡ true }
     requires logs { HasLogs account.now }
     requires pasts { pasts.now ≡ map history_of account.now.parts }
-    requires declared { AreDeclared account.now.config.topics }
     ensures reply { IfOk result (IsReplyOf account.now call.now) }
     ensures framed { IfOk result IsSpellable }
 {
-    // the frame of a call is a request, so that nothing but memory can be wanting
+    // the frame of a call is a request, so reading it can only run out of memory
     let Ok(request) = view_request(alloc, call.frame.as_slice()) else {
         return Err(NoMemory);
     };
@@ -137,12 +134,5 @@ pub fn reply_to(
     let (accepted, own) = retold.into_parts();
     let accepted = accepted.as_slice();
     let places = told_places(alloc, call, accepted, own)?;
-    answer_at(
-        alloc,
-        &account.config,
-        pasts,
-        &request,
-        accepted,
-        places.as_slice(),
-    )
+    answer_at(alloc, &scene, &request, accepted, places.as_slice())
 }

@@ -1,4 +1,4 @@
-//! What a reply needs of the logs, read again as they were.
+//! Reads again what a reply needs of the partitions, as they were at given places of their histories. `reply_to` makes the answer of it.
 
 ghost use Rattle.std.specs.Prelude.{◌≡◌, ◌≤◌, ◌+◌, ◌-◌, ◌||◌, min, nat_lt, length, map, ◌++◌, List as Items, All, IfOk, OnOk};
 ghost use Rattle.std.specs.List.{AllByRecursion};
@@ -24,7 +24,7 @@ fn limit_of(asked: &FetchPart, left: u64) -> u64
     (asked.most.max(0) as u64).min(left)
 }
 
-// The budget after so many bytes of whole batches.
+// The budget after this many bytes of whole batches.
 fn lowered(budget: Budget, bytes: u64) -> Budget
     ensures { result ≡ record { left = budget.left - bytes; any = budget.any || nat_lt 0 bytes } }
 {
@@ -34,58 +34,65 @@ fn lowered(budget: Budget, bytes: u64) -> Budget
     }
 }
 
-// What a replica reads of a partition, as it was just after the entry at a place.
-fn read_at(
+// The partitions as they were, which a replica reads.
+#[derive(Clone, Copy, Debug)]
+struct Reader<'a> {
     alloc: Global,
+    pasts: &'a [Past],
+    replica: i32,
+}
+
+// What is read of a partition, as it was just after the entry at a place.
+fn read_at(
+    reader: &Reader<'_>,
     past: &Past,
     place: u64,
-    replica: i32,
     asked: &FetchPart,
     start: u64,
     budget: &mut Budget,
 ) -> Result<Reading, NoMemory>
     ensures numbers { IfOk result (λ reading. reading.numbers ≡ numbers_of (state_at past.now place)) }
-    ensures records { IfOk result (λ reading. reading.records ≡ joined (read_of replica asked.now start (state_at past.now place) budget.old)) }
+    ensures records { IfOk result (λ reading. reading.records
+        ≡ joined (read_of reader.now.replica asked.now start (state_at past.now place) budget.old)) }
     ensures offset { IfOk result HasCarriable }
-    ensures lowered { OnOk result (budget.new ≡ budget_after (read_of replica asked.now start (state_at past.now place) budget.old) budget.old) }
+    ensures lowered { OnOk result (budget.new
+        ≡ budget_after (read_of reader.now.replica asked.now start (state_at past.now place) budget.old) budget.old) }
     ensures room { IfOk result (λ reading. length reading.records + most_left budget.new ≤ most_left budget.old) }
 {
     let numbers = past.at(place);
     let limit = limit_of(asked, budget.left);
-    let readable = past.readable_at(place, replica, start, limit, budget.any);
-    let records = copied(alloc, readable)?;
+    let readable = past.readable_at(place, reader.replica, start, limit, budget.any);
+    let records = copied(reader.alloc, readable)?;
     *budget = lowered(*budget, records.len() as u64);
     Ok(Reading { numbers, records })
 }
 
 // What is read for a fetch of one partition.
 fn read_seen(
-    alloc: Global,
-    pasts: &[Past],
-    replica: i32,
+    reader: &Reader<'_>,
     asked: &FetchPart,
     became: &Accepted,
     place: u64,
     budget: &mut Budget,
 ) -> Result<Reading, NoMemory>
-    requires { HasPast (length pasts.now) became.now }
-    ensures read { IfOk result (λ reading. (state : PartState) → IsShownAt pasts.now became.now place state
-        → HasRecords replica asked.now became.now reading state budget.old) }
-    ensures left { OnOk result ((state : PartState) → IsShownAt pasts.now became.now place state
-        → budget.new ≡ budget_after (batches_as replica asked.now became.now state budget.old) budget.old) }
+    requires { HasPast (length reader.now.pasts.now) became.now }
+    ensures read { IfOk result (λ reading. (state : PartState) → IsShownAt reader.now.pasts.now became.now place state
+        → HasRecords reader.now.replica asked.now became.now reading state budget.old) }
+    ensures left { OnOk result ((state : PartState) → IsShownAt reader.now.pasts.now became.now place state
+        → budget.new ≡ budget_after (batches_as reader.now.replica asked.now became.now state budget.old) budget.old) }
     ensures offset { IfOk result HasCarriable }
     ensures room { IfOk result (λ reading. length reading.records + most_left budget.new ≤ most_left budget.old) }
 {
     match *became {
-        Accepted::Refused { .. } | Accepted::Appended { .. } => Ok(read_nothing(alloc)),
+        Accepted::Refused { .. } | Accepted::Appended { .. } => Ok(read_nothing(reader.alloc)),
         Accepted::Seen { part, start } => {
-            let past = &pasts[part as usize];
-            read_at(alloc, past, place, replica, asked, start, budget)
+            let past = &reader.pasts[part as usize];
+            read_at(reader, past, place, asked, start, budget)
         }
     }
 }
 
-// Puts what is asked of the partitions of a topic behind the others.
+// Adds what is asked of the partitions of a topic.
 fn put_asked<'a>(all: &mut List<&'a FetchPart>, parts: &'a [FetchPart]) -> Result<(), NoMemory>
     ensures { OnOk result (map (λ asked. asked.now) all.new ≡ map (λ asked. asked.now) all.old ++ parts.now) }
 {
@@ -111,9 +118,7 @@ fn all_asked<'a>(
 
 // What is read for a fetch.
 fn read_fetch(
-    alloc: Global,
-    pasts: &[Past],
-    replica: i32,
+    reader: &Reader<'_>,
     asked: &[&FetchPart],
     accepted: &[Accepted],
     places: &[u64],
@@ -121,30 +126,22 @@ fn read_fetch(
 ) -> Result<List<Reading>, NoMemory>
     requires results { length accepted.now ≡ length asked.now }
     requires places { length places.now ≡ length asked.now }
-    requires pasts { AllByRecursion (HasPast (length pasts.now)) accepted.now }
-    ensures read { IfOk result (λ readings. (shown : Items Shown) → AreShown pasts.now accepted.now places.now shown
-        → FetchReadings replica (map (λ asked. asked.now) asked.now) accepted.now readings shown budget) }
+    requires pasts { AllByRecursion (HasPast (length reader.now.pasts.now)) accepted.now }
+    ensures read { IfOk result (λ readings. (shown : Items Shown) → AreShown reader.now.pasts.now accepted.now places.now shown
+        → FetchReadings reader.now.replica (map (λ asked. asked.now) asked.now) accepted.now readings shown budget) }
     ensures size { IfOk result (λ readings. length readings ≡ length accepted.now) }
     ensures offsets { IfOk result (All HasCarriable) }
     ensures room { IfOk result (λ readings. bytes_read readings ≤ most_left budget) }
 {
     let mut budget = budget;
-    let mut readings = List::new(alloc);
+    let mut readings = List::new(reader.alloc);
     for at in 0..asked.len() {
-        readings.push(read_seen(
-            alloc,
-            pasts,
-            replica,
-            asked[at],
-            &accepted[at],
-            places[at],
-            &mut budget,
-        )?)?;
+        readings.push(read_seen(reader, asked[at], &accepted[at], places[at], &mut budget)?)?;
     }
     Ok(readings)
 }
 
-// Of an appended partition the numbers are read, as they were just after the entry at a place.
+// Reads the numbers of a partition as they were just after the entry at a place, if a batch was appended.
 fn read_appended(alloc: Global, pasts: &[Past], became: &Accepted, place: u64) -> Reading
     requires { HasPast (length pasts.now) became.now }
     ensures read { (state : PartState) → IsShownAt pasts.now became.now place state → HasNumbers became.now result state }
@@ -160,7 +157,7 @@ fn read_appended(alloc: Global, pasts: &[Past], became: &Accepted, place: u64) -
     }
 }
 
-// What is read for a request that is no fetch: no log's records.
+// What is read for a request that isn't a fetch: numbers, and no records.
 fn read_numbers(
     alloc: Global,
     pasts: &[Past],
@@ -206,16 +203,13 @@ pub fn reread(
             ..
         } => {
             let asked = all_asked(alloc, topics.as_slice())?;
-            let budget = Budget::of(request);
-            read_fetch(
+            let reader = Reader {
                 alloc,
                 pasts,
-                *replica,
-                asked.as_slice(),
-                accepted,
-                places,
-                budget,
-            )
+                replica: *replica,
+            };
+            let budget = Budget::of(request);
+            read_fetch(&reader, asked.as_slice(), accepted, places, budget)
         }
         AskView::Produce { .. } | AskView::Metadata { .. } | AskView::Versions { .. } => {
             read_numbers(alloc, pasts, accepted, places)

@@ -1,4 +1,4 @@
-//! What became of the named partitions of a call, as far as it was told.
+//! What `retell` has computed so far of a call: what became of its partitions, and where their entries are.
 
 ghost use Rattle.std.specs.Prelude.{◌≡◌, ◌+◌, ◌<◌, ◌^◌, ◌++◌, ◌∷◌, [], All, OnOk};
 ghost use Rattle.kanswer.specs.declared.accepted.Accepted.TheVariants.{Refused};
@@ -9,8 +9,8 @@ use kbytes::{List, NoMemory};
 use std::alloc::Global;
 use std::marker::Model;
 
-/// A result for each partition that was told so far, the place of its entry in its history, or 0 where it left none, and how many
-/// points were taken. Offsets are such as the wire can carry. If memory runs out, it may only be dropped.
+/// A result for each partition so far, with offsets that the wire can carry; the place of its entry in its history, or 0 if it left
+/// none; and how many points were taken. If memory runs out, it may only be dropped.
 #[derive(Debug, Drop)]
 pub struct Retold {
     accepted: List<Accepted>,
@@ -31,7 +31,7 @@ impl Model for Retold {
 }
 
 impl Retold {
-    /// Nothing. It takes no memory.
+    /// No results yet. It takes no memory.
     pub fn new(alloc: Global) -> Retold
         ensures { result ≡ record { accepted = []; places = []; taken = 0 } }
     {
@@ -61,7 +61,7 @@ impl Retold {
         self.places.push(0)
     }
 
-    /// The log of the next partition was asked, and its entry stands at this place.
+    /// The log of the next partition was asked, and its entry is at this place.
     pub fn ask(&mut self, became: Accepted, place: u64) -> Result<(), NoMemory>
         requires few { self.old.taken < 2 ^ 63 }
         requires carried { IsCarriable became }

@@ -1,8 +1,7 @@
-//! The sessions of a run told in shares, each share in a thread of its own.
+//! Prints the sessions of a run in shares, each share in a thread of its own.
 
 ghost use Rattle.std.specs.Prelude.{ℕ, ◌≡◌, ◌<◌, ◌≤◌, ◌++◌, map, List as Items, Ok, OnOk, IfOk};
 ghost use Rattle.std.specs.List.{AllByRecursion, flat_map};
-ghost use Rattle.kwire.specs.DeclaredTopics.{AreDeclared};
 ghost use Rattle.audit.specs.Histories.{history_of};
 ghost use Rattle.audit.specs.IsLawful.{HasLogs};
 ghost use Rattle.audit.specs.Printed.{IsPrintOf, transcripts_of};
@@ -17,7 +16,7 @@ use std::alloc::Global;
 use std::thread::Threads;
 use std::{mem, thread};
 
-// How many passes a share has, the last one perhaps fewer, where each thread has one share.
+// How many passes a share has if each thread gets one share. The last share may have fewer.
 fn share_size(passes: usize, threads: u32) -> usize
     requires { 1 ≤ threads }
     ensures { 0 < result }
@@ -25,7 +24,7 @@ fn share_size(passes: usize, threads: u32) -> usize
     passes.div_ceil(threads as usize).max(1)
 }
 
-// Tells each share of so many passes, in a thread of its own where one can be started.
+// The text of each share of `size` passes, made in a thread of its own if one can be started.
 fn share_texts<R: Threads + Sync>(
     rt: &R,
     alloc: Global,
@@ -37,20 +36,18 @@ fn share_texts<R: Threads + Sync>(
     requires told { AllByRecursion (IsTold account.now) (transcripts_of account.now) }
     requires logs { HasLogs account.now }
     requires pasts { pasts.now ≡ map history_of account.now.parts }
-    requires declared { AreDeclared account.now.config.topics }
     ensures { IfOk result (λ texts. AreShares account.now size texts.items) }
 {
     let tell = |_start: usize, passes: &[List<Transcript>]| -> Result<Bytes, NoMemory>
         requires told { AllByRecursion (IsTold account.now) (sessions_in passes.now) }
         requires logs { HasLogs account.now }
         requires pasts { pasts.now ≡ map history_of account.now.parts }
-        requires declared { AreDeclared account.now.config.topics }
         ensures { IfOk result (λ text. IsTextOf account.entry.now (sessions_in passes.entry.now) text) }
     { passes_text(alloc, account, pasts, passes) };
     Ok(thread::map_chunks(rt, alloc, account.passes.as_slice(), size, &tell)?)
 }
 
-// Puts the texts one behind the other, where each was told.
+// Adds the texts one after the other, if memory was found for each.
 fn put_texts(texts: &[Result<Bytes, NoMemory>], out: &mut Bytes) -> Result<(), NoMemory>
     ensures { OnOk result ((all : Items (Items ℕ)) × (texts.now ≡ map Ok all) × (out.new ≡ out.old ++ flat_map (λ text. text) all)) }
 {
@@ -63,7 +60,7 @@ fn put_texts(texts: &[Result<Bytes, NoMemory>], out: &mut Bytes) -> Result<(), N
     Ok(())
 }
 
-// The texts one behind the other, where each was told. The first takes the others in, as it may be all there is.
+// The texts one after the other, if memory was found for each. They are added to the first, which may be the only one.
 fn joined(alloc: Global, texts: &mut [Result<Bytes, NoMemory>]) -> Result<Bytes, NoMemory>
     ensures { IfOk result (λ text. (all : Items (Items ℕ)) × (texts.old ≡ map Ok all) × (text ≡ flat_map (λ text. text) all)) }
 {
@@ -75,7 +72,7 @@ fn joined(alloc: Global, texts: &mut [Result<Bytes, NoMemory>]) -> Result<Bytes,
     Ok(text)
 }
 
-// The lines of all sessions, told in shares of so many passes.
+// The lines of all sessions, made in shares of `size` passes.
 fn sessions_text<R: Threads + Sync>(
     rt: &R,
     alloc: Global,
@@ -87,15 +84,14 @@ fn sessions_text<R: Threads + Sync>(
     requires told { AllByRecursion (IsTold account.now) (transcripts_of account.now) }
     requires logs { HasLogs account.now }
     requires pasts { pasts.now ≡ map history_of account.now.parts }
-    requires declared { AreDeclared account.now.config.topics }
     ensures { IfOk result (λ text. IsTextOf account.now (transcripts_of account.now) text) }
 {
     let mut texts = share_texts(rt, alloc, account, pasts, size)?;
     joined(alloc, texts.as_mut_slice())
 }
 
-/// What `print_workers` puts, the sessions told in so many threads, that of the caller among them: the passes are cut into as many
-/// shares, and each is told in a thread of its own where one can be started.
+/// What `print_workers` prints, made by `threads` threads, the caller's among them: the passes are cut into that many shares, and the
+/// text of each is made in a thread of its own if one can be started.
 pub fn workers_text<R: Threads + Sync>(
     rt: &R,
     alloc: Global,

@@ -1,10 +1,10 @@
-//! What is printed of a run with several threads: session by session what it was sent, and then the summary.
+//! Prints a run of several threads: session by session what it was sent, and then the summary. `shares.rt` makes the same text in several
+//! threads.
 
 ghost use Rattle.std.specs.Prelude.{ℕ, ◌≡◌, ◌<◌, ◌^◌, ◌∷◌, [], ◌++◌, map, List as Items, OnOk, OnErr, IfOk};
 ghost use Rattle.std.specs.List.{AllByRecursion, AllZip, flat_map, zip};
 ghost use Rattle.kwire.specs.declared.reply.Reply.{Reply as TheReply};
 ghost use Rattle.trace_file.specs.PrintedLine.{reply_line};
-ghost use Rattle.kwire.specs.DeclaredTopics.{AreDeclared};
 ghost use Rattle.audit.specs.Fits.{HasReplies, is_answered};
 ghost use Rattle.audit.specs.Histories.{history_of};
 ghost use Rattle.audit.specs.IsLawful.{HasLogs};
@@ -31,76 +31,68 @@ fn is_answered(how: CallHow) -> bool
     }
 }
 
-// Puts the line of a call's reply, where it was answered.
-fn put_reply(
+// An account, and the past of each of its partitions.
+#[derive(Clone, Copy, Debug)]
+struct Teller<'a> {
     alloc: Global,
-    account: &Account,
-    pasts: &[Past],
+    account: &'a Account,
+    pasts: &'a [Past],
+}
+
+// Puts the line of a call's reply if it was answered.
+fn put_reply(
+    teller: &Teller<'_>,
     session: u32,
     call: &Call,
     out: &mut Bytes,
 ) -> Result<(), NoMemory>
-    requires lawful { IsLawfulCall account.now call.now }
-    requires logs { HasLogs account.now }
-    requires pasts { pasts.now ≡ map history_of account.now.parts }
-    requires declared { AreDeclared account.now.config.topics }
-    ensures { OnOk result ((replies : Items TheReply) × HasReplies account.now (call.now ∷ []) replies
+    requires lawful { IsLawfulCall teller.now.account.now call.now }
+    requires logs { HasLogs teller.now.account.now }
+    requires pasts { teller.now.pasts.now ≡ map history_of teller.now.account.now.parts }
+    ensures { OnOk result ((replies : Items TheReply) × HasReplies teller.now.account.now (call.now ∷ []) replies
         × (out.new ≡ out.old ++ flat_map (reply_line session) replies)) }
 {
     if !is_answered(call.how) {
         return Ok(());
     }
-    let reply = reply_to(alloc, account, pasts, call)?;
-    let frame = reply_bytes(alloc, &reply)?;
+    let reply = reply_to(teller.alloc, teller.account, teller.pasts, call)?;
+    let frame = reply_bytes(teller.alloc, &reply)?;
     put_reply_line(out, session, frame.as_slice())
 }
 
 // Puts the lines of these calls' replies.
 fn put_replies(
-    alloc: Global,
-    account: &Account,
-    pasts: &[Past],
+    teller: &Teller<'_>,
     session: u32,
     calls: &[Call],
     out: &mut Bytes,
 ) -> Result<(), NoMemory>
-    requires lawful { AllByRecursion (IsLawfulCall account.now) calls.now }
-    requires logs { HasLogs account.now }
-    requires pasts { pasts.now ≡ map history_of account.now.parts }
-    requires declared { AreDeclared account.now.config.topics }
-    ensures { OnOk result ((replies : Items TheReply) × HasReplies account.now calls.now replies
+    requires lawful { AllByRecursion (IsLawfulCall teller.now.account.now) calls.now }
+    requires logs { HasLogs teller.now.account.now }
+    requires pasts { teller.now.pasts.now ≡ map history_of teller.now.account.now.parts }
+    ensures { OnOk result ((replies : Items TheReply) × HasReplies teller.now.account.now calls.now replies
         × (out.new ≡ out.old ++ flat_map (reply_line session) replies)) }
 {
     for call in calls {
-        put_reply(alloc, account, pasts, session, call, out)?;
+        put_reply(teller, session, call, out)?;
     }
     Ok(())
 }
 
 // Puts the lines of a session: its replies, and how it ended.
 fn put_session(
-    alloc: Global,
-    account: &Account,
-    pasts: &[Past],
+    teller: &Teller<'_>,
     transcript: &Transcript,
     out: &mut Bytes,
 ) -> Result<(), NoMemory>
-    requires told { IsTold account.now transcript.now }
-    requires logs { HasLogs account.now }
-    requires pasts { pasts.now ≡ map history_of account.now.parts }
-    requires declared { AreDeclared account.now.config.topics }
-    ensures { OnOk result ((replies : Items TheReply) × HasReplies account.now transcript.now.calls replies
+    requires told { IsTold teller.now.account.now transcript.now }
+    requires logs { HasLogs teller.now.account.now }
+    requires pasts { teller.now.pasts.now ≡ map history_of teller.now.account.now.parts }
+    ensures { OnOk result ((replies : Items TheReply) × HasReplies teller.now.account.now transcript.now.calls replies
         × (out.new ≡ out.old ++ session_text (transcript.now, replies))) }
 {
     let session = transcript.number as u32;
-    put_replies(
-        alloc,
-        account,
-        pasts,
-        session,
-        transcript.calls.as_slice(),
-        out,
-    )?;
+    put_replies(teller, session, transcript.calls.as_slice(), out)?;
     match &transcript.end {
         Some(end) => put_end_line(out, session, end),
         None => Ok(()),
@@ -109,42 +101,38 @@ fn put_session(
 
 // The same of each session of a pass.
 fn put_pass(
-    alloc: Global,
-    account: &Account,
-    pasts: &[Past],
+    teller: &Teller<'_>,
     transcripts: &[Transcript],
     out: &mut Bytes,
 ) -> Result<(), NoMemory>
-    requires told { AllByRecursion (IsTold account.now) transcripts.now }
-    requires logs { HasLogs account.now }
-    requires pasts { pasts.now ≡ map history_of account.now.parts }
-    requires declared { AreDeclared account.now.config.topics }
-    ensures { OnOk result ((all : Items (Items TheReply)) × AllZip (λ transcript sent. HasReplies account.now transcript.calls sent) transcripts.now all
+    requires told { AllByRecursion (IsTold teller.now.account.now) transcripts.now }
+    requires logs { HasLogs teller.now.account.now }
+    requires pasts { teller.now.pasts.now ≡ map history_of teller.now.account.now.parts }
+    ensures { OnOk result ((all : Items (Items TheReply))
+        × AllZip (λ transcript sent. HasReplies teller.now.account.now transcript.calls sent) transcripts.now all
         × (out.new ≡ out.old ++ flat_map session_text (zip transcripts.now all))) }
 {
     for transcript in transcripts {
-        put_session(alloc, account, pasts, transcript, out)?;
+        put_session(teller, transcript, out)?;
     }
     Ok(())
 }
 
 // The same of each session of these passes.
 fn put_passes(
-    alloc: Global,
-    account: &Account,
-    pasts: &[Past],
+    teller: &Teller<'_>,
     passes: &[List<Transcript>],
     out: &mut Bytes,
 ) -> Result<(), NoMemory>
-    requires told { AllByRecursion (IsTold account.now) (sessions_in passes.now) }
-    requires logs { HasLogs account.now }
-    requires pasts { pasts.now ≡ map history_of account.now.parts }
-    requires declared { AreDeclared account.now.config.topics }
-    ensures { OnOk result ((all : Items (Items TheReply)) × AllZip (λ transcript sent. HasReplies account.now transcript.calls sent) (sessions_in passes.now) all
+    requires told { AllByRecursion (IsTold teller.now.account.now) (sessions_in passes.now) }
+    requires logs { HasLogs teller.now.account.now }
+    requires pasts { teller.now.pasts.now ≡ map history_of teller.now.account.now.parts }
+    ensures { OnOk result ((all : Items (Items TheReply))
+        × AllZip (λ transcript sent. HasReplies teller.now.account.now transcript.calls sent) (sessions_in passes.now) all
         × (out.new ≡ out.old ++ flat_map session_text (zip (sessions_in passes.now) all))) }
 {
     for transcripts in passes {
-        put_pass(alloc, account, pasts, transcripts.as_slice(), out)?;
+        put_pass(teller, transcripts.as_slice(), out)?;
     }
     Ok(())
 }
@@ -159,15 +147,19 @@ pub(crate) fn passes_text(
     requires told { AllByRecursion (IsTold account.now) (sessions_in passes.now) }
     requires logs { HasLogs account.now }
     requires pasts { pasts.now ≡ map history_of account.now.parts }
-    requires declared { AreDeclared account.now.config.topics }
     ensures { IfOk result (λ text. IsTextOf account.now (sessions_in passes.now) text) }
 {
+    let teller = Teller {
+        alloc,
+        account,
+        pasts,
+    };
     let mut text = Bytes::new(alloc);
-    put_passes(alloc, account, pasts, passes, &mut text)?;
+    put_passes(&teller, passes, &mut text)?;
     Ok(text)
 }
 
-// Puts the lines of all sessions at the end of the bytes, and the summary behind them.
+// Puts the lines of all sessions at the end of the bytes, and the summary after them.
 pub(crate) fn put_with_summary(
     alloc: Global,
     account: &Account,

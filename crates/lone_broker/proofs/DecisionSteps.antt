@@ -14,17 +14,12 @@ use Rattle.kanswer.specs.Waiting.{results_of}
 use Rattle.audit.specs.declared.account.Point.{Point}
 use Rattle.audit.specs.Histories.{no_state}
 use Rattle.audit.specs.LawfulCall.{step_points, Step}
-use Rattle.kbytes.proofs.Laws.{some_is}
 use Rattle.broker_spec.specs.Board.{history_at, empty_history}
 use Rattle.kanswer.specs.WithEntry.{entered}
 use Rattle.broker_spec.specs.Entering.{Noted, accept_all, steps_of, shown_of}
 use Rattle.kanswer.specs.declared.entered.Entered.{Entered}
 use Rattle.kanswer.specs.Entered.{HasEntered}
 use Rattle.lone_broker.specs.Carried.{Came, IsEntered, IsCarried}
-
-pub on_ok : {T E : Type 0} {P Q : Type 0} (r : Result T E) → OnOk r P → (P → Q) → OnOk r Q
-on_ok (Ok x) p f = f p
-on_ok (Err e) p f = tt
 
 pub on_ok_both : {T E : Type 0} {P Q R : Type 0} (r : Result T E) → OnOk r P → OnOk r Q → (P → Q → R) → OnOk r R
 on_ok_both (Ok x) p q f = f p q
@@ -91,10 +86,6 @@ all_zip_append R [] xs1 [] ys1 a b = b
 all_zip_append R [] xs1 (y ∷ ys) ys1 a b = absurd a
 all_zip_append R (x ∷ xs) xs1 [] ys1 a b = absurd a
 all_zip_append R (x ∷ xs) xs1 (y ∷ ys) ys1 a b = (a.0, all_zip_append R xs xs1 ys ys1 a.1 b)
-
--- an item that is there, whatever else would be taken for it
-pub same_item : {X : Type 0} (xs : List X) (i : ℕ) (x y : X) → i < length xs → get_or xs i x ≡ get_or xs i y
-same_item xs i x y lt = some_is (get_or xs i x) (get_or xs i y) (sym (slice_get-get_or xs i x lt) ∙ slice_get-get_or xs i y lt)
 
 -- a log was asked, and what became of its partition was noted with the point of the entry
 pub entered_noted : (by seq part : ℕ) (outcome : PartState → Outcome) (h left : History) (entered : Entered) (came later : Came) → HasEntered by seq outcome h left entered

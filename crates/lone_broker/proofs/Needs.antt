@@ -1,5 +1,5 @@
 -- What a request that waits needs of the logs: its gauges are those of its partitions, and their values are those that the logs show.
-use Rattle.std.proofs.Common.{◌≡◌, ℕ, ◌+◌, ◌*◌, ◌<◌, ℤ, Bool, true, false, cond, List, [], ◌∷◌, map, Option, Some, None, refl, sym, ap, subst, ◌∙◌, arith}
+use Rattle.std.proofs.Common.{◌≡◌, ℕ, ◌+◌, ◌*◌, ◌/◌, ◌<◌, ℤ, Bool, true, false, cond, List, [], ◌∷◌, map, Option, Some, None, refl, sym, ap, subst, ◌∙◌, arith}
 use Rattle.std.specs.List.{AllByRecursion, cons_option, filter_map, zip}
 use Rattle.partlog.specs.State.{state_of}
 use Rattle.opcond.specs.Operation.{Operation}
@@ -28,7 +28,7 @@ FewGauges : ℕ → Option Need → Type 0
 FewGauges n None = Unit {0}
 FewGauges n (Some need) = HasGauge n need
 
-by_kind : (n part k : ℕ) → part < n → k < 3 → 3 * part + k < 3 * n
+by_kind : (n part k : ℕ) → part < n → k < 3 → (3 * part + k) / 3 < n
 by_kind n part k lt few = omega (arith, lt, few)
 
 kind_few : (b : Bool) → cond b 1 2 < 3

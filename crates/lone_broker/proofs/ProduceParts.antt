@@ -1,8 +1,7 @@
 -- What is decided of the partitions of a produce or a fetch, one after the other.
-use Rattle.std.proofs.Common.{◌≡◌, ℕ, ◌+◌, ◌<◌, ℤ, List, [], ◌∷◌, ◌++◌, length, get_or, map, take, sym, ap, subst, ◌∙◌, append-nil}
-use Rattle.std.proofs.lemmas.List.{map-append, take_more}
-use Rattle.std.proofs.lemmas.Grind.{flat_map-append}
-use Rattle.std.specs.List.{AllZip, flat_map}
+use Rattle.std.proofs.Common.{◌≡◌, ℕ, ℤ, List, [], ◌∷◌, ◌++◌, length, map, sym, ap, subst, ◌∙◌}
+use Rattle.std.proofs.lemmas.List.{map-append}
+use Rattle.std.specs.List.{AllZip}
 use Rattle.partlog.specs.History.{History}
 use Rattle.lone_broker.specs.Carried.{Came}
 use Rattle.kanswer.specs.declared.terms.Terms.{Terms}
@@ -12,8 +11,8 @@ use Rattle.kwire.specs.declared.request.ProduceTopic.{ProduceTopic}
 use Rattle.kwire.specs.declared.request.FetchPart.{FetchPart}
 use Rattle.kwire.specs.declared.request.FetchTopic.{FetchTopic}
 use Rattle.kwire.specs.Configuration.{Configuration, part_of}
-use Rattle.kanswer.specs.Decisions.{Decision, ProduceDecides, produce_parts, fetch_parts, fetch_decision}
-use Rattle.lone_broker.specs.Carried.{IsCarried, HasProduced, fetch_decisions}
+use Rattle.kanswer.specs.Decisions.{Decision, ProduceDecides, produce_parts, fetch_parts, fetch_decision, fetch_decisions}
+use Rattle.lone_broker.specs.Carried.{IsCarried, HasProduced}
 use Rattle.lone_broker.proofs.DecisionSteps.{carried_on, carried_none, all_zip_append}
 use Rattle.lone_broker.proofs.ResultsStand.{accepted_size}
 
@@ -41,39 +40,14 @@ pub produced_one : (config : Configuration) (terms : Terms) (by seq : ℕ) (name
     → HasProduced config terms by seq (record { name = name; parts = part ∷ [] } ∷ []) p0 p1 c0 c1
 produced_one config terms by seq name part decision p0 p1 c0 c1 decided carried = record { decisions = decision ∷ []; decided = λ id e. (decided id e, tt); carried = carried }
 
-one_topic : {P D : Type 0} (f : P → D) (xs : List P) (i : ℕ) (x : P) → i < length xs → x ≡ get_or xs i x → map f (take (i + 1) xs) ++ [] ≡ (map f (take i xs) ++ []) ++ (f x ∷ [])
-one_topic f xs i x lt is =
-    let more : take (i + 1) xs ≡ take i xs ++ x ∷ [] = take_more xs i x lt ∙ ap (λ (y : _). take i xs ++ y ∷ []) (sym is) in
-    append-nil (map f (take (i + 1) xs)) ∙ ap (map f) more ∙ map-append f (take i xs) (x ∷ []) ∙ ap (λ (ys : List _). ys ++ f x ∷ []) (sym (append-nil (map f (take i xs))))
-
--- the first partitions of a topic, and the next
-pub produce_next : (name : List ℕ) (parts : List ProducePart) (i : ℕ) (part : ProducePart) → i < length parts → part ≡ get_or parts i part
-    → produce_parts (record { name = name; parts = take (i + 1) parts } ∷ []) ≡ produce_parts (record { name = name; parts = take i parts } ∷ []) ++ produce_parts (record { name = name; parts = part ∷ [] } ∷ [])
-produce_next name parts i part lt is = one_topic (λ (p : ProducePart). (name, p)) parts i part lt is
-
-pub fetch_next : (name : List ℕ) (parts : List FetchPart) (i : ℕ) (part : FetchPart) → i < length parts → part ≡ get_or parts i part
-    → fetch_parts (record { name = name; parts = take (i + 1) parts } ∷ []) ≡ fetch_parts (record { name = name; parts = take i parts } ∷ []) ++ fetch_parts (record { name = name; parts = part ∷ [] } ∷ [])
-fetch_next name parts i part lt is = one_topic (λ (p : FetchPart). (name, p)) parts i part lt is
-
-next_topics : {T X : Type 0} (f : T → List X) (xs : List T) (i : ℕ) (x : T) → i < length xs → x ≡ get_or xs i x → flat_map f (take (i + 1) xs) ≡ flat_map f (take i xs) ++ flat_map f (x ∷ [])
-next_topics f xs i x lt is = ap (flat_map f) (take_more xs i x lt ∙ ap (λ (y : _). take i xs ++ y ∷ []) (sym is)) ∙ flat_map-append f (take i xs) (x ∷ [])
-
--- the first topics, and the next
-pub produce_next_topic : (topics : List ProduceTopic) (i : ℕ) (topic : ProduceTopic) → i < length topics → topic ≡ get_or topics i topic
-    → produce_parts (take (i + 1) topics) ≡ produce_parts (take i topics) ++ produce_parts (topic ∷ [])
-produce_next_topic topics i topic lt is = next_topics (λ (t : ProduceTopic). map (λ (p : ProducePart). (t.name, p)) t.parts) topics i topic lt is
-
-pub fetch_next_topic : (topics : List FetchTopic) (i : ℕ) (topic : FetchTopic) → i < length topics → topic ≡ get_or topics i topic
-    → fetch_parts (take (i + 1) topics) ≡ fetch_parts (take i topics) ++ fetch_parts (topic ∷ [])
-fetch_next_topic topics i topic lt is = next_topics (λ (t : FetchTopic). map (λ (p : FetchPart). (t.name, p)) t.parts) topics i topic lt is
-
 -- the decisions of a fetch, some and then others
 pub fetched_on : (config : Configuration) (replica : ℤ) (by seq : ℕ) (ts us vs : List FetchTopic) (p0 p1 p2 : List History) (c0 c1 c2 : Came) → fetch_parts vs ≡ fetch_parts ts ++ fetch_parts us
-    → IsCarried by seq (fetch_decisions config replica ts) p0 p1 c0 c1 → IsCarried by seq (fetch_decisions config replica us) p1 p2 c1 c2 → IsCarried by seq (fetch_decisions config replica vs) p0 p2 c0 c2
+    → IsCarried by seq (fetch_decisions config replica (fetch_parts ts)) p0 p1 c0 c1 → IsCarried by seq (fetch_decisions config replica (fetch_parts us)) p1 p2 c1 c2
+    → IsCarried by seq (fetch_decisions config replica (fetch_parts vs)) p0 p2 c0 c2
 fetched_on config replica by seq ts us vs p0 p1 p2 c0 c1 c2 same a b =
     let f = λ (named : List ℕ × FetchPart). fetch_decision config replica named (part_of config named.0 named.1.index) in
     subst (λ (ds : List Decision). IsCarried by seq ds p0 p2 c0 c2) (sym (ap (map f) same ∙ map-append f (fetch_parts ts) (fetch_parts us)))
-    (carried_on by seq (fetch_decisions config replica ts) (fetch_decisions config replica us) p0 p1 p2 c0 c1 c2 a b)
+    (carried_on by seq (fetch_decisions config replica (fetch_parts ts)) (fetch_decisions config replica (fetch_parts us)) p0 p1 p2 c0 c1 c2 a b)
 
 -- no history comes or goes
 pub carried_size : (by seq : ℕ) (decisions : List Decision) (before after : List History) (came later : Came) → IsCarried by seq decisions before after came later → length after ≡ length before

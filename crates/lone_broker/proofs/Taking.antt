@@ -1,13 +1,11 @@
 -- A request that was handled: it was answered at once, or waits from now on.
-use Rattle.std.proofs.Common.{◌≡◌, ◌≢◌, ℕ, ◌+◌, ◌<◌, ℤ, pos, negsuc, ltb, eqb, Bool, true, false, cond, List, [], ◌∷◌, ◌++◌, length, drop, take, map, Option, Some, None, MatchBool, refl, sym, ap, subst, ◌∙◌, arith, inl, inr, append-nil, eq-eqb}
-use Rattle.std.proofs.lemmas.Bool.{ne_eqb, cases_lt, lt-ltb, le-ltb}
+use Rattle.std.proofs.Common.{◌≡◌, ◌≢◌, ℕ, ◌+◌, ◌<◌, ℤ, eqb, Bool, true, false, cond, List, [], ◌∷◌, ◌++◌, length, drop, map, Option, Some, None, MatchBool, refl, sym, ap, subst, ◌∙◌, inl, inr, append-nil, eq-eqb}
+use Rattle.std.proofs.lemmas.Bool.{ne_eqb}
 use Rattle.partlog.specs.declared.clock_event.ClockEvent.{ClockEvent}
 use Rattle.partlog.specs.History.{History}
 use Rattle.partlog.specs.Moment.{moment_of}
 use Rattle.kwire.specs.Configuration.{partitions_of}
-use Rattle.kwire.specs.Frames.{frame_of_size, next_frame_of}
-use Rattle.kwire.specs.declared.framing.TheConstants.{MOST_FRAME_BYTES}
-use Rattle.std.specs.Int.{w32, from_be_bytes, cast_signed}
+use Rattle.kwire.specs.Frames.{next_frame_of}
 use Rattle.kwire.specs.IsRequest.{IsRequest}
 use Rattle.kwire.specs.Refusal.{IsRefused}
 use Rattle.kwire.specs.declared.frame.Frame.TheVariants.{Whole, NotYet, TooLong}
@@ -223,24 +221,3 @@ acts_at_end kept waiting session end none is = rw none (ap (ended (with_waiting 
 pub acts_too_long : (kept : Kept) (waiting : List Waiting) (session : ℕ) (size told : ℤ) → next_frame_of (seat_at kept.board session).inbox ≡ TooLong size → told ≡ size
     → Acts (with_waiting kept waiting) session (ended (with_waiting kept waiting) session (FrameTooLong told))
 acts_too_long kept waiting session size told long is = rw long (ap (λ (z : ℤ). ended (with_waiting kept waiting) session (FrameTooLong z)) is)
-
--- what stands before a frame that isn't there whole is short
-size_short : (available : ℕ) (size : ℤ) → frame_of_size available size ≡ NotYet → available < 8388612
-size_short available (negsuc n) e = absurd cc
-size_short available (pos n) e =
-    elim (cases_lt MOST_FRAME_BYTES n) [
-      | inl large ↦ let other : TooLong (pos n) ≡ NotYet = rw (lt-ltb MOST_FRAME_BYTES n large) at e in absurd cc
-      | inr small ↦
-          let this : cond (ltb available (4 + n)) NotYet (Whole (4 + n)) ≡ NotYet = rw (le-ltb MOST_FRAME_BYTES n small) at e in
-          elim (cases_lt available (4 + n)) [
-            | inl short ↦ omega (arith, short, small)
-            | inr enough ↦ let whole : Whole (4 + n) ≡ NotYet = rw (le-ltb available (4 + n) enough) at this in absurd cc
-          ]
-    ]
-
-pub short_front : (inbox : List ℕ) → next_frame_of inbox ≡ NotYet → length inbox < 8388612
-short_front inbox e =
-    elim (cases_lt (length inbox) 4) [
-      | inl few ↦ omega (arith, few)
-      | inr enough ↦ size_short (length inbox) (cast_signed w32 (from_be_bytes w32 (take 4 inbox))) (rw (le-ltb (length inbox) 4 enough) at e)
-    ]

@@ -1,4 +1,4 @@
--- What those who wait are told of the partitions at a call's points.
+-- What the index is told of the partitions at a call's points.
 use Rattle.std.proofs.Common.{◌≡◌, ◌≢◌, ◌⊎◌, ◌↔◌, ℕ, zero, suc, ◌+◌, ◌*◌, ◌/◌, ◌%◌, ◌<◌, ◌≤◌, List, [], ◌∷◌, ◌++◌, length, get_or, set, take, map, Option, Some, None, refl, sym, ap, subst, ◌∙◌, arith, inl, inr}
 use Rattle.std.proofs.lemmas.Bool.{cases_lt}
 use Rattle.std.proofs.lemmas.List.{length-set, take_all, take_more}
@@ -9,6 +9,7 @@ use Rattle.partlog.specs.State.{state_of}
 use Rattle.partlog.specs.declared.numbers.Numbers.{Numbers}
 use Rattle.opcond.specs.Tally.{tally}
 use Rattle.opcond.specs.declared.need.Need.{Need}
+use Rattle.kanswer.specs.PartitionGauges.{end_gauge, high_gauge, visible_gauge}
 use Rattle.kanswer.specs.Reached.{gauge_in}
 use Rattle.kbytes.proofs.Laws.{get_set_other, get_set_same, same_or_not}
 use Rattle.audit.specs.declared.account.Point.{Point}
@@ -21,7 +22,7 @@ use Rattle.lone_broker.specs.Watching.{IsIndexed, IsQuiet, numbers_now, told_at,
 use Rattle.lone_broker.specs.declared.parked.Parked.{Parked}
 use Rattle.lone_broker.proofs.Watching.{indexed_on}
 
--- ---- everyone waits on
+-- ---- every session still waits
 
 pub on_self : (index : Index) (s : ℕ) → WaitsOn index index s
 on_self index s = record { watches = record { generation = refl; last = refl; gauges = λ g. (λ h. h, λ h. h) }; coming = refl }
@@ -61,10 +62,13 @@ by_kind gauge part is = elim (cases_lt gauge (3 * part + 1)) [
   ]
 ]
 
--- each of the three was told
+-- the sessions that wait for a gauge are suspects where its value changed
+abbrev pub WarnsOf : ℕ → ℕ → Index → Index → ℕ → Type 0
+WarnsOf was now before after gauge = was ≢ now → (s : ℕ) → WaitsFor before s gauge → IsSuspect after s
+
+-- the index was told of each of the three
 pub part_warned : (part : ℕ) (was now : Numbers) (a b c d : Index) → IsWarned a b → IsWarned b c → IsWarned c d
-    → (was.high ≢ now.high → (s : ℕ) → WaitsFor a s (3 * part) → IsSuspect b s) → (was.visible ≢ now.visible → (s : ℕ) → WaitsFor b s (3 * part + 1) → IsSuspect c s)
-    → (was.bytes ≢ now.bytes → (s : ℕ) → WaitsFor c s (3 * part + 2) → IsSuspect d s) → AreWarned part was now a d
+    → WarnsOf was.high now.high a b (high_gauge part) → WarnsOf was.visible now.visible b c (visible_gauge part) → WarnsOf was.bytes now.bytes c d (end_gauge part) → AreWarned part was now a d
 part_warned part was now a b c d one two three high visible bytes gauge s is differs waits = elim (by_kind gauge part is) [
   | inl first ↦
       let value : (n : Numbers) → gauge_in gauge n ≡ n.high = λ n. let zeroth : gauge % 3 ≡ 0 = omega (arith, first) in rw zeroth refl in

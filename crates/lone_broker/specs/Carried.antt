@@ -1,6 +1,6 @@
 -- Decisions were carried out: the histories are those that accepting leaves, and its results and points stand after those
 -- that came before.
-use Rattle.std.specs.Prelude.{◌≡◌, ℕ, ℤ, List, [], ◌∷◌, ◌++◌, length, map}
+use Rattle.std.specs.Prelude.{◌≡◌, ℕ, List, [], ◌∷◌, ◌++◌, length}
 use Rattle.std.specs.List.{AllZip}
 use Rattle.partlog.specs.History.{History}
 use Rattle.audit.specs.declared.account.Point.{Point}
@@ -8,10 +8,9 @@ use Rattle.kanswer.specs.declared.accepted.Accepted.{Accepted}
 use Rattle.kanswer.specs.declared.terms.Terms.{Terms}
 use Rattle.kanswer.specs.OnTerms.{OnTerms}
 use Rattle.kwire.specs.declared.request.ProduceTopic.{ProduceTopic}
-use Rattle.kwire.specs.declared.request.FetchTopic.{FetchTopic}
-use Rattle.kwire.specs.Configuration.{Configuration, part_of}
+use Rattle.kwire.specs.Configuration.{Configuration}
 use Rattle.partlog.specs.State.{PartState as State, state_of}
-use Rattle.kanswer.specs.Decisions.{Outcome, Decision, ProduceDecides, produce_parts, fetch_parts, fetch_decision}
+use Rattle.kanswer.specs.Decisions.{Outcome, Decision, ProduceDecides, produce_parts}
 use Rattle.kanswer.specs.WithEntry.{entered}
 use Rattle.broker_spec.specs.Entering.{accept_all, steps_of, shown_of}
 use Rattle.kanswer.specs.Waiting.{results_of}
@@ -38,7 +37,3 @@ pub record HasProduced (config : Configuration) (terms : Terms) (by seq : ℕ) (
   pub decisions : List Decision
   pub decided : OnTerms terms (λ id. AllZip (ProduceDecides config id terms.acks) (produce_parts topics) decisions)
   pub carried : IsCarried by seq decisions before after came later
-
--- what is decided of a fetch
-abbrev pub fetch_decisions : Configuration → ℤ → List FetchTopic → List Decision
-fetch_decisions config replica topics = map (λ named. fetch_decision config replica named (part_of config named.0 named.1.index)) (fetch_parts topics)

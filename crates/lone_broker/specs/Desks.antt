@@ -16,6 +16,6 @@ abbrev pub IsNumbered : Option Transcript → Type 0
 IsNumbered None = Unit {0}
 IsNumbered (Some transcript) = (transcript.first ≡ 0) × (length transcript.calls ≤ MOST_CALLS)
 
--- the body of the frame that stands at the front and ends before this place
+-- the body of the frame at the front, which ends before this place
 abbrev pub front_body : Seat → ℕ → List ℕ
 front_body seat end = take (end - 4) (drop 4 seat.inbox)

@@ -4,10 +4,10 @@ use Rattle.lone_broker.specs.Kept.{Kept, Stands}
 
 pub record Held : Type 0 where
   pub kept : Kept
-  -- memory was wanting in the middle of a line
+  -- memory ran out in the middle of a line
   pub is_poisoned : Bool
 
--- no memory was wanting, and what is kept stands for a board of the definition
+-- memory didn't run out, and what is kept represents a board of the definition
 pub record IsSound (held : Held) : Type 0 where
   pub whole : held.is_poisoned ≡ false
   pub stands : Stands held.kept

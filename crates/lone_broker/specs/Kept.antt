@@ -1,5 +1,5 @@
--- What the one-thread broker keeps, and the board of the definition that this stands for. Of a request that waits it keeps what
--- became of each partition that it names, and its operation; the request itself stands in the frame of its session's last call.
+-- What the one-thread broker keeps, and the board of the definition that this represents. Of a request that waits it keeps what
+-- became of each partition that it names, and its operation; the request itself is in the frame of its session's last call.
 use Rattle.std.specs.Prelude.{ℕ, ◌≡◌, ◌<◌, ◌≤◌, List, [], ◌∷◌, ◌++◌, length, map, ◌==◌, Option, Some, None, unwrap_or, slice_get}
 use Rattle.std.specs.List.{AllByRecursion, find}
 use Rattle.partlog.specs.declared.clock_event.TheConstants.{MOST_MOMENT}
@@ -30,7 +30,7 @@ last_frame [] = []
 last_frame (call ∷ []) = call.frame
 last_frame (call ∷ next ∷ calls) = last_frame (next ∷ calls)
 
--- This is kept of a request that waits, whose frame this is, where there are so many partitions.
+-- this is kept of a request that waits and has this frame, with `parts` partitions
 pub record IsKeptOf (parts : ℕ) (frame : List ℕ) (parked : Parked) (w : Waiting) : Type 0 where
   pub asked : IsRequest frame w.request
   pub results : map (λ step. step.result) w.steps ≡ parked.accepted
@@ -61,7 +61,7 @@ pub record AreKept (kept : Kept) (waiting : List Waiting) : Type 0 where
   pub followers : map (λ h. h.followers) kept.board.parts ≡ followers_of kept.board.config.topics
   pub declared : AreDeclared kept.board.config.topics
 
--- what is kept stands for the board
+-- what is kept represents the board
 pub record StandsFor (kept : Kept) (board : Board) : Type 0 where
   pub same : board ≡ with_waiting kept board.waiting
   pub kept_of : AreKept kept board.waiting
@@ -69,7 +69,7 @@ pub record StandsFor (kept : Kept) (board : Board) : Type 0 where
 abbrev pub Stands : Kept → Type 0
 Stands kept = (board : Board) × StandsFor kept board
 
--- From what is kept before to what is kept afterwards each board that this stands for turns so, and so much more is printed.
+-- Each board that `before` represents turns so, `after` represents what it turns to, and `more` is `text` and then what is printed.
 abbrev pub TurnsBy : (Board → Turned → Type 0) → Kept → Kept → List ℕ → List ℕ → Type 0
 TurnsBy turns before after text more =
     (board : Board) → StandsFor before board

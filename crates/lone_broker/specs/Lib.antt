@@ -1,6 +1,6 @@
 -- ==== the words of public contracts
 
--- what the broker keeps, and the board that this stands for
+-- what the broker keeps, and the board that this represents
 pub mod Kept
 -- what it holds, as a caller meets it
 pub mod Held
@@ -22,5 +22,5 @@ pub mod Looks
 pub mod Steps
 -- who waits for what, and which sessions can act
 pub mod Watching
--- what those who wait are told
+-- what the index is told
 pub mod Telling

@@ -1,22 +1,20 @@
 -- How a request that waits is completed: whether and how it is now, and the looks that it leaves.
-use Rattle.std.specs.Prelude.{ℕ, ◌*◌, ◌/◌, ◌<◌, List, [], ◌∷◌, ◌++◌, length, if◌then◌else◌, Option, Some, None}
+use Rattle.std.specs.Prelude.{ℕ, ◌<◌, List, [], ◌∷◌, ◌++◌, length, if◌then◌else◌, Option, Some, None}
 use Rattle.partlog.specs.declared.clock_event.ClockEvent.{ClockEvent}
-use Rattle.partlog.specs.History.{History}
-use Rattle.partlog.specs.State.{state_of}
 use Rattle.opcond.specs.declared.need.Need.{Need}
 use Rattle.audit.specs.declared.account.CallHow.{CallHow}
 use Rattle.audit.specs.declared.account.CallHow.TheVariants.{Quiet, AtOnce, Satisfied, Expired, Parked, Cut}
 use Rattle.audit.specs.declared.account.Point.{Point}
 use Rattle.audit.specs.Histories.{clock_part}
-use Rattle.kanswer.specs.Waiting.{gauge_value}
-use Rattle.broker_spec.specs.Board.{Board, Waiting, history_at}
+use Rattle.kanswer.specs.PartitionGauges.{partition_of}
+use Rattle.broker_spec.specs.Board.{Board, Waiting}
 use Rattle.audit.specs.LawfulCall.{operation_parts}
 use Rattle.broker_spec.specs.Completing.{completed_as, is_overdue_now, is_satisfied_now, last_call, look_all}
 use Rattle.lone_broker.specs.Handled.{looked_by}
 
--- where there are so many partitions, its gauge is one of theirs
+-- with `count` partitions, its gauge is one of theirs
 abbrev pub HasGauge : ℕ → Need → Type 0
-HasGauge count need = need.gauge < 3 * count
+HasGauge count need = partition_of need.gauge < count
 
 -- how a request is completed now, if it is
 abbrev pub due_as : Board → Waiting → Option CallHow
@@ -43,7 +41,7 @@ clock_points (Expired winner) clock = record { part = clock_part; place = length
 clock_points Parked clock = []
 clock_points (Cut won) clock = []
 
--- the board once the request is completed so: its looks are left, its call is told, and it waits no more
+-- the board once the request is completed in this way: its looks are left, its call has ended, and it no longer waits
 abbrev pub finished : Board → Waiting → CallHow → Board
 finished board w how =
     let seq = last_call board w.session in

@@ -14,7 +14,7 @@ use Rattle.kanswer.specs.Waiting.{Shown, results_of}
 abbrev pub ShowsLog : List History → Shown → Type 0
 ShowsLog parts s = IsByPart (λ part. state_of (history_at parts part)) s.result s.state
 
--- where there are so many logs, the partition that was asked has one
+-- with `count` logs, the partition whose log was asked has one
 abbrev pub HasLog : ℕ → Accepted → Type 0
 HasLog count (Refused code) = ⊤
 HasLog count (Appended part base n) = part < count

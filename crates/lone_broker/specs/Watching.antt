@@ -1,6 +1,6 @@
--- What the one-thread broker watches, so that after a line it looks only at what can have become answerable: who waits for which gauges
--- and for which moment, by the numbers that those who wait were told last; and which sessions can act.
-use Rattle.std.specs.Prelude.{ℕ, ◌≡◌, ◌+◌, ◌^◌, ◌<◌, ◌≤◌, ◌/◌, ◌↔◌, List, length, map, true, Option, Some, None, unwrap_or, slice_get}
+-- What the one-thread broker watches, so that after a line it checks only what can have become answerable: which session waits for which
+-- gauges and which moment, by the numbers that the index was last told; and which sessions can act.
+use Rattle.std.specs.Prelude.{ℕ, ◌≡◌, ◌+◌, ◌^◌, ◌<◌, ◌≤◌, ◌↔◌, List, length, map, true, Option, Some, None, unwrap_or, slice_get}
 use Rattle.partlog.specs.Gauges.{numbers_of}
 use Rattle.partlog.specs.History.{History}
 use Rattle.partlog.specs.Moment.{moment_of as clock_moment}
@@ -8,6 +8,7 @@ use Rattle.partlog.specs.State.{state_of}
 use Rattle.partlog.specs.declared.numbers.Numbers.{Numbers}
 use Rattle.opcond.specs.Operation.{Operation}
 use Rattle.opcond.specs.Tally.{tally}
+use Rattle.kanswer.specs.PartitionGauges.{partition_of}
 use Rattle.kanswer.specs.Reached.{gauge_in}
 use Rattle.lone_waiters.specs.Index.{Index, IsSuspect, WaitsFor, coming_of, last_of, moment_of}
 use Rattle.lone_waiters.specs.Sessions.{Has}
@@ -22,20 +23,20 @@ use Rattle.lone_broker.specs.declared.watched.Watched.{Watched}
 abbrev pub numbers_now : List History → ℕ → Numbers
 numbers_now parts part = numbers_of (state_of (history_at parts part))
 
--- those that were told
+-- the numbers that the index was last told
 abbrev pub told_at : List Numbers → ℕ → Numbers
 told_at told part = unwrap_or (slice_get told part) (numbers_of (state_of (empty_history 0)))
 
--- the value of a gauge by what was told
+-- the value of a gauge by these numbers
 abbrev pub told_value : List Numbers → ℕ → ℕ
-told_value told gauge = gauge_in gauge (told_at told (gauge / 3))
+told_value told gauge = gauge_in gauge (told_at told (partition_of gauge))
 
--- of each partition the numbers that it has were told
+-- the index was told the numbers that each partition has
 pub record AreTold (told : List Numbers) (parts : List History) : Type 0 where
   pub size : length told ≡ length parts
   pub each : (part : ℕ) → told_at told part ≡ numbers_now parts part
 
--- what was told doesn't satisfy the operation, and its deadline is still to come
+-- the told numbers don't satisfy the operation, and its deadline is still to come
 pub record IsShort (told : List Numbers) (moment : ℕ) (op : Operation) : Type 0 where
   pub unreached : tally op.needs (map (λ need. told_value told need.gauge) op.needs) < op.least
   pub early : moment < op.deadline

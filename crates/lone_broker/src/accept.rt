@@ -1,11 +1,12 @@
-//! Accepting a request: each partition that it names is decided in order, and where its log is asked it gets an entry.
+//! `handle` accepts a request here: each partition that it names is decided in order, and a log that is asked gets an entry. `Came` takes
+//! the results and the points of the entries.
 
 ghost use Rattle.std.specs.Prelude.{◌≡◌, ◌∷◌, [], List as Items, length, map, OnOk};
 ghost use Rattle.kbatch.specs.Kept.{count_of};
 ghost use Rattle.kwire.specs.Configuration.{followers_of, partitions_of, part_of};
-ghost use Rattle.kanswer.specs.Decisions.{Decision, append_outcome, ProduceDecides, fetch_outcome, fetch_decision, Decides};
+ghost use Rattle.kanswer.specs.Decisions.{Decision, append_outcome, ProduceDecides, fetch_outcome, fetch_decision, fetch_decisions, fetch_parts, Decides};
 ghost use Rattle.kanswer.specs.OnTerms.{OnTerms};
-ghost use Rattle.lone_broker.specs.Carried.{IsEntered, IsCarried, HasProduced, fetch_decisions};
+ghost use Rattle.lone_broker.specs.Carried.{IsEntered, IsCarried, HasProduced};
 
 use crate::came::Came;
 use kanswer::{Accepted, Terms, decide_put, enter_batch, enter_fetch};
@@ -16,8 +17,9 @@ use kwire::{
     codes,
 };
 use partlog::{PartLog, Who};
+use std::alloc::Global;
 
-// The batch is put at the end of the log, where there is room.
+// Puts the batch at the end of the log if there is room.
 fn put(
     log: &mut PartLog,
     who: Who,
@@ -31,27 +33,44 @@ fn put(
     came.note_at(entered.became, part, entered.place)
 }
 
-/// Which call asks, and of what topics.
+/// A call that is handled: its session and number, and the topics that there are.
 #[derive(Clone, Copy, Debug)]
 pub struct Asking<'a> {
+    pub alloc: Global,
     pub config: &'a Config,
     pub who: Who,
 }
 
-// Decides one partition of a produce, and asks its log where nothing refuses it before.
-fn produce_one(
-    call: &Asking<'_>,
-    parts: &mut [PartLog],
+// A produce of a call.
+#[derive(Clone, Copy, Debug)]
+struct Producing<'a> {
+    config: &'a Config,
+    who: Who,
     terms: Terms,
+}
+
+// A fetch of a call, by this replica.
+#[derive(Clone, Copy, Debug)]
+struct Fetching<'a> {
+    config: &'a Config,
+    who: Who,
+    replica: i32,
+}
+
+// Decides one partition of a produce, and asks its log unless it is refused before.
+fn produce_one(
+    call: &Producing<'_>,
+    parts: &mut [PartLog],
     topic: &[u8],
     part: &ProducePartView<'_>,
     came: &mut Came,
 ) -> Result<(), NoMemory>
     requires { length parts.old ≡ partitions_of call.now.config.now.topics }
-    ensures { OnOk result ((decision : Decision) × OnTerms terms (λ id. ProduceDecides call.now.config.now id terms.acks (topic.now, part.now) decision)
+    ensures { OnOk result ((decision : Decision)
+        × OnTerms call.now.terms (λ id. ProduceDecides call.now.config.now id call.now.terms.acks (topic.now, part.now) decision)
         × IsCarried call.now.who.by call.now.who.seq (decision ∷ []) parts.old parts.new came.old came.new) }
 {
-    match decide_put(call.config, terms, topic, part) {
+    match decide_put(call.config, call.terms, topic, part) {
         Ok((number, batch)) => {
             let log = &mut parts[number as usize];
             put(log, call.who, number, &batch, came)
@@ -62,67 +81,66 @@ fn produce_one(
 
 // One topic of a produce.
 fn produce_topic(
-    call: &Asking<'_>,
+    call: &Producing<'_>,
     parts: &mut [PartLog],
-    terms: Terms,
     topic: &ProduceTopicView<'_>,
     came: &mut Came,
 ) -> Result<(), NoMemory>
     requires { length parts.old ≡ partitions_of call.now.config.now.topics }
     ensures size { OnOk result (length parts.new ≡ length parts.old) }
-    ensures carried { OnOk result (HasProduced call.now.config.now terms call.now.who.by call.now.who.seq (topic.now ∷ []) parts.old parts.new came.old came.new) }
+    ensures carried { OnOk result (HasProduced call.now.config.now call.now.terms call.now.who.by call.now.who.seq (topic.now ∷ [])
+        parts.old parts.new came.old came.new) }
 {
     for part in topic.parts.as_slice() {
-        produce_one(call, parts, terms, topic.name, part, came)?;
+        produce_one(call, parts, topic.name, part, came)?;
     }
     Ok(())
 }
 
-// Carries out a produce: each named partition in the order of the request. If memory runs out, those before one may have
-// their entries.
+// Carries out a produce: each named partition in the order of the request. If memory runs out, some of them may have their
+// entries.
 fn produce(
-    call: &Asking<'_>,
+    call: &Producing<'_>,
     parts: &mut [PartLog],
-    terms: Terms,
     topics: &[ProduceTopicView<'_>],
     came: &mut Came,
 ) -> Result<(), NoMemory>
     requires { length parts.old ≡ partitions_of call.now.config.now.topics }
-    ensures { OnOk result (HasProduced call.now.config.now terms call.now.who.by call.now.who.seq topics.now parts.old parts.new came.old came.new) }
+    ensures { OnOk result (HasProduced call.now.config.now call.now.terms call.now.who.by call.now.who.seq topics.now
+        parts.old parts.new came.old came.new) }
 {
     for topic in topics {
-        produce_topic(call, parts, terms, topic, came)?;
+        produce_topic(call, parts, topic, came)?;
     }
     Ok(())
 }
 
-/// Accepts what a fetch asks of one partition, over its log alone. If memory runs out, the log may have its entry.
-pub fn accept_fetch_part(
+// Accepts what a fetch asks of one partition, over its log alone. If memory runs out, the log may have its entry.
+fn accept_fetch_part(
+    call: &Fetching<'_>,
     log: &mut PartLog,
-    who: Who,
-    replica: i32,
     part: u32,
     asked: &FetchPart,
     came: &mut Came,
 ) -> Result<(), NoMemory>
-    ensures { OnOk result (IsEntered who.by who.seq part (fetch_outcome log.old.followers replica asked.now part) log.old log.new came.old came.new) }
+    ensures { OnOk result (IsEntered call.now.who.by call.now.who.seq part (fetch_outcome log.old.followers call.now.replica asked.now part)
+        log.old log.new came.old came.new) }
 {
-    let entered = enter_fetch(log, who, replica, part, asked)?;
+    let entered = enter_fetch(log, call.who, call.replica, part, asked)?;
     came.note_at(entered.became, part, entered.place)
 }
 
-// Decides one partition of a fetch, and asks its log where there is one.
+// Decides one partition of a fetch, and asks its log if there is such a partition.
 fn fetch_one(
-    call: &Asking<'_>,
+    call: &Fetching<'_>,
     parts: &mut [PartLog],
-    replica: i32,
     topic: &[u8],
     asked: &FetchPart,
     came: &mut Came,
 ) -> Result<(), NoMemory>
     requires { map (λ h. h.followers) parts.old ≡ followers_of call.now.config.now.topics }
     ensures { OnOk result (IsCarried call.now.who.by call.now.who.seq
-        (fetch_decision call.now.config.now replica (topic.now, asked.now) (part_of call.now.config.now topic.now asked.now.index) ∷ [])
+        (fetch_decision call.now.config.now call.now.replica (topic.now, asked.now) (part_of call.now.config.now topic.now asked.now.index) ∷ [])
         parts.old parts.new came.old came.new) }
 {
     let Some(part) = call.config.part_of(topic, asked.index) else {
@@ -131,41 +149,42 @@ fn fetch_one(
         });
     };
     let log = &mut parts[part as usize];
-    accept_fetch_part(log, call.who, replica, part, asked, came)
+    accept_fetch_part(call, log, part, asked, came)
 }
 
 // One topic of a fetch.
 fn fetch_topic(
-    call: &Asking<'_>,
+    call: &Fetching<'_>,
     parts: &mut [PartLog],
-    replica: i32,
     topic: &FetchTopicView<'_>,
     came: &mut Came,
 ) -> Result<(), NoMemory>
     requires { map (λ h. h.followers) parts.old ≡ followers_of call.now.config.now.topics }
     ensures followers { OnOk result (map (λ h. h.followers) parts.new ≡ followers_of call.now.config.now.topics) }
-    ensures carried { OnOk result (IsCarried call.now.who.by call.now.who.seq (fetch_decisions call.now.config.now replica (topic.now ∷ [])) parts.old parts.new came.old came.new) }
+    ensures carried { OnOk result (IsCarried call.now.who.by call.now.who.seq
+        (fetch_decisions call.now.config.now call.now.replica (fetch_parts (topic.now ∷ [])))
+        parts.old parts.new came.old came.new) }
 {
     for part in topic.parts.as_slice() {
-        fetch_one(call, parts, replica, topic.name, part, came)?;
+        fetch_one(call, parts, topic.name, part, came)?;
     }
     Ok(())
 }
 
-// Carries out a fetch: each named partition in the order of the request. If memory runs out, those before one may have their
+// Carries out a fetch: each named partition in the order of the request. If memory runs out, some of them may have their
 // entries.
 fn fetch(
-    call: &Asking<'_>,
+    call: &Fetching<'_>,
     parts: &mut [PartLog],
-    replica: i32,
     topics: &[FetchTopicView<'_>],
     came: &mut Came,
 ) -> Result<(), NoMemory>
     requires { map (λ h. h.followers) parts.old ≡ followers_of call.now.config.now.topics }
-    ensures { OnOk result (IsCarried call.now.who.by call.now.who.seq (fetch_decisions call.now.config.now replica topics.now) parts.old parts.new came.old came.new) }
+    ensures { OnOk result (IsCarried call.now.who.by call.now.who.seq (fetch_decisions call.now.config.now call.now.replica (fetch_parts topics.now))
+        parts.old parts.new came.old came.new) }
 {
     for topic in topics {
-        fetch_topic(call, parts, replica, topic, came)?;
+        fetch_topic(call, parts, topic, came)?;
     }
     Ok(())
 }
@@ -193,13 +212,25 @@ pub fn accept(
                 is_transactional: transactional.is_some(),
                 acks: *acks,
             };
-            produce(call, parts, terms, topics.as_slice(), came)
+            let produced = Producing {
+                config: call.config,
+                who: call.who,
+                terms,
+            };
+            produce(&produced, parts, topics.as_slice(), came)
         }
         AskView::Fetch {
             replica,
             topics,
             ..
-        } => fetch(call, parts, *replica, topics.as_slice(), came),
+        } => {
+            let fetched = Fetching {
+                config: call.config,
+                who: call.who,
+                replica: *replica,
+            };
+            fetch(&fetched, parts, topics.as_slice(), came)
+        }
         AskView::Metadata { .. } | AskView::Versions { .. } => Ok(()),
     }
 }

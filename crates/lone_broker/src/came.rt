@@ -1,4 +1,4 @@
-//! What came of accepting a request so far.
+//! What `accept` has done of a request so far. `handle` makes the reply or the operation from it.
 
 ghost use Rattle.std.specs.Prelude.{◌≡◌, ◌∷◌, [], ◌++◌, All, OnOk};
 ghost use Rattle.kanswer.specs.LogReadings.{IsCarriable};
@@ -9,8 +9,8 @@ use kbytes::{List, NoMemory};
 use std::alloc::Global;
 use std::marker::Model;
 
-/// A result for each partition that was named so far, and the points of the entries that were left. Their offsets are such as the
-/// wire can carry. If memory runs out, it may only be dropped: a result may stand without its point.
+/// A result for each partition that was named so far, with offsets that the wire can carry, and the points of the entries that were
+/// left. If memory runs out, it may only be dropped: a result may lack its point.
 #[derive(Debug, Drop)]
 pub struct Came {
     accepted: List<Accepted>,
@@ -30,7 +30,7 @@ impl Model for Came {
 }
 
 impl Came {
-    /// Nothing. It takes no memory.
+    /// No results yet. It takes no memory.
     pub fn new(alloc: Global) -> Came
         ensures { result ≡ record { accepted = []; points = [] } }
     {

@@ -1,4 +1,4 @@
-//! What the one-thread broker did, as the account of a run.
+//! `Engine::close` makes the account of a run here, from the histories and from what each session did.
 
 ghost use Rattle.std.specs.Prelude.{◌≡◌, ◌≤◌, List as Items, length, map, count_by, option_to_list, reverse, IfOk, OnOk};
 ghost use Rattle.std.specs.List.{flat_map};
@@ -14,7 +14,7 @@ use kwire::Config;
 use partlog::{ClockLog, PartLog};
 use std::alloc::Global;
 
-// Puts the list of a session before the passes, which stand in reverse. Sessions after the last named one have none.
+// Adds the list of a session before the passes, which are in reverse order. Sessions after the last named one have no list.
 fn put_before(
     alloc: Global,
     passes: &mut List<List<Transcript>>,

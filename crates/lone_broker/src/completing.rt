@@ -1,7 +1,9 @@
-//! A request that waits: how far its operation is reached, and the looks of its completion.
+//! A request that waits: `Engine::due` asks here whether the logs satisfy its operation, and `Engine::finish` leaves the looks of its
+//! completion.
 
-ghost use Rattle.std.specs.Prelude.{◌≡◌, ◌↔◌, ◌<◌, ◌*◌, ◌/◌, [], ◌∷◌, ◌++◌, length, map, take, IsTrue, OnOk};
+ghost use Rattle.std.specs.Prelude.{◌≡◌, ◌↔◌, ◌<◌, [], ◌∷◌, ◌++◌, length, map, take, IsTrue, OnOk};
 ghost use Rattle.std.specs.List.{AllByRecursion};
+ghost use Rattle.kanswer.specs.PartitionGauges.{partition_of};
 ghost use Rattle.kanswer.specs.Results.{parts_asked};
 ghost use Rattle.kanswer.specs.Waiting.{gauge_value};
 ghost use Rattle.opcond.specs.Tally.{IsSatisfied};
@@ -13,7 +15,7 @@ ghost use Rattle.lone_broker.specs.Looks.{HasGauge, clock_after, clock_points};
 ghost use Rattle.lone_broker.specs.Replying.{HasLog};
 
 use audit::{CLOCK_PART, CallHow, Point};
-use kanswer::{Accepted, value_of_gauge};
+use kanswer::{Accepted, partition_of, value_of_gauge};
 use kbytes::{List, NoMemory};
 use opcond::{Op, is_satisfied};
 use partlog::{ClockLog, PartLog, Who};
@@ -23,13 +25,13 @@ const MOST_NEEDS: usize = 64;
 
 // The value of a gauge.
 fn gauge_now(parts: &[PartLog], gauge: u32) -> u64
-    requires { gauge < 3 * length parts.now }
-    ensures { result ≡ gauge_value gauge (state_of (history_at parts.now (gauge / 3))) }
+    requires { partition_of gauge < length parts.now }
+    ensures { result ≡ gauge_value gauge (state_of (history_at parts.now (partition_of gauge))) }
 {
-    value_of_gauge(gauge, &parts[(gauge / 3) as usize].numbers())
+    value_of_gauge(gauge, &parts[partition_of(gauge) as usize].numbers())
 }
 
-// The values of the operation's gauges, one for each need in order, before others.
+// The values of the operation's gauges, one for each need in order, at the front of the array.
 fn values_now(op: &Op, parts: &[PartLog]) -> [u64; MOST_NEEDS]
     requires { AllByRecursion (HasGauge (length parts.now)) op.now.needs }
     ensures { take (length op.now.needs) result ≡ map (gauge_now parts.now) op.now.needs }
@@ -42,7 +44,7 @@ fn values_now(op: &Op, parts: &[PartLog]) -> [u64; MOST_NEEDS]
     values
 }
 
-/// The logs as they are satisfy the operation.
+/// Whether the logs as they are satisfy the operation.
 pub fn is_reached(op: &Op, parts: &[PartLog]) -> bool
     requires { AllByRecursion (HasGauge (length parts.now)) op.now.needs }
     ensures { IsTrue result ↔ IsSatisfied op.now (map (gauge_now parts.now) op.now.needs) }
@@ -51,7 +53,7 @@ pub fn is_reached(op: &Op, parts: &[PartLog]) -> bool
     is_satisfied(op, &values[..op.needs().len()])
 }
 
-// The partition whose log was asked is looked at.
+// Looks at the partition if its log was asked.
 fn look_at(
     who: Who,
     became: &Accepted,
@@ -71,7 +73,7 @@ fn look_at(
     }
 }
 
-/// Each partition whose log was asked is looked at, in order. If memory runs out, some may have been.
+/// Looks at each partition whose log was asked, in order. If memory runs out, some may have been looked at.
 pub fn look_at_parts(
     who: Who,
     accepted: &[Accepted],
@@ -88,7 +90,7 @@ pub fn look_at_parts(
     Ok(())
 }
 
-/// The clock is looked at where the request expired.
+/// Looks at the clock if the request expired.
 pub fn look_at_clock(
     who: Who,
     how: &CallHow,

@@ -1,4 +1,4 @@
-//! A session of the one-thread broker.
+//! What the one-thread broker keeps of a session: `Engine` has a desk for each session that there can be.
 
 ghost use Rattle.std.specs.Prelude.{◌≡◌, ℕ, ◌<◌, ◌≤◌, ◌∷◌, [], ◌++◌, length, drop, true, Some, None, if◌then◌else◌, count_by, IfOk, OnOk};
 ghost use Rattle.audit.specs.IsLawful.{is_won_by};
@@ -17,7 +17,7 @@ use kwire::{Frame, Inbox, next_frame};
 use std::alloc::Global;
 use std::marker::Model;
 
-/// What a session received and nobody has handled yet, whether its input ended, and what it did, once a line named it.
+/// What a session received that isn't handled yet, whether its input has ended, and what it did, once a line named it.
 #[derive(Debug, Drop)]
 pub struct Desk {
     alloc: Global,
@@ -37,7 +37,7 @@ impl Model for Desk {
     ghost invariant = { λ d. IsNumbered d.transcript };
 }
 
-// The last of these calls came to its end so.
+// Sets how the last of these calls ended.
 fn finish_call(calls: &mut List<Call>, finish: List<Point>, how: CallHow) -> Result<(), NoMemory>
     ensures calls { OnOk result (calls.new ≡ finish_last finish how calls.old) }
     ensures count { length calls.new ≤ length calls.old }
@@ -53,7 +53,7 @@ fn finish_call(calls: &mut List<Call>, finish: List<Point>, how: CallHow) -> Res
     })
 }
 
-// The one winner completed it.
+// Whether the one winner completed the call.
 fn is_won(call: &Call) -> bool
     ensures { result ≡ is_won_by 0 call.now }
 {
@@ -89,7 +89,7 @@ impl Desk {
         }
     }
 
-    // A session that is named, and has this number, has a transcript from then on.
+    // Gives the session, which has this number and is named now, a transcript if it has none.
     fn open(&mut self, session: u32)
         ensures { self.new ≡ record {
           inbox = self.old.inbox;
@@ -116,8 +116,8 @@ impl Desk {
         }
     }
 
-    /// A line names the session, which has this number, and brings it these bytes. Those for a session that has ended are
-    /// dropped. If memory runs out, it counts as named, and no byte was brought.
+    /// A line names the session, which has this number, and brings it these bytes. They are dropped if the session has ended. If
+    /// memory runs out, it counts as named, and gets none of the bytes.
     pub fn feed(&mut self, session: u32, bytes: &[u8]) -> Result<(), NoMemory>
         ensures { OnOk result (self.new ≡ record {
           inbox = if has_ended self.old.transcript then self.old.inbox else self.old.inbox ++ bytes.now;
@@ -144,15 +144,15 @@ impl Desk {
         self.is_shut = true;
     }
 
-    /// What stands at the front of the bytes that it received.
+    /// The frame at the front of the bytes that it received.
     pub fn front(&self) -> Frame
         ensures { result ≡ next_frame_of self.now.inbox }
     {
         next_frame(self.inbox.bytes())
     }
 
-    /// Whether it has something to do: it hasn't ended, and a whole frame is at the front, or one that is too long, or no more
-    /// input comes.
+    /// Whether it has something to do: it hasn't ended, and there is a whole frame at the front, or one that is too long, or no
+    /// more input comes.
     pub fn has_work(&self) -> bool
         ensures { result ≡ has_work self.now }
     {
@@ -165,11 +165,11 @@ impl Desk {
         }
     }
 
-    /// How many bytes it received that nobody has handled yet.
-    pub fn left(&self) -> usize
-        ensures { result ≡ length self.now.inbox }
+    /// The bytes that it received and that aren't handled yet.
+    pub fn left(&self) -> &[u8]
+        ensures { result.now ≡ self.now.inbox }
     {
-        self.inbox.bytes().len()
+        self.inbox.bytes()
     }
 
     /// The body of the frame at the front, which ends before the place `end`.
@@ -192,8 +192,8 @@ impl Desk {
         }
     }
 
-    /// The frame at the front was handled as this call of the session, which was named and has room for a call. If memory runs
-    /// out, the frame is gone and the call isn't there, so that the session may only be dropped.
+    /// Records that the frame at the front was handled as this call of the session, which was named and has room for a call. If
+    /// memory runs out, the frame is gone and the call isn't there, so the session may only be dropped.
     pub fn note(&mut self, session: u32, end: usize, call: Call) -> Result<(), NoMemory>
         requires within { end ≤ length self.old.inbox }
         requires room { next_of session self.old < MOST_CALLS }
@@ -211,7 +211,7 @@ impl Desk {
         Ok(())
     }
 
-    /// The body of its last call's frame; nothing where there is no call.
+    /// The body of its last call's frame, and no bytes if there is no call.
     pub fn last_frame(&self) -> &[u8]
         ensures { (session : ℕ) → result.now ≡ last_frame (transcript_of session self.now).calls }
     {
@@ -224,7 +224,7 @@ impl Desk {
         }
     }
 
-    /// The points of the entries that its last call left as it was accepted; none where there is no call.
+    /// The points of the entries that its last call left when it was accepted, and none if there is no call.
     pub fn last_points(&self) -> &[Point]
         ensures { (session : ℕ) → result.now ≡ last_points (transcript_of session self.now).calls }
     {
@@ -237,8 +237,8 @@ impl Desk {
         }
     }
 
-    /// The last call of the session, which was named, came to its end so. If memory runs out, the call is gone, so that the
-    /// session may only be dropped.
+    /// Sets how the last call of the session, which was named, ended. If memory runs out, the call is gone, so the session may
+    /// only be dropped.
     pub fn finish(
         &mut self,
         session: u32,
@@ -271,7 +271,7 @@ impl Desk {
         }
     }
 
-    /// The session, which was named, ends so. What it received beyond that stays where it is.
+    /// Sets how the session, which was named, ended. Bytes that it received and that aren't handled stay where they are.
     pub fn end(&mut self, session: u32, end: SessionEnd)
         ensures { self.new ≡ record {
           inbox = self.old.inbox;
@@ -285,7 +285,7 @@ impl Desk {
         }
     }
 
-    /// What it did, once a line named it.
+    /// What it did, if a line named it.
     pub fn into_transcript(self) -> Option<Transcript>
         ensures { result ≡ self.transcript }
     {

@@ -1,20 +1,20 @@
-//! The broker on one thread, as long as memory lasts.
+//! The one-thread broker without an index: what a session does once it is its turn, and what a line brings. `Watched` decides whose turn
+//! it is.
 
-ghost use Rattle.std.specs.Prelude.{◌≡◌, ◌≢◌, ◌<◌, ◌≤◌, ◌^◌, Some, None, length, IfNone, IfOk, IfSome, OnOk};
+ghost use Rattle.std.specs.Prelude.{◌≡◌, ◌≢◌, ◌<◌, ◌≤◌, Some, None, length, IfNone, IfOk, IfSome, OnOk};
 ghost use Rattle.audit.specs.declared.account.SessionEnd.TheVariants.{Refused};
 ghost use Rattle.kwire.specs.declared.frame.WireFault.TheVariants.{NoMemory as OutOfMemory};
 ghost use Rattle.kwire.specs.declared.frame.Frame.TheVariants.{Whole};
 ghost use Rattle.kwire.specs.Frames.{next_frame_of};
 ghost use Rattle.kwire.specs.Spelling.{spelling};
 ghost use Rattle.kanswer.specs.Answer.{answer};
-ghost use Rattle.broker_spec.specs.Acting.{Acts, end_of_input};
+ghost use Rattle.broker_spec.specs.Acting.{Acts};
 ghost use Rattle.broker_spec.specs.Board.{Board, Waiting, account_of, most_sessions, next_call, opening, seat_at, transcript_at};
 ghost use Rattle.broker_spec.specs.Completing.{answered_in, shown_now};
 ghost use Rattle.broker_spec.specs.Play.{brought};
 ghost use Rattle.broker_spec.specs.Turns.{ended};
 ghost use Rattle.partlog.specs.Moment.{moment_of};
 ghost use Rattle.partlog.specs.declared.clock_event.TheConstants.{MOST_MOMENT};
-ghost use Rattle.kwire.specs.DeclaredTopics.{AreDeclared};
 ghost use Rattle.lone_broker.specs.Kept.{IsPlayable, StandsFor, Stands, TurnsBy, parked_at, waiting_in};
 ghost use Rattle.lone_broker.specs.Looks.{due_in, finished};
 ghost use Rattle.lone_broker.specs.Steps.{IsActed, IsBrought, IsFreed, IsReseated, is_ready, last_points, operation_at};
@@ -27,7 +27,7 @@ use crate::handling::handle;
 use crate::opening::{open_desks, open_parked, open_parts};
 use crate::parked::Parked;
 use crate::reply::reply_frame;
-use audit::{Account, Call, CallHow, MOST_CALLS, Point, SessionEnd, put_end_line};
+use audit::{Account, Call, CallHow, MOST_CALLS, Point, SessionEnd, end_of_input, put_end_line};
 use kbytes::{Bytes, List, NoMemory};
 use kwire::{Config, Frame, WireFault, view_request};
 use opcond::{Op, is_overdue};
@@ -60,22 +60,9 @@ impl Model for Engine {
     } };
 }
 
-// How a session ends whose input ended with so many bytes of a frame, which isn't there whole.
-fn end_of_input(got: usize) -> SessionEnd
-    requires { got < 2 ^ 32 }
-    ensures { result ≡ end_of_input got }
-{
-    if got == 0 {
-        SessionEnd::Closed
-    } else {
-        SessionEnd::Truncated { got: got as u32 }
-    }
-}
-
 impl Engine {
-    /// A broker with these topics, which are such as may be declared, before the first line.
+    /// A broker with these topics, before the first line.
     pub fn make(alloc: Global, config: Config) -> Result<Engine, NoMemory>
-        requires { AreDeclared config.topics }
         ensures { IfOk result (λ engine. StandsFor engine (opening config)) }
     {
         let parts = open_parts(alloc, &config)?;
@@ -91,7 +78,7 @@ impl Engine {
         })
     }
 
-    /// How the request of a session is completed now, where one waits and is answerable.
+    /// How the request of a session is completed now, if one waits and is answerable.
     pub fn due(&self, session: u32) -> Option<CallHow>
         requires there { session < most_sessions }
         requires stands { Stands self.now }
@@ -138,7 +125,7 @@ impl Engine {
         )
     }
 
-    // Leaves the looks of the request of a session that waits and is completed so, and notes how its call came to its end.
+    // Leaves the looks of a session's request, which waits and is completed now, and records how its call ended.
     fn finish(&mut self, session: u32, how: CallHow) -> Result<(), NoMemory>
         requires there { session < most_sessions }
         requires stands { Stands self.old }
@@ -163,7 +150,7 @@ impl Engine {
         Ok(())
     }
 
-    /// Answers the request of a session, which is completed so now.
+    /// Answers the request of a session, which is completed now in this way.
     pub fn complete(&mut self, session: u32, how: CallHow, out: &mut Bytes) -> Result<(), NoMemory>
         requires there { session < most_sessions }
         requires stands { Stands self.old }
@@ -176,7 +163,7 @@ impl Engine {
         self.finish(session, how)
     }
 
-    /// The session has something to do, and no request of it waits.
+    /// Whether the session has something to do, and no request of it waits.
     pub fn is_ready(&self, session: u32) -> bool
         requires there { session < most_sessions }
         requires stands { Stands self.now }
@@ -186,7 +173,7 @@ impl Engine {
         self.parked.as_slice()[at].is_none() && self.desks.as_slice()[at].has_work()
     }
 
-    /// The operation of a session's request that waits.
+    /// The operation of a session's request, if one waits.
     pub fn waiting(&self, session: u32) -> Option<&Op>
         requires there { session < most_sessions }
         requires stands { Stands self.now }
@@ -223,7 +210,7 @@ impl Engine {
         self.desks.as_slice()[session as usize].next_call() as u32
     }
 
-    /// The points of the entries that the last call of a session left as it was accepted.
+    /// The points of the entries that the last call of a session left when it was accepted.
     pub fn last_points(&self, session: u32) -> &[Point]
         requires there { session < most_sessions }
         requires stands { Stands self.now }
@@ -232,7 +219,7 @@ impl Engine {
         self.desks.as_slice()[session as usize].last_points()
     }
 
-    // The session ends so, which is told.
+    // Ends the session in this way, and prints how it ended.
     fn end_session(
         &mut self,
         session: u32,
@@ -247,7 +234,7 @@ impl Engine {
         put_end_line(out, session, &end)
     }
 
-    // The frame at the front is refused, which ends the session; it isn't where memory was wanting.
+    // Ends the session, whose frame at the front is refused. Out of memory is no refusal.
     fn refuse(&mut self, session: u32, why: WireFault, out: &mut Bytes) -> Result<(), NoMemory>
         requires { session < length self.old.board.seats }
         ensures why { OnOk result (why ≢ OutOfMemory) }
@@ -284,11 +271,12 @@ impl Engine {
             Err(why) => return self.refuse(session, why, out),
         };
         let call = Asking {
+            alloc: self.alloc,
             config: &self.config,
             who,
         };
         let parts = self.parts.as_mut_slice();
-        let handled = handle(self.alloc, &call, parts, &mut self.clock, &request, out)?;
+        let handled = handle(&call, parts, &mut self.clock, &request, out)?;
         drop(request);
         let call = Call {
             frame: body,

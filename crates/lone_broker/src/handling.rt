@@ -1,4 +1,4 @@
-//! A request is accepted, and is answered or waits.
+//! What `Engine` does with a request that a session sent: it is accepted, and then answered at once or kept waiting.
 
 ghost use Rattle.std.specs.Prelude.{◌≡◌, ℕ, [], ◌∷◌, ◌++◌, length, map, List as Items, Some, None, IfOk, OnOk};
 ghost use Rattle.std.specs.List.{AllByRecursion};
@@ -14,7 +14,6 @@ ghost use Rattle.partlog.specs.Moment.{moment_of};
 ghost use Rattle.broker_spec.specs.Turns.{how_at_once, text_at_once};
 ghost use Rattle.lone_broker.specs.Gathered.{numbers_in};
 ghost use Rattle.lone_broker.specs.Handled.{IsHandled, looked_by};
-ghost use Rattle.kwire.specs.DeclaredTopics.{AreDeclared};
 ghost use Rattle.lone_broker.specs.Replying.{HasLog, ShowsLogs};
 
 use crate::accept::{Asking, accept};
@@ -24,13 +23,12 @@ use crate::reply::{numbers_of, reply_frame};
 use audit::{CLOCK_PART, CallHow, Point};
 use kanswer::{is_quiet, needs_op, op_of};
 use kbytes::{Bytes, List, NoMemory};
-use kwire::{AskView, RequestView};
-use partlog::{ClockLog, PartLog, Who};
-use std::alloc::Global;
+use kwire::{AskView, MOST_PARTITIONS, RequestView};
+use partlog::{ClockLog, PartLog};
 use trace_file::put_reply_line;
 
-/// What was done with a request: the points of the entries that it left, how its call stands, and what is kept of it where
-/// it waits.
+/// What was done with a request: the points of the entries that it left, how its call ended or that it waits, and what is kept
+/// of it if it waits.
 #[derive(Debug, Drop)]
 pub struct Handled {
     pub accept: List<Point>,
@@ -38,7 +36,7 @@ pub struct Handled {
     pub parked: Option<Parked>,
 }
 
-// How a call comes to its end that needn't wait.
+// How a call ends that needn't wait.
 fn how_at_once(ask: &AskView<'_>) -> CallHow
     ensures { result ≡ how_at_once (ask_of ask.now) }
 {
@@ -49,9 +47,8 @@ fn how_at_once(ask: &AskView<'_>) -> CallHow
     }
 }
 
-// Puts the reply to a request that needn't wait at the end of `out`, where it asks for one.
+// Puts the reply to a request that needn't wait at the end of `out`, if it asks for a reply.
 fn answer_at_once(
-    alloc: Global,
     call: &Asking<'_>,
     parts: &[PartLog],
     request: &RequestView<'_>,
@@ -61,7 +58,6 @@ fn answer_at_once(
     requires listed { AreResults request.now.ask came.accepted }
     requires logs { AllByRecursion (HasLog (length parts.now)) came.accepted }
     requires asked { (body : Items ℕ) × IsRequest body request.now }
-    requires declared { AreDeclared call.now.config.now.topics }
     ensures points { IfOk result (λ handled. handled.accept ≡ came.points) }
     ensures how { IfOk result (λ handled. handled.how ≡ how_at_once request.now.ask) }
     ensures none { IfOk result (λ handled. handled.parked ≡ None) }
@@ -69,7 +65,7 @@ fn answer_at_once(
         → out.new ≡ out.old ++ text_at_once call.now.config.now call.now.who.by request.now shown) }
 {
     if !is_quiet(&request.ask) {
-        let frame = reply_frame(alloc, call.config, parts, request, came.accepted())?;
+        let frame = reply_frame(call.alloc, call.config, parts, request, came.accepted())?;
         put_reply_line(out, call.who.by, frame.as_slice())?;
     }
     Ok(Handled {
@@ -79,16 +75,15 @@ fn answer_at_once(
     })
 }
 
-// The clock is looked at, and from its moment there the deadline is counted.
+// Lets the request wait: looks at the clock, and counts the deadline from the moment there.
 fn park(
-    alloc: Global,
-    who: Who,
+    call: &Asking<'_>,
     clock: &mut ClockLog,
     request: &RequestView<'_>,
     came: Came,
 ) -> Result<Handled, NoMemory>
     requires { AreResults request.now.ask came.accepted }
-    ensures looked { OnOk result (clock.new ≡ looked_by who.by who.seq clock.old) }
+    ensures looked { OnOk result (clock.new ≡ looked_by call.now.who.by call.now.who.seq clock.old) }
     ensures points { IfOk result (λ handled. handled.accept
         ≡ came.points ++ record { part = clock_part; place = length clock.old } ∷ []) }
     ensures how { IfOk result (λ handled. handled.how ≡ Waits) }
@@ -97,8 +92,8 @@ fn park(
       op = operation_of request.now.ask came.accepted (moment_of clock.new);
     })) }
 {
-    let place = clock.look(who)?;
-    let op = op_of(alloc, request, came.accepted(), clock.now())?;
+    let place = clock.look(call.who)?;
+    let op = op_of(call.alloc, request, came.accepted(), clock.now())?;
     let (accepted, mut accept) = came.into_parts();
     accept.push(Point {
         part: CLOCK_PART,
@@ -114,7 +109,6 @@ fn park(
 /// Handles a request of a session: accepts it, and answers it at the end of `out` or lets it wait. If memory runs out, some of
 /// the named partitions may have their entries, and the logs may only be dropped.
 pub fn handle(
-    alloc: Global,
     call: &Asking<'_>,
     parts: &mut [PartLog],
     clock: &mut ClockLog,
@@ -123,16 +117,17 @@ pub fn handle(
 ) -> Result<Handled, NoMemory>
     requires asked { (body : Items ℕ) × IsRequest body request.now }
     requires followers { map (λ h. h.followers) parts.old ≡ followers_of call.now.config.now.topics }
-    requires declared { AreDeclared call.now.config.now.topics }
     ensures { IfOk result (λ handled. IsHandled call.now.config.now call.now.who.by call.now.who.seq request.now parts.old parts.new
         clock.old clock.new handled out.old out.new) }
 {
-    let mut came = Came::new(alloc);
+    // so few partitions that there is a gauge for each that the request may wait for
+    prove!(call.config.parts() <= MOST_PARTITIONS);
+    let mut came = Came::new(call.alloc);
     accept(call, parts, request, &mut came)?;
-    let numbers = numbers_of(alloc, parts, came.accepted())?;
+    let numbers = numbers_of(call.alloc, parts, came.accepted())?;
     if needs_op(request, came.accepted(), numbers.as_slice()) {
-        park(alloc, call.who, clock, request, came)
+        park(call, clock, request, came)
     } else {
-        answer_at_once(alloc, call, parts, request, came, out)
+        answer_at_once(call, parts, request, came, out)
     }
 }

@@ -1,8 +1,7 @@
-//! The one-thread broker, as a caller meets it.
+//! The one-thread broker that callers make: `Watched`, and whether memory ran out in the middle of a line.
 
 ghost use Rattle.std.specs.Prelude.{◌≡◌, true, false, IfOk, OnErr, OnOk};
 ghost use Rattle.broker_spec.specs.Board.{Board, account_of, opening};
-ghost use Rattle.kwire.specs.DeclaredTopics.{AreDeclared};
 ghost use Rattle.broker_spec.specs.Play.{PlaysLine};
 ghost use Rattle.lone_broker.specs.Kept.{IsPlayable, StandsFor, TurnsBy};
 ghost use Rattle.lone_broker.specs.Held.{IsSound};
@@ -15,8 +14,8 @@ use std::alloc::Global;
 use std::marker::Model;
 use trace_file::Line;
 
-/// The one-thread broker. A contract sees what it keeps, which stands for a board of the definition, and whether memory was
-/// wanting in the middle of a line. From then on it is poisoned: it takes no line and gives no account.
+/// The one-thread broker. A contract sees what it keeps, which stands for a board of the definition, and whether memory ran out in
+/// the middle of a line. After that it is poisoned: it takes no line and gives no account.
 #[derive(Debug, Drop)]
 pub struct Lone {
     watched: Watched,
@@ -36,9 +35,8 @@ impl Model for Lone {
 }
 
 impl Lone {
-    /// A broker with these topics, which are such as may be declared, before the first line.
+    /// A broker with these topics, before the first line.
     pub fn make(alloc: Global, config: Config) -> Result<Lone, NoMemory>
-        requires { AreDeclared config.topics }
         ensures stands { IfOk result (λ lone. StandsFor lone.kept (opening config)) }
         ensures sound { IfOk result (λ lone. lone.is_poisoned ≡ false) }
     {
@@ -49,8 +47,8 @@ impl Lone {
         })
     }
 
-    /// Takes one line of a trace, and puts what it prints at the end of `out`. Where memory was wanting it is poisoned, and answers
-    /// each further line so.
+    /// Takes one line of a trace, and puts what it prints at the end of `out`. If memory runs out it is poisoned, and answers each
+    /// later line with `NoMemory`.
     pub fn event(&mut self, line: &Line, out: &mut Bytes) -> Result<(), NoMemory>
         requires { IsPlayable line.now }
         ensures plays { OnOk result (TurnsBy (λ board. PlaysLine board line.now) self.old.kept self.new.kept out.old out.new) }

@@ -1,18 +1,19 @@
-//! What the one-thread broker keeps before the first line.
+//! What `Engine::make` begins with: logs without entries, desks that no line has named, and no request that waits.
 
 ghost use Rattle.std.specs.Prelude.{◌≡◌, ◌++◌, None, map, replicate, IfOk, OnOk};
 ghost use Rattle.broker_spec.specs.Board.{empty_history, empty_seat, most_sessions};
 ghost use Rattle.kwire.specs.Configuration.{followers_of};
+ghost use Rattle.kwire.specs.DeclaredTopics.{AreDeclared};
 
 use crate::desk::Desk;
 use crate::parked::Parked;
 use kbytes::{List, NoMemory};
-use kwire::Config;
+use kwire::{Config, MOST_PARTITIONS};
 use partlog::PartLog;
 use std::alloc::Global;
 use trace_file::MOST_SESSIONS;
 
-// Puts so many logs without entries at the end. If memory runs out, some of them may stand there.
+// Adds `count` logs without entries. If memory runs out, some of them may be there.
 #[tactic(auto, using(crate::proofs::Openings::one_more_behind))]
 fn put_parts(
     alloc: Global,
@@ -31,8 +32,10 @@ fn put_parts(
 /// A log without entries for each partition of the configuration, in order.
 #[tactic(auto, using(crate::proofs::Openings::logs_more))]
 pub fn open_parts(alloc: Global, config: &Config) -> Result<List<PartLog>, NoMemory>
-    ensures { IfOk result (λ parts. parts ≡ map empty_history (followers_of config.now.topics)) }
+    ensures logs { IfOk result (λ parts. parts ≡ map empty_history (followers_of config.now.topics)) }
+    ensures declared { OnOk result (AreDeclared config.now.topics) }
 {
+    prove!(config.parts() <= MOST_PARTITIONS);
     let mut parts = List::new(alloc);
     for topic in config.topics() {
         put_parts(alloc, &mut parts, topic.partitions, topic.followers)?;
@@ -40,7 +43,7 @@ pub fn open_parts(alloc: Global, config: &Config) -> Result<List<PartLog>, NoMem
     Ok(parts)
 }
 
-/// A desk for each session that there may be, none of which a line has named.
+/// A desk for each session that there can be, none of which a line has named.
 #[tactic(auto, using(std::proofs::lemmas::List::replicate_more))]
 pub fn open_desks(alloc: Global) -> Result<List<Desk>, NoMemory>
     ensures { IfOk result (λ desks. desks ≡ replicate most_sessions empty_seat) }
@@ -52,7 +55,7 @@ pub fn open_desks(alloc: Global) -> Result<List<Desk>, NoMemory>
     Ok(desks)
 }
 
-/// Nothing waits in any session.
+/// No request waits, for each session that there can be.
 #[tactic(auto, using(std::proofs::lemmas::List::replicate_more))]
 pub fn open_parked(alloc: Global) -> Result<List<Option<Parked>>, NoMemory>
     ensures { IfOk result (λ parked. parked ≡ replicate most_sessions None) }

@@ -1,8 +1,8 @@
-//! The one-thread broker looks only at what can have become answerable.
+//! The one-thread broker with an index, so that it checks only the requests that can have become answerable.
 //!
-//! Where a gauge of a partition rose, or the clock's moment, those who wait for it become suspects. A scan looks at them alone, in the
-//! order of the sessions: one that is answerable is answered, and any other waits on. Which sessions can act is kept as a set, in which
-//! only the session changes that acted, was answered or was named by a line.
+//! When a gauge of a partition rises, or the clock goes on, the sessions that wait for that become suspects. A scan checks only them, in
+//! the order of the sessions: one that is answerable is answered, and any other still waits. The sessions that can act are kept as a set,
+//! in which only those change that acted, were answered or were named by a line.
 
 ghost use Rattle.std.specs.Prelude.{◌≡◌, ◌≢◌, ◌∷◌, ◌<◌, ◌≤◌, ◌↔◌, ℕ, [], true, None, length, map, IfOk, OnOk};
 ghost use Rattle.kwire.specs.declared.config.TheConstants.{MOST_PARTITIONS};
@@ -14,7 +14,6 @@ ghost use Rattle.lone_waiters.specs.Waiting.{WaitsOn};
 ghost use Rattle.broker_spec.specs.Acting.{Acts};
 ghost use Rattle.broker_spec.specs.Board.{Board, account_of, most_sessions, next_call, opening};
 ghost use Rattle.broker_spec.specs.Completing.{answered_in, scanned};
-ghost use Rattle.kwire.specs.DeclaredTopics.{AreDeclared};
 ghost use Rattle.broker_spec.specs.Play.{PlaysLine, Rests, brought};
 ghost use Rattle.lone_broker.specs.Kept.{IsPlayable, StandsFor, Stands, TurnsBy, parked_at};
 ghost use Rattle.lone_broker.specs.Steps.{is_ready, operation_at};
@@ -23,6 +22,7 @@ ghost use Rattle.lone_broker.specs.Watching.{IsTaken, IsWatched, MayWait};
 
 use crate::engine::Engine;
 use audit::{Account, Point};
+use kanswer::{end_gauge, high_gauge, visible_gauge};
 use kbytes::{Bytes, List, NoMemory};
 use kwire::Config;
 use lone_waiters::{GAUGES, SessionSet, Waiters};
@@ -30,11 +30,11 @@ use partlog::{Numbers, PartLog};
 use std::alloc::Global;
 use trace_file::Line;
 
-/// What the broker keeps, and by what it finds what a line can have changed. If memory runs out, it may only be dropped.
+/// What the broker keeps, and the index in which it finds what a line can have changed. If memory runs out, it may only be dropped.
 #[derive(Debug, Drop)]
 pub struct Watched {
     engine: Engine,
-    // the numbers of each partition's log, as those who wait were told of them
+    // the numbers of each partition's log as the index was last told of them
     told: List<Numbers>,
     waiters: Waiters,
     // the sessions that can act
@@ -52,7 +52,7 @@ fn numbers_of(alloc: Global, parts: &[PartLog]) -> Result<List<Numbers>, NoMemor
     Ok(told)
 }
 
-// The session is in the set exactly where it can act.
+// Keeps the session in the set exactly if it can act.
 fn note(engine: &Engine, ready: &mut SessionSet, session: u32)
     requires there { session < most_sessions }
     requires stands { Stands engine.now }
@@ -66,7 +66,7 @@ fn note(engine: &Engine, ready: &mut SessionSet, session: u32)
     }
 }
 
-// Tells those who wait for a gauge where its value changed.
+// Tells the index that a gauge rose, if its value changed.
 fn tell_gauge(waiters: &mut Waiters, gauge: u32, was: u64, now: u64)
     requires { gauge < GAUGES }
     ensures warned { IsWarned waiters.old waiters.new }
@@ -77,18 +77,18 @@ fn tell_gauge(waiters: &mut Waiters, gauge: u32, was: u64, now: u64)
     }
 }
 
-// Tells those who wait for a gauge of a partition where its value changed.
+// Tells the index which gauges of a partition rose.
 fn tell_gauges(waiters: &mut Waiters, part: u32, was: &Numbers, now: &Numbers)
     requires { part < MOST_PARTITIONS }
     ensures warned { IsWarned waiters.old waiters.new }
     ensures told { AreWarned part was.now now.now waiters.old waiters.new }
 {
-    tell_gauge(waiters, 3 * part, was.high, now.high);
-    tell_gauge(waiters, 3 * part + 1, was.visible, now.visible);
-    tell_gauge(waiters, 3 * part + 2, was.bytes, now.bytes);
+    tell_gauge(waiters, high_gauge(part), was.high, now.high);
+    tell_gauge(waiters, visible_gauge(part), was.visible, now.visible);
+    tell_gauge(waiters, end_gauge(part), was.bytes, now.bytes);
 }
 
-// Tells those who wait of the partition at a point. The clock's history has none.
+// Tells the index of the partition at a point. The clock's history has no gauges.
 fn tell_at(parts: &[PartLog], point: &Point, told: &mut [Numbers], waiters: &mut Waiters)
     requires size { length told.old ≡ length parts.now }
     requires few { length told.old ≤ MOST_PARTITIONS }
@@ -106,7 +106,7 @@ fn tell_at(parts: &[PartLog], point: &Point, told: &mut [Numbers], waiters: &mut
     told[at] = now;
 }
 
-// Tells those who wait of the partitions at these points.
+// Tells the index of the partitions at these points.
 fn tell(parts: &[PartLog], points: &[Point], told: &mut [Numbers], waiters: &mut Waiters)
     requires size { length told.old ≡ length parts.now }
     requires few { length told.old ≤ MOST_PARTITIONS }
@@ -119,7 +119,7 @@ fn tell(parts: &[PartLog], points: &[Point], told: &mut [Numbers], waiters: &mut
     }
 }
 
-// Where the session's request waits from now on, it waits in the index.
+// Enters the session's request in the index, if one waits from now on.
 fn park(engine: &Engine, waiters: &mut Waiters, session: u32)
     requires there { session < most_sessions }
     requires stands { Stands engine.now }
@@ -137,9 +137,8 @@ fn park(engine: &Engine, waiters: &mut Waiters, session: u32)
 }
 
 impl Watched {
-    /// A broker with these topics, which are such as may be declared, before the first line.
+    /// A broker with these topics, before the first line.
     pub fn make(alloc: Global, config: Config) -> Result<Watched, NoMemory>
-        requires { AreDeclared config.topics }
         ensures watched { IfOk result (λ w. IsWatched w) }
         ensures stands { IfOk result (λ w. StandsFor w.engine (opening config)) }
     {
@@ -154,7 +153,7 @@ impl Watched {
         })
     }
 
-    // Looks at a suspect: where its request is answerable it is answered, and else it waits on.
+    // Checks a suspect: its request is answered if it is answerable, and otherwise still waits.
     fn look(&mut self, session: u32, out: &mut Bytes) -> Result<(), NoMemory>
         requires there { session < most_sessions }
         requires watched { IsWatched self.old }
@@ -185,7 +184,7 @@ impl Watched {
         Ok(())
     }
 
-    // A session acts once, and those who wait are told what it changed.
+    // Lets a session act once, and tells the index which gauges rose.
     fn act(&mut self, session: u32, out: &mut Bytes) -> Result<(), NoMemory>
         requires there { session < most_sessions }
         requires idle { parked_at self.old.engine session ≡ None }

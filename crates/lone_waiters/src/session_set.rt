@@ -1,13 +1,13 @@
-//! Sets of sessions in one machine word.
+//! A set of sessions in one machine word: the suspects of the index here, and the sessions that can act in the broker above.
 ghost use Rattle.std.specs.Prelude.{◌≡◌, ◌≢◌, ℕ, ◌<◌, ◌≤◌, ◌↔◌, ◌⊎◌, All, Contains, IfNone, IfSome, IsTrue};
 ghost use Rattle.lone_waiters.specs.Sessions.{Has, IsLeastFrom};
 
 use std::marker::Model;
 
-/// How many sessions there are: their numbers are below it.
+/// How many sessions there can be. Their numbers are below it.
 pub const SESSIONS: u32 = 64;
 
-/// A set of sessions. A contract sees a number whose bits tell the members.
+/// A set of sessions. A contract sees a number whose bits are the members.
 #[derive(Clone, Copy, Debug)]
 pub struct SessionSet {
     word: u64,
@@ -31,7 +31,7 @@ impl SessionSet {
         SessionSet { word: 0 }
     }
 
-    /// Takes a session into the set.
+    /// Adds a session to the set.
     pub fn insert(&mut self, session: u32)
         requires { session < SESSIONS }
         ensures { (other : ℕ) → Has self.new other ↔ (Has self.old other ⊎ (other ≡ session)) }
@@ -39,7 +39,7 @@ impl SessionSet {
         self.word |= 1 << session;
     }
 
-    /// Takes a session out of the set.
+    /// Removes a session from the set.
     pub fn remove(&mut self, session: u32)
         requires { session < SESSIONS }
         ensures { (other : ℕ) → Has self.new other ↔ (Has self.old other × (other ≢ session)) }
@@ -47,7 +47,7 @@ impl SessionSet {
         self.word &= !(1 << session);
     }
 
-    /// Takes a session into the set where it is to be a member, and else out of it.
+    /// Adds a session to the set if it is to be a member, and removes it otherwise.
     pub(crate) fn put(&mut self, session: u32, is_member: bool)
         requires { session < SESSIONS }
         ensures same { Has self.new session ↔ IsTrue is_member }
@@ -68,7 +68,7 @@ impl SessionSet {
         (self.word >> session) & 1 == 1
     }
 
-    /// The least session of the set, `None` exactly where it is empty.
+    /// The least session of the set, and `None` exactly if the set is empty.
     pub fn least(&self) -> Option<u32>
         ensures found { IfSome result (λ session. IsLeastFrom self.now 0 session) }
         ensures within { IfSome result (λ session. session < SESSIONS) }
@@ -77,7 +77,7 @@ impl SessionSet {
         self.least_from(0)
     }
 
-    /// The least session of the set that is at least `from`, `None` exactly where there is none.
+    /// The least session of the set that is at least `from`, and `None` exactly if there is none.
     pub fn least_from(&self, from: u32) -> Option<u32>
         ensures found { IfSome result (λ session. IsLeastFrom self.now from session) }
         ensures within { IfSome result (λ session. session < SESSIONS) }
@@ -94,7 +94,7 @@ impl SessionSet {
         Some(from + rest.trailing_zeros())
     }
 
-    /// Takes sessions into the set.
+    /// Adds sessions to the set.
     pub(crate) fn insert_all(&mut self, sessions: &[u32])
         requires { All (λ session. session < SESSIONS) sessions.now }
         ensures { (other : ℕ) → Has self.new other ↔ (Has self.old other ⊎ Contains sessions.now other) }

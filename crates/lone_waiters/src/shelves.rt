@@ -1,4 +1,5 @@
-//! The watchers of all gauges, in sixteen shards.
+//! The watchers of all gauges, in sixteen shards. `Waiters` lists a session under its gauges here, and finds here the sessions that
+//! wait for a gauge that rose.
 ghost use Rattle.std.specs.Prelude.{◌≡◌, ◌≢◌, ℕ, ◌<◌, ◌≤◌, ◌/◌, ◌↔◌, ◌⊎◌, IfNone, IfOk, IfSome, Some, filter, length, not, slice_get, slice_index};
 ghost use Rattle.watch_lists.specs.Watches.{IsListed, is_of, keys_of, size_of};
 ghost use Rattle.lone_waiters.specs.Index.{IsWatching};
@@ -10,18 +11,19 @@ use std::alloc::Global;
 use std::marker::Model;
 use watch_lists::{Shard, Watch};
 
-/// How many gauges there can be: their numbers are below it.
+/// How many gauges there can be. Their numbers are below it.
 pub const GAUGES: u32 = 192;
 
-/// A gauge stands in the shard of its number modulo this.
+/// A gauge is in the shard of its number modulo this.
 const SHARDS: u32 = 16;
 
+/// How many gauges a shard has.
 const KEYS: u32 = 12;
 
-/// A shard that holds so many watchers is purged before the next is listed.
+/// A shard with this many watchers is purged before the next is listed.
 const FULL: u32 = 500;
 
-/// The shards, in which the watchers of all gauges stand.
+/// The watchers of all gauges.
 #[derive(Debug, Drop)]
 pub(crate) struct Shelves {
     shards: Vec<Shard>,
@@ -39,7 +41,7 @@ impl Model for Shelves {
     ghost invariant = { λ s. AreShelved s.shards.items };
 }
 
-// Purges a shard that is full. `live` has the generation of each session.
+// Purges the shard if it is full. `live` has the generation of each session.
 fn make_room(shard: &mut Shard, live: &[u32])
     requires ids { shard.old.ids ≡ SESSIONS }
     requires live { length live.now ≡ SESSIONS }
@@ -74,7 +76,7 @@ fn list_in(shard: &mut Shard, key: u32, session: u32, live: &[u32])
 }
 
 impl Shelves {
-    /// Nobody watches. Nothing takes memory after this.
+    /// Shards without watchers. No later call takes memory.
     pub(crate) fn new(alloc: Global) -> Result<Shelves, NoMemory>
         ensures { IfOk result (λ shelves. (gauge session generation : ℕ) → ¬ IsWatching shelves gauge session generation) }
     {
@@ -101,7 +103,7 @@ impl Shelves {
         list_in(shard, gauge / SHARDS, session, live);
     }
 
-    /// The watcher at a place of a gauge, in rising order of session. `None` exactly where there are no more.
+    /// The watcher of a gauge at a place, in rising order of session, and `None` exactly if there are no more.
     pub(crate) fn each(&self, gauge: u32, at: u32) -> Option<Watch>
         requires { gauge < GAUGES }
         ensures place { result ≡ slice_get (row_at self.now gauge) at }
@@ -117,7 +119,7 @@ impl Shelves {
         shard.each(gauge / SHARDS, at)
     }
 
-    /// Takes a stale watcher of a gauge out.
+    /// Removes a stale watcher of a gauge.
     pub(crate) fn drop_stale(&mut self, gauge: u32, stale: Watch)
         requires gauge { gauge < GAUGES }
         requires session { stale.id < SESSIONS }

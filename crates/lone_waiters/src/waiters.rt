@@ -1,4 +1,4 @@
-//! The index: who waits for what, and who is a suspect.
+//! The index that the one-thread broker searches after each line: which sessions wait for what, and which are suspects.
 ghost use Rattle.std.specs.Prelude.{◌≡◌, ◌≢◌, ℕ, ◌+◌, ◌^◌, ◌<◌, ◌≤◌, ◌↔◌, ◌⊎◌, All, IfNone, IfOk, IfSome, Some};
 ghost use Rattle.lone_waiters.specs.Sessions.{IsLeastFrom};
 ghost use Rattle.lone_waiters.specs.Index.{ComesBy, IsSuspect, WaitsFor, coming_of, generation_of, last_of, moment_of};
@@ -13,7 +13,7 @@ use std::alloc::Global;
 use std::marker::Model;
 use timing_wheel::{Due, Wheels};
 
-/// Who waits for what, of 64 sessions. Moments and deadlines are in milliseconds.
+/// What each of 64 sessions waits for. Moments and deadlines are in milliseconds.
 #[derive(Debug, Drop)]
 pub struct Waiters {
     shelves: Shelves,
@@ -36,7 +36,7 @@ impl Model for Waiters {
 }
 
 impl Waiters {
-    /// Nobody waits, and the moment is 0. Nothing takes memory after this.
+    /// An index in which no session waits, at moment 0. No later call takes memory.
     pub fn new(alloc: Global) -> Result<Waiters, NoMemory>
         ensures idle { IfOk result IsIdle }
         ensures suspects { IfOk result (λ w. (session : ℕ) → ¬ IsSuspect w session) }
@@ -55,7 +55,7 @@ impl Waiters {
     }
 
     /// The session waits for the gauges and the deadline of an operation, in place of what it waited for before. It is a
-    /// suspect where the deadline has come. `generation` is greater than any before of this session.
+    /// suspect if the deadline has come. `generation` is greater than any earlier one of this session.
     pub fn wait(&mut self, session: u32, generation: u32, op: &Op)
         requires session { session < SESSIONS }
         requires generation { last_of self.old session < generation }
@@ -75,7 +75,7 @@ impl Waiters {
         self.suspects.put(session, !is_ahead);
     }
 
-    /// A gauge has risen: who waits for it becomes a suspect.
+    /// A gauge has risen: every session that waits for it becomes a suspect.
     pub fn rise(&mut self, gauge: u32)
         requires { gauge < GAUGES }
         ensures suspects { (session : ℕ) → IsSuspect self.new session ↔ (IsSuspect self.old session ⊎ WaitsFor self.old session gauge) }
@@ -85,7 +85,7 @@ impl Waiters {
         walk(&mut self.shelves, &self.live, gauge, &mut self.suspects);
     }
 
-    /// The moment is t: whose deadline has come becomes a suspect.
+    /// The moment is t: every session whose deadline has come becomes a suspect.
     pub fn tick(&mut self, t: u64)
         requires { moment_of self.old ≤ t }
         ensures moment { moment_of self.new ≡ t }
@@ -99,7 +99,7 @@ impl Waiters {
         self.due.clear();
     }
 
-    /// The least suspect that is at least `from`, `None` exactly where there is none.
+    /// The least suspect that is at least `from`, and `None` exactly if there is none.
     pub fn least_suspect(&self, from: u32) -> Option<u32>
         ensures found { IfSome result (λ session. IsLeastFrom self.now.suspects from session) }
         ensures within { IfSome result (λ session. session < SESSIONS) }
@@ -108,7 +108,7 @@ impl Waiters {
         self.suspects.least_from(from)
     }
 
-    /// The session was looked at and isn't answerable: it is no suspect any more, and waits on.
+    /// The session was checked and isn't answerable: it is no longer a suspect, and still waits.
     pub fn clear(&mut self, session: u32)
         requires { session < SESSIONS }
         ensures suspects { (other : ℕ) → IsSuspect self.new other ↔ (IsSuspect self.old other × (other ≢ session)) }
@@ -118,7 +118,7 @@ impl Waiters {
         self.suspects.remove(session);
     }
 
-    /// The session waits no more, and is no suspect.
+    /// The session no longer waits, and is no suspect.
     pub fn done(&mut self, session: u32)
         requires { session < SESSIONS }
         ensures done { WaitsNoMore self.old self.new session }
@@ -131,7 +131,7 @@ impl Waiters {
         self.suspects.put(session, false);
     }
 
-    /// Law: who watches a gauge, has a deadline to come or is a suspect waits, and a deadline to come is past the moment.
+    /// Law: a session that watches a gauge, has a deadline to come or is a suspect waits, and a deadline to come is past the moment.
     pub fn who_waits(&self)
         ensures gauges { (session gauge : ℕ) → WaitsFor self.now session gauge → 1 ≤ generation_of self.now session }
         ensures coming { (session deadline : ℕ) → coming_of self.now session ≡ Some deadline → 1 ≤ generation_of self.now session }

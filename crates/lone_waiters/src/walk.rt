@@ -1,4 +1,4 @@
-//! Going through the watchers of a gauge, and through the gauges of an operation.
+//! The two loops of the index: over the gauges of an operation as a session begins to wait, and over the watchers of a gauge that rose.
 ghost use Rattle.std.specs.Prelude.{◌≡◌, ℕ, ◌<◌, ◌≤◌, ◌↔◌, ◌⊎◌, All, length, slice_index};
 ghost use Rattle.lone_waiters.specs.Sessions.{Has};
 ghost use Rattle.lone_waiters.specs.Index.{IsWatching};
@@ -24,7 +24,7 @@ pub(crate) fn list_all(shelves: &mut Shelves, live: &[u32], session: u32, needs:
     }
 }
 
-/// Takes the sessions that wait for a gauge into a set, and the watchers of older generations out of its list.
+/// Adds the sessions that wait for a gauge to a set, and removes the watchers of older generations from its list.
 pub(crate) fn walk(shelves: &mut Shelves, live: &[u32], gauge: u32, found: &mut SessionSet)
     requires live { length live.now ≡ SESSIONS }
     requires gauge { gauge < GAUGES }

@@ -10,9 +10,9 @@ use Rattle.kwire.specs.declared.request.Ask.TheVariants.{Produce, Fetch}
 use Rattle.kwire.specs.declared.request.Request.{Request}
 use Rattle.kwire.specs.Views.{ask_of}
 use Rattle.kwire.specs.declared.request.ProduceTopic.{ProduceTopic}
-use Rattle.kanswer.specs.Decisions.{Decision, Decides, ProduceDecides, produce_parts}
+use Rattle.kwire.specs.declared.request.FetchTopic.{FetchTopic}
+use Rattle.kanswer.specs.Decisions.{Decision, Decides, ProduceDecides, fetch_decisions, fetch_parts, produce_parts}
 use Rattle.audit.proofs.Laws.{on_ok}
-use Rattle.account_print.specs.Retells.{fetch_decisions}
 use Rattle.account_print.proofs.accepting.retell.Goals as goal
 
 pub returns-in-Produce : goal.returns-in-Produce
@@ -36,7 +36,7 @@ returns-in-Fetch c =
     let fits : SFits w32 c.in-Fetch.replica = search rules in
     let config = c.args.scene.now.config.now in
     let ask : c.args.request.now.ask ≡ Fetch c.in-Fetch.replica c.in-Fetch.max_wait c.in-Fetch.min_bytes c.in-Fetch.max_bytes c.in-Fetch.isolation c.in-Fetch.topics = sym (ap (λ (r : Request). r.ask) c.request.view_is) ∙ ap ask_of c.in-Fetch.is in
-    let ds : List Decision = fetch_decisions config (to_z w32 (of_z w32 c.in-Fetch.replica)) c.as_slice-in-Fetch.result.now in
-    let same : ds ≡ fetch_decisions config c.in-Fetch.replica c.in-Fetch.topics =
-    ap (λ (r : ℤ). fetch_decisions config r c.as_slice-in-Fetch.result.now) (to_z-of_z w32 c.in-Fetch.replica fits) ∙ ap (fetch_decisions config c.in-Fetch.replica) c.as_slice-in-Fetch.ensures in
+    let ds : List Decision = fetch_decisions config (to_z w32 (of_z w32 c.in-Fetch.replica)) (fetch_parts c.as_slice-in-Fetch.result.now) in
+    let same : ds ≡ fetch_decisions config c.in-Fetch.replica (fetch_parts c.in-Fetch.topics) =
+    ap (λ (r : ℤ). fetch_decisions config r (fetch_parts c.as_slice-in-Fetch.result.now)) (to_z-of_z w32 c.in-Fetch.replica fits) ∙ ap (λ (ts : List FetchTopic). fetch_decisions config c.in-Fetch.replica (fetch_parts ts)) c.as_slice-in-Fetch.ensures in
     on_ok c.retell_fetch.result c.retell_fetch.ensures (λ k. (ds, subst (λ (a : Ask). Decides config a ds) (sym ask) same, k))

@@ -1,13 +1,13 @@
 use Rattle.std.proofs.Common.{◌≡◌, ◌<◌, ℕ, ℤ, pos, sym, List, [], ◌∷◌, length, get_or, take, ◌+◌, ap, subst, ◌∙◌, arith}
 use Rattle.std.proofs.lemmas.Int.{to_z-of_z}
+use Rattle.std.proofs.lemmas.List.{get_or_default}
 use Rattle.std.specs.Int.{w32}
 use Rattle.kwire.specs.declared.request.FetchPart.{FetchPart}
 use Rattle.kwire.specs.declared.request.FetchTopic.{FetchTopic}
-use Rattle.kanswer.specs.Decisions.{fetch_decision}
+use Rattle.kanswer.specs.Decisions.{fetch_decision, fetch_decisions, fetch_parts}
+use Rattle.kanswer.proofs.Laws.{fetch_next}
 use Rattle.kwire.specs.Configuration.{part_of}
-use Rattle.account_print.specs.Retells.{Retells, fetch_decisions}
-use Rattle.account_print.proofs.NextParts.{same_item}
-use Rattle.account_print.proofs.NextParts.{fetch_next}
+use Rattle.account_print.specs.Retells.{Retells}
 use Rattle.account_print.proofs.ByPoints.{fetched_on}
 use Rattle.account_print.proofs.accepting.retell_fetch_topic.Goals as goal
 
@@ -22,13 +22,13 @@ loop-asked-preserved c =
     let none : FetchPart = record { index = pos 0; offset = pos 0; most = pos 0 } in
     let part : FetchPart = get_or c.as_slice-asked-items.result.now i none in
     let within : i < length topic.parts = omega (arith, c.loop-asked-test.true, ap length items) in
-    let is : part ≡ get_or topic.parts i part = ap (λ (xs : List FetchPart). get_or xs i none) items ∙ same_item topic.parts i none part within in
+    let is : part ≡ get_or topic.parts i part = ap (λ (xs : List FetchPart). get_or xs i none) items ∙ get_or_default topic.parts i none part within in
     let same = to_z-of_z w32 c.args.replica c.ranges.replica in
     let here = c.loop-asked.retold in
     let next = c.retell_fetch_part.new.retold in
     let d = subst (λ (r : ℤ). Retells pasts points (fetch_decision config r (c.topic.inside.name.now, part) (part_of config c.topic.inside.name.now part.index) ∷ []) here next) same c.in_ok-retell_fetch_part.ensures in
-    let before = subst (λ (r : ℤ). Retells pasts points (fetch_decisions config r (record { name = topic.name; parts = take i topic.parts } ∷ [])) c.args.retold.now here) same c.loop-asked.invariant in
+    let before = subst (λ (r : ℤ). Retells pasts points (fetch_decisions config r (fetch_parts (record { name = topic.name; parts = take i topic.parts } ∷ []))) c.args.retold.now here) same c.loop-asked.invariant in
     let one = subst (λ (name : List ℕ). Retells pasts points (fetch_decision config c.args.replica (name, part) (part_of config name part.index) ∷ []) here next) (ap (λ (t : FetchTopic). t.name) c.topic.view_is) d in
-    subst (λ (r : ℤ). Retells pasts points (fetch_decisions config r (record { name = topic.name; parts = take (i + 1) topic.parts } ∷ [])) c.args.retold.now next) (sym same)
+    subst (λ (r : ℤ). Retells pasts points (fetch_decisions config r (fetch_parts (record { name = topic.name; parts = take (i + 1) topic.parts } ∷ []))) c.args.retold.now next) (sym same)
     (fetched_on config c.args.replica pasts points (record { name = topic.name; parts = take i topic.parts } ∷ []) (record { name = topic.name; parts = part ∷ [] } ∷ []) (record { name = topic.name; parts = take (i + 1) topic.parts } ∷ [])
     c.args.retold.now here next (fetch_next topic.name topic.parts i part within is) before one)

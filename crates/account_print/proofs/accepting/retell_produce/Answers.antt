@@ -1,5 +1,5 @@
 use Rattle.std.proofs.Common.{[], ◌∷◌, ◌+◌, take, refl, arith}
-use Rattle.account_print.proofs.NextParts.{produce_next_topic}
+use Rattle.kanswer.proofs.Laws.{produce_next_topic}
 use Rattle.account_print.proofs.ByPoints.{produced_none, produced_on}
 use Rattle.account_print.proofs.accepting.retell_produce.Goals as goal
 

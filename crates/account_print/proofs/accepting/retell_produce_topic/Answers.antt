@@ -1,7 +1,7 @@
 use Rattle.std.proofs.Common.{◌≡◌, ◌+◌, ℕ, List, [], ◌∷◌, length, get_or, take, refl, ap, subst, ◌∙◌, arith}
 use Rattle.kwire.specs.declared.request.ProducePart.{ProducePart}
 use Rattle.kwire.specs.declared.request.ProduceTopic.{ProduceTopic}
-use Rattle.account_print.proofs.NextParts.{produce_next}
+use Rattle.kanswer.proofs.Laws.{produce_next}
 use Rattle.account_print.specs.Retells.{RetellsProduce}
 use Rattle.account_print.proofs.ByPoints.{produced_none, produced_on}
 use Rattle.account_print.proofs.accepting.retell_produce_topic.Goals as goal

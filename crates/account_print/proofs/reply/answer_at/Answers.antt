@@ -8,11 +8,11 @@ use Rattle.account_print.proofs.reply.answer_at.Goals as goal
 
 pub returns-clause-framed : goal.returns-clause-framed
 returns-clause-framed c =
-    let config = c.args.config.now in
+    let config = c.args.scene.now.config.now in
     let request = c.args.request.now in
     let accepted = c.args.accepted.now in
     let readings = c.in_ok-readings.readings in
     if_ok_then c.answer.result c.answer.ensures (λ reply e shown are.
     let read = c.in_ok-readings.ensures.read shown are in
     subst IsSpellable (sym (e shown (subst (λ (l : List Reading). AreReadings request.ask accepted l shown) (sym c.as_slice.ensures) read)))
-    (answer_spellable config request c.requires.asked.0 accepted readings shown c.requires.declared c.requires.asked.1 read c.in_ok-readings.ensures.room))
+    (answer_spellable config request c.requires.asked.0 accepted readings shown c.parts.ensures.declared c.requires.asked.1 read c.in_ok-readings.ensures.room))

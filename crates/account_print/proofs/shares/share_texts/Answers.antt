@@ -13,7 +13,7 @@ map_chunks-requires-clause-accepts g c κs within = λ start p chunk.
     let account = c.args.account.now in
     let is = chunk.value ∙ ap (λ (ps : List (List Transcript)). take c.args.size (drop start ps)) c.as_slice.ensures in (
       subst (λ (ps : List (List Transcript)). AllByRecursion (IsTold account) (sessions_in ps)) (sym is) (share_so (IsTold account) account.passes c.args.size start c.requires.told),
-      (c.requires.logs, (c.requires.pasts, c.requires.declared)),
+      (c.requires.logs, c.requires.pasts),
     )
 
 pub returns : goal.returns

@@ -7,4 +7,4 @@ loop-transcript-preserved c =
     let transcripts = c.args.transcripts.now in
     let i = c.loop-transcript.transcript-index in
     let transcript = c.transcript-item.result in
-    next_session c.args.account.now transcripts i transcript c.args.out.now c.loop-transcript.out c.put_session.new.out (item_there transcripts i transcript c.loop-transcript-test.true c.transcript-item.is) c.loop-transcript.invariant c.in_ok-put_session.ensures
+    next_session c.args.teller.now.account.now transcripts i transcript c.args.out.now c.loop-transcript.out c.put_session.new.out (item_there transcripts i transcript c.loop-transcript-test.true c.transcript-item.is) c.loop-transcript.invariant c.in_ok-put_session.ensures

@@ -8,7 +8,7 @@ use Rattle.account_print.proofs.telling.put_passes.Goals as goal
 
 pub put_pass-requires-clause-told : goal.put_pass-requires-clause-told
 put_pass-requires-clause-told c =
-    let account = c.args.account.now in
+    let account = c.args.teller.now.account.now in
     let passes = c.args.passes.now in
     let i = c.loop-transcripts.transcripts-index in
     let pass = c.transcripts-item.result in
@@ -17,7 +17,7 @@ put_pass-requires-clause-told c =
 
 pub loop-transcripts-preserved : goal.loop-transcripts-preserved
 loop-transcripts-preserved c =
-    let account = c.args.account.now in
+    let account = c.args.teller.now.account.now in
     let passes = c.args.passes.now in
     let i = c.loop-transcripts.transcripts-index in
     let pass = c.transcripts-item.result in

@@ -4,4 +4,4 @@ use Rattle.account_print.proofs.Tellings.{HaveTold}
 use Rattle.account_print.proofs.telling.put_passes.Given as goal
 
 abbrev pub invariant-loop-transcripts : goal.invariant-loop-transcripts
-invariant-loop-transcripts l = HaveTold l.account (sessions_in (take l.transcripts-index l.passes)) l.fn.out l.out
+invariant-loop-transcripts l = HaveTold l.teller.account.now (sessions_in (take l.transcripts-index l.passes)) l.fn.out l.out

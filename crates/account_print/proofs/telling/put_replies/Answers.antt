@@ -7,4 +7,4 @@ loop-call-preserved c =
     let calls = c.args.calls.now in
     let i = c.loop-call.call-index in
     let call = c.call-item.result in
-    next_call c.args.account.now c.args.session calls i call c.args.out.now c.loop-call.out c.put_reply.new.out (item_there calls i call c.loop-call-test.true c.call-item.is) c.loop-call.invariant c.in_ok-put_reply.ensures
+    next_call c.args.teller.now.account.now c.args.session calls i call c.args.out.now c.loop-call.out c.put_reply.new.out (item_there calls i call c.loop-call-test.true c.call-item.is) c.loop-call.invariant c.in_ok-put_reply.ensures

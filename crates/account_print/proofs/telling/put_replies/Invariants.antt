@@ -3,4 +3,4 @@ use Rattle.account_print.proofs.Tellings.{HavePut}
 use Rattle.account_print.proofs.telling.put_replies.Given as goal
 
 abbrev pub invariant-loop-call : goal.invariant-loop-call
-invariant-loop-call l = HavePut l.account l.session (take l.call-index l.calls) l.fn.out l.out
+invariant-loop-call l = HavePut l.teller.account.now l.session (take l.call-index l.calls) l.fn.out l.out

@@ -13,6 +13,6 @@ returns c =
     let session = c.args.session in
     let reply = c.in_ok-reply.reply in
     on_ok c.put_reply_line.result c.put_reply_line.ensures.ok (λ e.
-    replies_one c.args.account.now session c.args.call.now reply before c.put_reply_line.new.out (sym c.is_answered.ensures ∙ c.if-not-is_answered.false) c.in_ok-reply.ensures.reply
+    replies_one c.args.teller.now.account.now session c.args.call.now reply before c.put_reply_line.new.out (sym c.is_answered.ensures ∙ c.if-not-is_answered.false) c.in_ok-reply.ensures.reply
     (e ∙ ap (λ (bytes : List ℕ). before ++ line_of (codes "reply" ∷ decimal session ∷ encode_lower bytes ∷ [])) (c.as_slice.ensures ∙ c.in_ok-frame.ensures)
     ∙ ap (λ (l : List ℕ). before ++ l) (sym (append-nil (reply_line session reply)))))

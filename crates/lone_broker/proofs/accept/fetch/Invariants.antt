@@ -1,10 +1,11 @@
 use Rattle.std.proofs.Common.{◌≡◌, map, take}
 use Rattle.kwire.specs.Configuration.{followers_of}
-use Rattle.lone_broker.specs.Carried.{IsCarried, fetch_decisions}
+use Rattle.kanswer.specs.Decisions.{fetch_decisions, fetch_parts}
+use Rattle.lone_broker.specs.Carried.{IsCarried}
 use Rattle.lone_broker.proofs.accept.fetch.Given as goal
 
 abbrev pub invariant-loop-topic : goal.invariant-loop-topic
 invariant-loop-topic l = record {
   followers : map (λ h. h.followers) l.parts ≡ followers_of l.call.config.now.topics;
-  carried : IsCarried l.call.who.by l.call.who.seq (fetch_decisions l.call.config.now l.replica (take l.topic-index l.topics)) l.fn.parts l.parts l.fn.came l.came;
+  carried : IsCarried l.call.who.by l.call.who.seq (fetch_decisions l.call.config.now l.call.replica (fetch_parts (take l.topic-index l.topics))) l.fn.parts l.parts l.fn.came l.came;
 }

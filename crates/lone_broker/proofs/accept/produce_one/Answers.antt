@@ -5,7 +5,9 @@ use mir.Val.{SFits}
 use Rattle.kbatch.specs.Kept.{count_of}
 use Rattle.kanswer.specs.declared.accepted.Accepted.TheVariants.{Refused}
 use Rattle.kanswer.specs.Decisions.{AskLog, Refuse, append_outcome}
-use Rattle.lone_broker.proofs.DecisionSteps.{on_ok, same_item, refusal_carried, entered_carried}
+use Rattle.std.proofs.lemmas.List.{get_or_default}
+use Rattle.audit.proofs.Laws.{on_ok}
+use Rattle.lone_broker.proofs.DecisionSteps.{refusal_carried, entered_carried}
 use Rattle.lone_broker.proofs.accept.produce_one.Goals as goal
 
 pub returns-in-Ok : goal.returns-in-Ok
@@ -20,7 +22,7 @@ returns-in-Ok c =
     on_ok c.put.result c.put.ensures (λ e. (
       AskLog number outcome,
       c.in-Ok.ensures.put,
-      entered_carried call.who.by call.who.seq number parts _ h c.put.new.log outcome c.args.came.now c.put.new.came within (same_item parts number c.index-parts-number.result h within) e refl,
+      entered_carried call.who.by call.who.seq number parts _ h c.put.new.log outcome c.args.came.now c.put.new.came within (get_or_default parts number c.index-parts-number.result h within) e refl,
     ))
 
 pub returns-in-Err : goal.returns-in-Err

@@ -1,6 +1,7 @@
 use Rattle.kbatch.specs.Kept.{count_of}
 use Rattle.kanswer.specs.Decisions.{append_outcome}
-use Rattle.lone_broker.proofs.DecisionSteps.{on_ok, entered_noted}
+use Rattle.audit.proofs.Laws.{on_ok}
+use Rattle.lone_broker.proofs.DecisionSteps.{entered_noted}
 use Rattle.lone_broker.proofs.accept.put.Goals as goal
 
 pub returns : goal.returns

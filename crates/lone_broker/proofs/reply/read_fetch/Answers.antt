@@ -1,6 +1,5 @@
-use Rattle.std.proofs.Common.{◌<◌, arith, length, ap, ◌∙◌, to_z, of_z}
+use Rattle.std.proofs.Common.{◌<◌, arith, length, ap, ◌∙◌}
 use Rattle.kwire.specs.declared.request.FetchTopic.{FetchTopic}
-use Rattle.std.specs.Int.{w32}
 use Rattle.lone_broker.proofs.ReadForReply.{topic_size, topic_read}
 use Rattle.lone_broker.proofs.reply.read_fetch.Goals as goal
 
@@ -13,7 +12,7 @@ loop-topic-preserved c =
     let parts = ap (λ (topic : FetchTopic). topic.parts) c.topic.view_is in
     record {
       size = omega (arith, topic_size c.args.topics.now i t lt c.topic-item.is, c.len.ensures, ap length parts);
-      read = topic_read c.args.parts.now (to_z w32 (of_z w32 c.args.replica)) c.args.topics.now c.as_slice.result.now c.args.accepted.now i c.loop-topic.from c.len.result t c.loop-topic.budget c.read_topic.new.budget c.loop-topic.readings c.read_topic.new.readings _ lt c.topic-item.is (c.as_slice.ensures ∙ parts) (c.len.ensures ∙ ap length parts) d.read d.left c.loop-topic.invariant.read;
+      read = topic_read c.args.reader.now.parts.now c.args.reader.now.replica c.args.topics.now c.as_slice-asked.result.now c.args.accepted.now i c.loop-topic.from c.len.result t c.loop-topic.budget c.read_topic.new.budget c.loop-topic.readings c.read_topic.new.readings _ lt c.topic-item.is (c.as_slice-asked.ensures ∙ parts) (c.len.ensures ∙ ap length parts) d.read d.left c.loop-topic.invariant.read;
       offsets = d.offsets c.loop-topic.invariant.offsets;
       room = omega arith;
     }

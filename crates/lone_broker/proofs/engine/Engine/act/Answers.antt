@@ -7,10 +7,10 @@ use Rattle.kwire.specs.declared.frame.Frame.TheVariants.{NotYet, TooLong}
 use Rattle.audit.specs.declared.account.SessionEnd.TheVariants.{FrameTooLong}
 use Rattle.broker_spec.specs.Board.{Seat, seat_at}
 use Rattle.broker_spec.specs.Acting.{end_of_input}
-use Rattle.lone_broker.proofs.DecisionSteps.{on_ok}
+use Rattle.audit.proofs.Laws.{on_ok}
 use Rattle.lone_broker.proofs.Standing.{seat_shown}
 use Rattle.lone_broker.proofs.Steps.{ended_acted}
-use Rattle.lone_broker.proofs.Taking.{acts_at_end, acts_too_long, ends_acting, short_front}
+use Rattle.lone_broker.proofs.Taking.{acts_at_end, acts_too_long, ends_acting}
 use Rattle.lone_broker.proofs.engine.Engine.act.Goals as goal
 
 pub take_frame-requires-clause-whole : goal.take_frame-requires-clause-whole
@@ -23,7 +23,7 @@ take_frame-requires-clause-whole c =
 
 pub end_of_input-end-requires : goal.end_of_input-end-requires
 end_of_input-end-requires c =
-    omega (arith, c.left.ensures, short_front c.index-as_slice-session.result.inbox (sym c.front.ensures ∙ c.in-NotYet.is))
+    ap next_frame_of c.left.ensures ∙ sym c.front.ensures ∙ c.in-NotYet.is
 
 pub returns-in-NotYet-clause-acts : goal.returns-in-NotYet-clause-acts
 returns-in-NotYet-clause-acts c =
@@ -33,7 +33,7 @@ returns-in-NotYet-clause-acts c =
     let seat = seat_shown kept _ c.as_slice.result.now s c.index-as_slice-session.result c.self.view_is c.as_slice.ensures sat c.index-as_slice-session.is in
     let none : next_frame_of (seat_at kept.board s).inbox ≡ NotYet = ap (λ (x : Seat). next_frame_of x.inbox) seat ∙ sym c.front.ensures ∙ c.in-NotYet.is in
     let end : c.end_of_input-end.result ≡ end_of_input (length (seat_at kept.board s).inbox) =
-    c.end_of_input-end.ensures ∙ ap end_of_input (c.left.ensures ∙ ap (λ (x : Seat). length x.inbox) (sym seat)) in
+    c.end_of_input-end.ensures.end ∙ ap end_of_input (ap length c.left.ensures ∙ ap (λ (x : Seat). length x.inbox) (sym seat)) in
     on_ok c.end_session.result c.end_session.ensures.ended (λ turns.
     ends_acting kept c.end_session.new.self s c.end_of_input-end.result c.args.out.now c.end_session.new.out (λ waiting are. acts_at_end kept waiting s c.end_of_input-end.result none end) turns)
 

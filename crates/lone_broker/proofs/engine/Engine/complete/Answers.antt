@@ -1,4 +1,4 @@
-use Rattle.lone_broker.proofs.DecisionSteps.{on_ok}
+use Rattle.audit.proofs.Laws.{on_ok}
 use Rattle.lone_broker.proofs.Answering.{answers}
 use Rattle.lone_broker.proofs.engine.Engine.complete.Goals as goal
 

@@ -3,7 +3,7 @@ use Rattle.broker_spec.specs.Board.{next_call, seat_at}
 use Rattle.broker_spec.specs.Turns.{ended}
 use Rattle.lone_broker.specs.Kept.{Kept, TurnsBy}
 use Rattle.lone_broker.proofs.Bringing.{ended_seat, ended_turns}
-use Rattle.lone_broker.proofs.DecisionSteps.{on_ok}
+use Rattle.audit.proofs.Laws.{on_ok}
 use Rattle.lone_broker.specs.Steps.{IsReseated}
 use Rattle.lone_broker.proofs.Standing.{desk_changed}
 use Rattle.lone_broker.proofs.Steps.{is_reseated, no_less}

@@ -11,7 +11,8 @@ use Rattle.broker_spec.specs.Board.{Seat, next_call, seat_at}
 use Rattle.lone_broker.specs.Desks.{front_body, next_of}
 use Rattle.lone_broker.specs.Handled.{IsHandled}
 use Rattle.lone_broker.specs.Kept.{Kept, TurnsBy}
-use Rattle.lone_broker.proofs.DecisionSteps.{on_ok, on_ok_both}
+use Rattle.audit.proofs.Laws.{on_ok}
+use Rattle.lone_broker.proofs.DecisionSteps.{on_ok_both}
 use Rattle.lone_broker.proofs.Standing.{all_written, moved, seat_shown}
 use Rattle.lone_broker.specs.Steps.{IsActed}
 use Rattle.lone_broker.proofs.Steps.{ended_acted, handled_acted}
