@@ -196,6 +196,7 @@ module _ (broker : BrokerView) (passes : List PassView) (logs : List LogPassView
       pub is_account : IsAccountOf broker passes account
       is_account = record {
         lawful = subst IsLawful (sym account_is) (lawful broker passes stand made topics followers finals clock numbers from_passes below);
+        stood = all_stand;
         config = config_is;
         goes_on = all_of (λ (pass : PassView). GoesOn broker.config pass.logs.parts pass.logs.clock account) passes (λ i pass at.
             account_goes pass (came broker passes stand made topics followers finals clock numbers from_passes i pass at));

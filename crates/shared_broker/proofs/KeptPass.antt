@@ -1,5 +1,5 @@
 -- A pass whose request waits: it was polled, and still waits or is completed.
-use Rattle.std.proofs.Common.{◌≡◌, ℕ, suc, ◌+◌, ◌≤◌, false, Bool, cond, eqb, List, [], ◌∷◌, ◌++◌, length, Option, Some, None, Result, Ok, Err, IsSome, refl, sym, ap, subst, ◌∙◌, arith}
+use Rattle.std.proofs.Common.{◌≡◌, ℕ, suc, ◌+◌, ◌-◌, ◌≤◌, ◌<◌, get_or, false, Bool, cond, eqb, List, [], ◌∷◌, ◌++◌, length, Option, Some, None, Result, Ok, Err, IsSome, refl, sym, ap, subst, ◌∙◌, arith}
 use Rattle.std.specs.Prelude.{count_by, option_to_list}
 use Rattle.std.proofs.lemmas.List.{length-append}
 use Rattle.kbytes.specs.declared.no_memory.NoMemory.{NoMemory}
@@ -7,6 +7,7 @@ use Rattle.partlog.specs.declared.clock_event.ClockEvent.{ClockEvent}
 use Rattle.partlog.specs.History.{History}
 use Rattle.audit.specs.declared.account.Call.{Call}
 use Rattle.audit.specs.declared.account.CallHow.TheVariants.{Parked as Waits}
+use Rattle.audit.specs.declared.account.TheConstants.{MOST_CALLS}
 use Rattle.audit.specs.declared.account.Transcript.{Transcript}
 use Rattle.audit.specs.Histories.{calls_in}
 use Rattle.audit.specs.IsLawful.{is_won_as, is_won_by}
@@ -30,12 +31,23 @@ use Rattle.shared_broker.specs.declared.collecting.Collected.{Collected}
 use Rattle.shared_broker.specs.declared.parked.Parked.{Parked}
 use Rattle.shared_broker.specs.Collecting.{HasCollected, HasCompleted}
 use Rattle.shared_broker.specs.Passes.{BrokerView, PassView, book_of, calls_made}
-use Rattle.shared_broker.specs.Serving.{HasEndedCall, HasFinished, IsLastKept, WaitsAsLast, with_last}
+use Rattle.shared_broker.specs.Serving.{HasEndedCall, HasFinished, IsLastKept, with_last}
 use Rattle.shared_broker.specs.Standing.{HoldsBook, IsGoing, IsKeptOf, IsOfGoing, Sits, Stands}
 use Rattle.shared_logs.specs.Coming.{HasStepped}
 use Rattle.shared_logs.specs.Seen.{HasSeen}
 use Rattle.shared_logs.specs.Shared.{LogPassView, SharedView, followers_in}
 use Rattle.shared_broker.proofs.Enlisted.{taken_more, won_as}
+use Rattle.shared_broker.proofs.LastCalls.{calls_are, lent_last, set_back, set_last}
+
+-- ---- a call that waits
+
+-- it is the last call of the open transcript, after that many calls of the transcripts before
+pub record WaitsAsLast (config : Configuration) (first : ℕ) (parked : Parked) (pass : LogPassView) (going : Option Transcript)
+    (front : List Transcript) (transcript : Transcript) (call : Call) : Type 0 where
+  pub last : going ≡ Some (with_last transcript call)
+  pub first_is : first ≡ length (calls_in front)
+  pub few : first + length transcript.calls < MOST_CALLS
+  pub kept : IsKeptOf (book_amid (amid config front transcript pass call)) parked
 
 -- ---- what a poll does
 
@@ -55,7 +67,7 @@ module _ (a b : LogPassView) (step : HasStepped a b) (config : Configuration) wh
       ∙ ap (λ (hs : List History). let book : Book = record { config = config; number = b.number; parts = hs; clock = a.clock; transcripts = others } in book) (sym step.parts)
       ∙ ap (λ (es : List ClockEvent). let book : Book = record { config = config; number = b.number; parts = b.parts; clock = es; transcripts = others } in book) (sym step.clock)
 
--- it waits still
+-- it still waits
 pub still_stands : (pass : PassView) → Stands pass → (new : LogPassView) → HasStepped pass.logs new → new.seat ≡ found_open pass.logs.seat → HasSeen new → Stands (record pass { logs = new })
 still_stands pass stood new step found seen =
     let same : caller_now new.seat ≡ caller_now pass.logs.seat = ap caller_now found ∙ polled_open pass.logs.seat in
@@ -246,3 +258,36 @@ module _ (pass : PassView) (stood : Stands pass) (parked : Parked) (waits : pass
         cut_collected =
             subst (HasCollected Collected.NoMemory pass) (final_is cut.0 cut.1)
             (completed done t new cut.0 cut.2.0 (λ winner. ap (is_won_as winner) cut.2.1) polls, cut.2.1)
+
+      pub finished_stands : (r : Result (List ℕ) NoMemory) → IsEnded r → HasSeen new → Stands (record pass { logs = new; going = going; waits = now })
+      finished_stands (Ok bytes) ended seen = told_stands bytes ended seen
+      finished_stands (Err e) ended seen = cut_stands e ended seen
+
+-- ---- the call that was lent, by its place among the calls
+
+module _ (config : Configuration) (first : ℕ) (parked : Parked) (polled : LogPassView) (open_one : Option Transcript) (going : Transcript) (is : open_one ≡ Some going) (lent : List Call) (lent_is : lent ≡ going.calls)
+    (n : ℕ) (n_is : n ≡ length going.calls) (one : Call) (at : one ≡ get_or lent (length lent - 1) one) where
+  seq_last : (front : List Transcript) (transcript : Transcript) (call : Call) → WaitsAsLast config first parked polled open_one front transcript call → first + (n - 1) ≡ first + length transcript.calls
+  seq_last front transcript call w =
+      let size : length going.calls ≡ length transcript.calls + 1 =
+      ap (λ (cs : List Call). length cs) (calls_are open_one going is transcript call w.last) ∙ length-append transcript.calls (call ∷ []) in
+      omega (arith, size, n_is)
+
+  pub kept_last : (front : List Transcript) (transcript : Transcript) (call : Call) → WaitsAsLast config first parked polled open_one front transcript call
+      → IsLastKept config (first + (n - 1)) parked polled one front transcript
+  kept_last front transcript call w =
+      let before : length (calls_in front ++ transcript.calls) ≡ first + (n - 1) =
+      length-append (calls_in front) transcript.calls ∙ ap (λ (m : ℕ). m + length transcript.calls) (sym w.first_is) ∙ sym (seq_last front transcript call w) in
+      subst (λ (k : Call). IsLastKept config (first + (n - 1)) parked polled k front transcript) (sym (lent_last open_one going is transcript call w.last lent lent_is one at)) (before, w.kept)
+
+  pub ended_last : (new : LogPassView) (done : Done) (r : Result (List ℕ) NoMemory) (after : Call)
+      → HasFinished {E = NoMemory} config (first + (n - 1)) done (IsLastKept config (first + (n - 1)) parked polled one) r polled new one after
+      → (front : List Transcript) (transcript : Transcript) (call : Call) → WaitsAsLast config first parked polled open_one front transcript call
+      → (last : Call) × ((let o : Option Transcript = Some (set_back going lent after) in o) ≡ Some (with_last transcript last))
+      × HasFinished {E = NoMemory} config (first + length transcript.calls) done (IsLastKept config (first + length transcript.calls) parked polled call) r polled new call last
+  ended_last new done r after h front transcript call w = (
+    after,
+    set_last open_one going is transcript call w.last lent lent_is after,
+    subst (λ (k : Call). HasFinished {E = NoMemory} config (first + length transcript.calls) done (IsLastKept config (first + length transcript.calls) parked polled k) r polled new k after) (lent_last open_one going is transcript call w.last lent lent_is one at)
+        (subst (λ (m : ℕ). HasFinished {E = NoMemory} config m done (IsLastKept config m parked polled one) r polled new one after) (seq_last front transcript call w) h),
+  )

@@ -1,5 +1,5 @@
 -- A pass whose last call was served.
-use Rattle.std.proofs.Common.{◌≡◌, ℕ, List, Option, Some, None, Result, Ok, sym, ap, subst, ◌∙◌}
+use Rattle.std.proofs.Common.{◌≡◌, ℕ, ◌-◌, List, Option, Some, None, Result, Ok, get_or, length, sym, ap, subst, ◌∙◌}
 use Rattle.audit.specs.declared.account.Call.{Call}
 use Rattle.audit.specs.declared.account.Transcript.{Transcript}
 use Rattle.kbytes.specs.declared.no_memory.NoMemory.{NoMemory}
@@ -13,6 +13,7 @@ use Rattle.shared_broker.specs.Serving.{HasServed, IsWritten, WasWritten, fresh_
 use Rattle.shared_broker.specs.Standing.{Stands}
 use Rattle.shared_logs.specs.Seen.{HasSeen}
 use Rattle.shared_logs.specs.Shared.{LogPassView}
+use Rattle.shared_broker.proofs.LastCalls.{lent_last, set_back, set_last}
 use Rattle.shared_broker.proofs.PassStands.{handled_by, is_written, served_handled, served_stands, waits_by}
 
 module _ where
@@ -21,6 +22,16 @@ module _ where
   IsServed broker seq request pass new going r =
       (transcript : Transcript) (call : Call) → pass.going ≡ Some (with_last transcript call)
       → (after : Call) × (going ≡ Some (with_last transcript after)) × HasServed broker.config seq request (IsWritten broker.config seq request pass.logs call) r pass.logs new call after
+
+  -- from what the call was lent as
+  pub served_last : (broker : BrokerView) (seq : ℕ) (request : Request) (pass : PassView) (new : LogPassView) (r : Result Became NoMemory) (going : Transcript) → pass.going ≡ Some going
+      → (lent : List Call) → lent ≡ going.calls → (call after : Call) → call ≡ get_or lent (length lent - 1) call
+      → HasServed broker.config seq request (IsWritten broker.config seq request pass.logs call) r pass.logs new call after → IsServed broker seq request pass new (Some (set_back going lent after)) r
+  served_last broker seq request pass new r going is lent lent_is call after at h transcript one last = (
+    after,
+    set_last pass.going going is transcript one last lent lent_is after,
+    subst (λ (k : Call). HasServed broker.config seq request (IsWritten broker.config seq request pass.logs k) r pass.logs new k after) (lent_last pass.going going is transcript one last lent lent_is call at) h,
+  )
 
   pub served_as : (broker : BrokerView) (seq : ℕ) (request : Request) (pass : PassView) (new : LogPassView) (going : Option Transcript) (became as_this : Became) → became ≡ as_this
       → IsServed broker seq request pass new going (Ok became) → IsServed broker seq request pass new going (Ok as_this)

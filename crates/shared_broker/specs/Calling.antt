@@ -29,8 +29,8 @@ use Rattle.shared_broker.specs.declared.calling.Handled.{Handled}
 use Rattle.shared_broker.specs.declared.parked.Parked.{Parked}
 use Rattle.shared_broker.specs.Passes.{PassView, calls_made, made_with}
 
--- This call, of a frame that is this request, stands behind the earlier ones of the transcript that is going. What the pass has seen of the
--- histories goes on from what it had seen.
+-- This call, of a frame that is this request, comes after the earlier ones of the open transcript. What the pass has seen of the histories
+-- goes on from what it had seen.
 pub record HasCalled (frame : List ℕ) (old new : PassView) : Type 0 where
   pub transcript : Transcript
   pub call : Call
@@ -56,7 +56,7 @@ pub record IsRepliedTo (pass : PassView) (call : Call) (frame : List ℕ) : Type
   pub spelled : frame ≡ spelling reply
   pub replied : Carried pass.config pass.logs.parts pass.logs.clock (λ account. IsReplyOf account call reply)
 
--- how a call is told that this winner won
+-- how a call ends that this winner won
 abbrev pub how_by : How → ℕ → CallHow
 how_by How.Satisfied by = Satisfied by
 how_by How.Expired by = Expired by

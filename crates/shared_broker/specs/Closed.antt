@@ -26,6 +26,6 @@ gathered (one ∷ logs) (sheet ∷ sheets) = joined one sheet ∷ gathered logs 
 abbrev pub transcripts_in : Sheet → List Transcript
 transcripts_in sheet = sheet.ended ++ option_to_list sheet.going
 
--- the list of the sheet's number is that of its transcripts, as they are told
+-- the list of the sheet's number has its transcripts, as an account has them
 abbrev pub IsPutFrom : List (List Transcript) → Sheet → Type 0
 IsPutFrom passes sheet = slice_get passes sheet.number ≡ Some (map told (transcripts_in sheet))

@@ -12,12 +12,15 @@ use Rattle.purgatory.specs.Ends.{IsUntaken}
 use Rattle.room_core.specs.Numbers.{scanner_numbers}
 use Rattle.shared_broker.specs.declared.closing.BrokerEnd.{BrokerEnd}
 use Rattle.shared_broker.specs.Passes.{BrokerView, PassView, transcripts_of}
+use Rattle.shared_broker.specs.Standing.{Stands}
 use Rattle.shared_logs.specs.Closing.{in_room}
 
 -- The account is lawful. It is of the broker's topics; its histories go on from what each pass has seen, and its lists are the passes'
--- transcripts, by their numbers; there is a winner for each scanner and for each pass; and a moment is among its ticks exactly where a pass has ticked it.
+-- transcripts, by their numbers; there is a winner for each scanner and for each pass; and a moment is among its ticks exactly if a pass has ticked it.
+-- Each pass was given back as a pass is between any two calls.
 pub record IsAccountOf (broker : BrokerView) (passes : List PassView) (account : Account) : Type 0 where
   pub lawful : IsLawful account
+  pub stood : All Stands passes
   pub config : account.config ≡ broker.config
   pub goes_on : All (λ (pass : PassView). GoesOn broker.config pass.logs.parts pass.logs.clock account) passes
   pub count : length account.passes ≡ length passes

@@ -6,7 +6,7 @@ pub mod Passes
 pub mod Standing
 -- the passes of a new broker
 pub mod Making
--- a transcript that is begun or ended, and a moment that is told
+-- a transcript that is begun or ended, and the clock that is moved
 pub mod Sessions
 -- what `handle` answers, and why
 pub mod Calling
@@ -18,7 +18,7 @@ pub mod Closing
 
 -- passes taken apart for the close
 pub mod Closed
--- a transcript takes its place behind those that are ended
+-- a transcript takes its place after those that are ended
 pub mod Moved
 -- a pass that is made
 pub mod Fresh

@@ -1,4 +1,4 @@
--- A transcript takes its place behind those that are ended.
+-- A transcript takes its place after those that are ended.
 use Rattle.std.specs.Prelude.{◌≡◌, ◌≤◌, ℕ, List, [], ◌∷◌, ◌++◌, Option, Some, None, length}
 use Rattle.audit.specs.declared.account.SessionEnd.{SessionEnd}
 use Rattle.audit.specs.declared.account.TheConstants.{MOST_CALLS}
@@ -7,7 +7,7 @@ use Rattle.audit.specs.declared.account.Transcript.{Transcript}
 abbrev pub HasFewCalls : Option Transcript → Type 0
 HasFewCalls going = (transcript : Transcript) → going ≡ Some transcript → length transcript.calls ≤ MOST_CALLS
 
--- the one that was going, with so many calls, is ended so
+-- the open one, with that many calls, is ended in this way
 pub record HasMoved (end : SessionEnd) (calls : ℕ) (ended : List Transcript) (going : Option Transcript) (later : List Transcript) (left : Option Transcript) : Type 0 where
   pub transcript : Transcript
   pub was : going ≡ Some transcript

@@ -7,7 +7,6 @@ use Rattle.audit.specs.declared.account.Point.{Point}
 use Rattle.audit.specs.declared.account.TheConstants.{MOST_CALLS}
 use Rattle.audit.specs.declared.account.Transcript.{Transcript}
 use Rattle.audit.specs.Fits.{IsReplyOf}
-use Rattle.audit.specs.Histories.{calls_in}
 use Rattle.audit.specs.IsLawful.{is_won_as}
 use Rattle.shared_logs.specs.Amid.{amid}
 use Rattle.shared_logs.specs.Left.{AreLeft}
@@ -53,7 +52,7 @@ fresh_call frame = record { frame = frame; accept = []; finish = []; how = Cut N
 abbrev pub with_last : Transcript → Call → Transcript
 with_last transcript call = record transcript { calls = transcript.calls ++ call ∷ [] }
 
--- A call of this frame stands behind the others of the transcript that is going. The frame is this request, of which something is decided.
+-- A call of this frame was added to the open transcript. The frame is this request, of which something is decided.
 pub record WasWritten (frame : List ℕ) (request : Request) (seq : ℕ) (old new : PassView) : Type 0 where
   pub stood : Stands old
   pub transcript : Transcript
@@ -67,7 +66,7 @@ pub record WasWritten (frame : List ℕ) (request : Request) (seq : ℕ) (old ne
   pub decided : Decides old.config request.ask decisions
   pub new_is : new ≡ record old { going = Some (with_last transcript (fresh_call frame)) }
 
--- ---- what stands before a step of the call, behind these transcripts, as the last of this one
+-- ---- what is true before a step of the call, which is the last of this transcript, after these ones
 
 -- the call of this number was written down, and nothing of it is carried out
 pub record IsWritten (config : Configuration) (seq : ℕ) (request : Request) (pass : LogPassView) (call : Call)
@@ -97,15 +96,7 @@ abbrev pub IsLastKept : Configuration → ℕ → Parked → LogPassView → Cal
 IsLastKept config seq parked pass call front transcript =
     (seq_of (amid config front transcript pass call) ≡ seq) × IsKeptOf (book_amid (amid config front transcript pass call)) parked
 
--- it is the last call of the transcript that is going, and so many calls stand before that
-pub record WaitsAsLast (config : Configuration) (first : ℕ) (parked : Parked) (pass : LogPassView) (going : Option Transcript)
-    (front : List Transcript) (transcript : Transcript) (call : Call) : Type 0 where
-  pub last : going ≡ Some (with_last transcript call)
-  pub first_is : first ≡ length (calls_in front)
-  pub few : first + length transcript.calls < MOST_CALLS
-  pub kept : IsKeptOf (book_amid (amid config front transcript pass call)) parked
-
--- ---- what stands after it
+-- ---- what is true after it
 
 -- the pass saw more of the histories, and its seat made steps
 pub record HasGoneOn (old new : LogPassView) : Type 0 where
@@ -128,7 +119,7 @@ pub record HasSat (how : CallHow) (waits : Option Parked) (old new : CallerView)
   pub opened : (caller_now new).generation ≤ (caller_now old).generation + 1
   pub taken : (by : ℕ) → taken_from by new ≡ taken_from by old + (if is_won_as by how then 1 else 0)
 
--- whatever transcripts the call stood behind, the book holds
+-- whatever transcripts came before the call, the book holds
 pub record HasCome (config : Configuration) (Was : List Transcript → Transcript → Type 0) (waits : Option Parked)
     (old new : LogPassView) (before after : Call) : Type 0 where
   pub on : HasGoneOn old new

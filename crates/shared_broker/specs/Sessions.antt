@@ -1,4 +1,4 @@
--- A transcript is begun or ended, and the clock is told a moment.
+-- A transcript is begun or ended, and the clock is moved.
 use Rattle.std.specs.Prelude.{◌≡◌, ℕ, ◌≤◌, Bool, true, false, [], ◌∷◌, ◌++◌, Option, Some, None, length}
 use Rattle.audit.specs.declared.account.SessionEnd.{SessionEnd}
 use Rattle.audit.specs.declared.account.SessionEnd.TheVariants.{NoMemory}
@@ -20,7 +20,7 @@ abbrev pub is_cut_off : Option Transcript → Bool
 is_cut_off None = false
 is_cut_off (Some transcript) = last_is_cut transcript.calls
 
--- The transcript that was going is ended so, and stands behind the others.
+-- The open transcript is ended in this way, and comes after the others.
 pub record HasEnded (end : SessionEnd) (old new : PassView) : Type 0 where
   pub transcript : Transcript
   pub going : old.going ≡ Some transcript

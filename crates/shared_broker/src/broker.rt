@@ -1,3 +1,5 @@
+//! The broker and its making. A crate that runs sessions calls `Broker::make` first; the other calls on a broker are in the files beside this one,
+//! a file for each.
 ghost use Rattle.std.specs.Prelude.{◌≡◌, ◌≤◌, All, IfOk, map};
 ghost use Rattle.kwire.specs.Configuration.{followers_of};
 ghost use Rattle.kwire.specs.DeclaredTopics.{AreDeclared};
@@ -7,13 +9,13 @@ ghost use Rattle.shared_logs.specs.Shared.{followers_in};
 
 use crate::pass::Pass;
 use kbytes::{List, NoMemory};
-use kwire::Config;
+use kwire::{Config, MOST_PARTITIONS};
 use shared_logs::{LogPass, SharedLogs};
 use std::alloc::Global;
 use std::marker::Model;
 use std::snapshot::Snapshot;
 
-/// The broker. Threads share it, each with a pass of its own.
+/// The broker. Threads share it, each with passes of its own.
 #[derive(Drop)]
 pub struct Broker {
     pub(crate) alloc: Global,
@@ -80,19 +82,20 @@ fn fresh_all(alloc: Global, config: &Config, seats: List<LogPass>) -> Result<Lis
 }
 
 impl Broker {
-    /// A broker with these topics, which are such as may be declared, empty partitions and a clock at 0; and so many passes, in the order of
-    /// their numbers. It is refused where no memory is left.
+    /// A broker with these topics, empty partitions and a clock at 0, and that many passes, in the order of their numbers. An error if memory runs
+    /// out.
     pub fn make(
         alloc: Global,
         config: Config,
         passes: u32,
     ) -> Result<(Broker, List<Pass>), NoMemory>
-        requires declared { AreDeclared config.topics }
         requires passes { (1 ≤ passes) × (passes ≤ 80) }
         ensures config { IfOk result (λ made. made.0.config ≡ config) }
         ensures size { IfOk result (λ made. made.0.logs.room.table.shape.passes ≡ passes) }
         ensures passes { IfOk result (λ made. made.1 ≡ fresh_passes made.0 passes) }
     {
+        // so few partitions that none has the clock's number
+        prove!(config.parts() <= MOST_PARTITIONS);
         let followers = followers_of(alloc, &config)?;
         let (logs, seats) = SharedLogs::make(alloc, followers.as_slice(), passes)?;
         let passes = fresh_all(alloc, &config, seats)?;

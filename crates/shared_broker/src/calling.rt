@@ -1,6 +1,6 @@
-//! A request of a pass is handled.
-ghost use Rattle.std.specs.Prelude.{◌≡◌, [], ◌∷◌, ◌++◌, ◌<◌, ◌≤◌, ℕ, IfNone, IfSome, IsSome, List as Items, None, Option as Maybe, OnErr, OnOk, Some, false, length, All};
-ghost use Rattle.audit.specs.declared.account.Call.{Call as TheCall};
+//! `Broker::handle`, by which a session has a request answered: the call is recorded, its partitions are asked (`shared_calls::accept`), and it is
+//! answered here, waits, or is completed at once (completing.rt).
+ghost use Rattle.std.specs.Prelude.{◌≡◌, ◌<◌, ◌≤◌, ℕ, IfNone, IfSome, IsSome, List as Items, None, OnErr, OnOk, false, length, All};
 ghost use Rattle.audit.specs.declared.account.CallHow.TheVariants.{Cut};
 ghost use Rattle.audit.specs.declared.account.TheConstants.{MOST_CALLS};
 ghost use Rattle.audit.specs.declared.account.Transcript.{Transcript as TheTranscript};
@@ -13,11 +13,12 @@ ghost use Rattle.broker_spec.specs.Sound.{AllBelow};
 ghost use Rattle.kanswer.specs.BytesRead.{bytes_read, most_left};
 ghost use Rattle.shared_broker.specs.Calling.{HasHandled};
 ghost use Rattle.shared_broker.specs.Passes.{PassView, calls_made, made_with};
-ghost use Rattle.shared_broker.specs.Serving.{HasServed, IsAnswered, IsFree, IsWritten, WasWritten, WillSit, WillWait, with_last};
+ghost use Rattle.shared_broker.specs.Serving.{HasServed, IsAnswered, IsFree, IsWritten, WasWritten, WillSit, WillWait};
 ghost use Rattle.shared_broker.specs.Sessions.{is_cut_off};
-ghost use Rattle.shared_broker.specs.Standing.{Stands};
+ghost use Rattle.shared_logs.specs.Seen.{HasSeen};
 
 use crate::broker::Broker;
+use crate::current::{CurrentCall, Won};
 use crate::parked::Parked;
 use crate::pass::Pass;
 use audit::{Call, CallHow, MOST_CALLS, SessionEnd, Transcript};
@@ -27,7 +28,7 @@ use kwire::{RequestView, WireFault, view_request};
 use purgatory::Registered;
 use shared_calls::{Asking, Came, accept};
 use shared_logs::LogPass;
-use shared_logs::call_turns::look_at_clock;
+use shared_logs::call_turns::{Caller, look_at_clock};
 use std::alloc::Global;
 use std::sync::Wait;
 
@@ -38,15 +39,15 @@ pub enum Handled {
     Reply(Bytes),
     /// The request asks for no reply.
     Quiet,
-    /// It waits, at most until this moment.
+    /// It waits, until this moment at most.
     Parked { deadline: u64 },
-    /// No call is made of the frame, and the session is to end so.
+    /// The frame is no call, and the session is to end in this way.
     Ended(SessionEnd),
-    /// No memory was left: nothing was done; or the call was cut off, and the session is to end so.
+    /// Memory ran out: nothing was done, or the call was cut off and the session is to end in that way.
     NoMemory,
 }
 
-// What became of a request that was written down.
+// What became of a request that was recorded.
 #[derive(Drop)]
 enum Became {
     Answered(Bytes),
@@ -55,8 +56,8 @@ enum Became {
 }
 
 impl Broker {
-    /// Handles one request of the pass's session: `frame` is the body of its frame. Each partition that it names is decided and asked in order,
-    /// in a turn of its lock; then it is answered, or waits. A frame that is no request, or comes after 4,294,967,295 calls, is no call.
+    /// Handles one request of the pass's session: `frame` is the body of its frame. Each partition that it names is decided and asked in order, in
+    /// a turn of its lock; then the request is answered, or waits. A frame that is no request, or comes after 4,294,967,295 calls, is no call.
     pub fn handle(&self, rt: &impl Wait, pass: &mut Pass, frame: &[u8]) -> Handled
         requires made { made_with pass.old ≡ self.now }
         requires begun { IsSome pass.old.going }
@@ -80,7 +81,7 @@ impl Broker {
 }
 
 impl Pass {
-    // The number of the next call, where there may be one more.
+    // The number of the next call, if there may be one more.
     fn next_call(&self) -> Option<u32>
         requires begun { IsSome self.now.going }
         ensures number { IfSome result (λ seq. seq ≡ calls_made self.now) }
@@ -92,7 +93,7 @@ impl Pass {
         (seq < MOST_CALLS).then_some(seq)
     }
 
-    // A call of this frame stands behind the others, as cut off.
+    // Records a call of this frame after the others, as cut off.
     fn write_down(&mut self, alloc: Global, frame: &[u8]) -> Result<(), NoMemory>
         requires begun { IsSome self.old.going }
         requires none { self.old.waits ≡ None }
@@ -116,14 +117,20 @@ impl Pass {
 }
 
 impl Broker {
-    // The call that was written down is served, and the pass keeps what waits.
+    // Serves the call that was recorded last. If it waits, the pass keeps what is needed for its completion.
     fn serve(&self, rt: &impl Wait, pass: &mut Pass, seq: u32, request: &RequestView<'_>) -> Handled
         requires made { made_with pass.old ≡ self.now }
         requires written { (frame : Items ℕ) × (before : PassView) × WasWritten frame request.now seq before pass.old }
         ensures { (frame : Items ℕ) (before : PassView) → WasWritten frame request.now seq before pass.old → HasHandled frame result before pass.new }
     {
-        let served = self.serve_last(rt, &mut pass.logs, &mut pass.going, seq, request);
-        pass.logs.keeps();
+        let current = CurrentCall { rt, seq, request };
+        let served = match &mut pass.going {
+            Some(going) => match going.calls.as_mut_slice().last_mut() {
+                Some(call) => self.serve_call(&current, &mut pass.logs, call),
+                None => unreachable!(),
+            },
+            None => unreachable!(),
+        };
         match served {
             Ok(Became::Answered(reply)) => Handled::Reply(reply),
             Ok(Became::Quiet) => Handled::Quiet,
@@ -136,83 +143,41 @@ impl Broker {
         }
     }
 
-    // The last call of the transcript that is going is served.
-    fn serve_last(
+    // Asks the partitions, and then answers the call or delays it.
+    fn serve_call<W: Wait>(
         &self,
-        rt: &impl Wait,
-        logs: &mut LogPass,
-        going: &mut Option<Transcript>,
-        seq: u32,
-        request: &RequestView<'_>,
-    ) -> Result<Became, NoMemory>
-        requires made { logs.old.made ≡ self.now.logs }
-        requires free { IsFree logs.old.seat }
-        requires written { (front : Items TheTranscript) × (transcript : TheTranscript) × (call : TheCall) × (going.old ≡ Some (with_last transcript call))
-            × IsWritten self.now.config seq request.now logs.old call front transcript }
-        ensures { (transcript : TheTranscript) (call : TheCall) → going.old ≡ Some (with_last transcript call)
-            → (after : TheCall) × (going.new ≡ Some (with_last transcript after))
-            × HasServed self.now.config seq request.now (IsWritten self.now.config seq request.now logs.old call) result logs.old logs.new call after }
-    {
-        match going {
-            Some(going) => self.serve_among(rt, logs, &mut going.calls, seq, request),
-            None => unreachable!(),
-        }
-    }
-
-    // The last of these calls is served.
-    fn serve_among(
-        &self,
-        rt: &impl Wait,
-        logs: &mut LogPass,
-        calls: &mut List<Call>,
-        seq: u32,
-        request: &RequestView<'_>,
-    ) -> Result<Became, NoMemory>
-        requires made { logs.old.made ≡ self.now.logs }
-        requires free { IsFree logs.old.seat }
-        requires written { (front : Items TheTranscript) × (transcript : TheTranscript) × (call : TheCall) × (calls.old ≡ transcript.calls ++ call ∷ [])
-            × IsWritten self.now.config seq request.now logs.old call front transcript }
-        ensures { (earlier : Items TheCall) (call : TheCall) → calls.old ≡ earlier ++ call ∷ []
-            → (after : TheCall) × (calls.new ≡ earlier ++ after ∷ [])
-            × HasServed self.now.config seq request.now (IsWritten self.now.config seq request.now logs.old call) result logs.old logs.new call after }
-    {
-        match calls.as_mut_slice().last_mut() {
-            Some(call) => self.serve_call(rt, logs, call, seq, request),
-            None => unreachable!(),
-        }
-    }
-
-    // It is accepted, and answered or delayed.
-    fn serve_call(
-        &self,
-        rt: &impl Wait,
+        current: &CurrentCall<'_, '_, '_, W>,
         logs: &mut LogPass,
         call: &mut Call,
-        seq: u32,
-        request: &RequestView<'_>,
     ) -> Result<Became, NoMemory>
         requires made { logs.old.made ≡ self.now.logs }
         requires free { IsFree logs.old.seat }
         requires written { (front : Items TheTranscript) × (transcript : TheTranscript)
-            × IsWritten self.now.config seq request.now logs.old call.old front transcript }
-        ensures { HasServed self.now.config seq request.now (IsWritten self.now.config seq request.now logs.old call.old) result logs.old logs.new call.old call.new }
+            × IsWritten self.now.config current.now.seq current.now.request.now logs.old call.old front transcript }
+        ensures served { HasServed self.now.config current.now.seq current.now.request.now
+            (IsWritten self.now.config current.now.seq current.now.request.now logs.old call.old) result logs.old logs.new call.old call.new }
+        ensures seen { HasSeen logs.new }
     {
+        let by = Caller {
+            rt: current.rt,
+            logs: &self.logs,
+            seq: current.seq,
+        };
         let asking = Asking {
             config: &self.config,
-            logs: &self.logs,
-            seq,
+            by: &by,
         };
-        let came = accept(rt, self.alloc, &asking, logs, &mut call.accept, request);
-        self.logs.settle(rt, logs);
+        let came = accept(&asking, logs, &mut call.accept, current.request);
+        self.logs.settle(current.rt, logs);
         let came = came?;
-        if needs_op(request, came.accepted(), came.numbers()) {
-            self.delay(rt, logs, call, seq, request, came)
+        if needs_op(current.request, came.accepted(), came.numbers()) {
+            self.delay(current, logs, call, came)
         } else {
-            self.answer(call, request, &came)
+            self.answer(call, current.request, &came)
         }
     }
 
-    // It needn't wait.
+    // Answers a call that needn't wait.
     fn answer(
         &self,
         call: &mut Call,
@@ -241,75 +206,72 @@ impl Broker {
         Ok(Became::Answered(frame))
     }
 
-    // It looks at the clock, and becomes an operation from the moment there.
-    fn delay(
+    // Looks at the clock, and makes an operation of the call from the moment there.
+    fn delay<W: Wait>(
         &self,
-        rt: &impl Wait,
+        current: &CurrentCall<'_, '_, '_, W>,
         logs: &mut LogPass,
         call: &mut Call,
-        seq: u32,
-        request: &RequestView<'_>,
         came: Came,
     ) -> Result<Became, NoMemory>
         requires made { logs.old.made ≡ self.now.logs }
         requires free { IsFree logs.old.seat }
-        requires results { AreResults request.now.ask came.accepted }
+        requires results { AreResults current.now.request.now.ask came.accepted }
         requires cut { call.old.how ≡ Cut None }
         requires waits { (front : Items TheTranscript) × (transcript : TheTranscript)
-            × WillWait self.now.config seq request.now came.accepted logs.old call.old front transcript }
-        ensures { HasServed self.now.config seq request.now (WillWait self.now.config seq request.now came.accepted logs.old call.old) result
-            logs.old logs.new call.old call.new }
+            × WillWait self.now.config current.now.seq current.now.request.now came.accepted logs.old call.old front transcript }
+        ensures served { HasServed self.now.config current.now.seq current.now.request.now
+            (WillWait self.now.config current.now.seq current.now.request.now came.accepted logs.old call.old) result logs.old logs.new call.old call.new }
+        ensures seen { HasSeen logs.new }
     {
-        let looked = look_at_clock(rt, &self.logs, logs, &mut call.accept, 0, seq);
-        self.logs.settle(rt, logs);
-        logs.keeps();
-        let op = op_of(self.alloc, request, came.accepted(), looked?)?;
+        let by = Caller {
+            rt: current.rt,
+            logs: &self.logs,
+            seq: current.seq,
+        };
+        let looked = look_at_clock(&by, logs, &mut call.accept, 0);
+        self.logs.settle(current.rt, logs);
+        let op = op_of(self.alloc, current.request, came.accepted(), looked?)?;
         let parked = Parked {
             accepted: came.into_accepted(),
             op,
         };
-        self.enlist(rt, logs, call, seq, request, parked)
+        self.enlist(current, logs, call, parked)
     }
 
-    // Its operation is registered in the room.
-    fn enlist(
+    // Registers its operation in the room.
+    fn enlist<W: Wait>(
         &self,
-        rt: &impl Wait,
+        current: &CurrentCall<'_, '_, '_, W>,
         logs: &mut LogPass,
         call: &mut Call,
-        seq: u32,
-        request: &RequestView<'_>,
         parked: Parked,
     ) -> Result<Became, NoMemory>
         requires made { logs.old.made ≡ self.now.logs }
         requires free { IsFree logs.old.seat }
         requires there { AllBelow (length self.now.logs.parts) (parts_asked parked.accepted) }
-        requires listed { AreResults request.now.ask parked.accepted }
+        requires listed { AreResults current.now.request.now.ask parked.accepted }
         requires carriable { All IsCarriable parked.accepted }
-        requires became { (moment : ℕ) × (parked.op ≡ operation_of request.now.ask parked.accepted moment) }
-        requires asked { IsRequest call.old.frame request.now }
-        requires loud { is_quiet request.now.ask ≡ false }
+        requires became { (moment : ℕ) × (parked.op ≡ operation_of current.now.request.now.ask parked.accepted moment) }
+        requires asked { IsRequest call.old.frame current.now.request.now }
+        requires loud { is_quiet current.now.request.now.ask ≡ false }
         requires waits { (front : Items TheTranscript) × (transcript : TheTranscript)
-            × WillSit self.now.config seq request.now parked logs.old call.old front transcript }
-        ensures { HasServed self.now.config seq request.now (WillSit self.now.config seq request.now parked logs.old call.old) result
-            logs.old logs.new call.old call.new }
+            × WillSit self.now.config current.now.seq current.now.request.now parked logs.old call.old front transcript }
+        ensures served { HasServed self.now.config current.now.seq current.now.request.now
+            (WillSit self.now.config current.now.seq current.now.request.now parked logs.old call.old) result logs.old logs.new call.old call.new }
+        ensures seen { HasSeen logs.new }
     {
-        match self.logs.register(rt, logs, &parked.op) {
+        match self.logs.register(current.rt, logs, &parked.op) {
             Registered::Parked => {
                 call.how = CallHow::Parked;
                 Ok(Became::Parked(parked))
             }
             Registered::Won(done) => {
-                let frame = self.complete(
-                    rt,
-                    logs,
-                    &mut call.finish,
-                    &mut call.how,
-                    seq,
-                    request,
-                    &parked,
+                let won = Won {
+                    parked: &parked,
                     done,
-                )?;
+                };
+                let frame = self.complete(current, logs, &mut call.finish, &mut call.how, &won)?;
                 Ok(Became::Answered(frame))
             }
         }

@@ -1,4 +1,5 @@
-//! The broker is closed, and what its passes did is put together to one account.
+//! `Broker::close`, by which the thread that has all passes ends a run: it closes the logs and the room below, and makes one account of what the
+//! passes did.
 ghost use Rattle.std.specs.Prelude.{◌≡◌, ◌<◌, ◌==◌, ℕ, All, IfOk, count_by, length, map, slice_set};
 ghost use Rattle.std.specs.List.{AllZip};
 ghost use Rattle.audit.specs.declared.account.Account.{Account as AccountView};
@@ -25,9 +26,9 @@ use std::sync::Wait;
 pub enum BrokerEnd {
     /// The account of the run.
     Closed(Account),
-    /// A request that waited was won and waits to be collected. The broker and the passes are handed back as they were.
+    /// A request that waited was won, and its reply is still to be collected. The broker and the passes are handed back as they were.
     Untaken { broker: Broker, passes: List<Pass> },
-    /// No memory was left. Nothing is handed back.
+    /// Memory ran out. Nothing is handed back.
     NoMemory,
 }
 
@@ -106,7 +107,7 @@ fn put_together(
     Ok(passes)
 }
 
-// The last of these calls was cut off.
+// Whether the last of these calls was cut off.
 fn is_cut_last(calls: &[Call]) -> bool
     ensures { result ≡ last_is_cut calls.now }
 {
@@ -116,7 +117,7 @@ fn is_cut_last(calls: &[Call]) -> bool
     }
 }
 
-// Where the last call was cut off and nobody has ended it, the transcript ends because memory ran out.
+// The transcript as the account has it: if its last call was cut off and it has no end, it ends because memory ran out.
 fn told(transcript: Transcript) -> Transcript
     ensures { result ≡ told transcript }
 {
@@ -151,7 +152,7 @@ fn all_told(alloc: Global, transcripts: List<Transcript>) -> Result<List<Transcr
     Ok(all)
 }
 
-// The transcripts of a pass, the one that is going as the last.
+// The transcripts of a pass, the open one as the last.
 fn transcripts_of(alloc: Global, sheet: Sheet) -> Result<List<Transcript>, NoMemory>
     ensures { IfOk result (λ all. all ≡ map told (transcripts_in sheet)) }
 {
@@ -170,7 +171,7 @@ fn transcripts_of(alloc: Global, sheet: Sheet) -> Result<List<Transcript>, NoMem
     all_told(alloc, transcripts)
 }
 
-// So many empty lists.
+// That many empty lists.
 fn no_transcripts(alloc: Global, count: usize) -> Result<List<List<Transcript>>, NoMemory>
     ensures { IfOk result (λ passes. length passes ≡ count) }
 {
@@ -188,7 +189,7 @@ fn put_at(passes: &mut List<List<Transcript>>, number: usize, transcripts: List<
     passes.as_mut_slice()[number] = transcripts;
 }
 
-// The transcripts of each pass, by the passes' numbers, of each of which there is one.
+// The transcripts of each pass, by the passes' numbers. There is one pass of each number.
 fn by_number(alloc: Global, sheets: List<Sheet>) -> Result<List<List<Transcript>>, NoMemory>
     requires numbers { All (λ (sheet : SheetView). sheet.number < length sheets) sheets }
     requires one { (number : ℕ) → number < length sheets → count_by (λ (sheet : SheetView). sheet.number == number) sheets ≡ 1 }
@@ -231,7 +232,7 @@ fn account(
 }
 
 impl Broker {
-    /// Closes the broker, where everything that was won was collected. All passes come back, in any order.
+    /// Closes the broker, if everything that was won has been collected. All passes are given back, in any order.
     pub fn close(self, rt: &impl Wait, passes: List<Pass>) -> BrokerEnd
         requires all { length passes ≡ self.logs.room.table.shape.passes }
         requires made { All (λ pass. made_with pass ≡ self) passes }

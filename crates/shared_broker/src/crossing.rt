@@ -1,4 +1,4 @@
-//! Threads share a broker: it may be shared by threads, and go to another one; and a pass may go to a thread.
+//! That a broker may be shared by threads and go to another one, and that a pass may go to another thread. Nobody calls these functions.
 use crate::broker::Broker;
 use crate::pass::Pass;
 

@@ -1,5 +1,5 @@
-//! The broker that threads share: produce and fetch requests over partitions behind locks, and a room in which those wait that can't be
-//! answered yet.
+//! The broker that threads share: produce and fetch requests on partitions behind locks, and a room in which requests wait that can't be answered
+//! yet.
 //!
 //! # The calls
 //!
@@ -16,14 +16,14 @@
 //! }
 //! broker.wait(rt, pass, most);                                     // sleeps while it waits
 //! broker.collect(rt, pass)                                         // NotYet while it waits, and then the reply
-//! broker.tick(rt, pass, t)?;                                       // the clock comes to t
+//! broker.tick(rt, pass, t)?;                                       // moves the clock to t
 //! broker.finish(pass, end)?;
 //!
 //! match broker.close(rt, passes) { BrokerEnd::Closed(account) => .. }
 //! ```
 //!
 //! However the threads interleave, the account of `close` is lawful (`HasClosed`): each pass keeps a book of what it saw and did
-//! (`pass_books`), and the books of all passes come to one account.
+//! (`pass_books`), and the books of all passes make one account.
 #![tactic(auto)]
 
 mod broker;
@@ -32,6 +32,7 @@ mod closing;
 mod collecting;
 mod completing;
 mod crossing;
+mod current;
 mod parked;
 mod pass;
 mod sessions;

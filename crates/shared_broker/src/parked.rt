@@ -1,10 +1,8 @@
-//! What is kept of a request that waits.
-
 use kanswer::Accepted;
 use kbytes::List;
 use opcond::Op;
 
-/// What became of each partition that a request names, and its operation.
+/// What is kept of a request that waits: what became of each partition that it names, and its operation.
 #[derive(Debug, Drop)]
 pub struct Parked {
     pub(crate) accepted: List<Accepted>,

@@ -1,3 +1,4 @@
+//! A pass, of which each session or thread has one: every call on a broker takes it.
 ghost use Rattle.std.specs.Prelude.{◌≡◌, fold, is_some, max};
 ghost use Rattle.shared_broker.specs.Standing.{Stands};
 
@@ -9,7 +10,7 @@ use shared_logs::LogPass;
 use std::marker::Model;
 use std::snapshot::Snapshot;
 
-/// The right to act on the broker, one thread at a time: for one session after the other. It keeps what its sessions did.
+/// The right to act on the broker, for one session after the other. It keeps what they did.
 #[derive(Drop)]
 pub struct Pass {
     pub(crate) config: Snapshot<Config>,
@@ -43,21 +44,21 @@ impl Pass {
         self.logs.ticked()
     }
 
-    /// A transcript is begun and not finished.
+    /// Whether a transcript is begun and not finished.
     pub fn is_begun(&self) -> bool
         ensures { result ≡ is_some self.now.going }
     {
         self.going.is_some()
     }
 
-    /// Its request waits.
+    /// Whether its request waits.
     pub fn waits(&self) -> bool
         ensures { result ≡ is_some self.now.waits }
     {
         self.waits.is_some()
     }
 
-    /// Law: what is so of a pass between any two calls.
+    /// Law: what is true of a pass between any two calls.
     pub fn keeps(&self)
         ensures { Stands self.now }
     {

@@ -1,8 +1,9 @@
-//! A pass's sessions, and the clock.
+//! What a session or a worker calls beside `handle` and `collect`: `begin` and `finish` of a transcript, `tick` of the clock, and `wait`.
 ghost use Rattle.std.specs.Prelude.{◌≡◌, ◌≤◌, IfOk, IsSome, None, OnErr, OnOk};
 ghost use Rattle.partlog.specs.declared.clock_event.TheConstants.{MOST_MOMENT};
 ghost use Rattle.shared_broker.specs.Moved.{HasFewCalls, HasMoved};
 ghost use Rattle.shared_broker.specs.Passes.{made_with};
+ghost use Rattle.shared_broker.specs.Standing.{Stands};
 ghost use Rattle.shared_broker.specs.Sessions.{HasEnded, HasOnlySeen, HasToldClock, MayEnd, with_begun};
 
 use crate::broker::Broker;
@@ -14,7 +15,7 @@ use std::sync::Wait;
 use std::time::Duration;
 
 impl Broker {
-    /// Begins the transcript of a session of this number. It takes no memory.
+    /// Begins the transcript of a session of this number. It needs no memory.
     pub fn begin(&self, pass: &mut Pass, number: u64)
         requires made { made_with pass.old ≡ self.now }
         requires none { pass.old.going ≡ None }
@@ -28,8 +29,8 @@ impl Broker {
         });
     }
 
-    /// Ends the transcript that is going. Its request, if one waited, has been collected; and where its last call ran out of memory, it ends so.
-    /// If memory runs out, the transcript goes on.
+    /// Ends the open transcript. Its request, if one waited, has been collected; and if its last call ran out of memory, that is how it ends. If
+    /// memory runs out now, the transcript stays open.
     pub fn finish(&self, pass: &mut Pass, end: SessionEnd) -> Result<(), NoMemory>
         requires made { made_with pass.old ≡ self.now }
         requires begun { IsSome pass.old.going }
@@ -43,21 +44,21 @@ impl Broker {
         Ok(())
     }
 
-    /// Tells the clock a moment in milliseconds. Where it is above the clock's, the clock comes to it, and all whose deadline that is are won;
-    /// else nothing changes. A request of the pass may wait meanwhile. If memory runs out, the clock is as it was.
+    /// Moves the clock to a moment in milliseconds, if that is later than the clock's: then every request whose deadline has passed is won. A request
+    /// of the pass itself may wait meanwhile. If memory runs out, the clock is as it was.
     pub fn tick(&self, rt: &impl Wait, pass: &mut Pass, t: u64) -> Result<(), NoMemory>
         requires made { made_with pass.old ≡ self.now }
         requires limit { t ≤ MOST_MOMENT }
+        ensures stood { Stands pass.old }
         ensures told { OnOk result (HasToldClock t pass.old pass.new) }
         ensures refused { OnErr result (HasOnlySeen pass.old pass.new) }
     {
         let told = self.logs.tick(rt, &mut pass.logs, t);
         self.logs.settle(rt, &mut pass.logs);
-        pass.logs.keeps();
         told
     }
 
-    /// Sleeps while the pass's request waits, for no longer than `most`. It may also return for no reason: `collect` tells.
+    /// Sleeps while the pass's request waits, for no longer than `most`. It may also return early for no reason: ask `collect`.
     pub fn wait(&self, rt: &impl Wait, pass: &Pass, most: Duration)
         requires { made_with pass.now ≡ self.now }
     {
@@ -65,7 +66,7 @@ impl Broker {
     }
 }
 
-// The transcript that is going is ended, and stands behind the others. Answers how many calls it has. If memory runs out, both are as they were.
+// Ends the open transcript and puts it after the others. Answers how many calls it has. If memory runs out, both are as they were.
 fn end_going(
     alloc: Global,
     ended: &mut List<Transcript>,

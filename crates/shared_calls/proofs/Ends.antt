@@ -17,7 +17,8 @@ use Rattle.partlog.specs.State.{PartState as State}
 use Rattle.room_core.specs.declared.event.How.{How}
 use Rattle.shared_logs.specs.Shared.{LogPassView}
 use Rattle.shared_calls.specs.Finished.{WasFinished, WasStopped}
-use Rattle.shared_calls.specs.Fresh.{IsFresh, fetch_gauge, gauge_for, produce_gauge}
+use Rattle.kanswer.specs.PartitionGauges.{fetched_gauge, high_gauge}
+use Rattle.shared_calls.specs.Fresh.{IsFresh, gauge_for}
 use Rattle.shared_calls.specs.Looks.{HaveStopped, WasWon}
 use Rattle.shared_calls.specs.Readings.{WereNumbered, WereRead}
 use Rattle.shared_calls.specs.Seen.{seen_as}
@@ -39,28 +40,28 @@ module _ (seq : ℕ) (request : Request) (accepted : List Accepted) (op : Operat
   -- ---- a fetch
 
   module _ (z replica max_wait min_bytes max_bytes isolation : ℤ) (topics items : List FetchTopic) (ask_is : request.ask ≡ Fetch replica max_wait min_bytes max_bytes isolation topics) (same : z ≡ replica) (items_are : items ≡ topics) where
-    gauges_are : fetch_gauge z ≡ gauge_for request.ask
-    gauges_are = ap fetch_gauge same ∙ ap gauge_for (sym ask_is)
+    gauges_are : fetched_gauge z ≡ gauge_for request.ask
+    gauges_are = ap fetched_gauge same ∙ ap gauge_for (sym ask_is)
 
-    pub finished_fetch : (budget left : Budget) (readings : List Reading) → budget ≡ budget_of request.ask → WereRead seq (IsFresh (fetch_gauge z) needs values) z (flat_map parts_of items) m p accepted budget b q left readings
+    pub finished_fetch : (budget left : Budget) (readings : List Reading) → budget ≡ budget_of request.ask → WereRead seq (IsFresh (fetched_gauge z) needs values) z (flat_map parts_of items) m p accepted budget b q left readings
         → WasFinished seq request accepted op how a b q readings
     finished_fetch budget left readings budget_is read =
-        let r1 = subst (λ (ns : List Need). WereRead seq (IsFresh (fetch_gauge z) ns values) z (flat_map parts_of items) m p accepted budget b q left readings) needs_are read in
+        let r1 = subst (λ (ns : List Need). WereRead seq (IsFresh (fetched_gauge z) ns values) z (flat_map parts_of items) m p accepted budget b q left readings) needs_are read in
         let r2 = subst (λ gauges. WereRead seq (IsFresh gauges op.needs values) z (flat_map parts_of items) m p accepted budget b q left readings) gauges_are r1 in
         let r3 = subst (λ r. WereRead seq fresh r (flat_map parts_of items) m p accepted budget b q left readings) same r2 in
         let r4 = subst (λ (ts : List FetchTopic). WereRead seq fresh replica (flat_map parts_of ts) m p accepted budget b q left readings) items_are r3 in
         let r5 = subst (λ (n : Budget). WereRead seq fresh replica (flat_map parts_of topics) m p accepted n b q left readings) (budget_is ∙ ap budget_of ask_is) r4 in
         finished seq request accepted op how fresh a m b p q r5.states readings won r5.looked (subst (λ (ask : Ask). AreReadings ask accepted readings (seen_as accepted r5.states)) (sym ask_is) r5.read)
 
-    pub stopped_fetch : HaveStopped seq (IsFresh (fetch_gauge z) needs values) m p accepted b q → WasStopped seq request accepted op a b q
+    pub stopped_fetch : HaveStopped seq (IsFresh (fetched_gauge z) needs values) m p accepted b q → WasStopped seq request accepted op a b q
     stopped_fetch stopped =
-        let s1 = subst (λ (ns : List Need). HaveStopped seq (IsFresh (fetch_gauge z) ns values) m p accepted b q) needs_are stopped in
+        let s1 = subst (λ (ns : List Need). HaveStopped seq (IsFresh (fetched_gauge z) ns values) m p accepted b q) needs_are stopped in
         let s2 = subst (λ gauges. HaveStopped seq (IsFresh gauges op.needs values) m p accepted b q) gauges_are s1 in
         stopped_won seq request accepted op how fresh a m b p q won s2
 
   -- ---- any other
 
-  no_fetch_gauge : (ask : Ask) → IsNoFetch ask → produce_gauge ≡ gauge_for ask
+  no_fetch_gauge : (ask : Ask) → IsNoFetch ask → high_gauge ≡ gauge_for ask
   no_fetch_gauge (Produce transactional acks timeout topics) other = refl
   no_fetch_gauge (Fetch replica max_wait min_bytes max_bytes isolation topics) other = absurd other
   no_fetch_gauge (Metadata topics) other = refl
@@ -76,15 +77,15 @@ module _ (seq : ℕ) (request : Request) (accepted : List Accepted) (op : Operat
   read_for (Metadata topics) states readings other size read = ap (λ (xs : List Accepted). seen_as xs states) (none_named accepted size)
   read_for (Versions version) states readings other size read = ap (λ (xs : List Accepted). seen_as xs states) (none_named accepted size)
 
-  pub finished_other : (readings : List Reading) → IsNoFetch request.ask → length accepted ≡ named_count request.ask → WereNumbered seq (IsFresh produce_gauge needs values) m p accepted b q readings
+  pub finished_other : (readings : List Reading) → IsNoFetch request.ask → length accepted ≡ named_count request.ask → WereNumbered seq (IsFresh high_gauge needs values) m p accepted b q readings
       → WasFinished seq request accepted op how a b q readings
   finished_other readings other size read =
-      let r1 = subst (λ (ns : List Need). WereNumbered seq (IsFresh produce_gauge ns values) m p accepted b q readings) needs_are read in
+      let r1 = subst (λ (ns : List Need). WereNumbered seq (IsFresh high_gauge ns values) m p accepted b q readings) needs_are read in
       let r2 = subst (λ gauges. WereNumbered seq (IsFresh gauges op.needs values) m p accepted b q readings) (no_fetch_gauge request.ask other) r1 in
       finished seq request accepted op how fresh a m b p q r2.states readings won r2.looked (read_for request.ask r2.states readings other size r2.read)
 
-  pub stopped_other : IsNoFetch request.ask → HaveStopped seq (IsFresh produce_gauge needs values) m p accepted b q → WasStopped seq request accepted op a b q
+  pub stopped_other : IsNoFetch request.ask → HaveStopped seq (IsFresh high_gauge needs values) m p accepted b q → WasStopped seq request accepted op a b q
   stopped_other other stopped =
-      let s1 = subst (λ (ns : List Need). HaveStopped seq (IsFresh produce_gauge ns values) m p accepted b q) needs_are stopped in
+      let s1 = subst (λ (ns : List Need). HaveStopped seq (IsFresh high_gauge ns values) m p accepted b q) needs_are stopped in
       let s2 = subst (λ gauges. HaveStopped seq (IsFresh gauges op.needs values) m p accepted b q) (no_fetch_gauge request.ask other) s1 in
       stopped_won seq request accepted op how fresh a m b p q won s2

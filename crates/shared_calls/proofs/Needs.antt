@@ -13,7 +13,7 @@ use Rattle.kwire.specs.declared.request.FetchPart.{FetchPart}
 use Rattle.opcond.specs.declared.need.Need.{Need}
 use Rattle.opcond.specs.Operation.{Operation}
 use Rattle.broker_spec.specs.Sound.{AllBelow}
-use Rattle.shared_calls.specs.Fresh.{fetch_gauge}
+use Rattle.kanswer.specs.PartitionGauges.{fetched_gauge}
 
 module _ (n : ℕ) where
   abbrev IsGauge : Need → Type 0
@@ -28,7 +28,7 @@ module _ (n : ℕ) where
   produce_gauges (Appended part base count ∷ results) below = (omega (arith, below.0), produce_gauges results below.1)
   produce_gauges (Seen part start ∷ results) below = produce_gauges results below.1
 
-  fetch_within : (replica : ℤ) (part : ℕ) → part < n → fetch_gauge replica part ≤ 3 * n
+  fetch_within : (replica : ℤ) (part : ℕ) → part < n → fetched_gauge replica part ≤ 3 * n
   fetch_within (pos k) part lt = omega (arith, lt)
   fetch_within (negsuc k) part lt = omega (arith, lt)
 

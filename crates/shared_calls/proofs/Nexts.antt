@@ -8,7 +8,7 @@ use Rattle.std.specs.List.{flat_map}
 use Rattle.audit.specs.declared.account.Point.{Point}
 use Rattle.kanswer.specs.declared.accepted.Budget.{Budget}
 use Rattle.kanswer.specs.Answer.{asked_parts}
-use Rattle.kanswer.specs.Decisions.{Decision, fetch_decision, fetch_parts, produce_parts}
+use Rattle.kanswer.specs.Decisions.{Decision, fetch_decision, fetch_decisions, fetch_parts, produce_parts}
 use Rattle.kwire.specs.Configuration.{Configuration, part_of}
 use Rattle.kwire.specs.declared.request.FetchPart.{FetchPart}
 use Rattle.kwire.specs.declared.request.FetchTopic.{FetchTopic}
@@ -16,7 +16,7 @@ use Rattle.kwire.specs.declared.request.ProducePart.{ProducePart}
 use Rattle.kwire.specs.declared.request.ProduceTopic.{ProduceTopic}
 use Rattle.kanswer.specs.declared.terms.Terms.{Terms}
 use Rattle.shared_logs.specs.Shared.{LogPassView}
-use Rattle.shared_calls.specs.Stand.{HasFetched, HasProduced, IsStopped, OnProduce, Stand, fetch_decisions, fetch_named, produce_named}
+use Rattle.shared_calls.specs.Stand.{HasFetched, HasProduced, IsStopped, OnProduce, Stand, fetch_named, produce_named}
 use Rattle.shared_calls.proofs.Coming.{fetch_stopped, fetched_on, flat_all, flat_next, map_all, map_next, on_produced, on_stopped, rest_of, taken_more}
 
 -- ---- of a produce

@@ -22,7 +22,8 @@ use Rattle.shared_logs.specs.Asked.{HasLooked, HasRead}
 use Rattle.shared_logs.specs.Seen.{HasSeen}
 use Rattle.shared_logs.specs.Shared.{LogPassView}
 use Rattle.shared_logs.proofs.Laws.{found_within}
-use Rattle.shared_calls.specs.Fresh.{IsFresh, fetch_gauge}
+use Rattle.kanswer.specs.PartitionGauges.{fetched_gauge}
+use Rattle.shared_calls.specs.Fresh.{IsFresh}
 use Rattle.shared_calls.specs.Looks.{HaveLooked}
 use Rattle.shared_calls.specs.Readings.{WereNumbered, WereRead}
 use Rattle.shared_calls.specs.Seen.{seen_as}
@@ -107,11 +108,11 @@ module _ (seq : ℕ) (fresh : ℕ → State → Type 0) (a : LogPassView) (p : L
 
 -- ---- the turn in which a fetch reads a partition
 
-module _ (seq : ℕ) (needs : List Need) (values : List ℕ) (a b : LogPassView) (p q : List Point) (replica : ℤ) (part gauge least place start : ℕ) (numbers : Numbers) (gauge_is : gauge ≡ fetch_gauge replica part)
+module _ (seq : ℕ) (needs : List Need) (values : List ℕ) (a b : LogPassView) (p q : List Point) (replica : ℤ) (part gauge least place start : ℕ) (numbers : Numbers) (gauge_is : gauge ≡ fetched_gauge replica part)
     (turn : HasLooked (gauge / 3) seq gauge least a b place numbers) (point : q ≡ p ++ record { part = gauge / 3; place = place } ∷ []) (before : HasSeen a) (after : HasSeen b) (inside : part < length a.parts)
     (late : (gauges : ℕ → ℕ) (n : ℕ) (state : State) → gauges n ≡ gauge → least ≤ gauge_value gauge state → IsFresh gauges needs values n state) where
   abbrev pub fresh_here : ℕ → State → Type 0
-  fresh_here = IsFresh (fetch_gauge replica) needs values
+  fresh_here = IsFresh (fetched_gauge replica) needs values
 
   pub same_part : gauge / 3 ≡ part
   same_part = ap (λ n. n / 3) gauge_is ∙ fetch_part replica part
@@ -124,7 +125,7 @@ module _ (seq : ℕ) (needs : List Need) (values : List ℕ) (a b : LogPassView)
 
   pub turn_looked : HaveLooked seq fresh_here a p (Seen part start ∷ []) b q (state_here ∷ [])
   turn_looked = looked_one seq fresh_here a b p q (Seen part start) part gauge least place numbers refl turn_here (point ∙ ap (λ n. p ++ record { part = n; place = place } ∷ []) same_part) before after inside
-      (late (fetch_gauge replica) part state_here (sym gauge_is) turn_here.late)
+      (late (fetched_gauge replica) part state_here (sym gauge_is) turn_here.late)
 
   pub turn_read : (asked : FetchPart) (records : List ℕ) (budget left : Budget) → HasRead replica asked (Seen (gauge / 3) start) (state_of (history_at b.parts (gauge / 3))) numbers records budget left
       → WereRead seq fresh_here replica (asked ∷ []) a p (Seen part start ∷ []) budget b q left (record { numbers = numbers; records = records } ∷ [])

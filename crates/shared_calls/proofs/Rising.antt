@@ -12,7 +12,8 @@ use Rattle.kwire.specs.declared.request.FetchPart.{FetchPart}
 use Rattle.opcond.specs.declared.need.Need.{Need}
 use Rattle.opcond.specs.Tally.{counted, tally}
 use Rattle.partlog.specs.State.{PartState as State}
-use Rattle.shared_calls.specs.Fresh.{AreFresh, IsFresh, fetch_gauge, gauge_for, produce_gauge}
+use Rattle.kanswer.specs.PartitionGauges.{fetched_gauge, high_gauge}
+use Rattle.shared_calls.specs.Fresh.{AreFresh, IsFresh, gauge_for}
 use Rattle.shared_calls.specs.Seen.{seen_as}
 use Rattle.shared_calls.proofs.Seen.{refused_seen, seen_results}
 
@@ -44,7 +45,7 @@ module _ (gauge : ℕ → ℕ) where
       omega (arith, counted_rises need v (gauge_value need.gauge state) here, rest vs (fresh_less need needs v vs parts states h.1))
 
 produce_rises : (accepted : List Accepted) (states : List State) (values : List ℕ) → length states ≡ length (parts_asked accepted)
-    → AreFresh (IsFresh produce_gauge (present (map produce_need accepted)) values) (parts_asked accepted) states
+    → AreFresh (IsFresh high_gauge (present (map produce_need accepted)) values) (parts_asked accepted) states
     → tally (present (map produce_need accepted)) values ≤ tally (present (map produce_need accepted)) (shown_values (map produce_need accepted) (seen_as accepted states))
 produce_rises [] states values size h = omega arith
 produce_rises (Refused code ∷ accepted) states values size h =
@@ -53,13 +54,13 @@ produce_rises (Refused code ∷ accepted) states values size h =
 produce_rises (Appended part base count ∷ accepted) [] values size h = absurd (omega (arith, size))
 produce_rises (Appended part base count ∷ accepted) (state ∷ states) values size h =
     let need : Need = record { gauge = 3 * part; start = base + count - 1; cap = 1 } in
-    first_rises produce_gauge need (present (map produce_need accepted)) values part (parts_asked accepted) state states (shown_values (map produce_need accepted) (seen_as accepted states)) refl h
+    first_rises high_gauge need (present (map produce_need accepted)) values part (parts_asked accepted) state states (shown_values (map produce_need accepted) (seen_as accepted states)) refl h
     (λ vs k. produce_rises accepted states vs (omega (arith, size)) k)
 produce_rises (Seen part start ∷ accepted) [] values size h = absurd (omega (arith, size))
 produce_rises (Seen part start ∷ accepted) (state ∷ states) values size h = produce_rises accepted states values (omega (arith, size)) h.1
 
 fetch_rises : (replica : ℤ) (asked : List FetchPart) (accepted : List Accepted) (states : List State) (values : List ℕ) → length states ≡ length (parts_asked accepted)
-    → AreFresh (IsFresh (fetch_gauge replica) (present (map (fetch_need replica) (zip asked accepted))) values) (parts_asked accepted) states
+    → AreFresh (IsFresh (fetched_gauge replica) (present (map (fetch_need replica) (zip asked accepted))) values) (parts_asked accepted) states
     → tally (present (map (fetch_need replica) (zip asked accepted))) values
     ≤ tally (present (map (fetch_need replica) (zip asked accepted))) (shown_values (map (fetch_need replica) (zip asked accepted)) (seen_as accepted states))
 fetch_rises replica [] accepted states values size h = omega arith
@@ -73,8 +74,8 @@ fetch_rises replica (a ∷ asked) (Appended part base count ∷ accepted) (state
 fetch_rises replica (a ∷ asked) (Seen part start ∷ accepted) [] values size h = absurd (omega (arith, size))
 fetch_rises replica (a ∷ asked) (Seen part start ∷ accepted) (state ∷ states) values size h =
     let needs = map (fetch_need replica) (zip asked accepted) in
-    let need : Need = record { gauge = fetch_gauge replica part; start = start; cap = at_least_zero a.most } in
-    first_rises (fetch_gauge replica) need (present needs) values part (parts_asked accepted) state states (shown_values needs (seen_as accepted states)) refl h
+    let need : Need = record { gauge = fetched_gauge replica part; start = start; cap = at_least_zero a.most } in
+    first_rises (fetched_gauge replica) need (present needs) values part (parts_asked accepted) state states (shown_values needs (seen_as accepted states)) refl h
     (λ vs k. fetch_rises replica asked accepted states vs (omega (arith, size)) k)
 
 pub fresh_rises : (ask : Ask) (accepted : List Accepted) (states : List State) (values : List ℕ) → length states ≡ length (parts_asked accepted)

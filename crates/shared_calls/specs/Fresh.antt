@@ -1,23 +1,18 @@
 -- States that are no older than the values that a pass read of the gauges of an operation.
-use Rattle.std.specs.Prelude.{◌≡◌, ℕ, ◌+◌, ◌*◌, ◌<◌, ◌≤◌, ℤ, List, [], ◌∷◌, length, slice_index, slice_index_or, if◌then◌else◌, ⊤}
-use Rattle.kanswer.specs.Waiting.{gauge_value, is_consumer}
+use Rattle.std.specs.Prelude.{◌≡◌, ℕ, ◌<◌, ◌≤◌, List, [], ◌∷◌, length, slice_index, slice_index_or, ⊤}
+use Rattle.kanswer.specs.PartitionGauges.{fetched_gauge, high_gauge}
+use Rattle.kanswer.specs.Waiting.{gauge_value}
 use Rattle.kwire.specs.declared.request.Ask.{Ask}
 use Rattle.kwire.specs.declared.request.Ask.TheVariants.{Produce, Fetch, Metadata, Versions}
 use Rattle.opcond.specs.declared.need.Need.{Need}
 use Rattle.partlog.specs.State.{PartState as State}
 
--- the gauge of a partition that a produce needs, and that which a fetch does
-abbrev pub produce_gauge : ℕ → ℕ
-produce_gauge part = 3 * part
-
-abbrev pub fetch_gauge : ℤ → ℕ → ℕ
-fetch_gauge replica part = 3 * part + (if is_consumer replica then 1 else 2)
-
+-- the gauge of a partition that a request needs
 abbrev pub gauge_for : Ask → ℕ → ℕ
-gauge_for (Produce transactional acks timeout topics) = produce_gauge
-gauge_for (Fetch replica max_wait min_bytes max_bytes isolation topics) = fetch_gauge replica
-gauge_for (Metadata topics) = produce_gauge
-gauge_for (Versions version) = produce_gauge
+gauge_for (Produce transactional acks timeout topics) = high_gauge
+gauge_for (Fetch replica max_wait min_bytes max_bytes isolation topics) = fetched_gauge replica
+gauge_for (Metadata topics) = high_gauge
+gauge_for (Versions version) = high_gauge
 
 -- In this state the gauge of the partition is no less than what was read for each need of that gauge.
 abbrev pub IsFresh : (ℕ → ℕ) → List Need → List ℕ → ℕ → State → Type 0

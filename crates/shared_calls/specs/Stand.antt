@@ -9,11 +9,11 @@ use Rattle.kanswer.specs.declared.accepted.Accepted.TheVariants.{Refused, Append
 use Rattle.kanswer.specs.declared.accepted.Budget.{Budget}
 use Rattle.kanswer.specs.declared.accepted.Reading.{Reading}
 use Rattle.kanswer.specs.Answer.{budget_behind}
-use Rattle.kanswer.specs.Decisions.{AskLog, Decision, ProduceDecides, Refuse, fetch_decision}
+use Rattle.kanswer.specs.Decisions.{AskLog, Decision, ProduceDecides, Refuse}
 use Rattle.kanswer.specs.LogReadings.{FetchReadings, ProduceReadings}
 use Rattle.kanswer.specs.Numbered.{AreNumbers}
 use Rattle.kanswer.specs.Waiting.{results_of}
-use Rattle.kwire.specs.Configuration.{Configuration, part_of}
+use Rattle.kwire.specs.Configuration.{Configuration}
 use Rattle.kwire.specs.declared.request.FetchPart.{FetchPart}
 use Rattle.kwire.specs.declared.request.FetchTopic.{FetchTopic}
 use Rattle.kwire.specs.declared.request.ProducePart.{ProducePart}
@@ -92,7 +92,3 @@ fetch_named topic = map (λ part. (topic.name, part)) topic.parts
 abbrev pub OnProduce : Configuration → Terms → List (List ℕ × ProducePart) → (List Decision → Type 0) → Type 0
 OnProduce config terms named P =
     OnTerms terms (λ id. (next : List Decision) → AllZip (ProduceDecides config id terms.acks) named next → P next)
-
--- what is decided of these partitions of a fetch
-abbrev pub fetch_decisions : Configuration → ℤ → List (List ℕ × FetchPart) → List Decision
-fetch_decisions config replica named = map (λ one. fetch_decision config replica one (part_of config one.0 one.1.index)) named

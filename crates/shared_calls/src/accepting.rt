@@ -1,4 +1,5 @@
-//! A request is accepted.
+//! A request is accepted, for a call of a pass: by `producing` or `fetching`, partition by partition. The crate above answers from what
+//! came of that, or lets the request wait.
 ghost use Rattle.std.specs.Prelude.{◌≡◌, ◌≤◌, ℕ, [], List as Items, IfOk, OnErr, OnOk, length};
 ghost use Rattle.std.specs.List.{AllZip};
 ghost use Rattle.kanswer.specs.Decisions.{Decides, Decision};
@@ -14,46 +15,43 @@ ghost use Rattle.shared_calls.specs.Carried.{HasStopped};
 ghost use Rattle.shared_calls.specs.Stand.{IsEven, IsResultOf};
 
 use crate::came::Came;
-use crate::fetching::fetch_topics;
-use crate::producing::produce_topics;
+use crate::fetching::{Fetching, fetch_topics};
+use crate::producing::{Producing, produce_topics};
 use audit::Point;
 use kanswer::{Budget, Terms};
 use kbytes::{List, NoMemory};
 use kwire::{AskView, Config, RequestView};
-use shared_logs::{LogPass, SharedLogs};
-use std::alloc::Global;
+use shared_logs::LogPass;
+use shared_logs::call_turns::Caller;
 use std::sync::Wait;
 
-/// Which of a pass's calls asks, by its number, of what topics, and over which logs.
-#[derive(Clone, Copy)]
-pub struct Asking<'a> {
+/// The call of a pass that asks, and of what topics.
+#[derive(Drop)]
+pub struct Asking<'a, 'r, 'l, W> {
     pub config: &'a Config,
-    pub logs: &'a SharedLogs,
-    pub seq: u32,
+    pub by: &'a Caller<'r, 'l, W>,
 }
 
-// What is decided of the request is carried out, and what comes of that is noted behind nothing.
+// What is decided of the request is carried out, and what comes of that is noted.
 fn carry_out(
-    rt: &impl Wait,
-    alloc: Global,
-    call: &Asking<'_>,
+    call: &Asking<'_, '_, '_, impl Wait>,
     pass: &mut LogPass,
     points: &mut List<Point>,
     request: &RequestView<'_>,
     came: &mut Came,
 ) -> Result<(), NoMemory>
-    requires made { pass.old.made ≡ call.now.logs.now }
-    requires followers { followers_in call.now.logs.now ≡ followers_of call.now.config.now.topics }
+    requires made { pass.old.made ≡ call.now.by.now.logs.now }
+    requires followers { followers_in call.now.by.now.logs.now ≡ followers_of call.now.config.now.topics }
     requires nothing { came.old ≡ record { accepted = []; numbers = []; readings = [] } }
-    ensures made { pass.new.made ≡ call.now.logs.now }
+    ensures made { pass.new.made ≡ call.now.by.now.logs.now }
     ensures accepted { OnOk result ((decisions : Items Decision) → Decides call.now.config.now request.now.ask decisions
-        → WasAccepted call.now.config.now call.now.seq request.now decisions pass.old points.old pass.new points.new came.new) }
+        → WasAccepted call.now.config.now call.now.by.now.seq request.now decisions pass.old points.old pass.new points.new came.new) }
     ensures results { OnOk result ((decisions : Items Decision) → Decides call.now.config.now request.now.ask decisions
         → AllZip IsResultOf decisions came.new.accepted) }
     ensures even { OnOk result (IsEven came.new) }
     ensures room { OnOk result (bytes_read came.new.readings ≤ most_left (budget_of request.now.ask)) }
     ensures stopped { OnErr result ((decisions : Items Decision) → Decides call.now.config.now request.now.ask decisions
-        → HasStopped call.now.config.now call.now.seq decisions pass.old points.old pass.new points.new) }
+        → HasStopped call.now.config.now call.now.by.now.seq decisions pass.old points.old pass.new points.new) }
 {
     match &request.ask {
         AskView::Produce {
@@ -66,16 +64,12 @@ fn carry_out(
                 is_transactional: transactional.is_some(),
                 acks: *acks,
             };
-            produce_topics(
-                rt,
-                alloc,
-                call,
-                pass,
-                points,
+            let producing = Producing {
+                config: call.config,
+                by: call.by,
                 terms,
-                topics.as_slice(),
-                came,
-            )
+            };
+            produce_topics(&producing, pass, points, topics.as_slice(), came)
         }
         AskView::Fetch {
             replica,
@@ -83,17 +77,13 @@ fn carry_out(
             ..
         } => {
             let mut budget = Budget::of(request);
-            fetch_topics(
-                rt,
-                alloc,
-                call,
-                pass,
-                points,
-                *replica,
-                topics.as_slice(),
-                &mut budget,
-                came,
-            )
+            let fetching = Fetching {
+                config: call.config,
+                by: call.by,
+                replica: *replica,
+            };
+            let topics = topics.as_slice();
+            fetch_topics(&fetching, pass, points, topics, &mut budget, came)
         }
         AskView::Metadata { .. } | AskView::Versions { .. } => Ok(()),
     }
@@ -102,29 +92,27 @@ fn carry_out(
 /// Accepts a request for a call of the pass, and notes the points of its entries. The pass may then owe scans. If memory runs out, some of
 /// the named partitions may have their entries, with their points.
 pub fn accept(
-    rt: &impl Wait,
-    alloc: Global,
-    call: &Asking<'_>,
+    call: &Asking<'_, '_, '_, impl Wait>,
     pass: &mut LogPass,
     points: &mut List<Point>,
     request: &RequestView<'_>,
 ) -> Result<Came, NoMemory>
-    requires made { pass.old.made ≡ call.now.logs.now }
-    requires followers { followers_in call.now.logs.now ≡ followers_of call.now.config.now.topics }
+    requires made { pass.old.made ≡ call.now.by.now.logs.now }
+    requires followers { followers_in call.now.by.now.logs.now ≡ followers_of call.now.config.now.topics }
     requires few { partitions_of call.now.config.now.topics ≤ MOST_PARTITIONS }
     requires asked { (body : Items ℕ) × IsRequest body request.now }
-    ensures made { pass.new.made ≡ call.now.logs.now }
+    ensures made { pass.new.made ≡ call.now.by.now.logs.now }
     ensures accepted { IfOk result (λ came. (decisions : Items Decision) → Decides call.now.config.now request.now.ask decisions
-        → WasAccepted call.now.config.now call.now.seq request.now decisions pass.old points.old pass.new points.new came) }
+        → WasAccepted call.now.config.now call.now.by.now.seq request.now decisions pass.old points.old pass.new points.new came) }
     ensures results { IfOk result (λ came. (decisions : Items Decision) → Decides call.now.config.now request.now.ask decisions
         → AreResults request.now.ask came.accepted) }
     ensures numbers { IfOk result (λ came. length came.numbers ≡ length came.accepted) }
     ensures readings { IfOk result (λ came. length came.readings ≡ length came.accepted) }
     ensures room { IfOk result (λ came. bytes_read came.readings ≤ most_left (budget_of request.now.ask)) }
     ensures stopped { OnErr result ((decisions : Items Decision) → Decides call.now.config.now request.now.ask decisions
-        → HasStopped call.now.config.now call.now.seq decisions pass.old points.old pass.new points.new) }
+        → HasStopped call.now.config.now call.now.by.now.seq decisions pass.old points.old pass.new points.new) }
 {
-    let mut came = Came::new(alloc);
-    carry_out(rt, alloc, call, pass, points, request, &mut came)?;
+    let mut came = Came::new(call.by.logs.alloc());
+    carry_out(call, pass, points, request, &mut came)?;
     Ok(came)
 }

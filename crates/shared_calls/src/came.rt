@@ -1,4 +1,4 @@
-//! What came of accepting a request so far.
+//! What came of accepting a request so far: `producing` and `fetching` note it, and the crate above makes the reply of it.
 ghost use Rattle.std.specs.Prelude.{◌≡◌, [], ◌∷◌, ◌++◌, ◌<◌, ◌^◌, All, IfOk, OnOk};
 ghost use Rattle.kanswer.specs.LogReadings.{HasCarriable, IsCarriable};
 

@@ -11,6 +11,7 @@ mod came;
 mod completing;
 mod fetching;
 mod looking;
+mod named;
 mod producing;
 mod reading;
 mod values;

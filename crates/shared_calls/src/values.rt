@@ -1,4 +1,5 @@
-//! The values of an operation's gauges, as the pass reads them in the room.
+//! The values of an operation's gauges, as the pass reads them in the room: `completing` reads until they satisfy the operation, and
+//! `looking` waits for states that are no older.
 ghost use Rattle.std.specs.Prelude.{◌≡◌, ℕ, ◌*◌, ◌≤◌, All, length};
 ghost use Rattle.kanswer.specs.Waiting.{gauge_value};
 ghost use Rattle.opcond.specs.Tally.{IsSatisfied};
@@ -10,6 +11,7 @@ ghost use Rattle.shared_calls.specs.declared.values.TheConstants.{MOST_NEEDS};
 ghost use Rattle.shared_calls.specs.Fresh.{IsFresh};
 
 use opcond::{Need, Op, is_satisfied};
+use shared_logs::call_turns::Caller;
 use shared_logs::{LogPass, SharedLogs};
 use std::sync::Wait;
 
@@ -36,17 +38,17 @@ fn read_values(logs: &SharedLogs, pass: &mut LogPass, needs: &[Need]) -> Values
 }
 
 /// Reads the gauges until their values satisfy the operation.
-pub(crate) fn satisfying(rt: &impl Wait, logs: &SharedLogs, pass: &mut LogPass, op: &Op) -> Values
-    requires made { pass.old.made ≡ logs.now }
-    requires gauges { All (λ need. need.gauge ≤ 3 * length logs.now.parts) op.now.needs }
-    ensures made { pass.new.made ≡ logs.now }
+pub(crate) fn satisfying(by: &Caller<'_, '_, impl Wait>, pass: &mut LogPass, op: &Op) -> Values
+    requires made { pass.old.made ≡ by.now.logs.now }
+    requires gauges { All (λ need. need.gauge ≤ 3 * length by.now.logs.now.parts) op.now.needs }
+    ensures made { pass.new.made ≡ by.now.logs.now }
     ensures stepped { HasStepped pass.old pass.new }
     ensures kept { KeepsOperation (caller_now pass.old.seat) (caller_now pass.new.seat) }
     ensures satisfied { IsSatisfied op.now result }
 {
     let needs = op.needs();
-    for _ in rt.forever() {
-        let values = read_values(logs, pass, needs);
+    for _ in by.rt.forever() {
+        let values = read_values(by.logs, pass, needs);
         if is_satisfied(op, &values[..needs.len()]) {
             return values;
         }

@@ -10,8 +10,6 @@ pub mod Adding
 pub mod Entering
 -- the clock's desk, as its history goes on
 pub mod TickedClock
--- the sources of a new room, as they are taken from their list
-pub mod Taking
 -- what a whole turn of a lock tells of the histories
 pub mod Telling
 -- what a pass knows of a lock, as its turn goes on

@@ -1,4 +1,4 @@
-//! A turn of the clock's lock, with what a pass has of that lock.
+//! One turn of the clock's lock, for `ticking`: by the lock and a pass's key of it, it says what the pass knew before and knows after.
 ghost use Rattle.std.specs.Prelude.{◌≡◌, ◌≤◌, IfOk, OnErr, OnOk};
 ghost use Rattle.partlog.specs.declared.clock_event.TheConstants.{MOST_MOMENT};
 ghost use Rattle.partlog.specs.Moment.{moment_of};
@@ -14,7 +14,7 @@ ghost use Rattle.shared_logs.specs.Histories.{events_of};
 ghost use Rattle.shared_logs.specs.Keeps.{MomentKeeps};
 ghost use Rattle.shared_logs.specs.Turned.{HasFound, LookedAtClock, OpensClock, SawClock, ToldClock, moment_entries};
 
-use crate::MomentDesk;
+use crate::{MomentDesk, Tick};
 use kbytes::NoMemory;
 use partlog::Who;
 use purgatory::{Room, RoomPass};
@@ -64,37 +64,34 @@ fn late_turn(
     unreachable!()
 }
 
-/// Tells the clock a moment, and answers whether the pass of this number added a tick, and the clock's moment as the turn ended.
+/// Gives the clock a moment, and answers whether the pass of this number added a tick, and the clock's moment as the turn ended.
 pub(crate) fn tick_to(
     rt: &impl Wait,
     room: &Room,
     lock: &TurnLock<MomentDesk>,
     key: &mut TurnPass<MomentDesk>,
     pass: &mut RoomPass,
-    by: u32,
-    t: u64,
+    tick: Tick,
 ) -> (Result<bool, NoMemory>, u64)
-    requires limit { t ≤ MOST_MOMENT }
+    requires limit { tick.moment ≤ MOST_MOMENT }
     requires room { IsOfRoom room.now pass.old }
-    requires key { OpensClock room.now.table by lock.now key.old }
+    requires key { OpensClock room.now.table tick.by lock.now key.old }
     ensures room { IsOfRoom room.now pass.new }
     ensures went { GoesOn pass.old.seat pass.new.seat }
     ensures kept { KeepsOperation (caller_now pass.old.seat) (caller_now pass.new.seat) }
-    ensures key { OpensClock room.now.table by lock.now key.new }
-    ensures told { IfOk result.0 (λ rose. ToldClock t (known key.old) (known key.new) rose) }
+    ensures key { OpensClock room.now.table tick.by lock.now key.new }
+    ensures told { IfOk result.0 (λ rose. ToldClock tick.moment (known key.old) (known key.new) rose) }
     ensures refused { OnErr result.0 (SawClock (known key.old) (known key.new)) }
     ensures moment { result.1 ≡ moment_of (events_of (known key.new).seen) }
 {
     let mut turn = clock_turn(rt, lock, key);
-    let rose = turn.value_mut().tick(rt, room, pass, by, t);
-    let desk = turn.value();
-    desk.keeps();
-    let moment = desk.now();
+    let rose = turn.value_mut().tick(rt, room, pass, tick);
+    let moment = turn.value().now();
     lock.end(key, turn);
     (rose, moment)
 }
 
-/// Looks at the clock, once its moment is no less than `least`, and answers the place of the look and that moment.
+/// Looks at the clock, once its moment is no less than `least`, and answers the place of the look and the moment.
 pub(crate) fn look_up(
     rt: &impl Wait,
     lock: &TurnLock<MomentDesk>,
@@ -109,9 +106,8 @@ pub(crate) fn look_up(
     ensures moment { result.1 ≡ moment_of (events_of (known key.new).seen) }
 {
     let mut turn = late_turn(rt, lock, key, least);
-    let moment = turn.value().now();
     let place = turn.value_mut().look(who);
-    turn.value().keeps();
+    let moment = turn.value().now();
     lock.end(key, turn);
     (place, moment)
 }

@@ -1,4 +1,4 @@
-//! The logs are closed.
+//! The end of the logs, once the threads are joined: the room becomes still, and every lock is closed with all of its passes.
 ghost use Rattle.std.specs.Prelude.{◌≡◌, All, IfOk, length, map};
 ghost use Rattle.turn_lock.specs.Locks.{lock_passes};
 ghost use Rattle.room_table.specs.Seats.{TableView, caller_now};
@@ -32,12 +32,12 @@ pub struct ClosedLogs {
 #[derive(Drop)]
 pub enum LogsEnd {
     Closed(ClosedLogs),
-    /// More was won than the passes have taken, and an operation of one of them waits. The logs and the passes are handed back as they were.
+    /// More was won than the passes have taken, and an operation of one of them waits. Logs and passes are handed back as they were.
     Untaken {
         logs: SharedLogs,
         passes: List<LogPass>,
     },
-    /// No memory was left. Nothing is handed back.
+    /// Out of memory. Nothing is handed back.
     NoMemory,
 }
 

@@ -1,4 +1,4 @@
-//! Threads share the logs, and each has a pass: the logs may be shared by threads and go to another one, and so may a pass.
+//! Checked where it compiles: threads may share the logs, and logs and passes may go to other threads.
 use crate::logs::SharedLogs;
 use crate::pass::LogPass;
 

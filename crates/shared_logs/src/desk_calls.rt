@@ -1,5 +1,5 @@
-//! What a turn does at a partition's desk.
-ghost use Rattle.std.specs.Prelude.{◌≡◌, ◌≤◌, IfOk, OnErr, OnOk, length};
+//! What a turn does at a partition's desk, for `part_turns`: it leaves an entry, and hands on what the call gets of that.
+ghost use Rattle.std.specs.Prelude.{◌≡◌, ◌≤◌, ◌/◌, IfOk, OnErr, OnOk, length};
 ghost use Rattle.kbatch.specs.Kept.{count_of};
 ghost use Rattle.kanswer.specs.declared.accepted.Accepted.TheVariants.{Seen};
 ghost use Rattle.kanswer.specs.Decisions.{append_outcome, fetch_outcome};
@@ -19,12 +19,14 @@ ghost use Rattle.shared_logs.specs.Asked.{HasRead};
 
 use crate::PartDesk;
 use crate::turns::{Fetched, Looked, Put, Read};
+use crate::visit::Visit;
+use crate::wanted::{Rest, Wanted};
 use kanswer::{Accepted, Budget, read_asked};
 use kbatch::BatchView;
 use kbytes::{Bytes, NoMemory};
 use kwire::FetchPart;
 use partlog::{PartLog, Who};
-use purgatory::{Room, RoomPass};
+use purgatory::RoomPass;
 use std::alloc::Global;
 use std::sync::Wait;
 
@@ -49,28 +51,27 @@ fn records_of(
     }
 }
 
-/// Puts a batch into the log, and tells its numbers then.
+/// Puts a batch into the log, and hands on its numbers then.
 pub(crate) fn put_at(
-    rt: &impl Wait,
-    room: &Room,
+    visit: &Visit<'_, '_, impl Wait>,
     desk: &mut PartDesk,
     pass: &mut RoomPass,
-    who: Who,
     batch: &BatchView<'_>,
 ) -> Result<Put, NoMemory>
-    requires pass { IsOfRoom room.now pass.old }
-    requires desk { IsSourceOf room.now desk.old.sources.high }
-    ensures entered { IfOk result (λ put. HasEntered who.by who.seq (append_outcome desk.old.part (count_of batch.now) batch.now) desk.old.history desk.new.history put.entered) }
+    requires pass { IsOfRoom visit.now.room.now pass.old }
+    requires desk { IsSourceOf visit.now.room.now desk.old.sources.high }
+    ensures entered { IfOk result (λ put. HasEntered visit.now.who.by visit.now.who.seq (append_outcome desk.old.part (count_of batch.now) batch.now)
+        desk.old.history desk.new.history put.entered) }
     ensures numbers { IfOk result (λ put. put.numbers ≡ numbers_of (state_of desk.new.history)) }
     ensures refused { OnErr result (desk.new ≡ desk.old) }
     ensures name { part_name desk.new ≡ part_name desk.old }
-    ensures added { AddedBy entry_by who.by (log_entries desk.old.history) (log_entries desk.new.history) }
+    ensures added { AddedBy entry_by visit.now.who.by (log_entries desk.old.history) (log_entries desk.new.history) }
     ensures whole { IsKept desk.new.history.log desk.new.history.events }
-    ensures made { IsOfRoom room.now pass.new }
+    ensures made { IsOfRoom visit.now.room.now pass.new }
     ensures went { GoesOn pass.old.seat pass.new.seat }
     ensures kept { KeepsOperation (caller_now pass.old.seat) (caller_now pass.new.seat) }
 {
-    let entered = desk.put(rt, room, pass, who, batch);
+    let entered = desk.put(visit, pass, batch);
     let numbers = desk.log().numbers();
     Ok(Put {
         entered: entered?,
@@ -78,38 +79,40 @@ pub(crate) fn put_at(
     })
 }
 
-/// Enters what a fetch asks, tells the log's numbers then, and reads what the reply takes of it.
+/// Enters what a fetch asks, hands on the log's numbers then, and reads what the reply takes of it.
 pub(crate) fn fetch_at(
-    rt: &impl Wait,
-    alloc: Global,
-    room: &Room,
+    visit: &Visit<'_, '_, impl Wait>,
     desk: &mut PartDesk,
     pass: &mut RoomPass,
-    who: Who,
-    replica: i32,
-    asked: &FetchPart,
+    wanted: &Wanted<'_>,
     budget: &mut Budget,
 ) -> Result<Fetched, NoMemory>
-    requires pass { IsOfRoom room.now pass.old }
-    requires desk { IsSourceOf room.now desk.old.sources.high }
-    ensures entered { IfOk result (λ fetched. HasEntered who.by who.seq (fetch_outcome desk.old.history.followers replica asked.now desk.old.part) desk.old.history desk.new.history fetched.entered) }
+    requires pass { IsOfRoom visit.now.room.now pass.old }
+    requires desk { IsSourceOf visit.now.room.now desk.old.sources.high }
+    ensures entered { IfOk result (λ fetched. HasEntered visit.now.who.by visit.now.who.seq
+        (fetch_outcome desk.old.history.followers wanted.now.replica wanted.now.asked.now desk.old.part) desk.old.history desk.new.history fetched.entered) }
     ensures numbers { IfOk result (λ fetched. fetched.numbers ≡ numbers_of (state_of desk.new.history)) }
     ensures bounded { IfOk result (λ fetched. fetched.numbers.high ≤ MOST_LOG_BYTES) }
     ensures read { IfOk result (λ fetched. IfOk fetched.records (λ records.
-        HasRead replica asked.now fetched.entered.became (state_of desk.new.history) fetched.numbers records budget.old budget.new)) }
+        HasRead wanted.now.replica wanted.now.asked.now fetched.entered.became (state_of desk.new.history) fetched.numbers records budget.old budget.new)) }
     ensures refused { OnErr result (desk.new ≡ desk.old) }
     ensures name { part_name desk.new ≡ part_name desk.old }
-    ensures added { AddedBy entry_by who.by (log_entries desk.old.history) (log_entries desk.new.history) }
+    ensures added { AddedBy entry_by visit.now.who.by (log_entries desk.old.history) (log_entries desk.new.history) }
     ensures whole { IsKept desk.new.history.log desk.new.history.events }
-    ensures made { IsOfRoom room.now pass.new }
+    ensures made { IsOfRoom visit.now.room.now pass.new }
     ensures went { GoesOn pass.old.seat pass.new.seat }
     ensures kept { KeepsOperation (caller_now pass.old.seat) (caller_now pass.new.seat) }
 {
-    let entered = desk.fetch(rt, room, pass, who, replica, asked);
+    let entered = desk.fetch(visit, pass, wanted);
     let log = desk.log();
     let numbers = log.numbers();
     let entered = entered?;
-    let records = records_of(alloc, replica, asked, &entered.became, log, budget);
+    let Wanted {
+        replica,
+        asked,
+        part: _,
+    } = *wanted;
+    let records = records_of(visit.alloc, replica, asked, &entered.became, log, budget);
     Ok(Fetched {
         entered,
         numbers,
@@ -117,7 +120,7 @@ pub(crate) fn fetch_at(
     })
 }
 
-/// Looks at the log, and tells the place of the look and the log's numbers.
+/// Looks at the log, and hands on the place of the look and the log's numbers.
 pub(crate) fn look_at(desk: &mut PartDesk, who: Who) -> Result<Looked, NoMemory>
     ensures looked { OnOk result (desk.new.history ≡ looked desk.old.history who.by who.seq) }
     ensures place { IfOk result (λ at. at.place ≡ length desk.old.history.events) }
@@ -137,15 +140,12 @@ pub(crate) fn look_at(desk: &mut PartDesk, who: Who) -> Result<Looked, NoMemory>
     })
 }
 
-/// The same, and reads what the reply to a fetch takes from the byte place `start` on.
+/// The same, and reads what the reply to a fetch takes.
 pub(crate) fn read_at(
     alloc: Global,
     desk: &mut PartDesk,
     who: Who,
-    replica: i32,
-    asked: &FetchPart,
-    part: u32,
-    start: u64,
+    rest: &Rest<'_>,
     budget: &mut Budget,
 ) -> Result<Read, NoMemory>
     ensures looked { OnOk result (desk.new.history ≡ looked desk.old.history who.by who.seq) }
@@ -153,14 +153,18 @@ pub(crate) fn read_at(
     ensures numbers { IfOk result (λ read. read.looked.numbers ≡ numbers_of (state_of desk.old.history)) }
     ensures bounded { IfOk result (λ read. read.looked.numbers.high ≤ MOST_LOG_BYTES) }
     ensures read { IfOk result (λ read. IfOk read.records (λ records.
-        HasRead replica asked.now (Seen part start) (state_of desk.new.history) read.looked.numbers records budget.old budget.new)) }
+        HasRead rest.now.replica rest.now.asked.now (Seen (rest.now.late.gauge / 3) rest.now.start) (state_of desk.new.history) read.looked.numbers
+        records budget.old budget.new)) }
     ensures refused { OnErr result (desk.new ≡ desk.old) }
     ensures name { part_name desk.new ≡ part_name desk.old }
     ensures added { AddedBy entry_by who.by (log_entries desk.old.history) (log_entries desk.new.history) }
     ensures whole { IsKept desk.new.history.log desk.new.history.events }
 {
     let looked = look_at(desk, who)?;
-    let became = Accepted::Seen { part, start };
-    let records = records_of(alloc, replica, asked, &became, desk.log(), budget);
+    let became = Accepted::Seen {
+        part: rest.late.gauge / 3,
+        start: rest.start,
+    };
+    let records = records_of(alloc, rest.replica, rest.asked, &became, desk.log(), budget);
     Ok(Read { looked, records })
 }

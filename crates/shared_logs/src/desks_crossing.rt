@@ -1,4 +1,4 @@
-//! A lock round a desk may be shared by threads, and it and its passes may go to another one.
+//! Checked where it compiles: threads may share a desk's lock, and lock and passes may go to other threads.
 use crate::moment_desk::MomentDesk;
 use crate::part_desk::PartDesk;
 use turn_lock::{TurnLock, TurnPass};

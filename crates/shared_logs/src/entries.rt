@@ -6,7 +6,7 @@ use partlog::{ClockEvent, PartEvent};
 #[derive(Drop)]
 pub struct LogEntry {
     pub event: PartEvent,
-    /// The batch of an append as it stands in the log; else no bytes.
+    /// The batch of an append as it is in the log; else no bytes.
     pub bytes: Bytes,
 }
 

@@ -1,4 +1,5 @@
-//! The passes are taken apart for the close.
+//! The passes are taken apart for `closing`: the seats go to the room, and each lock gets its own passes back. Where the room doesn't
+//! close, they are put together again.
 ghost use Rattle.std.specs.Prelude.{◌≡◌, ◌<◌, [], ◌++◌, All, IfOk, length};
 ghost use Rattle.shared_logs.specs.Apart.{AreJoined, AreRests, gathered};
 ghost use Rattle.shared_logs.specs.declared.hands.Hand.{Hand as HandView};
@@ -10,7 +11,7 @@ use purgatory::RoomPass;
 use std::alloc::Global;
 use turn_lock::TurnPass;
 
-/// What a pass of the logs has beside its seat in the room.
+/// What a pass of the logs has besides its seat in the room.
 #[derive(Drop)]
 pub struct Hand {
     number: u32,
@@ -52,7 +53,7 @@ pub(crate) fn take_apart(
     Ok((seats, hands))
 }
 
-/// Puts the passes together again, in their order before. They have place in the list from which they were taken.
+/// Puts the passes together again, in the order that they had. There is room for them in the list from which they were taken.
 pub(crate) fn put_together(
     mut passes: List<LogPass>,
     mut seats: List<RoomPass>,

@@ -1,4 +1,4 @@
-//! What a turn lock knows of the desks: their entries and their names.
+//! What a turn lock knows of the desks: the entries of their histories, and their names.
 use crate::entries::{ClockEntry, LogEntry};
 use crate::moment_desk::MomentDesk;
 use crate::part_desk::PartDesk;

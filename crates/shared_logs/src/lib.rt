@@ -10,17 +10,17 @@
 //! of its own (`OthersCame`); and at the close there is one history of each partition, which goes on from what every pass has seen
 //! (`AreClosed`).
 //!
-//! # What stands behind a lock
+//! # What is behind a lock
 //!
 //! A desk is a log with the sources of its gauges: `PartDesk` is a partition's, `MomentDesk` the clock's. Between any two calls the
-//! gauges are at the numbers of the log's whole history, so whoever has the desk's turn finds both alike, and whoever waits in the room
-//! for a gauge was told of every change. Each call enters one entry, raises the gauges that changed and no other, and leaves it to the
+//! gauges are at the numbers of the log's whole history. So the thread that has the desk's turn finds both alike, and one that waits in
+//! the room for a gauge misses no change. Each call enters one entry, raises the gauges that changed and no other, and leaves it to the
 //! pass to settle what it then owes, once its turn is over.
 //!
 //! # What a lock sees
 //!
 //! A turn lock (`turn_lock`) sees a history of entries, each of which names a pass. Of a partition these are its events, each append
-//! with its batch as it stands in the log (`LogEntry`): so what a pass has seen of a partition fixes the log's bytes as well as the
+//! with its batch as it is in the log (`LogEntry`): so what a pass has seen of a partition fixes the log's bytes as well as the
 //! events. Of the clock they are its events, and since a tick names no pass, the desk keeps a list of the passes that ticked
 //! (`ClockEntry`). No value of either type is made. The laws of `promises` lead from the entries back to the histories.
 #![tactic(auto)]
@@ -44,12 +44,14 @@ mod promises;
 mod sources;
 mod ticking;
 mod turns;
+mod visit;
 mod waiting;
+mod wanted;
 
 pub use closing::{ClosedLogs, LogsEnd};
 pub use entries::{ClockEntry, LogEntry};
 pub use logs::SharedLogs;
-pub use moment_desk::MomentDesk;
+pub use moment_desk::{MomentDesk, Tick};
 pub use part_desk::PartDesk;
 pub use pass::LogPass;
 pub use promises::{
@@ -58,3 +60,5 @@ pub use promises::{
 };
 pub use sources::PartSources;
 pub use turns::{Fetched, Looked, Put, Read};
+pub use visit::Visit;
+pub use wanted::{AtLeast, Rest, Wanted};

@@ -1,3 +1,5 @@
+//! The logs of the partitions and of the clock, with the room: how they are made. What a pass does with them is in `turns`, `ticking` and
+//! `waiting`, and the end in `closing`.
 ghost use Rattle.std.specs.Prelude.{◌≡◌, ◌≤◌, IfOk, length};
 ghost use Rattle.shared_logs.specs.Making.{fresh_log_passes};
 ghost use Rattle.shared_logs.specs.Shared.{followers_in};
@@ -32,8 +34,8 @@ impl Model for SharedLogs {
 }
 
 impl SharedLogs {
-    /// Empty logs of partitions with so many followers each, a clock at moment 0, and so many passes, in the order of their numbers. It
-    /// is refused where no memory is left.
+    /// Empty logs of partitions with these numbers of followers, a clock at moment 0, and that many passes, in the order of their
+    /// numbers. It is refused where no memory is left.
     pub fn make(
         alloc: Global,
         followers: &[u32],
@@ -65,5 +67,10 @@ impl SharedLogs {
             clock,
         };
         Ok((logs, passes))
+    }
+
+    /// The allocator of the logs.
+    pub fn alloc(&self) -> Global {
+        self.alloc
     }
 }

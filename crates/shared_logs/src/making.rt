@@ -1,4 +1,4 @@
-//! How shared logs are made: each partition's log is put behind a lock, and the passes of all locks are dealt out.
+//! The parts of new logs, for `SharedLogs::make`: each partition's log is put behind a lock, and the passes of all locks are dealt out.
 ghost use Rattle.std.specs.Prelude.{◌≡◌, ◌*◌, ◌≤◌, List as Items, [], ◌∷◌, ◌++◌, IfOk, length, map};
 ghost use Rattle.purgatory.specs.Making.{AreFrom};
 ghost use Rattle.purgatory.specs.Rooms.{LockView};

@@ -1,4 +1,4 @@
-//! What stands behind the clock's lock.
+//! What is behind the clock's lock: `clock_turns` ticks it and looks at it, in a turn.
 ghost use Rattle.std.specs.Prelude.{◌≡◌, ◌<◌, ◌≤◌, [], ◌∷◌, ◌++◌, IfOk, OnOk, OnErr, length};
 ghost use Rattle.partlog.specs.declared.clock_event.ClockEvent.TheVariants.{Look};
 ghost use Rattle.partlog.specs.declared.clock_event.TheConstants.{MOST_MOMENT};
@@ -41,6 +41,13 @@ impl Model for MomentDesk {
     ghost invariant = { λ d. MomentKeeps (record { events = d.log; tickers = d.tickers; source = d.source }) };
 }
 
+/// A moment in milliseconds, and the number of the pass that gives it to the clock.
+#[derive(Clone, Copy)]
+pub struct Tick {
+    pub by: u32,
+    pub moment: u64,
+}
+
 impl MomentDesk {
     /// A clock at moment 0 without entries, from the source of its gauge as the room hands it out. It takes no memory.
     pub fn make(alloc: Global, source: Source) -> MomentDesk
@@ -55,7 +62,7 @@ impl MomentDesk {
         }
     }
 
-    /// Tells the clock a moment in milliseconds, and answers whether it is above the clock's. Then the pass of this number adds a tick,
+    /// Gives the clock a moment, and answers whether it is above the clock's. Then the pass of this number adds a tick,
     /// and the gauge is raised to the moment: the pass of the room owes its scan, which `settle` pays once the turn is over. Else nothing
     /// changes. If memory runs out, all is as it was.
     pub fn tick(
@@ -63,29 +70,28 @@ impl MomentDesk {
         rt: &impl Wait,
         room: &Room,
         pass: &mut RoomPass,
-        by: u32,
-        t: u64,
+        tick: Tick,
     ) -> Result<bool, NoMemory>
-        requires limit { t ≤ MOST_MOMENT }
+        requires limit { tick.moment ≤ MOST_MOMENT }
         requires pass { IsOfRoom room.now pass.old }
         requires desk { IsSourceOf room.now self.old.source }
-        ensures ticked { IfOk result (λ rose. HasTicked by t rose self.old self.new) }
-        ensures refused { OnErr result ((self.new ≡ self.old) × (pass.new ≡ pass.old) × (moment_of self.old.events < t)) }
+        ensures ticked { IfOk result (λ rose. HasTicked tick.by tick.moment rose self.old self.new) }
+        ensures refused { OnErr result ((self.new ≡ self.old) × (pass.new ≡ pass.old) × (moment_of self.old.events < tick.moment)) }
         ensures name { moment_name self.new ≡ moment_name self.old }
-        ensures added { AddedBy clock_by by (clock_entries self.old.events self.old.tickers) (clock_entries self.new.events self.new.tickers) }
+        ensures added { AddedBy clock_by tick.by (clock_entries self.old.events self.old.tickers) (clock_entries self.new.events self.new.tickers) }
         ensures made { IsOfRoom room.now pass.new }
         ensures went { GoesOn pass.old.seat pass.new.seat }
         ensures kept { KeepsOperation (caller_now pass.old.seat) (caller_now pass.new.seat) }
     {
-        if t <= self.log.now() {
+        if tick.moment <= self.log.now() {
             return Ok(false);
         }
-        self.tickers.push(by)?;
-        if self.log.tick(t).is_err() {
+        self.tickers.push(tick.by)?;
+        if self.log.tick(tick.moment).is_err() {
             self.tickers.pop();
             return Err(NoMemory);
         }
-        room.raise(rt, &mut self.source, pass, t);
+        room.raise(rt, &mut self.source, pass, tick.moment);
         Ok(true)
     }
 
@@ -101,10 +107,11 @@ impl MomentDesk {
         self.log.look(who)
     }
 
-    /// The moment: the greatest that the clock was told, or 0.
+    /// The moment: the greatest that the clock was given, or 0.
     pub fn now(&self) -> u64
         ensures moment { result ≡ moment_of self.now.events }
         ensures limit { result ≤ MOST_MOMENT }
+        ensures keeps { MomentKeeps self.now }
     {
         self.log.now()
     }

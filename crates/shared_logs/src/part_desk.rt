@@ -1,4 +1,4 @@
-//! What stands behind a partition's lock.
+//! What is behind a partition's lock: `desk_calls` enters batches, fetches and looks here, in a turn, and the gauges rise with the log.
 ghost use Rattle.std.specs.Prelude.{◌≡◌, [], IfOk, OnOk, OnErr, length};
 ghost use Rattle.kbatch.specs.Kept.{count_of};
 ghost use Rattle.kanswer.specs.Decisions.{append_outcome, fetch_outcome};
@@ -15,12 +15,13 @@ ghost use Rattle.shared_logs.specs.Entries.{entry_by, log_entries};
 ghost use Rattle.shared_logs.specs.Keeps.{AreAt, AreOfPart, AreStill, PartKeeps};
 
 use crate::sources::PartSources;
+use crate::visit::Visit;
+use crate::wanted::Wanted;
 use kanswer::{Entered, enter_batch, enter_fetch};
 use kbatch::BatchView;
 use kbytes::NoMemory;
-use kwire::FetchPart;
 use partlog::{Numbers, PartLog, Who, numbers_never_fall};
-use purgatory::{Room, RoomPass};
+use purgatory::RoomPass;
 use std::alloc::Global;
 use std::marker::Model;
 use std::sync::Wait;
@@ -47,7 +48,7 @@ impl Model for PartDesk {
 }
 
 impl PartDesk {
-    /// The desk of the partition of this number, with so many followers and an empty log, from the sources of its gauges as the room
+    /// The desk of the partition of this number, with that many followers and an empty log, from the sources of its gauges as the room
     /// hands them out. It is refused where no memory is left.
     pub fn make(
         alloc: Global,
@@ -70,66 +71,67 @@ impl PartDesk {
         Ok(PartDesk { log, part, sources })
     }
 
-    /// Puts a batch at the end of the log for a call of a pass (`who`), where there is room, and raises the gauges that rose. The pass
+    /// Puts a batch at the end of the log for the call that visits, where there is room, and raises the gauges that rose. The pass
     /// of the room then owes their scans, which `settle` pays once the turn is over. Where there is no room, the log is looked at and
     /// the partition is refused with code 6. If memory runs out, all is as it was.
     pub fn put(
         &mut self,
-        rt: &impl Wait,
-        room: &Room,
+        visit: &Visit<'_, '_, impl Wait>,
         pass: &mut RoomPass,
-        who: Who,
         batch: &BatchView<'_>,
     ) -> Result<Entered, NoMemory>
-        requires pass { IsOfRoom room.now pass.old }
-        requires desk { IsSourceOf room.now self.old.sources.high }
-        ensures entered { IfOk result (λ entered. HasEntered who.by who.seq (append_outcome self.old.part (count_of batch.now) batch.now) self.old.history self.new.history entered) }
+        requires pass { IsOfRoom visit.now.room.now pass.old }
+        requires desk { IsSourceOf visit.now.room.now self.old.sources.high }
+        ensures entered { IfOk result (λ entered. HasEntered visit.now.who.by visit.now.who.seq (append_outcome self.old.part (count_of batch.now) batch.now) self.old.history self.new.history entered) }
         ensures refused { OnErr result ((self.new ≡ self.old) × (pass.new ≡ pass.old)) }
         ensures still { AreStill (numbers_of (state_of self.old.history)) (numbers_of (state_of self.new.history)) self.old.sources self.new.sources }
         ensures untouched { numbers_of (state_of self.new.history) ≡ numbers_of (state_of self.old.history) → pass.new ≡ pass.old }
         ensures name { part_name self.new ≡ part_name self.old }
-        ensures added { AddedBy entry_by who.by (log_entries self.old.history) (log_entries self.new.history) }
-        ensures made { IsOfRoom room.now pass.new }
+        ensures added { AddedBy entry_by visit.now.who.by (log_entries self.old.history) (log_entries self.new.history) }
+        ensures made { IsOfRoom visit.now.room.now pass.new }
         ensures went { GoesOn pass.old.seat pass.new.seat }
         ensures kept { KeepsOperation (caller_now pass.old.seat) (caller_now pass.new.seat) }
     {
         numbers_never_fall();
         let before = self.log.numbers();
-        let entered = enter_batch(&mut self.log, who, self.part, batch)?;
+        let entered = enter_batch(&mut self.log, visit.who, self.part, batch)?;
         let after = self.log.numbers();
-        self.sources.tell(rt, room, pass, &before, &after);
+        self.sources.tell(visit, pass, &before, &after);
         Ok(entered)
     }
 
-    /// Enters what a fetch asks of the partition for a call of a pass (`who`): a follower's fetch in range moves the follower, and the
+    /// Enters what a fetch asks of the partition for the call that visits: a follower's fetch in range moves the follower, and the
     /// gauges that rose are raised, as in `put`; every other fetch looks at the log. A negative replica is a consumer. If memory runs
     /// out, all is as it was.
     pub fn fetch(
         &mut self,
-        rt: &impl Wait,
-        room: &Room,
+        visit: &Visit<'_, '_, impl Wait>,
         pass: &mut RoomPass,
-        who: Who,
-        replica: i32,
-        asked: &FetchPart,
+        wanted: &Wanted<'_>,
     ) -> Result<Entered, NoMemory>
-        requires pass { IsOfRoom room.now pass.old }
-        requires desk { IsSourceOf room.now self.old.sources.high }
-        ensures entered { IfOk result (λ entered. HasEntered who.by who.seq (fetch_outcome self.old.history.followers replica asked.now self.old.part) self.old.history self.new.history entered) }
+        requires pass { IsOfRoom visit.now.room.now pass.old }
+        requires desk { IsSourceOf visit.now.room.now self.old.sources.high }
+        ensures entered { IfOk result (λ entered. HasEntered visit.now.who.by visit.now.who.seq (fetch_outcome self.old.history.followers wanted.now.replica wanted.now.asked.now self.old.part) self.old.history self.new.history entered) }
         ensures refused { OnErr result ((self.new ≡ self.old) × (pass.new ≡ pass.old)) }
         ensures still { AreStill (numbers_of (state_of self.old.history)) (numbers_of (state_of self.new.history)) self.old.sources self.new.sources }
         ensures untouched { numbers_of (state_of self.new.history) ≡ numbers_of (state_of self.old.history) → pass.new ≡ pass.old }
         ensures name { part_name self.new ≡ part_name self.old }
-        ensures added { AddedBy entry_by who.by (log_entries self.old.history) (log_entries self.new.history) }
-        ensures made { IsOfRoom room.now pass.new }
+        ensures added { AddedBy entry_by visit.now.who.by (log_entries self.old.history) (log_entries self.new.history) }
+        ensures made { IsOfRoom visit.now.room.now pass.new }
         ensures went { GoesOn pass.old.seat pass.new.seat }
         ensures kept { KeepsOperation (caller_now pass.old.seat) (caller_now pass.new.seat) }
     {
         numbers_never_fall();
         let before = self.log.numbers();
-        let entered = enter_fetch(&mut self.log, who, replica, self.part, asked)?;
+        let entered = enter_fetch(
+            &mut self.log,
+            visit.who,
+            wanted.replica,
+            self.part,
+            wanted.asked,
+        )?;
         let after = self.log.numbers();
-        self.sources.tell(rt, room, pass, &before, &after);
+        self.sources.tell(visit, pass, &before, &after);
         Ok(entered)
     }
 

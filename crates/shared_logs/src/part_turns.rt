@@ -1,4 +1,4 @@
-//! A turn of one partition's lock, with what a pass has of that lock.
+//! One turn of a partition's lock, for `turns`: by the lock and a pass's key of it, it says what the pass knew before and knows after.
 ghost use Rattle.std.specs.Prelude.{◌≡◌, ◌/◌, ◌≤◌, IfOk, OnErr, OnOk, slice_index};
 ghost use Rattle.kbatch.specs.Kept.{count_of};
 ghost use Rattle.kanswer.specs.declared.accepted.Accepted.TheVariants.{Seen};
@@ -22,13 +22,13 @@ ghost use Rattle.shared_logs.specs.Turned.{AskedPart, HasFound, LookedAtPart, Op
 use crate::PartDesk;
 use crate::desk_calls::{fetch_at, look_at, put_at, read_at};
 use crate::turns::{Fetched, Looked, Put, Read};
+use crate::visit::Visit;
+use crate::wanted::{AtLeast, Rest, Wanted};
 use kanswer::{Budget, value_of_gauge};
 use kbatch::BatchView;
 use kbytes::NoMemory;
-use kwire::FetchPart;
 use partlog::Who;
-use purgatory::{Room, RoomPass};
-use std::alloc::Global;
+use purgatory::RoomPass;
 use std::sync::Wait;
 use turn_lock::{Turn, TurnLock, TurnPass};
 
@@ -50,13 +50,12 @@ fn part_turn(
     turn
 }
 
-// One in which the gauge is no less than `least`. While it is less, the turn is taken again and leaves nothing.
+// One in which the gauge is at least at the value. While it is less, the turn is taken again and leaves nothing.
 fn late_turn(
     rt: &impl Wait,
     lock: &TurnLock<PartDesk>,
     key: &mut TurnPass<PartDesk>,
-    gauge: u32,
-    least: u64,
+    late: AtLeast,
 ) -> Turn<PartDesk>
     requires key { IsPassOf part_name lock.now key.old × IsReady key.old }
     ensures name { part_name result.value ≡ lock_name part_name lock.now }
@@ -64,12 +63,12 @@ fn late_turn(
     ensures keeps { PartKeeps result.value }
     ensures turn { IsPassOf part_name lock.now key.new × HasTurn key.new result }
     ensures begun { known key.new ≡ begun part_entries result.ticket result.value (known key.old) }
-    ensures late { least ≤ gauge_value gauge (state_of result.value.history) }
+    ensures late { late.value ≤ gauge_value late.gauge (state_of result.value.history) }
 {
     for _ in rt.forever() {
         let turn = part_turn(rt, lock, key);
-        let value = value_of_gauge(gauge, &turn.value().log().numbers());
-        if value >= least {
+        let value = value_of_gauge(late.gauge, &turn.value().log().numbers());
+        if value >= late.value {
             return turn;
         }
         lock.end(key, turn);
@@ -79,127 +78,97 @@ fn late_turn(
 
 /// Puts a batch into the partition.
 pub(crate) fn put_into(
-    rt: &impl Wait,
-    room: &Room,
+    visit: &Visit<'_, '_, impl Wait>,
     lock: &TurnLock<PartDesk>,
     key: &mut TurnPass<PartDesk>,
     pass: &mut RoomPass,
     part: u32,
-    who: Who,
     batch: &BatchView<'_>,
 ) -> Result<Put, NoMemory>
-    requires room { IsOfRoom room.now pass.old }
-    requires key { OpensPart room.now.table part who.by lock.now key.old }
-    ensures room { IsOfRoom room.now pass.new }
+    requires room { IsOfRoom visit.now.room.now pass.old }
+    requires key { OpensPart visit.now.room.now.table part visit.now.who.by lock.now key.old }
+    ensures room { IsOfRoom visit.now.room.now pass.new }
     ensures went { GoesOn pass.old.seat pass.new.seat }
     ensures kept { KeepsOperation (caller_now pass.old.seat) (caller_now pass.new.seat) }
-    ensures key { OpensPart room.now.table part who.by lock.now key.new }
-    ensures asked { IfOk result (λ put. AskedPart who.seq (append_outcome part (count_of batch.now) batch.now) (known key.old) (known key.new) put.entered put.numbers) }
+    ensures key { OpensPart visit.now.room.now.table part visit.now.who.by lock.now key.new }
+    ensures asked { IfOk result (λ put. AskedPart visit.now.who.seq (append_outcome part (count_of batch.now) batch.now) (known key.old) (known key.new) put.entered put.numbers) }
     ensures refused { OnErr result (SawPart (known key.old) (known key.new)) }
 {
-    let mut turn = part_turn(rt, lock, key);
-    let put = put_at(rt, room, turn.value_mut(), pass, who, batch);
+    let mut turn = part_turn(visit.rt, lock, key);
+    let put = put_at(visit, turn.value_mut(), pass, batch);
     lock.end(key, turn);
     put
 }
 
 /// Enters what a fetch asks of the partition, and reads what the reply takes of it.
 pub(crate) fn fetch_from(
-    rt: &impl Wait,
-    alloc: Global,
-    room: &Room,
+    visit: &Visit<'_, '_, impl Wait>,
     lock: &TurnLock<PartDesk>,
     key: &mut TurnPass<PartDesk>,
     pass: &mut RoomPass,
-    part: u32,
-    who: Who,
-    replica: i32,
-    asked: &FetchPart,
+    wanted: &Wanted<'_>,
     budget: &mut Budget,
 ) -> Result<Fetched, NoMemory>
-    requires room { IsOfRoom room.now pass.old }
-    requires key { OpensPart room.now.table part who.by lock.now key.old }
-    ensures room { IsOfRoom room.now pass.new }
+    requires room { IsOfRoom visit.now.room.now pass.old }
+    requires key { OpensPart visit.now.room.now.table wanted.now.part visit.now.who.by lock.now key.old }
+    ensures room { IsOfRoom visit.now.room.now pass.new }
     ensures went { GoesOn pass.old.seat pass.new.seat }
     ensures kept { KeepsOperation (caller_now pass.old.seat) (caller_now pass.new.seat) }
-    ensures key { OpensPart room.now.table part who.by lock.now key.new }
-    ensures asked { IfOk result (λ fetched. AskedPart who.seq (fetch_outcome (slice_index (lock_name part_name lock.now) 0) replica asked.now part)
+    ensures key { OpensPart visit.now.room.now.table wanted.now.part visit.now.who.by lock.now key.new }
+    ensures asked { IfOk result (λ fetched. AskedPart visit.now.who.seq
+        (fetch_outcome (slice_index (lock_name part_name lock.now) 0) wanted.now.replica wanted.now.asked.now wanted.now.part)
         (known key.old) (known key.new) fetched.entered fetched.numbers) }
     ensures read { IfOk result (λ fetched. IfOk fetched.records (λ records.
-        HasRead replica asked.now fetched.entered.became (state_of (seen_part key.new)) fetched.numbers records budget.old budget.new)) }
+        HasRead wanted.now.replica wanted.now.asked.now fetched.entered.became (state_of (seen_part key.new)) fetched.numbers records budget.old budget.new)) }
     ensures bounded { IfOk result (λ fetched. fetched.numbers.high ≤ MOST_LOG_BYTES) }
     ensures refused { OnErr result (SawPart (known key.old) (known key.new)) }
 {
-    let mut turn = part_turn(rt, lock, key);
-    let fetched = fetch_at(
-        rt,
-        alloc,
-        room,
-        turn.value_mut(),
-        pass,
-        who,
-        replica,
-        asked,
-        budget,
-    );
+    let mut turn = part_turn(visit.rt, lock, key);
+    let fetched = fetch_at(visit, turn.value_mut(), pass, wanted, budget);
     lock.end(key, turn);
     fetched
 }
 
-/// Looks at the partition, once its gauge is no less than `least`.
+/// Looks at the partition, once its gauge is at least at the value.
 pub(crate) fn look_into(
     rt: &impl Wait,
     lock: &TurnLock<PartDesk>,
     key: &mut TurnPass<PartDesk>,
-    gauge: u32,
-    least: u64,
+    late: AtLeast,
     who: Who,
 ) -> Result<Looked, NoMemory>
     requires key { IsPassOf part_name lock.now key.old × IsReady key.old × ((known key.old).number ≡ who.by) }
     ensures key { IsPassOf part_name lock.now key.new × IsReady key.new }
-    ensures looked { IfOk result (λ looked. LookedAtPart who.seq gauge least (known key.old) (known key.new) looked.place looked.numbers) }
+    ensures looked { IfOk result (λ looked. LookedAtPart who.seq late.gauge late.value (known key.old) (known key.new) looked.place looked.numbers) }
     ensures bounded { IfOk result (λ looked. looked.numbers.high ≤ MOST_LOG_BYTES) }
     ensures refused { OnErr result (SawPart (known key.old) (known key.new)) }
 {
-    let mut turn = late_turn(rt, lock, key, gauge, least);
+    let mut turn = late_turn(rt, lock, key, late);
     let looked = look_at(turn.value_mut(), who);
     lock.end(key, turn);
     looked
 }
 
-/// The same, and reads what the reply to a fetch takes from the byte place `start` on.
+/// The same, and reads what the reply to a fetch takes.
 pub(crate) fn read_from(
-    rt: &impl Wait,
-    alloc: Global,
+    visit: &Visit<'_, '_, impl Wait>,
     lock: &TurnLock<PartDesk>,
     key: &mut TurnPass<PartDesk>,
-    gauge: u32,
-    least: u64,
-    who: Who,
-    replica: i32,
-    asked: &FetchPart,
-    start: u64,
+    rest: &Rest<'_>,
     budget: &mut Budget,
 ) -> Result<Read, NoMemory>
-    requires key { IsPassOf part_name lock.now key.old × IsReady key.old × ((known key.old).number ≡ who.by) }
+    requires key { IsPassOf part_name lock.now key.old × IsReady key.old × ((known key.old).number ≡ visit.now.who.by) }
     ensures key { IsPassOf part_name lock.now key.new × IsReady key.new }
-    ensures looked { IfOk result (λ read. LookedAtPart who.seq gauge least (known key.old) (known key.new) read.looked.place read.looked.numbers) }
+    ensures looked { IfOk result (λ read. LookedAtPart visit.now.who.seq rest.now.late.gauge rest.now.late.value (known key.old) (known key.new)
+        read.looked.place read.looked.numbers) }
     ensures read { IfOk result (λ read. IfOk read.records (λ records.
-        HasRead replica asked.now (Seen (gauge / 3) start) (state_of (seen_part key.new)) read.looked.numbers records budget.old budget.new)) }
+        HasRead rest.now.replica rest.now.asked.now (Seen (rest.now.late.gauge / 3) rest.now.start) (state_of (seen_part key.new)) read.looked.numbers
+        records budget.old budget.new)) }
     ensures bounded { IfOk result (λ read. read.looked.numbers.high ≤ MOST_LOG_BYTES) }
     ensures refused { OnErr result (SawPart (known key.old) (known key.new)) }
 {
-    let mut turn = late_turn(rt, lock, key, gauge, least);
-    let read = read_at(
-        alloc,
-        turn.value_mut(),
-        who,
-        replica,
-        asked,
-        gauge / 3,
-        start,
-        budget,
-    );
+    let mut turn = late_turn(visit.rt, lock, key, rest.late);
+    let read = read_at(visit.alloc, turn.value_mut(), visit.who, rest, budget);
     lock.end(key, turn);
     read
 }

@@ -35,7 +35,8 @@ impl Model for LogPass {
 impl LogPass {
     /// The pass's number, counted from 0.
     pub fn number(&self) -> u32
-        ensures { result ≡ self.now.number }
+        ensures number { result ≡ self.now.number }
+        ensures seen { HasSeen self.now }
     {
         self.number
     }
@@ -47,7 +48,7 @@ impl LogPass {
         self.ticked
     }
 
-    /// Law: what is so of a pass between any two calls.
+    /// Law: what holds of a pass between any two calls.
     pub fn keeps(&self)
         ensures { HasSeen self.now }
     {

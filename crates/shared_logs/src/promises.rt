@@ -1,4 +1,4 @@
-//! Laws of the entries that a lock sees. They do nothing.
+//! Laws of the entries that a lock sees, for the crates above. They do nothing.
 ghost use Rattle.std.specs.Prelude.{◌≡◌, ◌≤◌, ℕ, List, [], drop, map, slice_get, Some, Option};
 ghost use Rattle.partlog.specs.declared.clock_event.ClockEvent.{ClockEvent};
 ghost use Rattle.partlog.specs.History.{History};
@@ -21,7 +21,7 @@ pub fn histories_go_on()
         → StartsWith (clock_entries later after) (clock_entries events tickers) → StartsWith later events }
 {}
 
-/// Law: the entries tell the histories that they are of. Of a partition they tell the log's bytes too.
+/// Law: the entries fix the histories that they are of. Of a partition they fix the log's bytes too.
 pub fn entries_tell_histories()
     ensures part { (h : History) → IsKept h.log h.events → history_of h.followers (log_entries h) ≡ h }
     ensures clock { (events : List ClockEvent) (tickers : List ℕ) → events_of (clock_entries events tickers) ≡ events }

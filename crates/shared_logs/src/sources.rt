@@ -1,4 +1,4 @@
-//! The gauges of a partition are raised to its numbers.
+//! The gauges of a partition: `part_desk` has them raised to the log's numbers, after each entry.
 ghost use Rattle.std.specs.Prelude.{◌≡◌, ◌≤◌};
 ghost use Rattle.partlog.specs.Fallen.{NoneFell};
 ghost use Rattle.room_table.specs.Seats.{caller_now, source_now};
@@ -7,8 +7,9 @@ ghost use Rattle.purgatory.specs.Raised.{IsQuietAt};
 ghost use Rattle.purgatory.specs.Rooms.{IsOfRoom, IsSourceOf};
 ghost use Rattle.shared_logs.specs.Keeps.{AreAt, AreQuiet, AreStill};
 
+use crate::visit::Visit;
 use partlog::Numbers;
-use purgatory::{Room, RoomPass, Source};
+use purgatory::{RoomPass, Source};
 use std::sync::Wait;
 
 /// The sources of a partition's gauges. The partition p has the gauges 3p, 3p + 1 and 3p + 2.
@@ -24,25 +25,24 @@ pub struct PartSources {
 
 // The source's gauge is raised from one value to another, where these differ.
 fn raise_from(
-    rt: &impl Wait,
-    room: &Room,
+    visit: &Visit<'_, '_, impl Wait>,
     pass: &mut RoomPass,
     source: &mut Source,
     before: u64,
     after: u64,
 )
-    requires pass { IsOfRoom room.now pass.old }
-    requires source { IsSourceOf room.now source.old }
+    requires pass { IsOfRoom visit.now.room.now pass.old }
+    requires source { IsSourceOf visit.now.room.now source.old }
     requires stored { (source_now source.old).stored ≡ before }
     requires rises { before ≤ after }
     ensures source { IsQuietAt after source.old source.new }
     ensures still { before ≡ after → (source.new ≡ source.old) × (pass.new ≡ pass.old) }
-    ensures made { IsOfRoom room.now pass.new }
+    ensures made { IsOfRoom visit.now.room.now pass.new }
     ensures went { GoesOn pass.old.seat pass.new.seat }
     ensures kept { KeepsOperation (caller_now pass.old.seat) (caller_now pass.new.seat) }
 {
     if after > before {
-        room.raise(rt, source, pass, after);
+        visit.room.raise(visit.rt, source, pass, after);
     } else {
         source.gauge();
     }
@@ -52,14 +52,13 @@ impl PartSources {
     /// Raises each gauge whose number rose.
     pub(crate) fn tell(
         &mut self,
-        rt: &impl Wait,
-        room: &Room,
+        visit: &Visit<'_, '_, impl Wait>,
         pass: &mut RoomPass,
         before: &Numbers,
         after: &Numbers,
     )
-        requires pass { IsOfRoom room.now pass.old }
-        requires made { IsSourceOf room.now self.old.high × IsSourceOf room.now self.old.visible × IsSourceOf room.now self.old.end }
+        requires pass { IsOfRoom visit.now.room.now pass.old }
+        requires made { IsSourceOf visit.now.room.now self.old.high × IsSourceOf visit.now.room.now self.old.visible × IsSourceOf visit.now.room.now self.old.end }
         requires stood { AreAt before.now self.old }
         requires rises { NoneFell before.now after.now }
         ensures told { AreAt after.now self.new }
@@ -69,19 +68,18 @@ impl PartSources {
         ensures high { IsQuietAt after.now.high self.old.high self.new.high }
         ensures visible { IsQuietAt after.now.visible self.old.visible self.new.visible }
         ensures end { IsQuietAt after.now.bytes self.old.end self.new.end }
-        ensures made { IsOfRoom room.now pass.new }
+        ensures made { IsOfRoom visit.now.room.now pass.new }
         ensures went { GoesOn pass.old.seat pass.new.seat }
         ensures kept { KeepsOperation (caller_now pass.old.seat) (caller_now pass.new.seat) }
     {
-        raise_from(rt, room, pass, &mut self.high, before.high, after.high);
+        raise_from(visit, pass, &mut self.high, before.high, after.high);
         raise_from(
-            rt,
-            room,
+            visit,
             pass,
             &mut self.visible,
             before.visible,
             after.visible,
         );
-        raise_from(rt, room, pass, &mut self.end, before.bytes, after.bytes);
+        raise_from(visit, pass, &mut self.end, before.bytes, after.bytes);
     }
 }

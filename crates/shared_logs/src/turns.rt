@@ -1,4 +1,5 @@
-//! A turn of a partition's lock.
+//! `SharedLogs`' calls on one partition, by its number. Each finds the lock and the pass's key; `part_turns` takes the turn, and
+//! `desk_calls` acts in it.
 ghost use Rattle.std.specs.Prelude.{◌≡◌, ◌<◌, ◌≤◌, ◌/◌, IfOk, OnErr, OnOk, length, slice_index};
 ghost use Rattle.kbatch.specs.Kept.{count_of};
 ghost use Rattle.kanswer.specs.declared.accepted.Accepted.TheVariants.{Seen};
@@ -8,15 +9,17 @@ ghost use Rattle.partlog.specs.State.{state_of};
 ghost use Rattle.broker_spec.specs.Board.{history_at};
 ghost use Rattle.shared_logs.specs.Asked.{HasAsked, HasLooked, HasRead};
 ghost use Rattle.shared_logs.specs.Coming.{HasCaughtUp};
+ghost use Rattle.shared_logs.specs.Seen.{HasSeen};
 ghost use Rattle.shared_logs.specs.Shared.{followers_in};
 
 use crate::logs::SharedLogs;
 use crate::part_turns::{fetch_from, look_into, put_into, read_from};
 use crate::pass::LogPass;
+use crate::visit::Visit;
+use crate::wanted::{AtLeast, Rest, Wanted};
 use kanswer::{Budget, Entered};
 use kbatch::BatchView;
 use kbytes::{Bytes, NoMemory};
-use kwire::FetchPart;
 use partlog::{Numbers, Who};
 use std::sync::Wait;
 
@@ -28,7 +31,7 @@ pub struct Put {
 }
 
 /// What became of a partition that a fetch asked, its log's numbers just after, and what the reply takes of it then. That may have found
-/// no memory: the entry stands all the same.
+/// no memory: the entry is there all the same.
 #[derive(Debug, Drop)]
 pub struct Fetched {
     pub entered: Entered,
@@ -43,7 +46,7 @@ pub struct Looked {
     pub numbers: Numbers,
 }
 
-/// A look at a partition, and what the reply takes of it there. That may have found no memory: the look stands all the same.
+/// A look at a partition, and what the reply takes of it there. That may have found no memory: the look is there all the same.
 #[derive(Debug, Drop)]
 pub struct Read {
     pub looked: Looked,
@@ -53,143 +56,131 @@ pub struct Read {
 impl SharedLogs {
     /// Puts a batch into a partition, in a turn of its lock, for a call of the pass. The pass may then owe scans. If memory runs out,
     /// it has left nothing.
-    pub fn put(
+    pub(crate) fn put(
         &self,
         rt: &impl Wait,
         pass: &mut LogPass,
         part: u32,
-        seq: u32,
+        who: Who,
         batch: &BatchView<'_>,
     ) -> Result<Put, NoMemory>
         requires made { pass.old.made ≡ self.now }
         requires there { part < length self.now.parts }
+        requires who { who.by ≡ pass.old.number }
         ensures made { pass.new.made ≡ self.now }
-        ensures asked { IfOk result (λ put. HasAsked part seq (append_outcome part (count_of batch.now) batch.now) pass.old pass.new put.entered put.numbers) }
+        ensures seen { HasSeen pass.new }
+        ensures asked { IfOk result (λ put. HasAsked part who.seq (append_outcome part (count_of batch.now) batch.now) pass.old pass.new put.entered put.numbers) }
         ensures refused { OnErr result (HasCaughtUp pass.old pass.new) }
     {
         let at = part as usize;
-        let who = Who {
-            by: pass.number,
-            seq,
+        let visit = Visit {
+            rt,
+            alloc: self.alloc,
+            room: &self.room,
+            who,
         };
         put_into(
-            rt,
-            &self.room,
+            &visit,
             &self.parts[at],
             &mut pass.parts[at],
             &mut pass.room,
             part,
-            who,
             batch,
         )
     }
 
     /// Enters what a fetch asks of a partition, in a turn of its lock, for a call of the pass, and reads what the reply takes of it: the
     /// budget is lowered by that. The pass may then owe scans. If memory runs out, it has left nothing.
-    pub fn fetch(
+    pub(crate) fn fetch(
         &self,
         rt: &impl Wait,
         pass: &mut LogPass,
-        part: u32,
-        seq: u32,
-        replica: i32,
-        asked: &FetchPart,
+        who: Who,
+        wanted: &Wanted<'_>,
         budget: &mut Budget,
     ) -> Result<Fetched, NoMemory>
         requires made { pass.old.made ≡ self.now }
-        requires there { part < length self.now.parts }
+        requires there { wanted.now.part < length self.now.parts }
+        requires who { who.by ≡ pass.old.number }
         ensures made { pass.new.made ≡ self.now }
-        ensures asked { IfOk result (λ fetched. HasAsked part seq (fetch_outcome (slice_index (followers_in self.now) part) replica asked.now part)
+        ensures seen { HasSeen pass.new }
+        ensures asked { IfOk result (λ fetched. HasAsked wanted.now.part who.seq
+            (fetch_outcome (slice_index (followers_in self.now) wanted.now.part) wanted.now.replica wanted.now.asked.now wanted.now.part)
             pass.old pass.new fetched.entered fetched.numbers) }
         ensures read { IfOk result (λ fetched. IfOk fetched.records (λ records.
-            HasRead replica asked.now fetched.entered.became (state_of (history_at pass.new.parts part)) fetched.numbers records budget.old budget.new)) }
+            HasRead wanted.now.replica wanted.now.asked.now fetched.entered.became (state_of (history_at pass.new.parts wanted.now.part))
+            fetched.numbers records budget.old budget.new)) }
         ensures bounded { IfOk result (λ fetched. fetched.numbers.high ≤ MOST_LOG_BYTES) }
         ensures refused { OnErr result (HasCaughtUp pass.old pass.new) }
     {
-        let at = part as usize;
-        let who = Who {
-            by: pass.number,
-            seq,
+        let at = wanted.part as usize;
+        let visit = Visit {
+            rt,
+            alloc: self.alloc,
+            room: &self.room,
+            who,
         };
         fetch_from(
-            rt,
-            self.alloc,
-            &self.room,
+            &visit,
             &self.parts[at],
             &mut pass.parts[at],
             &mut pass.room,
-            part,
-            who,
-            replica,
-            asked,
+            wanted,
             budget,
         )
     }
 
-    /// Looks at a partition for a call of the pass, in a turn of its lock in which the gauge, one of this partition's, is no less than
-    /// `least`. While it is less, the turn is taken again and leaves nothing. If memory runs out, no look was left.
-    pub fn look(
+    /// Looks at a partition for a call of the pass, in a turn of its lock in which the gauge, one of this partition's, is at least at the
+    /// value. While it is less, the turn is taken again and leaves nothing. If memory runs out, no look was left.
+    pub(crate) fn look(
         &self,
         rt: &impl Wait,
         pass: &mut LogPass,
-        gauge: u32,
-        least: u64,
-        seq: u32,
+        who: Who,
+        late: AtLeast,
     ) -> Result<Looked, NoMemory>
         requires made { pass.old.made ≡ self.now }
-        requires there { gauge / 3 < length self.now.parts }
+        requires there { late.gauge / 3 < length self.now.parts }
+        requires who { who.by ≡ pass.old.number }
         ensures made { pass.new.made ≡ self.now }
-        ensures looked { IfOk result (λ looked. HasLooked (gauge / 3) seq gauge least pass.old pass.new looked.place looked.numbers) }
+        ensures seen { HasSeen pass.new }
+        ensures looked { IfOk result (λ looked. HasLooked (late.gauge / 3) who.seq late.gauge late.value pass.old pass.new looked.place looked.numbers) }
         ensures bounded { IfOk result (λ looked. looked.numbers.high ≤ MOST_LOG_BYTES) }
         ensures refused { OnErr result (HasCaughtUp pass.old pass.new) }
     {
-        let at = (gauge / 3) as usize;
-        let who = Who {
-            by: pass.number,
-            seq,
-        };
-        look_into(rt, &self.parts[at], &mut pass.parts[at], gauge, least, who)
+        let at = (late.gauge / 3) as usize;
+        look_into(rt, &self.parts[at], &mut pass.parts[at], late, who)
     }
 
-    /// The same, and reads what the reply to a fetch takes of the partition from the byte place `start` on: the budget is lowered by that.
-    pub fn read(
+    /// The same, and reads what the reply to a fetch takes of the partition: the budget is lowered by that.
+    pub(crate) fn read(
         &self,
         rt: &impl Wait,
         pass: &mut LogPass,
-        gauge: u32,
-        least: u64,
-        seq: u32,
-        replica: i32,
-        asked: &FetchPart,
-        start: u64,
+        who: Who,
+        rest: &Rest<'_>,
         budget: &mut Budget,
     ) -> Result<Read, NoMemory>
         requires made { pass.old.made ≡ self.now }
-        requires there { gauge / 3 < length self.now.parts }
+        requires there { rest.now.late.gauge / 3 < length self.now.parts }
+        requires who { who.by ≡ pass.old.number }
         ensures made { pass.new.made ≡ self.now }
-        ensures looked { IfOk result (λ read. HasLooked (gauge / 3) seq gauge least pass.old pass.new read.looked.place read.looked.numbers) }
+        ensures seen { HasSeen pass.new }
+        ensures looked { IfOk result (λ read. HasLooked (rest.now.late.gauge / 3) who.seq rest.now.late.gauge rest.now.late.value
+            pass.old pass.new read.looked.place read.looked.numbers) }
         ensures read { IfOk result (λ read. IfOk read.records (λ records.
-            HasRead replica asked.now (Seen (gauge / 3) start) (state_of (history_at pass.new.parts (gauge / 3))) read.looked.numbers records budget.old budget.new)) }
+            HasRead rest.now.replica rest.now.asked.now (Seen (rest.now.late.gauge / 3) rest.now.start)
+            (state_of (history_at pass.new.parts (rest.now.late.gauge / 3))) read.looked.numbers records budget.old budget.new)) }
         ensures bounded { IfOk result (λ read. read.looked.numbers.high ≤ MOST_LOG_BYTES) }
         ensures refused { OnErr result (HasCaughtUp pass.old pass.new) }
     {
-        let at = (gauge / 3) as usize;
-        let who = Who {
-            by: pass.number,
-            seq,
-        };
-        read_from(
+        let at = (rest.late.gauge / 3) as usize;
+        let visit = Visit {
             rt,
-            self.alloc,
-            &self.parts[at],
-            &mut pass.parts[at],
-            gauge,
-            least,
+            alloc: self.alloc,
+            room: &self.room,
             who,
-            replica,
-            asked,
-            start,
-            budget,
-        )
+        };
+        read_from(&visit, &self.parts[at], &mut pass.parts[at], rest, budget)
     }
 }

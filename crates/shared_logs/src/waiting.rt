@@ -1,4 +1,4 @@
-//! What a pass does in the room: it sees nothing of the histories by that, and leaves no entry.
+//! `SharedLogs`' calls on the room, for a pass: it sees nothing of the histories by these, and leaves no entry.
 ghost use Rattle.std.specs.Prelude.{◌≡◌, ◌≤◌, ◌<◌, ◌-◌, ◌^◌, ◌*◌, All, IfNone, IfSome, length};
 ghost use Rattle.room_core.specs.declared.parts.Stage.TheVariants.{Idle, Waiting};
 ghost use Rattle.room_table.specs.declared.part.CallerStep.TheVariants.{Read};
@@ -7,6 +7,7 @@ ghost use Rattle.purgatory.specs.Going.{KeepsOperation, OwesNothing};
 ghost use Rattle.purgatory.specs.Polled.{HasPolled, HasTaken};
 ghost use Rattle.purgatory.specs.Registered.{HasRegistered};
 ghost use Rattle.shared_logs.specs.Coming.{HasStepped};
+ghost use Rattle.shared_logs.specs.Seen.{HasSeen};
 
 use crate::logs::SharedLogs;
 use crate::pass::LogPass;
@@ -22,6 +23,7 @@ impl SharedLogs {
         ensures stepped { HasStepped pass.old pass.new }
         ensures kept { KeepsOperation (caller_now pass.old.seat) (caller_now pass.new.seat) }
         ensures paid { OwesNothing (caller_now pass.new.seat) }
+        ensures seen { HasSeen pass.old × HasSeen pass.new }
     {
         self.room.settle(rt, &mut pass.room);
     }
@@ -36,6 +38,7 @@ impl SharedLogs {
         ensures stepped { HasStepped pass.old pass.new }
         ensures paid { OwesNothing (caller_now pass.new.seat) }
         ensures registered { HasRegistered op.now result pass.old.seat pass.new.seat }
+        ensures seen { HasSeen pass.old × HasSeen pass.new }
     {
         self.room.register(rt, &mut pass.room, op)
     }
@@ -48,6 +51,7 @@ impl SharedLogs {
         ensures step { HasPolled result pass.old.seat pass.new.seat }
         ensures none { IfNone result ((caller_now pass.new.seat).stage ≡ Waiting) }
         ensures some { IfSome result (λ done. HasTaken (caller_now pass.old.seat).generation done (caller_now pass.old.seat) (caller_now pass.new.seat)) }
+        ensures seen { HasSeen pass.old × HasSeen pass.new }
     {
         self.room.poll(&mut pass.room)
     }
@@ -62,8 +66,8 @@ impl SharedLogs {
         self.room.gauge(&mut pass.room, gauge)
     }
 
-    /// Sleeps while the pass's operation waits, for no longer than `most`. It may also return for no reason: `poll` tells. A pass that owes
-    /// a scan settles first.
+    /// Sleeps while the pass's operation waits, for no longer than `most`. It may also return for no reason: `poll` says whether the
+    /// operation ended. A pass that owes a scan settles first.
     pub fn wait(&self, rt: &impl Wait, pass: &LogPass, most: Duration)
         requires made { pass.now.made ≡ self.now }
         requires paid { OwesNothing (caller_now pass.now.seat) }

@@ -1,4 +1,4 @@
-//! Turns in which a request is completed, and the look at the clock that ends the acceptance of one that waits.
+//! The turns in which a request that waited is completed, and the look at the clock that ends the acceptance of one that waits.
 ghost use Rattle.std.specs.Prelude.{◌≡◌, ◌<◌, ◌≤◌, ◌/◌, ℕ, [], ◌∷◌, ◌++◌, IfOk, OnErr, length};
 ghost use Rattle.audit.specs.Histories.{clock_part};
 ghost use Rattle.kanswer.specs.declared.accepted.Accepted.TheVariants.{Seen};
@@ -7,38 +7,41 @@ ghost use Rattle.partlog.specs.State.{state_of};
 ghost use Rattle.broker_spec.specs.Board.{history_at};
 ghost use Rattle.shared_logs.specs.Asked.{HasLooked, HasLookedAtClock, HasRead};
 ghost use Rattle.shared_logs.specs.Coming.{HasCaughtUp};
+ghost use Rattle.shared_logs.specs.Seen.{HasSeen};
 
+use super::caller::Caller;
 use super::points::{fill_in, put_down, take_back};
-use crate::{LogPass, Read, SharedLogs};
+use crate::{AtLeast, LogPass, Read, Rest};
 use audit::{CLOCK_PART, Point};
 use kanswer::Budget;
 use kbytes::{List, NoMemory};
-use kwire::FetchPart;
-use partlog::Numbers;
+use partlog::{Numbers, Who};
 use std::sync::Wait;
 
-/// Looks at a partition for a call of the pass, in a turn in which the gauge, one of this partition's, is no less than `least`; notes the
+/// Looks at a partition for a call of the pass, in a turn in which the gauge, one of this partition's, is at least at the value; notes the
 /// point of the look, and answers the log's numbers there. If memory runs out, there is neither look nor point.
 pub fn look(
-    rt: &impl Wait,
-    logs: &SharedLogs,
+    by: &Caller<'_, '_, impl Wait>,
     pass: &mut LogPass,
     points: &mut List<Point>,
-    gauge: u32,
-    least: u64,
-    seq: u32,
+    late: AtLeast,
 ) -> Result<Numbers, NoMemory>
-    requires made { pass.old.made ≡ logs.now }
-    requires there { gauge / 3 < length logs.now.parts }
-    ensures made { pass.new.made ≡ logs.now }
-    ensures looked { IfOk result (λ numbers. (place : ℕ) × HasLooked (gauge / 3) seq gauge least pass.old pass.new place numbers
-        × (points.new ≡ points.old ++ record { part = gauge / 3; place = place } ∷ [])) }
+    requires made { pass.old.made ≡ by.now.logs.now }
+    requires there { late.gauge / 3 < length by.now.logs.now.parts }
+    ensures made { pass.new.made ≡ by.now.logs.now }
+    ensures seen { HasSeen pass.old × HasSeen pass.new }
+    ensures looked { IfOk result (λ numbers. (place : ℕ) × HasLooked (late.gauge / 3) by.now.seq late.gauge late.value pass.old pass.new place numbers
+        × (points.new ≡ points.old ++ record { part = late.gauge / 3; place = place } ∷ [])) }
     ensures bounded { IfOk result (λ numbers. numbers.high ≤ MOST_LOG_BYTES) }
     ensures refused { OnErr result (HasCaughtUp pass.old pass.new) }
     ensures none { OnErr result (points.new ≡ points.old) }
 {
-    put_down(points, gauge / 3)?;
-    match logs.look(rt, pass, gauge, least, seq) {
+    let who = Who {
+        by: pass.number(),
+        seq: by.seq,
+    };
+    put_down(points, late.gauge / 3)?;
+    match by.logs.look(by.rt, pass, who, late) {
         Ok(looked) => {
             fill_in(points, looked.place);
             Ok(looked.numbers)
@@ -50,34 +53,35 @@ pub fn look(
     }
 }
 
-/// The same, and reads what the reply to a fetch takes of the partition from the byte place `start` on: the budget is lowered by that. The
-/// reading may have found no memory: look and point stand all the same.
+/// The same, and reads what the reply to a fetch takes of the partition: the budget is lowered by that. If memory runs out in the reading,
+/// look and point are there all the same.
 pub fn read(
-    rt: &impl Wait,
-    logs: &SharedLogs,
+    by: &Caller<'_, '_, impl Wait>,
     pass: &mut LogPass,
     points: &mut List<Point>,
-    gauge: u32,
-    least: u64,
-    seq: u32,
-    replica: i32,
-    asked: &FetchPart,
-    start: u64,
+    rest: &Rest<'_>,
     budget: &mut Budget,
 ) -> Result<Read, NoMemory>
-    requires made { pass.old.made ≡ logs.now }
-    requires there { gauge / 3 < length logs.now.parts }
-    ensures made { pass.new.made ≡ logs.now }
-    ensures looked { IfOk result (λ read. HasLooked (gauge / 3) seq gauge least pass.old pass.new read.looked.place read.looked.numbers) }
-    ensures points { IfOk result (λ read. points.new ≡ points.old ++ record { part = gauge / 3; place = read.looked.place } ∷ []) }
+    requires made { pass.old.made ≡ by.now.logs.now }
+    requires there { rest.now.late.gauge / 3 < length by.now.logs.now.parts }
+    ensures made { pass.new.made ≡ by.now.logs.now }
+    ensures seen { HasSeen pass.old × HasSeen pass.new }
+    ensures looked { IfOk result (λ read. HasLooked (rest.now.late.gauge / 3) by.now.seq rest.now.late.gauge rest.now.late.value
+        pass.old pass.new read.looked.place read.looked.numbers) }
+    ensures points { IfOk result (λ read. points.new ≡ points.old ++ record { part = rest.now.late.gauge / 3; place = read.looked.place } ∷ []) }
     ensures read { IfOk result (λ read. IfOk read.records (λ records.
-        HasRead replica asked.now (Seen (gauge / 3) start) (state_of (history_at pass.new.parts (gauge / 3))) read.looked.numbers records budget.old budget.new)) }
+        HasRead rest.now.replica rest.now.asked.now (Seen (rest.now.late.gauge / 3) rest.now.start) (state_of (history_at pass.new.parts (rest.now.late.gauge / 3)))
+        read.looked.numbers records budget.old budget.new)) }
     ensures bounded { IfOk result (λ read. read.looked.numbers.high ≤ MOST_LOG_BYTES) }
     ensures refused { OnErr result (HasCaughtUp pass.old pass.new) }
     ensures none { OnErr result (points.new ≡ points.old) }
 {
-    put_down(points, gauge / 3)?;
-    match logs.read(rt, pass, gauge, least, seq, replica, asked, start, budget) {
+    let who = Who {
+        by: pass.number(),
+        seq: by.seq,
+    };
+    put_down(points, rest.late.gauge / 3)?;
+    match by.logs.read(by.rt, pass, who, rest, budget) {
         Ok(read) => {
             fill_in(points, read.looked.place);
             Ok(read)
@@ -92,22 +96,25 @@ pub fn read(
 /// Looks at the clock for a call of the pass, in a turn in which its moment is no less than `least`; notes the point of the look, and
 /// answers the moment there. If memory runs out, there is neither look nor point.
 pub fn look_at_clock(
-    rt: &impl Wait,
-    logs: &SharedLogs,
+    by: &Caller<'_, '_, impl Wait>,
     pass: &mut LogPass,
     points: &mut List<Point>,
     least: u64,
-    seq: u32,
 ) -> Result<u64, NoMemory>
-    requires made { pass.old.made ≡ logs.now }
-    ensures made { pass.new.made ≡ logs.now }
-    ensures looked { IfOk result (λ moment. (place : ℕ) × HasLookedAtClock seq least pass.old pass.new place moment
+    requires made { pass.old.made ≡ by.now.logs.now }
+    ensures made { pass.new.made ≡ by.now.logs.now }
+    ensures seen { HasSeen pass.old × HasSeen pass.new }
+    ensures looked { IfOk result (λ moment. (place : ℕ) × HasLookedAtClock by.now.seq least pass.old pass.new place moment
         × (points.new ≡ points.old ++ record { part = clock_part; place = place } ∷ [])) }
     ensures refused { OnErr result (HasCaughtUp pass.old pass.new) }
     ensures none { OnErr result (points.new ≡ points.old) }
 {
+    let who = Who {
+        by: pass.number(),
+        seq: by.seq,
+    };
     put_down(points, CLOCK_PART)?;
-    match logs.look_at_clock(rt, pass, least, seq) {
+    match by.logs.look_at_clock(by.rt, pass, who, least) {
         Ok((place, moment)) => {
             fill_in(points, place);
             Ok(moment)

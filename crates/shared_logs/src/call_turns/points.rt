@@ -1,4 +1,4 @@
-//! The point of an entry, before and after its turn.
+//! The point of an entry, for the calls of `call_turns`: it is put down before the turn, and filled in or taken back after it.
 ghost use Rattle.std.specs.Prelude.{◌≡◌, [], ◌∷◌, ◌++◌, List as Items, OnErr, OnOk};
 ghost use Rattle.audit.specs.declared.account.Point.{Point as ThePoint};
 
@@ -13,7 +13,7 @@ pub(crate) fn put_down(points: &mut List<Point>, part: u32) -> Result<(), NoMemo
     points.push(Point { part, place: 0 })
 }
 
-/// The entry of the last point stands at this place.
+/// The entry of the last point is at this place.
 pub(crate) fn fill_in(points: &mut List<Point>, place: u64)
     ensures { (front : Items ThePoint) (last : ThePoint) → points.old ≡ front ++ last ∷ []
         → points.new ≡ front ++ record last { place = place } ∷ [] }

@@ -5,14 +5,14 @@ use mir.Val.{SFits}
 use Rattle.std.specs.Prelude.{Some, None, is_some}
 use Rattle.std.specs.Option.{option_copied}
 use Rattle.kanswer.specs.Answer.{asked_parts}
-use Rattle.kanswer.specs.Decisions.{Decides, Decision, fetch_parts}
+use Rattle.kanswer.specs.Decisions.{Decides, Decision, fetch_decisions, fetch_parts}
 use Rattle.kwire.specs.declared.request.Ask.{Ask}
 use Rattle.kwire.specs.declared.request.Ask.TheVariants.{Produce, Fetch}
 use Rattle.kwire.specs.declared.request.FetchTopic.{FetchTopic}
 use Rattle.kwire.specs.declared.request.Request.{Request}
 use Rattle.kwire.specs.Views.{ask_of}
 use Rattle.shared_calls.specs.Carried.{HasStopped}
-use Rattle.shared_calls.specs.Stand.{HasFetched, HasProduced, IsStopped, fetch_decisions, stand}
+use Rattle.shared_calls.specs.Stand.{HasFetched, HasProduced, IsStopped, stand}
 use Rattle.shared_calls.proofs.One.{on_err_then, on_ok}
 use Rattle.shared_calls.proofs.Whole.{NamesNothing, come_results, decided_produce, fetch_accepted, none_accepted, nothing_decided, nothing_read, produce_accepted}
 use Rattle.shared_calls.proofs.accepting.carry_out.Goals as goal
@@ -22,7 +22,7 @@ returns-in-Produce-clause-accepted g c =
     let p = c.in-Produce in
     let fits : SFits w16 p.acks = search rules in
     let config = c.args.call.now.config.now in
-    let seq = c.args.call.now.seq in
+    let seq = c.args.call.now.by.now.seq in
     let request = c.args.request.now in
     let id = option_copied p.transactional in
     let ask : request.ask ≡ Produce id p.acks p.timeout p.topics = sym (ap (λ (r : Request). r.ask) c.request.view_is) ∙ ap ask_of p.is in
@@ -38,7 +38,7 @@ returns-in-Produce-clause-results g c =
     let p = c.in-Produce in
     let fits : SFits w16 p.acks = search rules in
     let config = c.args.call.now.config.now in
-    let seq = c.args.call.now.seq in
+    let seq = c.args.call.now.by.now.seq in
     let request = c.args.request.now in
     let id = option_copied p.transactional in
     let ask : request.ask ≡ Produce id p.acks p.timeout p.topics = sym (ap (λ (r : Request). r.ask) c.request.view_is) ∙ ap ask_of p.is in
@@ -54,7 +54,7 @@ returns-in-Produce-clause-stopped g c =
     let p = c.in-Produce in
     let fits : SFits w16 p.acks = search rules in
     let config = c.args.call.now.config.now in
-    let seq = c.args.call.now.seq in
+    let seq = c.args.call.now.by.now.seq in
     let request = c.args.request.now in
     let id = option_copied p.transactional in
     let ask : request.ask ≡ Produce id p.acks p.timeout p.topics = sym (ap (λ (r : Request). r.ask) c.request.view_is) ∙ ap ask_of p.is in
@@ -69,14 +69,14 @@ returns-in-Fetch-clause-accepted g c =
     let f = c.in-Fetch in
     let fits : SFits w32 f.replica = search rules in
     let config = c.args.call.now.config.now in
-    let seq = c.args.call.now.seq in
+    let seq = c.args.call.now.by.now.seq in
     let request = c.args.request.now in
     let ask : request.ask ≡ Fetch f.replica f.max_wait f.min_bytes f.max_bytes f.isolation f.topics = sym (ap (λ (r : Request). r.ask) c.request.view_is) ∙ ap ask_of f.is in
     let new = c.fetch_topics.new in
     let D : ℤ → List FetchTopic → List Decision → Type 0 = λ r ts ds. HasFetched config seq ds r (asked_parts ts) (stand c.args.pass.now c.args.points.now c.args.came.now) c.of-budget.result (stand new.pass new.points new.came) new.budget in
     on_ok c.fetch_topics.result c.fetch_topics.ensures.come (λ come decisions decided.
-    let one = subst (λ (r : ℤ). D r c.as_slice-in-Fetch.result.now (fetch_decisions config r (fetch_parts c.as_slice-in-Fetch.result.now))) (to_z-of_z w32 f.replica fits) come in
-    let two = subst (λ (ts : List FetchTopic). D f.replica ts (fetch_decisions config f.replica (fetch_parts ts))) c.as_slice-in-Fetch.ensures one in
+    let one = subst (λ (r : ℤ). D r c.as_slice-topics.result.now (fetch_decisions config r (fetch_parts c.as_slice-topics.result.now))) (to_z-of_z w32 f.replica fits) come in
+    let two = subst (λ (ts : List FetchTopic). D f.replica ts (fetch_decisions config f.replica (fetch_parts ts))) c.as_slice-topics.ensures one in
     let same : decisions ≡ fetch_decisions config f.replica (fetch_parts f.topics) = subst (λ (a : Ask). Decides config a decisions) ask decided in
     fetch_accepted config seq request decisions c.args.pass.now c.args.points.now new.pass new.points c.args.came.now new.came c.requires.nothing f.replica f.max_wait f.min_bytes f.max_bytes f.isolation f.topics
     c.of-budget.result new.budget ask c.of-budget.ensures (subst (D f.replica f.topics) (sym same) two))
@@ -86,14 +86,14 @@ returns-in-Fetch-clause-results g c =
     let f = c.in-Fetch in
     let fits : SFits w32 f.replica = search rules in
     let config = c.args.call.now.config.now in
-    let seq = c.args.call.now.seq in
+    let seq = c.args.call.now.by.now.seq in
     let request = c.args.request.now in
     let ask : request.ask ≡ Fetch f.replica f.max_wait f.min_bytes f.max_bytes f.isolation f.topics = sym (ap (λ (r : Request). r.ask) c.request.view_is) ∙ ap ask_of f.is in
     let new = c.fetch_topics.new in
     let D : ℤ → List FetchTopic → List Decision → Type 0 = λ r ts ds. HasFetched config seq ds r (asked_parts ts) (stand c.args.pass.now c.args.points.now c.args.came.now) c.of-budget.result (stand new.pass new.points new.came) new.budget in
     on_ok c.fetch_topics.result c.fetch_topics.ensures.come (λ come decisions decided.
-    let one = subst (λ (r : ℤ). D r c.as_slice-in-Fetch.result.now (fetch_decisions config r (fetch_parts c.as_slice-in-Fetch.result.now))) (to_z-of_z w32 f.replica fits) come in
-    let two = subst (λ (ts : List FetchTopic). D f.replica ts (fetch_decisions config f.replica (fetch_parts ts))) c.as_slice-in-Fetch.ensures one in
+    let one = subst (λ (r : ℤ). D r c.as_slice-topics.result.now (fetch_decisions config r (fetch_parts c.as_slice-topics.result.now))) (to_z-of_z w32 f.replica fits) come in
+    let two = subst (λ (ts : List FetchTopic). D f.replica ts (fetch_decisions config f.replica (fetch_parts ts))) c.as_slice-topics.ensures one in
     let same : decisions ≡ fetch_decisions config f.replica (fetch_parts f.topics) = subst (λ (a : Ask). Decides config a decisions) ask decided in
     let h = subst (D f.replica f.topics) (sym same) two in
     come_results config seq request decisions c.args.pass.now c.args.points.now new.pass new.points c.args.came.now new.came c.requires.nothing h.noted h.come)
@@ -103,14 +103,14 @@ returns-in-Fetch-clause-stopped g c =
     let f = c.in-Fetch in
     let fits : SFits w32 f.replica = search rules in
     let config = c.args.call.now.config.now in
-    let seq = c.args.call.now.seq in
+    let seq = c.args.call.now.by.now.seq in
     let request = c.args.request.now in
     let ask : request.ask ≡ Fetch f.replica f.max_wait f.min_bytes f.max_bytes f.isolation f.topics = sym (ap (λ (r : Request). r.ask) c.request.view_is) ∙ ap ask_of f.is in
     let new = c.fetch_topics.new in
     let D : List Decision → Type 0 = λ ds. HasStopped config seq ds c.args.pass.now c.args.points.now new.pass new.points in
     on_err_then c.fetch_topics.result c.fetch_topics.ensures.stopped (λ stopped decisions decided.
-    let one = subst (λ (r : ℤ). D (fetch_decisions config r (fetch_parts c.as_slice-in-Fetch.result.now))) (to_z-of_z w32 f.replica fits) stopped in
-    let two = subst (λ (ts : List FetchTopic). D (fetch_decisions config f.replica (fetch_parts ts))) c.as_slice-in-Fetch.ensures one in
+    let one = subst (λ (r : ℤ). D (fetch_decisions config r (fetch_parts c.as_slice-topics.result.now))) (to_z-of_z w32 f.replica fits) stopped in
+    let two = subst (λ (ts : List FetchTopic). D (fetch_decisions config f.replica (fetch_parts ts))) c.as_slice-topics.ensures one in
     let same : decisions ≡ fetch_decisions config f.replica (fetch_parts f.topics) = subst (λ (a : Ask). Decides config a decisions) ask decided in
     subst D (sym same) two)
 
@@ -123,7 +123,7 @@ returns-in-Metadata-clause-accepted g c decisions decided =
       | inr v ↦ subst NamesNothing (sym (ap ask_of v.1)) tt
     ] in
     let silent : NamesNothing request.ask = subst (λ (r : Request). NamesNothing r.ask) c.request.view_is seen in
-    none_accepted config c.args.call.now.seq request decisions c.args.pass.now c.args.points.now c.args.came.now c.requires.nothing (nothing_decided config request.ask decisions silent decided) (nothing_read request.ask silent)
+    none_accepted config c.args.call.now.by.now.seq request decisions c.args.pass.now c.args.points.now c.args.came.now c.requires.nothing (nothing_decided config request.ask decisions silent decided) (nothing_read request.ask silent)
 
 pub returns-in-Metadata-2-clause-accepted : goal.returns-in-Metadata-2-clause-accepted
 returns-in-Metadata-2-clause-accepted g c decisions decided =
@@ -134,4 +134,4 @@ returns-in-Metadata-2-clause-accepted g c decisions decided =
       | inr v ↦ subst NamesNothing (sym (ap ask_of v.1)) tt
     ] in
     let silent : NamesNothing request.ask = subst (λ (r : Request). NamesNothing r.ask) c.request.view_is seen in
-    none_accepted config c.args.call.now.seq request decisions c.args.pass.now c.args.points.now c.args.came.now c.requires.nothing (nothing_decided config request.ask decisions silent decided) (nothing_read request.ask silent)
+    none_accepted config c.args.call.now.by.now.seq request decisions c.args.pass.now c.args.points.now c.args.came.now c.requires.nothing (nothing_decided config request.ask decisions silent decided) (nothing_read request.ask silent)

@@ -13,7 +13,7 @@ use Rattle.shared_calls.proofs.completing.complete.Goals as goal
 pub win-requires-clause-gauges : goal.win-requires-clause-gauges
 win-requires-clause-gauges g c =
     let call = c.args.call.now in
-    gauges_there (length call.logs.now.parts) c.args.request.now.ask call.accepted.now c.requires.operation.0 call.op.now c.requires.operation.1 c.requires.there
+    gauges_there (length call.by.now.logs.now.parts) c.args.request.now.ask call.accepted.now c.requires.operation.0 call.op.now c.requires.operation.1 c.requires.there
 
 pub returns-in-Fetch-clause-finished : goal.returns-in-Fetch-clause-finished
 returns-in-Fetch-clause-finished g c =
@@ -26,7 +26,7 @@ returns-in-Fetch-clause-finished g c =
     let fits : SFits w32 f.replica = search rules in
     let ask : request.ask ≡ Fetch f.replica f.max_wait f.min_bytes f.max_bytes f.isolation f.topics = sym (ap (λ (r : Request). r.ask) c.request.view_is) ∙ ap ask_of f.is in
     if_ok_then c.read_each.result c.read_each.ensures.read (λ readings read.
-    finished_fetch call.seq request call.accepted.now call.op.now call.how c.in_ok-values.values c.needs.result.now c.args.pass.now m.pass new.pass m.points new.points c.needs.ensures.items won
+    finished_fetch call.by.now.seq request call.accepted.now call.op.now call.how c.in_ok-values.values c.needs.result.now c.args.pass.now m.pass new.pass m.points new.points c.needs.ensures.items won
     (to_z w32 (of_z w32 f.replica)) f.replica f.max_wait f.min_bytes f.max_bytes f.isolation f.topics c.as_slice-topics.result.now ask (to_z-of_z w32 f.replica fits) c.as_slice-topics.ensures
     c.of-budget.result read.0 readings c.of-budget.ensures read.1)
 
@@ -41,7 +41,7 @@ returns-in-Fetch-clause-stopped g c =
     let fits : SFits w32 f.replica = search rules in
     let ask : request.ask ≡ Fetch f.replica f.max_wait f.min_bytes f.max_bytes f.isolation f.topics = sym (ap (λ (r : Request). r.ask) c.request.view_is) ∙ ap ask_of f.is in
     on_err_then c.read_each.result c.read_each.ensures.stopped
-    (stopped_fetch call.seq request call.accepted.now call.op.now call.how c.in_ok-values.values c.needs.result.now c.args.pass.now m.pass new.pass m.points new.points c.needs.ensures.items won
+    (stopped_fetch call.by.now.seq request call.accepted.now call.op.now call.how c.in_ok-values.values c.needs.result.now c.args.pass.now m.pass new.pass m.points new.points c.needs.ensures.items won
     (to_z w32 (of_z w32 f.replica)) f.replica f.max_wait f.min_bytes f.max_bytes f.isolation f.topics c.as_slice-topics.result.now ask (to_z-of_z w32 f.replica fits) c.as_slice-topics.ensures)
 
 pub returns-in-Produce-clause-finished : goal.returns-in-Produce-clause-finished
@@ -60,7 +60,7 @@ returns-in-Produce-clause-finished g c =
     ] in
     let other : IsNoFetch request.ask = subst (λ (r : Request). IsNoFetch r.ask) c.request.view_is seen in
     if_ok_then c.look_at_each.result c.look_at_each.ensures.looked (λ readings read.
-    finished_other call.seq request call.accepted.now call.op.now call.how c.in_ok-values.values c.needs.result.now c.args.pass.now m.pass new.pass m.points new.points c.needs.ensures.items won
+    finished_other call.by.now.seq request call.accepted.now call.op.now call.how c.in_ok-values.values c.needs.result.now c.args.pass.now m.pass new.pass m.points new.points c.needs.ensures.items won
     readings other c.requires.listed.each read)
 
 pub returns-in-Produce-clause-stopped : goal.returns-in-Produce-clause-stopped
@@ -79,4 +79,4 @@ returns-in-Produce-clause-stopped g c =
     ] in
     let other : IsNoFetch request.ask = subst (λ (r : Request). IsNoFetch r.ask) c.request.view_is seen in
     on_err_then c.look_at_each.result c.look_at_each.ensures.stopped
-    (stopped_other call.seq request call.accepted.now call.op.now call.how c.in_ok-values.values c.needs.result.now c.args.pass.now m.pass new.pass m.points new.points c.needs.ensures.items won other)
+    (stopped_other call.by.now.seq request call.accepted.now call.op.now call.how c.in_ok-values.values c.needs.result.now c.args.pass.now m.pass new.pass m.points new.points c.needs.ensures.items won other)

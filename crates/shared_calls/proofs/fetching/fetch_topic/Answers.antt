@@ -1,9 +1,8 @@
-use Rattle.std.proofs.Common.{◌≡◌, ◌<◌, ℕ, ℤ, pos, List, [], ◌∷◌, length, get_or, map, take, ap, subst, ◌∙◌, arith, to_z, of_z}
-use Rattle.std.proofs.lemmas.Int.{to_z-of_z}
-use Rattle.std.specs.Int.{w32}
+use Rattle.std.proofs.Common.{◌≡◌, ◌<◌, ℕ, pos, List, [], ◌∷◌, length, get_or, map, ap, subst, ◌∙◌, arith}
 use Rattle.kwire.specs.declared.request.FetchPart.{FetchPart}
 use Rattle.kwire.specs.declared.request.FetchTopic.{FetchTopic}
-use Rattle.shared_calls.specs.Stand.{HasFetched, IsStopped, fetch_decisions, fetch_named, stand}
+use Rattle.kanswer.specs.Decisions.{fetch_decisions}
+use Rattle.shared_calls.specs.Stand.{HasFetched, IsStopped, stand}
 use Rattle.shared_calls.proofs.Coming.{fetched_none}
 use Rattle.shared_calls.proofs.Nexts.{fetch_next_stopped, fetched_next, same_item, taken_all}
 use Rattle.shared_calls.proofs.One.{on_err}
@@ -12,7 +11,7 @@ use Rattle.shared_calls.proofs.fetching.fetch_topic.Goals as goal
 pub loop-part-init : goal.loop-part-init
 loop-part-init g c = record {
   made = c.requires.made;
-  come = fetched_none c.args.call.now.config.now c.args.call.now.seq (to_z w32 (of_z w32 c.args.replica)) (stand c.args.pass.now c.args.points.now c.args.came.now) c.args.budget.now;
+  come = fetched_none c.args.call.now.config.now c.args.call.now.by.now.seq c.args.call.now.replica (stand c.args.pass.now c.args.points.now c.args.came.now) c.args.budget.now;
   even = λ e. e;
   room = omega arith;
 }
@@ -20,8 +19,8 @@ loop-part-init g c = record {
 pub returns-in_err-fetch_one-clause-stopped : goal.returns-in_err-fetch_one-clause-stopped
 returns-in_err-fetch_one-clause-stopped g c =
     let config = c.args.call.now.config.now in
-    let seq = c.args.call.now.seq in
-    let r = to_z w32 (of_z w32 c.args.replica) in
+    let seq = c.args.call.now.by.now.seq in
+    let r = c.args.call.now.replica in
     let items : c.as_slice-part-items.result.now ≡ c.args.topic.now.parts = c.as_slice-part-items.ensures ∙ ap (λ (t : FetchTopic). t.parts) c.topic.view_is in
     let i = c.loop-part.part-index in
     let none : FetchPart = record { index = pos 0; offset = pos 0; most = pos 0 } in
@@ -32,14 +31,13 @@ returns-in_err-fetch_one-clause-stopped g c =
     let b = stand c.loop-part.pass c.loop-part.points c.loop-part.came in
     let then = subst (λ (name : List ℕ). IsStopped config seq (fetch_decisions config r ((name, part) ∷ [])) b c.fetch_one.new.pass c.fetch_one.new.points) (ap (λ (t : FetchTopic). t.name) c.topic.view_is) c.in_err-fetch_one.ensures.stopped in
     let all = fetch_next_stopped config seq r c.args.topic.now.name c.args.topic.now.parts i part there is a b c.args.budget.now c.loop-part.budget c.fetch_one.new.pass c.fetch_one.new.points c.loop-part.invariant.come then in
-    on_err c.from_residual.result
-    (subst (λ (z : ℤ). IsStopped config seq (fetch_decisions config z (fetch_named c.args.topic.now)) a c.fetch_one.new.pass c.fetch_one.new.points) (to_z-of_z w32 c.args.replica c.ranges.replica) all)
+    on_err c.from_residual.result all
 
 pub loop-part-preserved : goal.loop-part-preserved
 loop-part-preserved g c =
     let config = c.args.call.now.config.now in
-    let seq = c.args.call.now.seq in
-    let r = to_z w32 (of_z w32 c.args.replica) in
+    let seq = c.args.call.now.by.now.seq in
+    let r = c.args.call.now.replica in
     let items : c.as_slice-part-items.result.now ≡ c.args.topic.now.parts = c.as_slice-part-items.ensures ∙ ap (λ (t : FetchTopic). t.parts) c.topic.view_is in
     let i = c.loop-part.part-index in
     let none : FetchPart = record { index = pos 0; offset = pos 0; most = pos 0 } in
@@ -63,6 +61,6 @@ returns-clause-come g c =
     let items : c.as_slice-part-items.result.now ≡ c.args.topic.now.parts = c.as_slice-part-items.ensures ∙ ap (λ (t : FetchTopic). t.parts) c.topic.view_is in
     let a = stand c.args.pass.now c.args.points.now c.args.came.now in
     let b = stand c.loop-part.pass c.loop-part.points c.loop-part.came in
-    let D : ℤ → List FetchPart → Type 0 = λ z ps. HasFetched config c.args.call.now.seq (fetch_decisions config z (map (λ part. (c.args.topic.now.name, part)) ps)) z ps a c.args.budget.now b c.loop-part.budget in
-    subst (D c.args.replica) (taken_all c.args.topic.now.parts c.loop-part.part-index (omega (arith, c.loop-part-test.false, ap length items)))
-    (subst (λ (z : ℤ). D z (take c.loop-part.part-index c.args.topic.now.parts)) (to_z-of_z w32 c.args.replica c.ranges.replica) c.loop-part.invariant.come)
+    let z = c.args.call.now.replica in
+    let D : List FetchPart → Type 0 = λ ps. HasFetched config c.args.call.now.by.now.seq (fetch_decisions config z (map (λ part. (c.args.topic.now.name, part)) ps)) z ps a c.args.budget.now b c.loop-part.budget in
+    subst D (taken_all c.args.topic.now.parts c.loop-part.part-index (omega (arith, c.loop-part-test.false, ap length items))) c.loop-part.invariant.come

@@ -10,7 +10,7 @@ use Rattle.shared_calls.proofs.producing.produce_topic.Goals as goal
 pub loop-part-init : goal.loop-part-init
 loop-part-init g c = record {
   made = c.requires.made;
-  come = none_produced c.args.call.now.config.now c.args.call.now.seq c.args.terms (stand c.args.pass.now c.args.points.now c.args.came.now);
+  come = none_produced c.args.call.now.config.now c.args.call.now.by.now.seq c.args.call.now.terms (stand c.args.pass.now c.args.points.now c.args.came.now);
   even = λ e. e;
   room = refl;
 }
@@ -18,7 +18,7 @@ loop-part-init g c = record {
 pub returns-in_err-produce_one-clause-stopped : goal.returns-in_err-produce_one-clause-stopped
 returns-in_err-produce_one-clause-stopped g c =
     let config = c.args.call.now.config.now in
-    let seq = c.args.call.now.seq in
+    let seq = c.args.call.now.by.now.seq in
     let items : c.as_slice-part-items.result.now ≡ c.args.topic.now.parts = c.as_slice-part-items.ensures ∙ ap (λ (t : ProduceTopic). t.parts) c.topic.view_is in
     let i = c.loop-part.part-index in
     let part = c.part-item.result in
@@ -26,13 +26,13 @@ returns-in_err-produce_one-clause-stopped g c =
     let is : part ≡ get_or c.args.topic.now.parts i part = c.part-item.is ∙ ap (λ (xs : List ProducePart). get_or xs i part) items in
     let a = stand c.args.pass.now c.args.points.now c.args.came.now in
     let b = stand c.loop-part.pass c.loop-part.points c.loop-part.came in
-    let then = subst (λ (name : List ℕ). OnProduce config c.args.terms ((name, part) ∷ []) (λ next. IsStopped config seq next b c.produce_one.new.pass c.produce_one.new.points)) (ap (λ (t : ProduceTopic). t.name) c.topic.view_is) c.in_err-produce_one.ensures.stopped in
-    on_err c.from_residual.result (produce_next_stopped config seq c.args.terms c.args.topic.now.name c.args.topic.now.parts i part there is a b c.produce_one.new.pass c.produce_one.new.points c.loop-part.invariant.come then)
+    let then = subst (λ (name : List ℕ). OnProduce config c.args.call.now.terms ((name, part) ∷ []) (λ next. IsStopped config seq next b c.produce_one.new.pass c.produce_one.new.points)) (ap (λ (t : ProduceTopic). t.name) c.topic.view_is) c.in_err-produce_one.ensures.stopped in
+    on_err c.from_residual.result (produce_next_stopped config seq c.args.call.now.terms c.args.topic.now.name c.args.topic.now.parts i part there is a b c.produce_one.new.pass c.produce_one.new.points c.loop-part.invariant.come then)
 
 pub loop-part-preserved : goal.loop-part-preserved
 loop-part-preserved g c =
     let config = c.args.call.now.config.now in
-    let seq = c.args.call.now.seq in
+    let seq = c.args.call.now.by.now.seq in
     let items : c.as_slice-part-items.result.now ≡ c.args.topic.now.parts = c.as_slice-part-items.ensures ∙ ap (λ (t : ProduceTopic). t.parts) c.topic.view_is in
     let i = c.loop-part.part-index in
     let part = c.part-item.result in
@@ -41,10 +41,10 @@ loop-part-preserved g c =
     let a = stand c.args.pass.now c.args.points.now c.args.came.now in
     let b = stand c.loop-part.pass c.loop-part.points c.loop-part.came in
     let d = stand c.produce_one.new.pass c.produce_one.new.points c.produce_one.new.came in
-    let then = subst (λ (name : List ℕ). OnProduce config c.args.terms ((name, part) ∷ []) (λ next. HasProduced config seq next b d)) (ap (λ (t : ProduceTopic). t.name) c.topic.view_is) c.in_ok-produce_one.ensures.come in
+    let then = subst (λ (name : List ℕ). OnProduce config c.args.call.now.terms ((name, part) ∷ []) (λ next. HasProduced config seq next b d)) (ap (λ (t : ProduceTopic). t.name) c.topic.view_is) c.in_ok-produce_one.ensures.come in
     record {
       made = c.in_ok-produce_one.ensures.made;
-      come = produced_next config seq c.args.terms c.args.topic.now.name c.args.topic.now.parts i part there is a b d c.loop-part.invariant.come then;
+      come = produced_next config seq c.args.call.now.terms c.args.topic.now.name c.args.topic.now.parts i part there is a b d c.loop-part.invariant.come then;
       even = λ e. c.in_ok-produce_one.ensures.even (c.loop-part.invariant.even e);
       room = c.in_ok-produce_one.ensures.room ∙ c.loop-part.invariant.room;
     }
@@ -55,5 +55,5 @@ returns-clause-come g c =
     let items : c.as_slice-part-items.result.now ≡ c.args.topic.now.parts = c.as_slice-part-items.ensures ∙ ap (λ (t : ProduceTopic). t.parts) c.topic.view_is in
     let a = stand c.args.pass.now c.args.points.now c.args.came.now in
     let b = stand c.loop-part.pass c.loop-part.points c.loop-part.came in
-    subst (λ (ps : List ProducePart). OnProduce config c.args.terms (map (λ part. (c.args.topic.now.name, part)) ps) (λ next. HasProduced config c.args.call.now.seq next a b))
+    subst (λ (ps : List ProducePart). OnProduce config c.args.call.now.terms (map (λ part. (c.args.topic.now.name, part)) ps) (λ next. HasProduced config c.args.call.now.by.now.seq next a b))
     (taken_all c.args.topic.now.parts c.loop-part.part-index (omega (arith, c.loop-part-test.false, ap length items))) c.loop-part.invariant.come

@@ -6,8 +6,8 @@ use Rattle.shared_calls.proofs.producing.produce_topics.Given as goal
 
 abbrev pub invariant-loop-topic : goal.invariant-loop-topic
 invariant-loop-topic g l = record {
-  made : l.pass.made ≡ l.call.logs.now;
-  come : OnProduce l.call.config.now l.terms (produce_parts (take l.topic-index l.topics)) (λ next. HasProduced l.call.config.now l.call.seq next (stand l.fn.pass l.fn.points l.fn.came) (stand l.pass l.points l.came));
+  made : l.pass.made ≡ l.call.by.now.logs.now;
+  come : OnProduce l.call.config.now l.call.terms (produce_parts (take l.topic-index l.topics)) (λ next. HasProduced l.call.config.now l.call.by.now.seq next (stand l.fn.pass l.fn.points l.fn.came) (stand l.pass l.points l.came));
   even : IsEven l.fn.came → IsEven l.came;
   room : bytes_read l.came.readings ≡ bytes_read l.fn.came.readings;
 }

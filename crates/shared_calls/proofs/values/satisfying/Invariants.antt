@@ -6,7 +6,7 @@ use Rattle.shared_calls.proofs.values.satisfying.Given as goal
 
 abbrev pub invariant-loop : goal.invariant-loop
 invariant-loop g l = record {
-  made : l.pass.made ≡ l.logs;
+  made : l.pass.made ≡ l.by.logs.now;
   stepped : HasStepped l.fn.pass l.pass;
   kept : KeepsOperation (caller_now l.fn.pass.seat) (caller_now l.pass.seat);
 }

@@ -18,12 +18,12 @@ loop-preserved g c =
           (c.end.ensures.seen ∙ ap (ended part_entries t.result.value) t.ensures.begun);
     }
 
-pub returns-then-value-least-clause-found : goal.returns-then-value-least-clause-found
-returns-then-value-least-clause-found g c =
+pub returns-then-value-late-clause-found : goal.returns-then-value-late-clause-found
+returns-then-value-late-clause-found g c =
     let t = c.part_turn-turn in
     found_first part_entries entry_by (known c.args.key.now) (known c.loop.key) t.result.value c.loop.invariant.more t.ensures.found
 
-pub returns-then-value-least-clause-begun : goal.returns-then-value-least-clause-begun
-returns-then-value-least-clause-begun g c =
+pub returns-then-value-late-clause-begun : goal.returns-then-value-late-clause-begun
+returns-then-value-late-clause-begun g c =
     let t = c.part_turn-turn in
     t.ensures.begun ∙ begun_first part_entries entry_by (known c.args.key.now) (known c.loop.key) t.result.ticket t.result.value c.loop.invariant.more

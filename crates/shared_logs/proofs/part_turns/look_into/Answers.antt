@@ -24,7 +24,7 @@ returns-clause-looked g c =
     let began : BeganPart before key name c.late_turn-turn.result.ticket found =
     subst (BeganPart before key name c.late_turn-turn.result.ticket) (sym c.value_mut.ensures.value) (record { found_is = t.found; begun_is = t.begun; named = t.name; keeps = t.keeps }) in
     let turn = part_turned before key (known c.end.new.pass) name c.args.who.by c.late_turn-turn.result.ticket found left began c.end.ensures.seen k.2 k.0.1 d.added d.name d.whole in
-    let late = subst (λ (desk : PartView). c.args.least ≤ gauge_value c.args.gauge (state_of desk.history)) (sym c.value_mut.ensures.value) t.late in
+    let late = subst (λ (desk : PartView). c.args.late.value ≤ gauge_value c.args.late.gauge (state_of desk.history)) (sym c.value_mut.ensures.value) t.late in
     if_ok_three c.look_at-looked.result d.looked d.place d.numbers
     (λ (e : left.history ≡ looked found.history who.by who.seq) (x : Looked) (p : x.place ≡ length found.history.events) (n : x.numbers ≡ numbers_of (state_of found.history)). record {
       found = found;

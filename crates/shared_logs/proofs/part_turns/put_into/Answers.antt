@@ -16,7 +16,7 @@ pub returns-clause-asked : goal.returns-clause-asked
 returns-clause-asked g c =
     let k = c.requires.key in
     let d = c.put_at-put.ensures in
-    let who = c.args.who in
+    let who = c.args.visit.now.who in
     let before = known c.args.key.now in
     let key = known c.part_turn-turn.new.key in
     let name = lock_name part_name c.args.lock.now in
@@ -25,9 +25,9 @@ returns-clause-asked g c =
     let t = c.part_turn-turn.ensures in
     let began : BeganPart before key name c.part_turn-turn.result.ticket found =
     subst (BeganPart before key name c.part_turn-turn.result.ticket) (sym c.value_mut.ensures.value) (record { found_is = t.found; begun_is = t.begun; named = t.name; keeps = t.keeps }) in
-    let turn = part_turned before key (known c.end.new.pass) name c.args.who.by c.part_turn-turn.result.ticket found left began c.end.ensures.seen k.number_is k.of_lock.1 d.added d.name d.whole in
+    let turn = part_turned before key (known c.end.new.pass) name c.args.visit.now.who.by c.part_turn-turn.result.ticket found left began c.end.ensures.seen k.number_is k.of_lock.1 d.added d.name d.whole in
     let batch = c.args.batch.now in
-    let part = part_is found c.args.room.now.table (slice_index name 0) c.args.part (began.named ∙ k.name) in
+    let part = part_is found c.args.visit.now.room.now.table (slice_index name 0) c.args.part (began.named ∙ k.name) in
     if_ok_both c.put_at-put.result d.entered d.numbers
     (λ (put : Put) (e : HasEntered who.by who.seq (append_outcome found.part (count_of batch) batch) found.history left.history put.entered) (n : put.numbers ≡ numbers_of (state_of left.history)). record {
       found = found;

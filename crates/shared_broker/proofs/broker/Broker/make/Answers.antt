@@ -11,7 +11,7 @@ use Rattle.shared_broker.proofs.broker.Broker.make.Goals as goal
 pub make-requires-clause-parts : goal.make-requires-clause-parts
 make-requires-clause-parts c =
     let same : length c.in_ok-followers.followers ≡ partitions_of c.args.config.topics = ap (λ (fs : List ℕ). length fs) c.in_ok-followers.ensures ∙ followers_size c.args.config.topics in
-    omega (arith, same, c.requires.declared.few, ap (λ (fs : List ℕ). length fs) c.as_slice.ensures)
+    omega (arith, same, c.parts.ensures.few, ap (λ (fs : List ℕ). length fs) c.as_slice.ensures)
 
 pub fresh_all-requires-clause-each : goal.fresh_all-requires-clause-each
 fresh_all-requires-clause-each c =

@@ -17,19 +17,19 @@ pub read_from-requires : goal.read_from-requires
 read_from-requires g c =
     let p = c.pass.inside in
     let s = c.self.inside in
-    let part = (c.args.gauge / 3) in
+    let part = (c.args.rest.now.late.gauge / 3) in
     let made = ap (λ (v : LogPassView). v.made) c.pass.view_is ∙ c.requires.made ∙ sym c.self.view_is in
     let less = within s.room s.parts.items s.clock c.args.self.now part c.self.view_is c.requires.there in
     let lock = c.index.result.now in
     let old = c.index_mut.result.now in
     let o = opens p.number p.room p.parts.items p.clock p.moment p.ticked c.pass.invariant s.room s.parts.items s.clock made part lock old less c.index.ensures c.index_mut.ensures.value in
-    record { key = (o.of_lock, o.ready, o.number_is) }
+    record { key = (o.of_lock, o.ready, o.number_is ∙ ap (λ (v : LogPassView). v.number) c.pass.view_is ∙ sym c.requires.who) }
 
 pub invariant_of-pass : goal.invariant_of-pass
 invariant_of-pass g c =
     let p = c.pass.inside in
     let s = c.self.inside in
-    let part = (c.args.gauge / 3) in
+    let part = (c.args.rest.now.late.gauge / 3) in
     let made = ap (λ (v : LogPassView). v.made) c.pass.view_is ∙ c.requires.made ∙ sym c.self.view_is in
     let less = within s.room s.parts.items s.clock c.args.self.now part c.self.view_is c.requires.there in
     let lock = c.index.result.now in
@@ -42,11 +42,28 @@ invariant_of-pass g c =
     let asked = e.looked in
     by_result r asked e.refused (λ x a. part_pass p.number p.room room p.parts.items p.clock p.moment p.ticked part old new step a.found a.left a.turn) (λ saw. part_pass p.number p.room room p.parts.items p.clock p.moment p.ticked part old new step saw.0 saw.0 saw.1)
 
+pub returns-clause-seen : goal.returns-clause-seen
+returns-clause-seen g c =
+    let p = c.pass.inside in
+    let s = c.self.inside in
+    let part = (c.args.rest.now.late.gauge / 3) in
+    let made = ap (λ (v : LogPassView). v.made) c.pass.view_is ∙ c.requires.made ∙ sym c.self.view_is in
+    let less = within s.room s.parts.items s.clock c.args.self.now part c.self.view_is c.requires.there in
+    let lock = c.index.result.now in
+    let old = c.index_mut.result.now in
+    let e = c.read_from.ensures in
+    let r = c.read_from.result in
+    let room = p.room in
+    let new = c.read_from.new.key in
+    let step = part_step p.number p.room p.parts.items p.clock p.moment p.ticked c.pass.invariant s.room s.parts.items s.clock made part lock old less c.index.ensures c.index_mut.ensures.value room new (of_room p.number p.room p.parts.items p.clock p.moment p.ticked c.pass.invariant s.room s.parts.items s.clock made) (stays p.room.seat) (kept_same (caller_now p.room.seat)) e.key.0 e.key.1 in
+    let asked = e.looked in
+    (by_result r asked e.refused (λ x a. part_pass p.number p.room room p.parts.items p.clock p.moment p.ticked part old new step a.found a.left a.turn) (λ saw. part_pass p.number p.room room p.parts.items p.clock p.moment p.ticked part old new step saw.0 saw.0 saw.1)).seen
+
 pub returns-clause-made : goal.returns-clause-made
 returns-clause-made g c =
     let p = c.pass.inside in
     let s = c.self.inside in
-    let part = (c.args.gauge / 3) in
+    let part = (c.args.rest.now.late.gauge / 3) in
     let made = ap (λ (v : LogPassView). v.made) c.pass.view_is ∙ c.requires.made ∙ sym c.self.view_is in
     let less = within s.room s.parts.items s.clock c.args.self.now part c.self.view_is c.requires.there in
     let lock = c.index.result.now in
@@ -64,7 +81,7 @@ pub returns-clause-looked : goal.returns-clause-looked
 returns-clause-looked g c =
     let p = c.pass.inside in
     let s = c.self.inside in
-    let part = (c.args.gauge / 3) in
+    let part = (c.args.rest.now.late.gauge / 3) in
     let made = ap (λ (v : LogPassView). v.made) c.pass.view_is ∙ c.requires.made ∙ sym c.self.view_is in
     let less = within s.room s.parts.items s.clock c.args.self.now part c.self.view_is c.requires.there in
     let lock = c.index.result.now in
@@ -76,14 +93,14 @@ returns-clause-looked g c =
     let step = part_step p.number p.room p.parts.items p.clock p.moment p.ticked c.pass.invariant s.room s.parts.items s.clock made part lock old less c.index.ensures c.index_mut.ensures.value room new (of_room p.number p.room p.parts.items p.clock p.moment p.ticked c.pass.invariant s.room s.parts.items s.clock made) (stays p.room.seat) (kept_same (caller_now p.room.seat)) e.key.0 e.key.1 in
     let after = pass_view p.number room (set p.parts.items part new) p.clock in
     if_ok r e.looked
-    (λ x a. subst (λ (v : LogPassView). HasLooked part c.args.seq c.args.gauge c.args.least v after x.looked.place x.looked.numbers) c.pass.view_is
-    (part_looked p.number p.room room p.parts.items p.clock p.moment p.ticked part old new step a.found a.left a.turn c.args.seq c.args.gauge c.args.least x.looked.place x.looked.numbers a.entry a.place_is a.numbers_are a.late))
+    (λ x a. subst (λ (v : LogPassView). HasLooked part c.args.who.seq c.args.rest.now.late.gauge c.args.rest.now.late.value v after x.looked.place x.looked.numbers) c.pass.view_is
+    (part_looked p.number p.room room p.parts.items p.clock p.moment p.ticked part old new step a.found a.left a.turn c.args.who.seq c.args.rest.now.late.gauge c.args.rest.now.late.value x.looked.place x.looked.numbers a.entry a.place_is a.numbers_are a.late))
 
 pub returns-clause-read : goal.returns-clause-read
 returns-clause-read g c =
     let p = c.pass.inside in
     let s = c.self.inside in
-    let part = (c.args.gauge / 3) in
+    let part = (c.args.rest.now.late.gauge / 3) in
     let made = ap (λ (v : LogPassView). v.made) c.pass.view_is ∙ c.requires.made ∙ sym c.self.view_is in
     let less = within s.room s.parts.items s.clock c.args.self.now part c.self.view_is c.requires.there in
     let lock = c.index.result.now in
@@ -93,16 +110,16 @@ returns-clause-read g c =
     let room = p.room in
     let new = c.read_from.new.key in
     let step = part_step p.number p.room p.parts.items p.clock p.moment p.ticked c.pass.invariant s.room s.parts.items s.clock made part lock old less c.index.ensures c.index_mut.ensures.value room new (of_room p.number p.room p.parts.items p.clock p.moment p.ticked c.pass.invariant s.room s.parts.items s.clock made) (stays p.room.seat) (kept_same (caller_now p.room.seat)) e.key.0 e.key.1 in
-    let read : IfOk r (λ x. IfOk x.records (λ records. HasRead c.args.replica c.args.asked.now (Seen part c.args.start) (state_of (seen_part new)) x.looked.numbers records c.args.budget.now c.read_from.new.budget)) = search rules in
+    let read : IfOk r (λ x. IfOk x.records (λ records. HasRead c.args.rest.now.replica c.args.rest.now.asked.now (Seen part c.args.rest.now.start) (state_of (seen_part new)) x.looked.numbers records c.args.budget.now c.read_from.new.budget)) = search rules in
     subst
-    (λ (h : History). IfOk r (λ x. IfOk x.records (λ records. HasRead c.args.replica c.args.asked.now (Seen part c.args.start) (state_of h) x.looked.numbers records c.args.budget.now c.read_from.new.budget)))
+    (λ (h : History). IfOk r (λ x. IfOk x.records (λ records. HasRead c.args.rest.now.replica c.args.rest.now.asked.now (Seen part c.args.rest.now.start) (state_of h) x.looked.numbers records c.args.budget.now c.read_from.new.budget)))
     (sym (seen_at p.parts.items part new step.less)) read
 
 pub returns-clause-refused : goal.returns-clause-refused
 returns-clause-refused g c =
     let p = c.pass.inside in
     let s = c.self.inside in
-    let part = (c.args.gauge / 3) in
+    let part = (c.args.rest.now.late.gauge / 3) in
     let made = ap (λ (v : LogPassView). v.made) c.pass.view_is ∙ c.requires.made ∙ sym c.self.view_is in
     let less = within s.room s.parts.items s.clock c.args.self.now part c.self.view_is c.requires.there in
     let lock = c.index.result.now in

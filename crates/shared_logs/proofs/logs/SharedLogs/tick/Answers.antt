@@ -3,6 +3,7 @@ use Rattle.partlog.specs.Moment.{moment_of}
 use Rattle.shared_logs.specs.Asked.{HasTicked}
 use Rattle.shared_logs.specs.Coming.{HasCaughtUp}
 use Rattle.shared_logs.specs.Locked.{IsLogPass, pass_view}
+use Rattle.shared_logs.specs.Seen.{HasSeen}
 use Rattle.shared_logs.specs.Shared.{LogPassView}
 use Rattle.shared_logs.proofs.Moments.{clock_caught_up, clock_step, clock_ticked, saw_pass, told_before, told_pass}
 use Rattle.shared_logs.proofs.Passes.{opens_clock}
@@ -91,3 +92,41 @@ returns-else-branch-clause-ticked g c =
     let d = ok_is _ c.tick_to-rose.result.0 c.in_ok-rose.field-0 c.in_ok-rose.was e.told in
     subst (λ (v : LogPassView). HasTicked c.args.t v (pass_view p.number c.tick_to-rose.new.pass p.parts.items new)) c.pass.view_is
     (clock_ticked p.number p.room c.tick_to-rose.new.pass p.parts.items p.clock new p.moment p.ticked c.tick_to-rose.result.1 step e.moment c.args.t c.in_ok-rose.field-0 d)
+
+pub returns-then-t-pass-clause-seen : goal.returns-then-t-pass-clause-seen
+returns-then-t-pass-clause-seen g c =
+    let was = subst HasSeen c.pass.view_is c.pass.invariant.seen in
+    (was, was)
+
+pub returns-in_err-rose-clause-seen : goal.returns-in_err-rose-clause-seen
+returns-in_err-rose-clause-seen g c =
+    let p = c.pass.inside in
+    let s = c.self.inside in
+    let made = ap (λ (v : LogPassView). v.made) c.pass.view_is ∙ c.requires.made ∙ sym c.self.view_is in
+    let e = c.tick_to-rose.ensures in
+    let new = c.tick_to-rose.new.key in
+    let step = clock_step p.number p.room p.parts.items p.clock p.moment p.ticked c.pass.invariant s.room s.parts.items s.clock made c.tick_to-rose.new.pass new e.room e.went e.kept e.key.of_lock e.key.ready in
+    let saw = err_is c.tick_to-rose.result.0 c.in_err-rose.field-0.0 c.in_err-rose.was e.refused in
+    (subst HasSeen c.pass.view_is c.pass.invariant.seen, (saw_pass p.number p.room c.tick_to-rose.new.pass p.parts.items p.clock new p.moment p.ticked c.tick_to-rose.result.1 step e.moment saw).seen)
+
+pub returns-then-branch-clause-seen : goal.returns-then-branch-clause-seen
+returns-then-branch-clause-seen g c =
+    let p = c.pass.inside in
+    let s = c.self.inside in
+    let made = ap (λ (v : LogPassView). v.made) c.pass.view_is ∙ c.requires.made ∙ sym c.self.view_is in
+    let e = c.tick_to-rose.ensures in
+    let new = c.tick_to-rose.new.key in
+    let step = clock_step p.number p.room p.parts.items p.clock p.moment p.ticked c.pass.invariant s.room s.parts.items s.clock made c.tick_to-rose.new.pass new e.room e.went e.kept e.key.of_lock e.key.ready in
+    let d = ok_is _ c.tick_to-rose.result.0 c.in_ok-rose.field-0 c.in_ok-rose.was e.told in
+    (subst HasSeen c.pass.view_is c.pass.invariant.seen, (told_pass p.number p.room c.tick_to-rose.new.pass p.parts.items p.clock new p.moment p.ticked c.tick_to-rose.result.1 step e.moment c.args.t c.in_ok-rose.field-0 d).seen)
+
+pub returns-else-branch-clause-seen : goal.returns-else-branch-clause-seen
+returns-else-branch-clause-seen g c =
+    let p = c.pass.inside in
+    let s = c.self.inside in
+    let made = ap (λ (v : LogPassView). v.made) c.pass.view_is ∙ c.requires.made ∙ sym c.self.view_is in
+    let e = c.tick_to-rose.ensures in
+    let new = c.tick_to-rose.new.key in
+    let step = clock_step p.number p.room p.parts.items p.clock p.moment p.ticked c.pass.invariant s.room s.parts.items s.clock made c.tick_to-rose.new.pass new e.room e.went e.kept e.key.of_lock e.key.ready in
+    let d = ok_is _ c.tick_to-rose.result.0 c.in_ok-rose.field-0 c.in_ok-rose.was e.told in
+    (subst HasSeen c.pass.view_is c.pass.invariant.seen, (told_pass p.number p.room c.tick_to-rose.new.pass p.parts.items p.clock new p.moment p.ticked c.tick_to-rose.result.1 step e.moment c.args.t c.in_ok-rose.field-0 d).seen)

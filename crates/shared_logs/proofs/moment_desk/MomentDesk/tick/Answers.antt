@@ -14,19 +14,19 @@ pub invariant_of-self-2 : goal.invariant_of-self-2
 invariant_of-self-2 g c =
     let inside = c.self.inside in
     let desk : MomentView = record { events = inside.log; tickers = inside.tickers; source = inside.source } in
-    let less : moment_of inside.log < c.args.t = omega (arith, c.now.ensures.moment, c.if-t-now.false) in
-    let grown : c.tick.new.self ≡ inside.log ++ Tick c.args.t ∷ [] = was_ok c.tick.result c.if-is_err.ensures.value c.tick.ensures.ticked ∙ ticked_above inside.log c.args.t less in
+    let less : moment_of inside.log < c.args.tick.moment = omega (arith, c.now.ensures.moment, c.if-tick-now.false) in
+    let grown : c.tick.new.self ≡ inside.log ++ Tick c.args.tick.moment ∷ [] = was_ok c.tick.result c.if-is_err.ensures.value c.tick.ensures.ticked ∙ ticked_above inside.log c.args.tick.moment less in
     let K : List ClockEvent → List ℕ → Type 0 = λ es ps. MomentKeeps (record { events = es; tickers = ps; source = c.raise.new.source }) in
     subst (λ (es : List ClockEvent). K es c.push.new.self) (sym grown)
-    (subst (K (inside.log ++ Tick c.args.t ∷ [])) (sym c.in_ok-push.ensures.ok) (tick_keeps desk c.args.by c.args.t c.raise.new.source c.self.invariant less c.raise.ensures.source))
+    (subst (K (inside.log ++ Tick c.args.tick.moment ∷ [])) (sym c.in_ok-push.ensures.ok) (tick_keeps desk c.args.tick.by c.args.tick.moment c.raise.new.source c.self.invariant less c.raise.ensures.source))
 
 pub returns-clause-added : goal.returns-clause-added
 returns-clause-added g c =
     let inside = c.self.inside in
     let desk : MomentView = record { events = inside.log; tickers = inside.tickers; source = inside.source } in
-    let less : moment_of inside.log < c.args.t = omega (arith, c.now.ensures.moment, c.if-t-now.false) in
-    let grown : c.tick.new.self ≡ inside.log ++ Tick c.args.t ∷ [] = was_ok c.tick.result c.if-is_err.ensures.value c.tick.ensures.ticked ∙ ticked_above inside.log c.args.t less in
-    let A : List ClockEvent → List ℕ → Type 0 = λ es ps. AddedBy clock_by c.args.by (clock_entries inside.log inside.tickers) (clock_entries es ps) in
-    subst (λ (d : MomentView). AddedBy clock_by c.args.by (clock_entries d.events d.tickers) (clock_entries c.tick.new.self c.push.new.self)) c.self.view_is
+    let less : moment_of inside.log < c.args.tick.moment = omega (arith, c.now.ensures.moment, c.if-tick-now.false) in
+    let grown : c.tick.new.self ≡ inside.log ++ Tick c.args.tick.moment ∷ [] = was_ok c.tick.result c.if-is_err.ensures.value c.tick.ensures.ticked ∙ ticked_above inside.log c.args.tick.moment less in
+    let A : List ClockEvent → List ℕ → Type 0 = λ es ps. AddedBy clock_by c.args.tick.by (clock_entries inside.log inside.tickers) (clock_entries es ps) in
+    subst (λ (d : MomentView). AddedBy clock_by c.args.tick.by (clock_entries d.events d.tickers) (clock_entries c.tick.new.self c.push.new.self)) c.self.view_is
     (subst (λ (es : List ClockEvent). A es c.push.new.self) (sym grown)
-    (subst (A (inside.log ++ Tick c.args.t ∷ [])) (sym c.in_ok-push.ensures.ok) (tick_added desk c.args.by c.args.t c.self.invariant)))
+    (subst (A (inside.log ++ Tick c.args.tick.moment ∷ [])) (sym c.in_ok-push.ensures.ok) (tick_added desk c.args.tick.by c.args.tick.moment c.self.invariant)))

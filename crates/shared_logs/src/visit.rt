@@ -1,0 +1,12 @@
+use partlog::Who;
+use purgatory::Room;
+use std::alloc::Global;
+
+/// A visit to a desk in a turn of its lock: who comes, the room whose gauges may rise, and the thread that raises them.
+#[derive(Drop)]
+pub struct Visit<'r, 'm, W> {
+    pub rt: &'r W,
+    pub alloc: Global,
+    pub room: &'m Room,
+    pub who: Who,
+}
