@@ -1,19 +1,10 @@
 -- A run whose lines are all done, before its clock goes on.
 use Rattle.std.proofs.Common.{◌≡◌, ℕ, Bool, true, false, List, [], append-nil, refl, subst, sym}
 use Rattle.std.specs.Prelude.{MatchBool}
-use Rattle.kwire.specs.Configuration.{Configuration}
-use Rattle.broker_spec.proofs.Laws.{trace_declared}
-use Rattle.kwire.specs.DeclaredTopics.{AreDeclared}
 use Rattle.shared_broker.specs.Passes.{BrokerView}
-use Rattle.trace_file.specs.Contents.{configuration_of}
 use Rattle.trace_file.specs.declared.line.Line.{Line}
-use Rattle.trace_workers.specs.Playable.{AreTraced}
 use Rattle.trace_workers.specs.Joined.{JoinedView, HasJoined, HasRun}
 use Rattle.trace_workers.specs.WorkerRun.{AreSeconds, last_moment}
-
--- its topics may be declared
-pub declared_topics : (lines : List Line) (port : ℕ) (config : Configuration) → AreTraced lines → config ≡ configuration_of port lines → AreDeclared config.topics
-declared_topics lines port config traced is = subst (λ (c : Configuration). AreDeclared c.topics) (sym is) (trace_declared traced.0 lines port traced.1)
 
 none_told : (P : Type 0) (drain : Bool) (moment : ℕ) → MatchBool drain (P → AreSeconds moment []) (◌≡◌ {A = List ℕ} [] [])
 none_told P true moment = λ alone. tt

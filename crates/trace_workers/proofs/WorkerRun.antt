@@ -14,6 +14,7 @@ use Rattle.broker_spec.specs.GoesOn.{GoesOn}
 use Rattle.broker_spec.proofs.Laws.{all_get}
 use Rattle.pass_books.specs.Told.{told}
 use Rattle.shared_broker.specs.Closing.{IsAccountOf}
+use Rattle.shared_broker.specs.Standing.{Stands}
 use Rattle.shared_broker.specs.Passes.{BrokerView, PassView, transcripts_of}
 use Rattle.shared_logs.specs.Seen.{HasSeen}
 use Rattle.trace_file.specs.Contents.{configuration_of, input_of, is_named, rising_from, sessions_of}
@@ -115,7 +116,10 @@ abbrev ticked_by : PassView → List ℕ
 ticked_by pass = pass.logs.ticked
 
 -- the clock's pass alone has told moments
-module _ (broker : BrokerView) (lines : List Line) (count : ℕ) (joined : JoinedView) (account : Account) (whole : HasJoined broker lines count joined) (seen : HasSeen joined.clock.logs) (is : IsAccountOf broker (passes_in joined) account) where
+module _ (broker : BrokerView) (lines : List Line) (count : ℕ) (joined : JoinedView) (account : Account) (whole : HasJoined broker lines count joined) (is : IsAccountOf broker (passes_in joined) account) where
+  seen : HasSeen joined.clock.logs
+  seen = (split Stands joined is.stood).1.seen
+
   ticks_are : ticks_of account.clock ≡ joined.clock.logs.ticked
   ticks_are =
       only_last ticked_by (ticks_of account.clock) (map pass_of joined.sessions) joined.clock is.lawful.entries.ticks seen.rising
@@ -148,7 +152,7 @@ worker_run broker lines port count drain account traced same config came =
     let whole = run.whole in
     let added = run.added in
     let passes = has_passes broker lines added count drain came.joined account whole came.come is in
-    let seen = ticks_seen broker (lines ++ map Clock added) count came.joined account whole came.seen is in
+    let seen = ticks_seen broker (lines ++ map Clock added) count came.joined account whole is in
     let told : MatchBool drain (AreSeconds (last_moment lines) added) (added ≡ []) =
     premised (ticks_of came.joined.clock.logs.clock ≡ came.joined.clock.logs.ticked) (AreSeconds (last_moment lines) added) (added ≡ []) drain seen run.told in
     record {
@@ -161,7 +165,7 @@ worker_run broker lines port count drain account traced same config came =
         sessions = λ session less. is_session broker lines count drain account passes session (omega (arith, less, same));
         whole = none_cut broker lines count drain account passes;
         ticks =
-            ticks_rising broker (lines ++ map Clock added) count came.joined account whole came.seen is
+            ticks_rising broker (lines ++ map Clock added) count came.joined account whole is
             ∙ rising_after 0 lines (map Clock added)
             ∙ ap (λ (ts : List ℕ). rising_from 0 lines ++ ts) (added_rise drain (last_moment lines) added told);
       };

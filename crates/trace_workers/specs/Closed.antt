@@ -2,7 +2,6 @@
 use Rattle.std.specs.Prelude.{ℕ, ◌≡◌, ◌+◌, Bool, List}
 use Rattle.audit.specs.declared.account.Account.{Account}
 use Rattle.shared_broker.specs.Closing.{IsAccountOf}
-use Rattle.shared_logs.specs.Seen.{HasSeen}
 use Rattle.shared_broker.specs.Passes.{BrokerView}
 use Rattle.trace_file.specs.declared.line.Line.{Line}
 use Rattle.trace_workers.specs.declared.joined.Closing.{Closing}
@@ -17,10 +16,9 @@ HasClosed broker joined (Closing.Again again back) = (again ≡ broker) × (back
 abbrev pub IsWhole : BrokerView → ℕ → Type 0
 IsWhole broker count = broker.logs.room.table.shape.passes ≡ count + 1
 
--- behind these lines all came to rest, and this is the account of that
+-- after these lines all came to rest, and this is the account of that
 pub record CameTo (broker : BrokerView) (lines : List Line) (count : ℕ) (drain : Bool) (account : Account) : Type 0 where
   pub joined : JoinedView
   pub run : HasRun broker lines count drain joined
   pub come : HasCome drain joined
-  pub seen : HasSeen joined.clock.logs
   pub account_is : IsAccountOf broker (passes_in joined) account

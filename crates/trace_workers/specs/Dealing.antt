@@ -18,7 +18,7 @@ empty_workers worker_count = map (empty_worker worker_count) (range_with_len 0 w
 abbrev pub fresh_session : BrokerView → ℕ → SessionView
 fresh_session broker number = record { number = number; pass = fresh_pass broker number; inbox = []; is_shut = false; is_named = false }
 
--- Worker k of these has its own of so many sessions, and no clock: the first of its own that it doesn't have is the first that isn't below that many.
+-- Worker k of these has its own of that many sessions, and no clock: the first of its own that it doesn't have is the first that isn't below that many.
 pub record IsDealing (broker : BrokerView) (dealt worker_count k : ℕ) (worker : WorkerView) : Type 0 where
   pub number : worker.number ≡ k
   pub among : worker.worker_count ≡ worker_count

@@ -8,7 +8,7 @@ use Rattle.trace_workers.specs.Workers.{HasAll, HasDone, WorkerView}
 abbrev pub HasClockOf : ℕ → ℕ → Option PassView → Type 0
 HasClockOf number worker_number clock = MatchBool (worker_number == 0) ((pass : PassView) × (clock ≡ Some pass) × (pass.logs.number ≡ number)) (clock ≡ None)
 
--- worker k of these has its own of so many sessions, and no line was done
+-- worker k of these has its own of that many sessions, and no line was done
 pub record IsDealt (broker : BrokerView) (count worker_count k : ℕ) (worker : WorkerView) : Type 0 where
   pub number : worker.number ≡ k
   pub among : worker.worker_count ≡ worker_count

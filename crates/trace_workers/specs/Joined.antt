@@ -1,4 +1,4 @@
--- All sessions of a run and the clock's pass in one hand, and what is so of them behind lines.
+-- All sessions of a run and the clock's pass, joined again, and what is true of them after lines.
 use Rattle.std.specs.Prelude.{ℕ, ◌≡◌, ◌<◌, Bool, true, All, Any, List, [], ◌∷◌, ◌++◌, MatchBool, None, length, map}
 use Rattle.audit.specs.Histories.{ticks_of}
 use Rattle.shared_broker.specs.Passes.{BrokerView, PassView}
@@ -17,7 +17,7 @@ pub record JoinedView : Type 0 where
 abbrev pub passes_in : JoinedView → List PassView
 passes_in joined = map (λ (s : SessionView). s.pass) joined.sessions ++ joined.clock ∷ []
 
--- There are so many sessions, one of each number, and they have received what these lines bring them. The clock's pass has the number behind theirs.
+-- There are that many sessions, one of each number, and they have received what these lines bring them. The clock's pass has the number after theirs.
 pub record HasJoined (broker : BrokerView) (lines : List Line) (count : ℕ) (joined : JoinedView) : Type 0 where
   pub sessions : All (HasTaken broker lines) joined.sessions
   pub size : length joined.sessions ≡ count
@@ -25,7 +25,7 @@ pub record HasJoined (broker : BrokerView) (lines : List Line) (count : ℕ) (jo
   pub clock : HasToldAll broker lines joined.clock
   pub number : joined.clock.logs.number ≡ count
 
--- Behind the lines the clock was told these moments too: none, or where the run is drained by the second, as long as nobody else tells the clock anything.
+-- After the lines the clock was moved to these moments too: to none, or if the run is drained on by the second, as long as nobody else moves the clock.
 pub record HasRun (broker : BrokerView) (lines : List Line) (count : ℕ) (drain : Bool) (joined : JoinedView) : Type 0 where
   pub added : List ℕ
   pub whole : HasJoined broker (lines ++ map Clock added) count joined
@@ -34,7 +34,7 @@ pub record HasRun (broker : BrokerView) (lines : List Line) (count : ℕ) (drain
 abbrev pub NoneWait : JoinedView → Type 0
 NoneWait joined = All (λ (s : SessionView). s.pass.waits ≡ None) joined.sessions
 
--- nobody can act any more, and where the run is drained nobody waits
+-- nobody can act any more, and if the run is drained nobody waits
 pub record HasCome (drain : Bool) (joined : JoinedView) : Type 0 where
   pub rests : All Rests joined.sessions
   pub drained : drain ≡ true → NoneWait joined

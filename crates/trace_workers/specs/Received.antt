@@ -18,7 +18,7 @@ IsOnlyOf transcript (t ∷ u ∷ ts) going = ⊥
 abbrev pub IsOnly : Transcript → PassView → Type 0
 IsOnly transcript pass = IsOnlyOf transcript pass.ended pass.going
 
--- what is left of the input behind the frames of its calls stands in the inbox; where a request waits, it is the last call
+-- what is left of the input after the frames of its calls is in the inbox; if a request waits, it is the last call
 abbrev pub StandsAt : SessionView → List ℕ → Transcript → Option SessionEnd → Type 0
 StandsAt s rest transcript None = (rest ≡ s.inbox) × MatchBool (is_some s.pass.waits) (LastIsParked transcript.calls) (LastIsParked transcript.calls → ⊥)
 StandsAt s rest transcript (Some end) = EndFits rest s.is_shut transcript (Some end) × IsTraceEnd (Some end)

@@ -24,7 +24,7 @@ desk_of s = record { number = s.number; inbox = s.inbox; is_shut = s.is_shut; is
 abbrev pub session_at : DeskView → PassView → SessionView
 session_at desk pass = record { number = desk.number; pass = pass; inbox = desk.inbox; is_shut = desk.is_shut; is_named = desk.is_named }
 
--- the same session, of the same broker, which has told the clock nothing more
+-- the same session, of the same broker, which has not moved the clock
 pub record IsSameSession (old new : SessionView) : Type 0 where
   pub number : new.number ≡ old.number
   pub pass : new.pass.logs.number ≡ old.pass.logs.number

@@ -15,7 +15,7 @@ use Rattle.trace_workers.specs.declared.joined.TheConstants.{DRAIN_STEP}
 abbrev pub last_moment : List Line → ℕ
 last_moment lines = fold max 0 (rising_from 0 lines)
 
--- each is a second behind the one before it, and the first behind this moment
+-- each is a second after the one before it, and the first after this moment
 abbrev pub AreSeconds : ℕ → List ℕ → Type 0
 AreSeconds moment [] = ⊤
 AreSeconds moment (t ∷ ts) = (t ≡ moment + DRAIN_STEP) × AreSeconds t ts
@@ -23,11 +23,11 @@ AreSeconds moment (t ∷ ts) = (t ≡ moment + DRAIN_STEP) × AreSeconds t ts
 abbrev pub NobodyWaits : Account → Type 0
 NobodyWaits account = AllByRecursion (λ call. call.how ≢ Parked) (all_calls account)
 
--- Where the run is drained, the clock goes on by the second behind the lines, and in the end nobody waits; else it stands.
+-- If the run is drained, the clock goes on by the second after the lines, and in the end nobody waits; else it stays.
 abbrev pub IsDrained : Bool → List Line → List ℕ → Account → Type 0
 IsDrained drain lines added account = MatchBool drain (AreSeconds (last_moment lines) added × NobodyWaits account) (added ≡ [])
 
--- The account is lawful, and that of a run of the lines. Behind the passes of the sessions stands that of the clock, which has no transcript. There is a
+-- The account is lawful, and that of a run of the lines. After the passes of the sessions comes that of the clock, which has no transcript. There is a
 -- winner for each scanner, and one for each pass.
 pub record IsWorkerRun (lines : List Line) (port : ℕ) (drain : Bool) (account : Account) : Type 0 where
   pub lawful : IsLawful account

@@ -8,7 +8,7 @@ use Rattle.trace_workers.specs.Received.{HasReceived}
 use Rattle.trace_workers.specs.Resting.{Rests}
 use Rattle.trace_workers.specs.Sessions.{SessionView}
 
--- its number and how many workers there are, its sessions by their numbers, the pass of the clock where it has that, and whether it stopped because memory ran out
+-- its number and how many workers there are, its sessions by their numbers, the pass of the clock if it has that, and whether it stopped because memory ran out
 pub record WorkerView : Type 0 where
   pub number : ℕ
   pub worker_count : ℕ
@@ -16,7 +16,7 @@ pub record WorkerView : Type 0 where
   pub clock : Option PassView
   pub is_stopped : Bool
 
--- a session of this broker that has received what these lines bring it, on the pass of its own number, which has told the clock nothing
+-- a session of this broker that has received what these lines bring it, on the pass of its own number, which has never moved the clock
 pub record HasTaken (broker : BrokerView) (lines : List Line) (s : SessionView) : Type 0 where
   pub made : made_with s.pass ≡ broker
   pub pass : s.pass.logs.number ≡ s.number
@@ -25,8 +25,8 @@ pub record HasTaken (broker : BrokerView) (lines : List Line) (s : SessionView) 
   pub named : s.is_named ≡ is_named s.number lines
   pub ticked : s.pass.logs.ticked ≡ []
 
--- The clock's pass has no transcript. Where nobody else has told the clock anything, as far as it has seen, it has told it each moment of these lines that
--- is above all before.
+-- The clock's pass has no transcript. If nobody else has moved the clock, as far as it has seen, it has moved it to each moment of these lines that is
+-- above all earlier ones.
 pub record HasToldAll (broker : BrokerView) (lines : List Line) (pass : PassView) : Type 0 where
   pub made : made_with pass ≡ broker
   pub ended : pass.ended ≡ []

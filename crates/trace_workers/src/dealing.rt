@@ -1,4 +1,5 @@
-//! Sessions and clock are dealt to workers, and come together again.
+//! `run_lines` deals the passes of a new broker to workers by `deal`, and has their sessions and the clock back from `gather` once all threads
+//! are joined.
 ghost use Rattle.std.specs.Prelude.{◌≡◌, ◌+◌, ◌<◌, ◌≤◌, ◌++◌, ◌∷◌, ℕ, [], false, Some, List as Items, IfOk, OnOk, length};
 ghost use Rattle.shared_broker.specs.Making.{fresh_pass, fresh_passes};
 ghost use Rattle.shared_broker.specs.Passes.{BrokerView};
@@ -13,7 +14,7 @@ use kbytes::{List, NoMemory};
 use shared_broker::Pass;
 use std::alloc::Global;
 
-// A worker who has nothing.
+// A worker with no sessions and no clock.
 fn empty_worker(alloc: Global, number: u32, worker_count: u32) -> Worker
     requires { number < worker_count }
     ensures { result ≡ empty_worker worker_count number }
@@ -27,7 +28,7 @@ fn empty_worker(alloc: Global, number: u32, worker_count: u32) -> Worker
     }
 }
 
-// So many workers, who have nothing.
+// That many workers, with no sessions and no clock.
 fn empty_workers(alloc: Global, worker_count: u32) -> Result<List<Worker>, NoMemory>
     ensures { IfOk result (λ workers. workers ≡ empty_workers worker_count) }
 {
@@ -38,21 +39,21 @@ fn empty_workers(alloc: Global, worker_count: u32) -> Result<List<Worker>, NoMem
     Ok(workers)
 }
 
-// The worker has one more session.
+// Gives the worker one more session.
 fn add_session(worker: &mut Worker, session: TraceSession) -> Result<(), NoMemory>
     ensures { OnOk result (worker.new ≡ record worker.old { sessions = worker.old.sessions ++ session ∷ [] }) }
 {
     worker.sessions.push(session)
 }
 
-// The worker has the clock.
+// Gives the worker the clock.
 fn set_clock(worker: &mut Worker, clock: Pass)
     ensures { worker.new ≡ record worker.old { clock = Some clock } }
 {
     worker.clock = Some(clock);
 }
 
-// The session of this number becomes one of the worker's.
+// Gives the session of this number to its worker.
 fn deal_session(
     alloc: Global,
     workers: &mut [Worker],
@@ -67,7 +68,7 @@ fn deal_session(
     add_session(&mut workers[at], TraceSession::new(alloc, number, pass))
 }
 
-// Each pass becomes that of a session, by their numbers.
+// Makes a session of each pass, by their numbers, and gives it to its worker.
 fn deal_sessions(alloc: Global, workers: &mut [Worker], passes: List<Pass>) -> Result<(), NoMemory>
     requires some { 1 ≤ length workers.old }
     requires few { length passes ≤ 64 }
@@ -82,7 +83,7 @@ fn deal_sessions(alloc: Global, workers: &mut [Worker], passes: List<Pass>) -> R
     Ok(())
 }
 
-// The first worker gets the clock.
+// Gives the clock to the first worker.
 fn deal_clock(workers: &mut [Worker], clock: Pass)
     requires some { 1 ≤ length workers.old }
     ensures { (broker : BrokerView) (count : ℕ) → clock ≡ fresh_pass broker count
@@ -91,7 +92,7 @@ fn deal_clock(workers: &mut [Worker], clock: Pass)
     set_clock(&mut workers[0], clock);
 }
 
-/// Deals the passes to so many workers: the last is the clock's, and each other one a session's.
+/// Deals the passes to that many workers: the last pass is the clock's, and each other one is a session's.
 pub fn deal(alloc: Global, passes: List<Pass>, worker_count: u32) -> Result<List<Worker>, NoMemory>
     requires worker_count { (1 ≤ worker_count) × (worker_count ≤ 16) }
     requires fresh { (broker : BrokerView) × (count : ℕ) × (passes ≡ fresh_passes broker (count + 1)) × (count ≤ 64) }
@@ -107,7 +108,7 @@ pub fn deal(alloc: Global, passes: List<Pass>, worker_count: u32) -> Result<List
     Ok(workers)
 }
 
-// What the worker has, for the joined sessions. It is refused where it ran out of memory.
+// The worker's sessions, and the clock if it has that. An error if it ran out of memory.
 fn take_worker(worker: Worker) -> Result<(List<TraceSession>, Option<Pass>), NoMemory>
     ensures running { IfOk result (λ parts. worker.is_stopped ≡ false) }
     ensures sessions { IfOk result (λ parts. parts.0 ≡ worker.sessions) }
@@ -125,7 +126,7 @@ fn take_worker(worker: Worker) -> Result<(List<TraceSession>, Option<Pass>), NoM
     Ok((sessions, clock))
 }
 
-// These come behind those that are there.
+// Appends these sessions to the others.
 fn append(sessions: &mut List<TraceSession>, more: List<TraceSession>) -> Result<(), NoMemory>
     ensures { OnOk result (sessions.new ≡ sessions.old ++ more) }
 {
@@ -135,7 +136,7 @@ fn append(sessions: &mut List<TraceSession>, more: List<TraceSession>) -> Result
     Ok(())
 }
 
-/// The sessions and the clock of all workers. It is refused where one of them ran out of memory.
+/// The sessions and the clock of all workers. An error if one of them ran out of memory.
 pub fn gather(alloc: Global, workers: List<Worker>) -> Result<JoinedSessions, NoMemory>
     requires { (broker : BrokerView) × (lines : Items TheLine) × (count : ℕ) × (worker_count : ℕ) × (1 ≤ worker_count) × AreWorked broker lines count worker_count workers }
     ensures { IfOk result (λ joined. (broker : BrokerView) (lines : Items TheLine) (count worker_count : ℕ) → 1 ≤ worker_count → AreWorked broker lines count worker_count workers

@@ -1,4 +1,4 @@
-/// What each worker passes before it does a line. A test holds workers up by it.
+/// What each worker passes before it plays a line. A test uses it to hold workers up.
 pub trait Gate {
     /// The worker's number, and the place of the line in the list, each counted from 0.
     fn pass(&self, worker_number: u32, line: u32);

@@ -1,4 +1,5 @@
-//! All sessions of a run and the clock, in one hand, once the workers have done their lines.
+//! The sessions and the clock of a run once `gather` has them from the workers: `run_lines` calls `close`, by which one thread lets them go on
+//! and then closes the broker.
 ghost use Rattle.std.specs.Prelude.{◌≡◌, ◌≢◌, ◌≤◌, ◌<◌, ◌+◌, ℕ, true, false, All, List as Items, IfOk, OnOk, is_some, length, map, slice_index_or};
 ghost use Rattle.std.specs.List.{list_any};
 ghost use Rattle.trace_file.specs.declared.line.Line.{Line as TheLine};
@@ -16,7 +17,7 @@ use std::alloc::Global;
 use std::marker::Model;
 use std::sync::Wait;
 
-/// How far the clock goes on at a time where a run is drained, in milliseconds.
+/// How far the clock is moved at a time while a run is drained, in milliseconds.
 pub const DRAIN_STEP: u64 = 1_000;
 
 /// The sessions, and the pass of the clock.
@@ -38,14 +39,14 @@ impl Model for JoinedSessions {
 #[derive(Drop)]
 pub enum Closing {
     Closed(Account),
-    /// A request that waited was won.
+    /// A request that waited was won meanwhile: everything is handed back.
     Again {
         broker: Broker,
         joined: JoinedSessions,
     },
 }
 
-// The moment that is a second behind this one. Where the clock has none it waits for ever.
+// The moment a second after this one. If that is past the greatest moment, this waits forever.
 fn later(rt: &impl Wait, ticked: u64) -> u64
     ensures second { result ≡ ticked + DRAIN_STEP }
     ensures limit { result ≤ MOST_MOMENT }
@@ -78,7 +79,7 @@ fn seat_all(
 }
 
 impl JoinedSessions {
-    // One session does one thing more, where it can. Answers whether it did.
+    // Lets one session do one thing more, if it can, and answers whether it did.
     fn step(&mut self, rt: &impl Wait, broker: &Broker, at: usize) -> Result<bool, NoMemory>
         requires there { at < length self.old.sessions }
         requires whole { (lines : Items TheLine) × (count : ℕ) × HasJoined broker.now lines count self.old }
@@ -92,7 +93,7 @@ impl JoinedSessions {
         self.sessions.as_mut_slice()[at].step(rt, broker)
     }
 
-    // Each session does one thing more, where it can. Answers whether one did: then they aren't as they were, and else all rest.
+    // Lets each session do one thing more, if it can, and answers whether any did. If so, the sessions have changed; if not, all rest.
     fn round(&mut self, rt: &impl Wait, broker: &Broker) -> Result<bool, NoMemory>
         requires whole { (lines : Items TheLine) × (count : ℕ) × HasJoined broker.now lines count self.old }
         ensures clock { self.new.clock ≡ self.old.clock }
@@ -109,7 +110,7 @@ impl JoinedSessions {
         Ok(did)
     }
 
-    // The sessions go on until none can.
+    // Lets the sessions go on until none can.
     fn go_on(&mut self, rt: &impl Wait, broker: &Broker) -> Result<(), NoMemory>
         requires whole { (lines : Items TheLine) × (count : ℕ) × HasJoined broker.now lines count self.old }
         ensures clock { self.new.clock ≡ self.old.clock }
@@ -124,7 +125,7 @@ impl JoinedSessions {
         unreachable!()
     }
 
-    // Some session's request waits.
+    // Whether a session's request waits.
     fn waits(&self) -> bool
         ensures { result ≡ list_any (λ (s : SessionView). is_some s.pass.waits) self.now.sessions }
     {
@@ -134,17 +135,16 @@ impl JoinedSessions {
             .any(|session| session.waits())
     }
 
-    // The clock goes on by a second. It waits for ever where there are no later moments.
+    // Moves the clock on by a second. If there is no such moment, this waits forever.
     fn tick(&mut self, rt: &impl Wait, broker: &Broker) -> Result<(), NoMemory>
         requires { (lines : Items TheLine) × (count : ℕ) × HasRun broker.now lines count true self.old }
         ensures { OnOk result ((lines : Items TheLine) (count : ℕ) → HasRun broker.now lines count true self.old → HasRun broker.now lines count true self.new) }
     {
-        self.clock.keeps();
         let t = later(rt, self.clock.ticked());
         broker.tick(rt, &mut self.clock, t)
     }
 
-    // The sessions go on until none can, and where the run is drained the clock too, until nobody waits.
+    // Lets the sessions go on until none can. If the run is drained, the clock goes on too, until no request waits.
     fn finish(&mut self, rt: &impl Wait, broker: &Broker, drain: bool) -> Result<(), NoMemory>
         requires { (lines : Items TheLine) × (count : ℕ) × HasRun broker.now lines count drain self.old }
         ensures run { OnOk result ((lines : Items TheLine) (count : ℕ) → HasRun broker.now lines count drain self.old → HasRun broker.now lines count drain self.new) }
@@ -160,7 +160,7 @@ impl JoinedSessions {
         unreachable!()
     }
 
-    // The passes, that of the clock as the last, and what else there is of the sessions.
+    // The passes, the clock's as the last, and the rest of each session.
     fn into_parts(self, alloc: Global) -> Result<(List<Pass>, List<Desk>), NoMemory>
         ensures passes { IfOk result (λ parts. parts.0 ≡ passes_in self) }
         ensures desks { IfOk result (λ parts. parts.1 ≡ map desk_of self.sessions) }
@@ -177,7 +177,7 @@ impl JoinedSessions {
         Ok((passes, desks))
     }
 
-    // These, joined again.
+    // The joined sessions, from what `into_parts` made of them.
     fn of_parts(
         alloc: Global,
         passes: List<Pass>,
@@ -194,7 +194,7 @@ impl JoinedSessions {
         Ok(JoinedSessions { sessions, clock })
     }
 
-    // Closes the broker, or hands all back.
+    // Closes the broker, or hands everything back.
     fn try_close(self, rt: &impl Wait, alloc: Global, broker: Broker) -> Result<Closing, NoMemory>
         requires whole { (lines : Items TheLine) × (count : ℕ) × HasJoined broker lines count self × IsWhole broker count }
         ensures { IfOk result (HasClosed broker self) }
@@ -210,7 +210,7 @@ impl JoinedSessions {
         }
     }
 
-    /// All goes on until nobody can act, and the broker is closed. Where a request was won meanwhile, that is done again.
+    /// Lets the sessions and the clock go on until nobody can act, and closes the broker. If a request was won meanwhile, does that again.
     pub fn close(
         self,
         rt: &impl Wait,
@@ -225,7 +225,6 @@ impl JoinedSessions {
         let mut joined = self;
         for _ in rt.forever() {
             joined.finish(rt, &broker, drain)?;
-            joined.clock.keeps();
             match joined.try_close(rt, alloc, broker)? {
                 Closing::Closed(account) => return Ok(account),
                 Closing::Again {

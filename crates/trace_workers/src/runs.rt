@@ -1,4 +1,4 @@
-//! Lines are run.
+//! `run_lines`, which the programs call: it makes the broker, deals it to workers, starts their threads, and closes what they hand back.
 ghost use Rattle.std.specs.Prelude.{◌≡◌, ◌≤◌, ◌∷◌, [], false, IfOk, length};
 ghost use Rattle.trace_file.specs.Contents.{sessions_of};
 ghost use Rattle.trace_workers.specs.Workers.{HasAll, HasDone, IsSameWorker};
@@ -40,7 +40,7 @@ fn sessions_of(lines: &[Line]) -> u32
     count
 }
 
-// Each worker does its lines, in a thread of its own where one can be started.
+// Each worker plays its lines, in a thread of its own if one can be started.
 fn work_all<R: Threads + Wait + Sync, G: Gate + Sync>(
     rt: &R,
     broker: &Broker,
@@ -65,9 +65,9 @@ fn work_all<R: Threads + Wait + Sync, G: Gate + Sync>(
     thread::for_each_mut(rt, workers, threads, &work);
 }
 
-/// Plays the lines on so many workers, from 1 to 16, with this port in what Metadata tells, and answers the account of that. Where `drain` is true, the clock
-/// goes on by the second behind the lines, until no request waits; where one waits past the greatest moment, that is for ever. Each worker passes the gate
-/// before each line that it does. It is refused where no memory is left, or where a session met that.
+/// Plays the lines on that many workers, from 1 to 16, with this port in the replies to Metadata, and answers the account of the run. If `drain` is
+/// true, the clock goes on by the second after the lines until no request waits; if one waits past the greatest moment, that is forever. Each worker
+/// passes the gate before each line that it plays. An error if memory ran out, here or in a session.
 pub fn run_lines<R: Threads + Wait + Sync, G: Gate + Sync>(
     rt: &R,
     alloc: Global,

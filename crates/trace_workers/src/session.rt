@@ -1,3 +1,4 @@
+//! A session of a trace as lines reach it: its worker calls `feed` and `shut`. What it then does by itself is in steps.rt.
 ghost use Rattle.std.specs.Prelude.{◌≡◌, ◌++◌, [], ℕ, true, false, is_some, List as Items, None, OnOk};
 ghost use Rattle.shared_broker.specs.Passes.{made_with};
 ghost use Rattle.trace_workers.specs.Received.{HasReceived};
@@ -10,7 +11,7 @@ use shared_broker::{Broker, Pass};
 use std::alloc::Global;
 use std::marker::Model;
 
-/// A session of a trace.
+/// A session of a trace, on a pass of the broker.
 #[derive(Drop)]
 pub struct TraceSession {
     pub(crate) alloc: Global,
@@ -80,7 +81,7 @@ impl TraceSession {
         (pass, desk)
     }
 
-    // A line names it: it has a transcript from then on.
+    // A line names it: from then on it has a transcript.
     fn name(&mut self, broker: &Broker)
         requires made { made_with self.old.pass ≡ broker.now }
         requires received { (input : Items ℕ) × HasReceived input self.old }
@@ -96,8 +97,8 @@ impl TraceSession {
         }
     }
 
-    /// A line brings it these bytes. Those for a session that has ended are dropped. It gets no bytes after its input ended. If memory runs out, it may only
-    /// be dropped.
+    /// A line brings it these bytes. If the session has ended, they are dropped. It gets no bytes after its input ended. If memory runs out, it may
+    /// only be dropped.
     pub fn feed(&mut self, broker: &Broker, bytes: &[u8]) -> Result<(), NoMemory>
         requires made { made_with self.old.pass ≡ broker.now }
         requires received { (input : Items ℕ) × HasReceived input self.old }

@@ -1,38 +1,23 @@
-//! What a session does by itself.
+//! What a session does between lines: a worker calls `step` until it answers false. Each step asks the broker for one thing.
 ghost use Rattle.std.specs.Prelude.{◌≡◌, ◌≢◌, ℕ, true, false, List as Items, ◌++◌, drop, None, IsSome, is_some, IfOk, OnOk};
-ghost use Rattle.audit.specs.declared.account.Transcript.{Transcript};
-ghost use Rattle.kwire.specs.declared.frame.Frame.TheVariants.{Whole, NotYet};
+ghost use Rattle.kwire.specs.declared.frame.Frame.TheVariants.{Whole};
 ghost use Rattle.kwire.specs.Frames.{IsFrameBody, framed, next_frame_of};
 ghost use Rattle.purgatory.specs.Polled.{HasPolled};
 ghost use Rattle.room_table.specs.Seats.{CallerView};
 ghost use Rattle.shared_broker.specs.Passes.{made_with};
-ghost use Rattle.trace_workers.specs.Ending.{EndsSo, MayEndSo};
+ghost use Rattle.trace_workers.specs.Ending.{EndsSo};
 ghost use Rattle.trace_workers.specs.Received.{HasReceived};
 ghost use Rattle.trace_workers.specs.Resting.{Rests};
 ghost use Rattle.trace_workers.specs.Sessions.{IsSameSession};
 
 use crate::session::TraceSession;
-use audit::SessionEnd;
+use audit::{SessionEnd, end_of_input};
 use kbytes::NoMemory;
 use kwire::{Frame, next_frame};
 use shared_broker::{Broker, Collected, Handled};
 use std::sync::Wait;
 
-// How a session ends whose input ended with these bytes of a frame, which isn't there whole.
-fn end_of_input(left: &[u8]) -> SessionEnd
-    requires { next_frame_of left.now ≡ NotYet }
-    ensures { (transcript : Transcript) → MayEndSo left.now true result transcript }
-{
-    if left.is_empty() {
-        SessionEnd::Closed
-    } else {
-        SessionEnd::Truncated {
-            got: left.len() as u32,
-        }
-    }
-}
-
-// The body of the frame at the front, which ends before the place `end`.
+// The body of the first frame, which ends before the place `end`.
 fn front_body(bytes: &[u8], end: usize) -> &[u8]
     requires { next_frame_of bytes.now ≡ Whole end }
     ensures small { IsFrameBody result.now }
@@ -42,8 +27,8 @@ fn front_body(bytes: &[u8], end: usize) -> &[u8]
 }
 
 impl TraceSession {
-    /// Does one thing more, where it can: it takes the reply to a request that was won, handles the first whole frame, or ends. Answers whether it did; where it
-    /// didn't, it rests, and where its request waits still, this call found that. If memory runs out, it may only be dropped.
+    /// Does one thing more, if it can: takes the reply to a request that was won, handles the first whole frame, or ends. Answers whether it did. If not,
+    /// the session rests, and if its request still waits, this call found that. If memory runs out, the session may only be dropped.
     pub fn step(&mut self, rt: &impl Wait, broker: &Broker) -> Result<bool, NoMemory>
         requires made { made_with self.old.pass ≡ broker.now }
         requires received { (input : Items ℕ) × HasReceived input self.old }
@@ -93,7 +78,7 @@ impl TraceSession {
         unreachable!()
     }
 
-    // Takes the reply to its request that waits, where that was won.
+    // Takes the reply to its request that waits, if that was won.
     fn collect(&mut self, rt: &impl Wait, broker: &Broker) -> Result<bool, NoMemory>
         requires made { made_with self.old.pass ≡ broker.now }
         requires received { (input : Items ℕ) × HasReceived input self.old }
@@ -113,7 +98,7 @@ impl TraceSession {
         }
     }
 
-    // The frame at the front, which ends before the place `end`.
+    // Handles the first frame, which ends before the place `end`.
     fn handle(&mut self, rt: &impl Wait, broker: &Broker, end: usize) -> Result<bool, NoMemory>
         requires made { made_with self.old.pass ≡ broker.now }
         requires received { (input : Items ℕ) × HasReceived input self.old }
@@ -138,7 +123,7 @@ impl TraceSession {
         }
     }
 
-    // Its transcript ends.
+    // Ends its transcript.
     fn end(&mut self, broker: &Broker, end: SessionEnd) -> Result<bool, NoMemory>
         requires made { made_with self.old.pass ≡ broker.now }
         requires received { (input : Items ℕ) × HasReceived input self.old }

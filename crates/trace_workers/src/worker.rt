@@ -1,4 +1,4 @@
-//! One worker's part.
+//! A worker, to which `run_lines` gives a thread: `work` plays the lines that are its own, and lets its sessions go on after each.
 ghost use Rattle.std.specs.Prelude.{◌≡◌, ◌≢◌, ◌≤◌, ◌<◌, ◌/◌, ℕ, [], ◌∷◌, ◌++◌, true, false, List as Items, IfOk, OnOk, length, slice_index_or};
 ghost use Rattle.partlog.specs.declared.clock_event.TheConstants.{MOST_MOMENT};
 ghost use Rattle.trace_file.specs.Contents.{is_shut, sessions_of};
@@ -18,8 +18,8 @@ use std::marker::Model;
 use std::sync::Wait;
 use trace_file::Line;
 
-/// A worker: its number and how many there are, the sessions that are its own, by their numbers, the pass of the clock where it has that, and whether it stopped because memory ran
-/// out.
+/// A worker: its number and how many there are, the sessions that are its own, by their numbers, the pass of the clock if it has that, and whether it
+/// stopped because memory ran out.
 #[derive(Drop)]
 pub struct Worker {
     pub number: u32,
@@ -81,7 +81,7 @@ impl Worker {
         self.sessions.as_mut_slice()[at].shut(broker);
     }
 
-    // A line tells the clock a moment.
+    // A line moves the clock to a moment.
     fn tick(&mut self, rt: &impl Wait, broker: &Broker, t: u64) -> Result<(), NoMemory>
         requires limit { t ≤ MOST_MOMENT }
         requires done { (before : Items TheLine) × HasDone broker.now before self.old }
@@ -90,15 +90,12 @@ impl Worker {
         ensures done { OnOk result ((before : Items TheLine) → HasDone broker.now before self.old → HasDone broker.now (before ++ Clock t ∷ []) self.new) }
     {
         match &mut self.clock {
-            Some(clock) => {
-                clock.keeps();
-                broker.tick(rt, clock, t)
-            }
+            Some(clock) => broker.tick(rt, clock, t),
             None => Ok(()),
         }
     }
 
-    // Does a line that is its own.
+    // Plays a line that is its own.
     fn take(&mut self, rt: &impl Wait, broker: &Broker, line: &Line) -> Result<(), NoMemory>
         requires own { is_own self.old line.now ≡ true }
         requires may { (before : Items TheLine) × HasDone broker.now before self.old × MayTake before line.now self.old }
@@ -117,7 +114,7 @@ impl Worker {
         }
     }
 
-    // One of its sessions does one thing more, where it can. Answers whether it did.
+    // Lets one of its sessions do one thing more, if it can, and answers whether it did.
     fn step(&mut self, rt: &impl Wait, broker: &Broker, at: usize) -> Result<bool, NoMemory>
         requires there { at < length self.old.sessions }
         requires done { (lines : Items TheLine) × HasDone broker.now lines self.old }
@@ -131,7 +128,7 @@ impl Worker {
         self.sessions.as_mut_slice()[at].step(rt, broker)
     }
 
-    /// Each of its sessions does one thing more, where it can. Answers whether one did: then they aren't as they were, and else all rest.
+    /// Lets each of its sessions do one thing more, if it can, and answers whether any did. If so, the sessions have changed; if not, all rest.
     pub fn round(&mut self, rt: &impl Wait, broker: &Broker) -> Result<bool, NoMemory>
         requires done { (lines : Items TheLine) × HasDone broker.now lines self.old }
         ensures same { IsSameWorker self.old self.new }
@@ -149,7 +146,7 @@ impl Worker {
         Ok(did)
     }
 
-    // Its sessions go on until none can.
+    // Lets its sessions go on until none can.
     fn go_on(&mut self, rt: &impl Wait, broker: &Broker) -> Result<(), NoMemory>
         requires done { (lines : Items TheLine) × HasDone broker.now lines self.old }
         ensures same { IsSameWorker self.old self.new }
@@ -165,7 +162,7 @@ impl Worker {
         unreachable!()
     }
 
-    // One line.
+    // Plays one line of the list, if it is its own.
     fn line<G: Gate>(
         &mut self,
         rt: &impl Wait,
@@ -188,7 +185,7 @@ impl Worker {
         self.go_on(rt, broker)
     }
 
-    // All lines.
+    // Plays all lines that are its own.
     fn lines<G: Gate>(
         &mut self,
         rt: &impl Wait,
@@ -210,7 +207,7 @@ impl Worker {
         Ok(())
     }
 
-    /// Does all lines that are its own, in their order, as far as there is memory, and lets its sessions go on behind each until none can.
+    /// Plays all lines that are its own, in their order, and after each lets its sessions go on until none can. It stops if memory runs out.
     pub fn work<G: Gate>(&mut self, rt: &impl Wait, broker: &Broker, gate: &G, lines: &[Line])
         requires traced { AreTraced lines.now }
         requires begun { HasDone broker.now [] self.old }

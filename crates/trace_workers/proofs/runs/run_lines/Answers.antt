@@ -6,7 +6,7 @@ use Rattle.trace_file.specs.declared.line.Line.{Line}
 use Rattle.trace_workers.specs.Closed.{CameTo}
 use Rattle.trace_workers.specs.Joined.{HasRun}
 use Rattle.trace_workers.specs.WorkerRun.{IsWorkerRun}
-use Rattle.trace_workers.proofs.Begun.{begun, declared_topics}
+use Rattle.trace_workers.proofs.Begun.{begun}
 use Rattle.trace_workers.proofs.Counting.{few_counted}
 use Rattle.trace_workers.proofs.WorkerRun.{worker_run}
 use Rattle.trace_workers.proofs.Working.{worked_again}
@@ -15,13 +15,10 @@ use Rattle.trace_workers.proofs.runs.run_lines.Goals as goal
 pub overflow_add-count : goal.overflow_add-count
 overflow_add-count g c = omega (arith, few_counted c.args.lines.now c.requires.traced, c.sessions_of-count.ensures)
 
-pub make-requires-clause-declared : goal.make-requires-clause-declared
-make-requires-clause-declared g c = declared_topics c.args.lines.now c.args.port c.in_ok-config.config c.requires.traced c.in_ok-config.ensures
-
-pub make-requires-clause-passes : goal.make-requires-clause-passes
-make-requires-clause-passes g c =
+pub make-requires : goal.make-requires
+make-requires g c =
     let few = few_counted c.args.lines.now c.requires.traced in
-    (omega arith, omega (arith, few, c.sessions_of-count.ensures))
+    record { passes = (omega arith, omega (arith, few, c.sessions_of-count.ensures)) }
 
 pub deal-requires-clause-fresh : goal.deal-requires-clause-fresh
 deal-requires-clause-fresh g c =

@@ -1,9 +1,8 @@
 use Rattle.std.proofs.Common.{◌++◌, map, sym, subst}
 use Rattle.shared_broker.specs.Passes.{BrokerView}
-use Rattle.shared_logs.specs.Seen.{HasSeen}
 use Rattle.trace_file.specs.declared.line.Line.TheVariants.{Clock}
 use Rattle.trace_workers.specs.Closed.{CameTo, HasClosed, IsWhole}
-use Rattle.trace_workers.specs.Joined.{JoinedView, HasRun}
+use Rattle.trace_workers.specs.Joined.{HasRun}
 use Rattle.trace_workers.proofs.joined.JoinedSessions.close.Goals as goal
 
 pub try_close-requires : goal.try_close-requires
@@ -24,6 +23,5 @@ returns-in-Closed g c lines count h =
       joined = joined;
       run = c.in_ok-finish.ensures.run lines count before;
       come = c.in_ok-finish.ensures.come;
-      seen = subst (λ (v : JoinedView). HasSeen v.clock.logs) c.joined.view_is c.keeps.ensures.seen;
       account_is = subst (HasClosed c.loop.broker joined) c.in-Closed.is c.in_ok-account.ensures;
     })

@@ -16,5 +16,5 @@ returns g c =
     let second = c.later-t.ensures.second ∙ ap (λ (n : ℕ). n + DRAIN_STEP) c.ticked.ensures in
     on_ok_weaker c.tick.result
     (λ (told : HasToldClock t i.clock c.tick.new.pass) (lines : List Line) (count : ℕ) (h : HasRun broker lines count true c.args.self.now).
-    tick_run broker lines count t joined c.tick.new.pass c.keeps.ensures.seen told second (subst (HasRun broker lines count true) (sym c.self.view_is) h))
+    tick_run broker lines count t joined c.tick.new.pass c.tick.ensures.stood.seen told second (subst (HasRun broker lines count true) (sym c.self.view_is) h))
     c.tick.ensures.told

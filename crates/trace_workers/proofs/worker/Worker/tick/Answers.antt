@@ -20,7 +20,7 @@ returns-clause-done g c =
       | in-Some w ↦ rw (w.result-is, w.self-inside-is)
           (on_ok_weaker w.tick.result
           (λ (told : HasToldClock t w.in-Some.clock w.tick.new.pass) (before : List Line) (h : HasDone broker before c.args.self.now).
-          tick_worker broker before t worker c.args.self.now w.in-Some.clock w.tick.new.pass c.self.view_is w.in-Some.is w.keeps.ensures.seen told h)
+          tick_worker broker before t worker c.args.self.now w.in-Some.clock w.tick.new.pass c.self.view_is w.in-Some.is w.tick.ensures.stood.seen told h)
           w.tick.ensures.told)
       | in-None w ↦ rw (w.result-is, w.self-inside-is)
           (λ before h. done_foreign broker before (Clock t) worker c.self.invariant (ap is_some w.in-None.is) (subst (HasDone broker before) (sym c.self.view_is) h))

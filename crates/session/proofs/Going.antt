@@ -1,0 +1,133 @@
+-- A pass that goes on, over two steps; and what ticks and calls of the broker are to it.
+use Rattle.std.proofs.Common.{◌≡◌, ℕ, ◌≤◌, max, Bool, true, false, List, [], ◌∷◌, ◌++◌, fold, cond, ltb, refl, sym, ap, subst, ◌∙◌, arith, inl, inr}
+use Rattle.std.proofs.Math.Nat.{le-max_left, le-max_right, max-le}
+use Rattle.std.proofs.lemmas.Bool.{cases_lt}
+use Rattle.std.proofs.lemmas.List.Sums.{fold-append}
+use Rattle.broker_spec.specs.GoesOn.{HaveGrown}
+use Rattle.broker_spec.proofs.Laws.{all_longer_self, grown_clock, grown_self}
+use Rattle.partlog.specs.declared.clock_event.ClockEvent.{ClockEvent}
+use Rattle.partlog.specs.declared.clock_event.ClockEvent.TheVariants as clocks
+use Rattle.partlog.specs.History.{History}
+use Rattle.partlog.specs.Moment.{moment_of}
+use Rattle.partlog.specs.Ticked.{ticked}
+use Rattle.session.specs.Answering.{HasOnlyLooked}
+use Rattle.session.specs.Onwards.{HasGoneOn, latest}
+use Rattle.shared_broker.specs.Passes.{PassView, made_with}
+use Rattle.shared_broker.specs.Sessions.{HasOnlySeen, HasToldClock}
+use Rattle.shared_clock.specs.Asked.{WasTold}
+use Rattle.shared_clock.specs.ClockViews.{PassView as SeatView}
+use Rattle.shared_logs.specs.Asked.{HasTicked}
+use Rattle.shared_logs.specs.Shared.{LogPassView}
+use Rattle.shared_logs.proofs.Laws.{grown_on}
+
+-- ---- over two steps
+
+pub on_self : (told : ℕ) (p : PassView) → HasGoneOn told p p
+on_self told p = record { number = refl; made = refl; grown = grown_self p.logs.parts p.logs.clock; ticked = le-max_left (latest p) told }
+
+later_max : (a b c t u : ℕ) → t ≤ u → b ≤ max a t → c ≤ max b u → c ≤ max a u
+later_max a b c t u le first second =
+    let top : max a t ≤ max a u = max-le (le-max_left a u) (omega (arith, le, le-max_right a u)) in
+    let both : max b u ≤ max a u = max-le (omega (arith, first, top)) (le-max_right a u) in
+    omega (arith, second, both)
+
+pub on_twice : (t u : ℕ) (a b c : PassView) → t ≤ u → HasGoneOn t a b → HasGoneOn u b c → HasGoneOn u a c
+on_twice t u a b c le f g = record {
+  number = g.number ∙ f.number;
+  made = g.made ∙ f.made;
+  grown = grown_on a.logs.parts b.logs.parts c.logs.parts a.logs.clock b.logs.clock c.logs.clock f.grown g.grown;
+  ticked = later_max (latest a) (latest b) (latest c) t u le f.ticked g.ticked;
+}
+
+pub on_later : (t u : ℕ) (a b : PassView) → t ≤ u → HasGoneOn t a b → HasGoneOn u a b
+on_later t u a b le f = on_twice t u a b b le f (on_self u b)
+
+-- a step in which it ticks nothing
+pub on_unticked : (told : ℕ) (a b : PassView) → b.logs.number ≡ a.logs.number → made_with b ≡ made_with a → HaveGrown a.logs.parts a.logs.clock b.logs.parts b.logs.clock
+    → b.logs.ticked ≡ a.logs.ticked → HasGoneOn told a b
+on_unticked told a b number made grown same = record {
+  number = number;
+  made = made;
+  grown = grown;
+  ticked = subst (λ (n : ℕ). n ≤ max (latest a) told) (sym (ap (fold max 0) same)) (le-max_left (latest a) told);
+}
+
+-- ---- with its transcripts as they were
+
+pub looked_self : (told : ℕ) (p : PassView) → HasOnlyLooked told p p
+looked_self told p = record { on = on_self told p; ended = refl; going = refl; waits = refl }
+
+pub looked_twice : (t u : ℕ) (a b c : PassView) → t ≤ u → HasOnlyLooked t a b → HasOnlyLooked u b c → HasOnlyLooked u a c
+looked_twice t u a b c le f g = record { on = on_twice t u a b c le f.on g.on; ended = g.ended ∙ f.ended; going = g.going ∙ f.going; waits = g.waits ∙ f.waits }
+
+pub looked_later : (t u : ℕ) (a b : PassView) → t ≤ u → HasOnlyLooked t a b → HasOnlyLooked u a b
+looked_later t u a b le f = looked_twice t u a b b le f (looked_self u b)
+
+-- other logs, and all else as it was
+pub looked_with : (told : ℕ) (a b : PassView) (logs : LogPassView) → b ≡ record a { logs = logs } → HasGoneOn told a (record a { logs = logs }) → HasOnlyLooked told a b
+looked_with told a b logs is on = record {
+  on = subst (HasGoneOn told a) (sym is) on;
+  ended = ap (λ (p : PassView). p.ended) is;
+  going = ap (λ (p : PassView). p.going) is;
+  waits = ap (λ (p : PassView). p.waits) is;
+}
+
+pub same_made : (a : PassView) (logs : LogPassView) → logs.made ≡ a.logs.made → made_with (record a { logs = logs }) ≡ made_with a
+same_made a logs same = ap (λ made. record { config = a.config; logs = made }) same
+
+-- ---- the clock is told a moment
+
+-- what its seat was told
+pub told_now : (moment : ℕ) (before after : SeatView) → WasTold moment before after → moment ≤ after.told
+told_now moment before after h = let is : after.told ≡ moment = ap (λ (s : SeatView). s.told) h.after_is in omega (arith, is)
+
+-- the clock's history goes on where a tick comes behind it, and where none does
+ticked_grown : (parts : List History) (found : List ClockEvent) (t : ℕ) → HaveGrown parts found parts (ticked found t)
+ticked_grown parts found t = by_test (ltb (moment_of found) t)
+  where
+    by_test : (rises : Bool) → HaveGrown parts found parts (cond rises (found ++ clocks.Tick t ∷ []) found)
+    by_test true = grown_clock parts parts found (clocks.Tick t) (all_longer_self parts)
+    by_test false = grown_self parts found
+
+-- what it ticked is this moment, or nothing
+ticked_most : (t told : ℕ) (old new : LogPassView) → t ≤ told → (h : HasTicked t old new) → fold max 0 new.ticked ≤ max (fold max 0 old.ticked) told
+ticked_most t told old new le h =
+    let top = fold max 0 old.ticked in
+    elim (cases_lt (moment_of h.found) t) [
+      | inl less ↦
+          let more : fold max 0 new.ticked ≡ max top t = ap (fold max 0) (h.added less) ∙ fold-append max 0 old.ticked (t ∷ []) in
+          let within : max top t ≤ max top told = max-le (le-max_left top told) (omega (arith, le, le-max_right top told)) in
+          omega (arith, more, within)
+      | inr stands ↦
+          let same : fold max 0 new.ticked ≡ top = ap (fold max 0) (h.stood stands) in
+          omega (arith, same, le-max_left top told)
+    ]
+
+pub looked_told : (t told : ℕ) (old new : PassView) → t ≤ told → HasToldClock t old new → HasOnlyLooked told old new
+looked_told t told old new le h =
+    let between = h.between in
+    let e = h.told in
+    let s = h.settled in
+    let logs = new.logs in
+    let came : HaveGrown old.logs.parts old.logs.clock old.logs.parts (ticked e.found t) =
+    grown_on old.logs.parts old.logs.parts old.logs.parts old.logs.clock e.found (ticked e.found t) e.others.grown (ticked_grown old.logs.parts e.found t) in
+    let grown : HaveGrown old.logs.parts old.logs.clock logs.parts logs.clock =
+    subst (λ (events : List ClockEvent). HaveGrown old.logs.parts old.logs.clock logs.parts events) (sym (s.clock ∙ e.clock))
+    (subst (λ (parts : List History). HaveGrown old.logs.parts old.logs.clock parts (ticked e.found t)) (sym (s.parts ∙ e.parts)) came) in
+    looked_with told old new logs h.else_as_before (record {
+      number = s.number ∙ e.same.number;
+      made = same_made old logs (s.made ∙ e.same.made);
+      grown = grown;
+      ticked = subst (λ (ts : List ℕ). fold max 0 ts ≤ max (latest old) told) (sym s.ticked) (ticked_most t told old.logs between le e);
+    })
+
+pub looked_seen : (told : ℕ) (old new : PassView) → HasOnlySeen old new → HasOnlyLooked told old new
+looked_seen told old new h =
+    let e = h.seen in
+    let s = h.settled in
+    let logs = new.logs in
+    let grown : HaveGrown old.logs.parts old.logs.clock logs.parts logs.clock =
+    subst (λ (events : List ClockEvent). HaveGrown old.logs.parts old.logs.clock logs.parts events) (sym s.clock)
+    (subst (λ (parts : List History). HaveGrown old.logs.parts old.logs.clock parts h.between.clock) (sym s.parts) e.others.grown) in
+    looked_with told old new logs h.else_as_before
+    (on_unticked told old (record old { logs = logs }) (s.number ∙ e.same.number) (same_made old logs (s.made ∙ e.same.made)) grown (s.ticked ∙ e.ticked))

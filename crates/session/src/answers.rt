@@ -1,0 +1,123 @@
+//! A request of a session is answered, without its link: the clock is asked, the frame is handled, and where the request waits, so does this.
+ghost use Rattle.std.specs.Prelude.{◌≡◌, ◌≤◌, IfErr, IfOk, IsSome, None, OnErr, false};
+ghost use Rattle.session.specs.Answering.{HasAnswered, HasOnlyLooked, IsCutShort, IsFinished};
+ghost use Rattle.shared_broker.specs.Passes.{made_with};
+ghost use Rattle.shared_broker.specs.Sessions.{is_cut_off};
+ghost use Rattle.shared_clock.specs.ClockViews.{IsPassOf};
+
+use audit::SessionEnd;
+use kbytes::{Bytes, NoMemory};
+use outside::Clock;
+use shared_broker::{Broker, Collected, Handled, Pass};
+use shared_clock::{ClockPass, Shared};
+use std::sync::Wait;
+use std::time::Duration;
+
+/// Where a session is served: a broker, and the clock that it is told.
+#[derive(Drop)]
+pub(crate) struct Room<'a, C: Clock> {
+    pub(crate) broker: &'a Broker,
+    pub(crate) clock: &'a Shared<C>,
+}
+
+/// What became of a frame.
+#[derive(Drop)]
+pub(crate) enum Answered {
+    /// The whole frame of the reply.
+    Reply(Bytes),
+    /// The request asks for none.
+    Quiet,
+    /// The session is to end so.
+    Ended(SessionEnd),
+}
+
+impl<C: Clock> Room<'_, C> {
+    // The clock of the broker is told what moment it is.
+    fn tick(&self, rt: &impl Wait, pass: &mut Pass, seat: &mut ClockPass<C>) -> Result<(), NoMemory>
+        requires made { made_with pass.old ≡ self.now.broker.now }
+        requires seat { IsPassOf self.now.clock.now seat.old }
+        ensures looked { HasOnlyLooked seat.new.told pass.old pass.new }
+        ensures seat { seat.new.made ≡ seat.old.made }
+        ensures later { seat.old.told ≤ seat.new.told }
+    {
+        let moment = self.clock.now(rt, seat)?;
+        self.broker.tick(rt, pass, moment)
+    }
+
+    // The request that waits wasn't won yet: rests, and ticks where its deadline has come. Answers the moment after the rest.
+    fn rest(&self, rt: &impl Wait, pass: &mut Pass, seat: &mut ClockPass<C>, deadline: u64) -> u64
+        requires made { made_with pass.old ≡ self.now.broker.now }
+        requires seat { IsPassOf self.now.clock.now seat.old }
+        ensures looked { HasOnlyLooked seat.new.told pass.old pass.new }
+        ensures seat { seat.new.made ≡ seat.old.made }
+        ensures later { seat.old.told ≤ seat.new.told }
+    {
+        let moment = self.clock.rest(rt, seat);
+        if moment >= deadline {
+            // Where memory runs out here, the request goes on waiting.
+            let _ = self.tick(rt, pass, seat);
+        }
+        moment
+    }
+
+    // Waits until the request that waits is won, by another or by its deadline, and takes the reply.
+    fn collect(
+        &self,
+        rt: &impl Wait,
+        pass: &mut Pass,
+        seat: &mut ClockPass<C>,
+        deadline: u64,
+    ) -> Result<Bytes, NoMemory>
+        requires made { made_with pass.old ≡ self.now.broker.now }
+        requires seat { IsPassOf self.now.clock.now seat.old }
+        requires waits { IsSome pass.old.waits }
+        ensures reply { IfOk result (IsFinished seat.new.told pass.old pass.new) }
+        ensures refused { OnErr result (IsCutShort seat.new.told pass.old pass.new) }
+        ensures seat { seat.new.made ≡ seat.old.made }
+        ensures later { seat.old.told ≤ seat.new.told }
+    {
+        let mut moment = seat.told();
+        for _ in rt.forever() {
+            let most = Duration::from_millis(deadline.saturating_sub(moment));
+            self.broker.wait(rt, pass, most);
+            match self.broker.collect(rt, pass) {
+                Collected::Reply(frame) => return Ok(frame),
+                Collected::NotYet => moment = self.rest(rt, pass, seat, deadline),
+                Collected::NoMemory => return Err(NoMemory),
+            }
+        }
+        unreachable!()
+    }
+
+    /// The body of a frame is handled as one call, at the moment that it is; where its request waits, the reply is waited for.
+    pub(crate) fn answer(
+        &self,
+        rt: &impl Wait,
+        pass: &mut Pass,
+        seat: &mut ClockPass<C>,
+        body: &[u8],
+    ) -> Answered
+        requires made { made_with pass.old ≡ self.now.broker.now }
+        requires seat { IsPassOf self.now.clock.now seat.old }
+        requires begun { IsSome pass.old.going }
+        requires none { pass.old.waits ≡ None }
+        requires whole { is_cut_off pass.old.going ≡ false }
+        ensures answered { HasAnswered seat.new.told body.now result pass.old pass.new }
+        ensures seat { seat.new.made ≡ seat.old.made }
+        ensures later { seat.old.told ≤ seat.new.told }
+    {
+        if self.tick(rt, pass, seat).is_err() {
+            return Answered::Ended(SessionEnd::NoMemory);
+        }
+        match self.broker.handle(rt, pass, body) {
+            Handled::Reply(frame) => Answered::Reply(frame),
+            Handled::Quiet => Answered::Quiet,
+            Handled::Parked { deadline } => match self.collect(rt, pass, seat, deadline) {
+                Ok(frame) => Answered::Reply(frame),
+                Err(NoMemory) => Answered::Ended(SessionEnd::NoMemory),
+            },
+            Handled::Ended(end) => Answered::Ended(end),
+            Handled::NoMemory => Answered::Ended(SessionEnd::NoMemory),
+        }
+    }
+}

@@ -1,0 +1,93 @@
+//! What a session has read and not yet handled, and the buffer into which it reads.
+ghost use Rattle.std.specs.Prelude.{◌≡◌, ◌≤◌, ◌++◌, [], IfOk, drop, length, vec_len};
+ghost use Rattle.kwire.specs.declared.frame.Frame.TheVariants.{Whole, NotYet};
+ghost use Rattle.kwire.specs.Frames.{IsFrameBody, framed, next_frame_of};
+ghost use Rattle.session.specs.Flows.{link_of};
+ghost use Rattle.session.specs.Reading.{HasRead};
+ghost use Rattle.session.specs.declared.intake.TheConstants.{MOST_READ};
+
+use audit::{SessionEnd, end_of_input};
+use kbytes::NoMemory;
+use kwire::{Frame, Inbox, next_frame};
+use outside::Link;
+use std::alloc::{AllocError, Global};
+
+/// The most bytes that are read from a link at a time.
+pub const MOST_READ: usize = 65_536;
+
+/// The bytes that came and aren't handled, and the buffer for those that come next.
+#[derive(Drop)]
+pub(crate) struct Intake {
+    pub(crate) inbox: Inbox,
+    buffer: Vec<u8>,
+    ghost full: { vec_len buffer ≡ MOST_READ },
+}
+
+// The body of the frame at the front, which ends before the place `end`.
+fn front_body(bytes: &[u8], end: usize) -> &[u8]
+    requires { next_frame_of bytes.now ≡ Whole end }
+    ensures small { IsFrameBody result.now }
+    ensures parts { bytes.now ≡ framed result.now ++ drop end bytes.now }
+{
+    &bytes[4..end]
+}
+
+// Room for what is read at a time.
+fn buffer(alloc: Global) -> Result<Vec<u8>, AllocError>
+    ensures { IfOk result (λ buffer. vec_len buffer ≡ MOST_READ) }
+{
+    vec![in alloc; 0u8; MOST_READ]
+}
+
+impl Intake {
+    /// Nothing has come.
+    pub(crate) fn new(alloc: Global) -> Result<Intake, NoMemory>
+        ensures { IfOk result (λ intake. intake.inbox ≡ []) }
+    {
+        Ok(Intake {
+            inbox: Inbox::new(alloc),
+            buffer: buffer(alloc)?,
+        })
+    }
+
+    /// What stands at the front.
+    pub(crate) fn next(&self) -> Frame
+        ensures { result ≡ next_frame_of self.now.inbox }
+    {
+        next_frame(self.inbox.bytes())
+    }
+
+    /// The body of the frame at the front, which ends before the place `end`.
+    pub(crate) fn body(&self, end: usize) -> &[u8]
+        requires { next_frame_of self.now.inbox ≡ Whole end }
+        ensures small { IsFrameBody result.now }
+        ensures parts { self.now.inbox ≡ framed result.now ++ drop end self.now.inbox }
+    {
+        front_body(self.inbox.bytes(), end)
+    }
+
+    /// The frame at the front, which ends before the place `end`, was handled.
+    pub(crate) fn pass(&mut self, end: usize)
+        requires { end ≤ length self.old.inbox }
+        ensures { self.new.inbox ≡ drop end self.old.inbox }
+    {
+        self.inbox.drop_front(end);
+    }
+
+    /// Reads once. Answers how the session is to end where the read failed, where the input has ended, and where memory runs out.
+    pub(crate) fn read<L: Link>(&mut self, link: &mut L) -> Option<SessionEnd>
+        requires { next_frame_of self.old.inbox ≡ NotYet }
+        ensures { HasRead result self.old.inbox self.new.inbox
+            (link_of (L.taken link.old) (L.left link.old) (L.written link.old) (L.faults link.old))
+            (link_of (L.taken link.new) (L.left link.new) (L.written link.new) (L.faults link.new)) }
+    {
+        match link.read(&mut self.buffer[..]) {
+            Ok(0) => Some(end_of_input(self.inbox.bytes())),
+            Ok(count) => match self.inbox.feed(&self.buffer[..count]) {
+                Ok(()) => None,
+                Err(NoMemory) => Some(SessionEnd::NoMemory),
+            },
+            Err(_) => Some(SessionEnd::ReadFault),
+        }
+    }
+}

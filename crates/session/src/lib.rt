@@ -1,0 +1,14 @@
+//! A session over a link: from the bytes that come to the bytes that go.
+//!
+//! [`serve_session`] serves one connection on a pass of the broker that threads share: it reads frames from the link, handles each as one
+//! call, writes each reply whole, and waits where a request waits. Whoever accepts connections calls it once for each, and keeps the pass
+//! and the seat of the clock for the next one.
+#![tactic(auto)]
+
+mod answers;
+mod intake;
+mod served;
+mod writing;
+
+pub use intake::MOST_READ;
+pub use served::serve_session;
