@@ -12,27 +12,27 @@ use std::thread::{Threads, join, map_vec};
 use std::time::{Clock, Duration, Instant};
 use std::{io, thread};
 
-/// The gauges of two threads are so many apart: they have different scanners, and their words lie in different lines of the
+/// How far apart the gauges of two threads are: they have different scanners, and their words lie in different lines of the
 /// cache.
 const APART: usize = 17;
 
-/// No gauge comes so far.
+/// No gauge gets this far.
 const FAR: u64 = 1_000_000_000;
 
-/// So many microseconds before a raise the owner has gone to sleep.
+/// How many microseconds before a raise the owner has gone to sleep.
 const BEFORE: u64 = 200;
 
 #[derive(Clone, Copy, Debug)]
 pub enum Deed {
-    /// On so many threads each registers an operation that waits, raises the gauge for which it waits, settles, and polls.
+    /// On that many threads each registers an operation that waits, raises the gauge for which it waits, settles, and polls.
     Operations {
         threads: usize,
     },
-    /// A gauge is raised and settled, while so many operations wait under it and stay waiting.
+    /// A gauge is raised and settled, while that many operations wait under it and stay waiting.
     Settles {
         watchers: usize,
     },
-    /// One thread sleeps while its operation waits, and another raises the gauge. So many in a hundred wake within this time.
+    /// One thread sleeps while its operation waits, and another raises the gauge. That many in a hundred wake within this time.
     Wakes {
         named: &'static str,
         hundredths: usize,

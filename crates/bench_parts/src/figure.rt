@@ -23,7 +23,7 @@ pub fn nanoseconds(spent: Duration) -> u64 {
     spent.as_secs().min(1_000_000) * 1_000_000_000 + u64::from(spent.subsec_nanos())
 }
 
-/// Makes so many steps, and times them.
+/// Makes that many steps, and times them.
 pub fn time<R: Clock, F: FnOnce() -> Result<u64, Fault>>(
     rt: &R,
     steps: u64,
@@ -40,7 +40,7 @@ pub fn time<R: Clock, F: FnOnce() -> Result<u64, Fault>>(
     })
 }
 
-/// A number of thousandths, with two digits behind the point.
+/// A number of thousandths, with two digits after the point.
 #[derive(Clone, Copy)]
 struct Decimal(u64);
 

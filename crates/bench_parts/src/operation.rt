@@ -4,7 +4,7 @@ use kbytes::NoMemory;
 use opcond::{Need, Op};
 use std::alloc::Global;
 
-/// No moment comes so far.
+/// No moment is this late.
 const DEADLINE: u64 = 1_000_000_000;
 
 /// An operation that waits until the gauge is past this value, and whose time doesn't run out.

@@ -12,7 +12,7 @@ use std::time::Clock;
 use timing_wheel::{Due, Wheels};
 use watch_lists::Shard;
 
-/// So many milliseconds longer than it waits is a request's time.
+/// A request's time is this many milliseconds longer than it waits.
 const SPARE: u64 = 400;
 
 const MEGABYTE: usize = 1_000_000;
@@ -37,7 +37,7 @@ fn wheels(alloc: Global, entries: u32, steps: u32) -> Result<u64, Fault>
     Ok(count)
 }
 
-// The same by a heap. Who is answered stays in it until its time, and is known by its round.
+// The same by a heap. A request that is answered stays in it until its time, and is known by its round.
 fn heap(alloc: Global, entries: u32, steps: u32) -> Result<u64, Fault>
     requires { (1 ≤ entries) × (entries < 2 ^ 20) }
 {
@@ -53,7 +53,7 @@ fn heap(alloc: Global, entries: u32, steps: u32) -> Result<u64, Fault>
             return Err(Fault::NoMemory);
         }
         id = if id + 1 < entries { id + 1 } else { 0 };
-        // One is listed in each step, so at most one comes to its time.
+        // One is listed in each step, so at most one is due.
         if heap.peek().is_some_and(|first| first.0.0 <= now) {
             if let Some(Reverse((_, due, round))) = heap.pop() {
                 count = count.saturating_add(u64::from(rounds.get(due as usize) == Some(&round)));
@@ -63,7 +63,7 @@ fn heap(alloc: Global, entries: u32, steps: u32) -> Result<u64, Fault>
     Ok(count)
 }
 
-/// Steps of a millisecond, with so many entries at a time.
+/// Steps of a millisecond, with that many entries at a time.
 pub fn timers<R: Clock>(rt: &R, alloc: Global, size: Size, entries: u32) -> Result<Figure, Fault>
     requires { (1 ≤ entries) × (entries < 2 ^ 20) }
 {
@@ -140,7 +140,7 @@ fn checksummed(bytes: &[u8]) -> u32 {
     crc32c(bytes)
 }
 
-// So many times the sum of a megabyte, whose first byte changes each time.
+// That many times the sum of a megabyte, whose first byte changes each time.
 fn megabytes<F: Fn(&[u8]) -> u32>(alloc: Global, rounds: u32, sum: F) -> Result<u64, Fault>
     requires { F.IsAlwaysCallable sum }
 {

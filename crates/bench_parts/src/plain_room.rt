@@ -1,4 +1,4 @@
-//! A plain room of std, beside which the room stands: one `Mutex` round the gauges' values and a list of who waits.
+//! A plain room of std, the baseline of the room: one `Mutex` around the gauges' values and a list of the operations that wait.
 use crate::operation::waits_past;
 use crate::waiter::Waiter;
 use kbytes::NoMemory;
@@ -12,7 +12,7 @@ struct Waiting {
     op: Op,
 }
 
-/// What stands behind the `Mutex`.
+/// What the `Mutex` guards.
 #[derive(Drop)]
 struct Inside {
     /// By gauge. The last is the clock's.
@@ -76,7 +76,7 @@ impl PlainRoom {
         })
     }
 
-    /// So many seats, by number. The seat of a number raises the gauge of that number.
+    /// That many seats, by number. The seat of a number raises the gauge of that number.
     pub fn seats(&self, alloc: Global, count: u32) -> Result<Vec<PlainSeat<'_>>, NoMemory> {
         let mut seats = Vec::new(alloc);
         for number in 0..count {

@@ -18,7 +18,7 @@ pub const GAUGES: u32 = 193;
 
 pub const PASSES: u32 = 80;
 
-/// So many seconds a thread sleeps before it looks again.
+/// How many seconds a thread sleeps before it looks again.
 const AT_MOST: u64 = 1;
 
 #[derive(Drop)]

@@ -10,7 +10,7 @@ pub enum Size {
 }
 
 impl Size {
-    /// So many steps, or the few of a tiny run.
+    /// That many steps, or the few of a tiny run.
     pub fn steps(self, whole: u32) -> u32
         ensures { result ≤ whole }
     {

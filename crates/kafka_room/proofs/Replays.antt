@@ -20,7 +20,6 @@ use Rattle.trace_file.specs.IsLine.{IsLine}
 use Rattle.trace_file.specs.Trace.{IsTrace, pieces_of}
 use Rattle.trace_file.specs.declared.line.Line.TheVariants.{Topic, Feed, Shut, Clock, End}
 use Rattle.lone_broker.specs.Kept.{IsPlayable}
-use Rattle.kwire.specs.DeclaredTopics.{AreDeclared}
 use Rattle.broker_spec.proofs.Laws.{play_is_lawful, play_is_run, trace_declared, play_is_one, front_of_play, trace_plays, lines_left}
 use Rattle.trace_file.specs.declared.line.TheConstants.{MOST_TRACE_BYTES, REPLAY_PORT}
 use Rattle.trace_file.specs.declared.line.LineFault.{LineFault}
@@ -114,10 +113,6 @@ replayed text lines account printed trace played =
       played = played;
       only = λ other more p. play_is_one config lines other account more printed p played;
     }
-
--- the topics of a trace
-pub declared_topics : (text : List ℕ) (lines : List Line) (config : Configuration) → IsTrace text lines → config ≡ configuration_of REPLAY_PORT lines → AreDeclared config.topics
-declared_topics text lines config trace is = subst (λ (c : Configuration). AreDeclared c.topics) (sym is) (trace_declared text lines REPLAY_PORT trace)
 
 -- the lines were played from the opening board of their configuration
 pub played_from : (lines : List Line) (config : Configuration) (last : Turned) → config ≡ configuration_of REPLAY_PORT lines → Plays (opening config) lines last

@@ -4,9 +4,9 @@
 pub mod Commands
 -- the exit code of what stopped a run
 pub mod Codes
--- what a replay comes to
+-- what a replay gives
 pub mod Replay
--- what a replay on workers comes to
+-- what a replay on workers gives
 pub mod Worked
 -- ==== the words of private functions
 

@@ -1,4 +1,4 @@
--- What is written of lines: of those that were played to the last, and of those that weren't.
+-- What is written of lines, if they were played to the last and if they weren't.
 use Rattle.std.specs.Prelude.{ℕ, ◌≡◌, ◌++◌, List, take, Option}
 use Rattle.std.specs.Io.KnownBytes.{Appends}
 use Rattle.trace_file.specs.declared.line.Line.{Line}
@@ -7,7 +7,7 @@ use Rattle.broker_spec.specs.Turns.{Turned}
 use Rattle.broker_spec.specs.Play.{Plays}
 use Rattle.lone_broker.specs.Kept.{Kept, StandsFor}
 
--- the front of what the first so many of these lines print
+-- a prefix of what the first of these lines print
 pub record IsLinesFront (start : Board) (lines : List Line) (written : List ℕ) : Type 0 where
   pub done : List Line
   pub more : List Line
@@ -17,12 +17,12 @@ pub record IsLinesFront (start : Board) (lines : List Line) (written : List ℕ)
   pub count : ℕ
   pub front : written ≡ take count last.text
 
--- from each board that the broker stands for the lines are played to one that it then stands for, and what they print is written
+-- from each board that the broker represents the lines are played to one that it then represents, and what they print is written
 abbrev pub LinesPlayed : Option (List ℕ) → Option (List ℕ) → Kept → Kept → List Line → Type 0
 LinesPlayed before after kept later lines =
     (start : Board) → StandsFor kept start → (last : Turned) × Plays start lines last × StandsFor later last.board × Appends before after last.text
 
--- such a front is written
+-- such a prefix is written
 abbrev pub LinesFront : Option (List ℕ) → Option (List ℕ) → Kept → List Line → Type 0
 LinesFront before after kept lines =
     (start : Board) → StandsFor kept start → (written : List ℕ) × IsLinesFront start lines written × Appends before after written

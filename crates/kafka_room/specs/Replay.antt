@@ -1,4 +1,4 @@
--- What a replay comes to: its account is lawful, is that of the run of the trace that was read, and this is what is printed.
+-- What a replay gives: its account is lawful, is that of the run of the trace that was read, and this is what is printed.
 use Rattle.std.specs.Prelude.{ℕ, ◌≡◌, List, [], take, Option, Some, None, Bool, false, IfSome, ◌⊎◌}
 use Rattle.audit.specs.declared.account.Account.{Account}
 use Rattle.trace_file.specs.declared.line.Line.{Line}
@@ -11,7 +11,7 @@ use Rattle.trace_file.specs.Contents.{configuration_of}
 use Rattle.trace_file.specs.FirstBad.{IsFirstBad}
 use Rattle.trace_file.specs.Trace.{IsTrace}
 
--- what the replay of these lines comes to
+-- what the replay of these lines gives
 pub record IsReplayOf (lines : List Line) (account : Account) (text : List ℕ) : Type 0 where
   pub lawful : IsLawful account
   pub run : IsRunOf lines REPLAY_PORT [] [] account
@@ -19,7 +19,7 @@ pub record IsReplayOf (lines : List Line) (account : Account) (text : List ℕ) 
   -- and it plays to nothing else
   pub only : (other : Account) (more : List ℕ) → IsPlay (configuration_of REPLAY_PORT lines) lines other more → (other ≡ account) × (more ≡ text)
 
--- The lines are those of the text that was read; `left` is what the source had, where it tells, and that is this text.
+-- The lines are those of the text that was read; `left` is what the source had, if it shows its bytes, and that is this text.
 pub record IsReplay (left : Option (List ℕ)) (account : Account) (text : List ℕ) : Type 0 where
   pub lines : List Line
   pub read : List ℕ
@@ -27,7 +27,7 @@ pub record IsReplay (left : Option (List ℕ)) (account : Account) (text : List 
   pub told : IfSome left (λ had. had ≡ read)
   pub replay : IsReplayOf lines account text
 
--- what a replay that came to no end wrote: a front of the text to which the lines that were read play
+-- what a replay wrote that didn't finish: a prefix of the text to which the lines that were read play
 pub record IsReplayFront (left : Option (List ℕ)) (written : List ℕ) : Type 0 where
   pub lines : List Line
   pub read : List ℕ
@@ -39,11 +39,11 @@ pub record IsReplayFront (left : Option (List ℕ)) (written : List ℕ) : Type 
   pub count : ℕ
   pub front : written ≡ take count text
 
--- this line is the first bad one of what the source had, where it tells
+-- this line is the first bad one of what the source had, if it shows its bytes
 abbrev pub IsFirstBadOf : Option (List ℕ) → LineFault → Type 0
 IsFirstBadOf left fault = IfSome left (λ trace. IsFirstBad trace false fault)
 
--- what the source had is a trace, where it tells
+-- the source shows its bytes, and what it had is a trace
 abbrev pub HasTrace : Option (List ℕ) → Type 0
 HasTrace None = ⊥
 HasTrace (Some text) = (lines : List Line) × IsTrace text lines

@@ -1,4 +1,4 @@
-//! The commands that the words of the command line may be.
+//! The commands that `run` carries out, and the words of the command line that say each of them.
 
 ghost use Rattle.std.specs.Prelude.{◌≡◌, ◌≢◌, ◌≤◌, ◌∷◌, [], ◌↔◌, ℕ, codes, IfSome, IfNone, IsTrue};
 ghost use Rattle.std.specs.Fmt.{decimal};
@@ -15,12 +15,12 @@ pub const MOST_WORKERS: u32 = 16;
 pub enum Command {
     /// `replay`: a trace is replayed on one thread, line by line.
     Replay,
-    /// `replay --workers COUNT`: it is replayed on so many threads.
+    /// `replay --workers COUNT`: it is replayed on that many threads.
     Workers(u32),
 }
 
 impl Command {
-    /// The command that the words are, and `None` where they are none.
+    /// The command that the words say, and `None` exactly if they say none.
     pub fn of(words: &[String]) -> Option<Command>
         ensures some { IfSome result (IsCommand (said words.now)) }
         ensures none { IfNone result ((command : TheCommand) → IsCommand (said words.now) command → ⊥) }
@@ -53,7 +53,7 @@ fn workers_in(words: &[String]) -> Option<u32>
     }
 }
 
-// The number of workers that the word is. A number has one spelling, without sign or leading zeros.
+// The number of workers that the word says. A number has one spelling, without sign or leading zeros.
 fn workers(word: &str) -> Option<u32>
     ensures some { IfSome result (λ count. word.now ≡ decimal count) }
     ensures in_range { IfSome result (λ count. (1 ≤ count) × (count ≤ MOST_WORKERS)) }

@@ -1,4 +1,4 @@
-//! How a run ended: what stopped it, the code of that, and what the code means.
+//! How a run ended: what stopped it, its exit code, and what the code means. `main` ends with the code that `run` answers.
 
 ghost use Rattle.std.specs.Prelude.{◌≡◌, Some, None};
 ghost use Rattle.kafka_room.specs.declared.exit.Stop.TheVariants.{WriteFault, NoMemory as OutOfMemory};
@@ -14,7 +14,7 @@ use trace_file::{LineFault, TraceFault};
 /// What stopped a run.
 #[derive(Clone, Copy, Debug, PartialEq, Eq)]
 pub enum Stop {
-    /// The words are no command that is built.
+    /// The words say no command.
     Usage,
     /// The text isn't a trace: its first bad line.
     BadLine(LineFault),
@@ -39,7 +39,7 @@ impl Stop {
         }
     }
 
-    /// The first bad line, where that stopped the run.
+    /// The first bad line, if that stopped the run.
     pub fn bad_line(self) -> Option<LineFault>
         ensures { result ≡ bad_line_of self }
     {
@@ -77,7 +77,7 @@ impl From<AllocError> for Stop {
     }
 }
 
-// A sink's failure. A source's is told as `ReadFault` where it is read.
+// A sink's failure. A source's is reported as `ReadFault` where it is read.
 impl From<Failed> for Stop {
     ghost from_gives = { λ _ e. e ≡ WriteFault };
 
@@ -86,12 +86,12 @@ impl From<Failed> for Stop {
     }
 }
 
-/// Why a replay on workers isn't finished.
+/// Why a replay on workers didn't finish.
 #[derive(Debug, Drop)]
 pub enum Unfinished {
     /// This stopped it before anything was written.
     Stopped(Stop),
-    /// The run was done and has this account, and a write failed: only a front of its text was written.
+    /// The run was done and has this account, but a write failed: only a prefix of its text was written.
     Unwritten(Account),
 }
 
@@ -114,11 +114,11 @@ impl From<NoMemory> for Unfinished {
 /// What a run answers. The port and the clock are those that were handed in.
 #[derive(Debug, Drop)]
 pub struct Exit<P: Drop, C: Drop> {
-    /// 0 done, 1 a faulty command line, 2 a bad line, 3 a read fault, 4 a write fault, 5 a port fault, 6 no memory.
+    /// 0 done, 1 a faulty command line, 2 a bad line, 3 a read fault, 4 a write fault, 5 a port fault, 6 out of memory.
     pub code: u8,
-    /// The first bad line, with code 2 alone.
+    /// The first bad line, only with code 2.
     pub line: Option<LineFault>,
-    /// With code 0, and with 4 where the run was done on workers before it was written.
+    /// With code 0, and with code 4 if the run was done on workers before its text was written.
     pub account: Option<Account>,
     pub port: Option<P>,
     pub clock: Option<C>,
@@ -151,7 +151,7 @@ impl<P: Drop, C: Drop> Exit<P, C> {
         }
     }
 
-    /// All was done, and then a write failed.
+    /// The run was done, and then a write failed.
     pub fn unwritten(account: Account, port: P, clock: C) -> Exit<P, C>
         ensures { result ≡ record { code = 4; line = None; account = Some account; port = Some port; clock = Some clock } }
     {
@@ -164,7 +164,7 @@ impl<P: Drop, C: Drop> Exit<P, C> {
         }
     }
 
-    /// The run wasn't finished.
+    /// The run didn't finish.
     pub fn unfinished(why: Unfinished, port: P, clock: C) -> Exit<P, C>
         ensures { result ≡ record { code = exit_code_of (stop_in why); line = bad_line_of (stop_in why); account = account_in why; port = Some port; clock = Some clock } }
     {

@@ -90,7 +90,7 @@ fn words(rt: &HostRuntime) -> io::Result<Vec<String>> {
     Ok(words)
 }
 
-// Ends with a code, and reports what it means where it isn't 0.
+// Ends with a code, and reports what it means if it isn't 0.
 fn ended(rt: &HostRuntime, code: u8) -> ExitCode {
     if code != 0 {
         let text = exit_text(code);
@@ -99,14 +99,14 @@ fn ended(rt: &HostRuntime, code: u8) -> ExitCode {
     ExitCode::from(code)
 }
 
-// Ends where the words are no command, and reports what is wrong with them.
+// Ends because the words say no command, and reports what is wrong with them.
 fn ended_words(rt: &HostRuntime, words: &[String]) -> ExitCode {
     let wrong = WrongWords::of(words);
     let _ = rt.eprintln(format_args!("kafka_room: {wrong}: see kafka_room --help"));
     ExitCode::from(Stop::Usage.code())
 }
 
-// Ends as the run did. Of a text that is no trace the first bad line is reported.
+// Ends as the run did, and reports the first bad line if there is one.
 fn ended_run(rt: &HostRuntime, code: u8, line: Option<LineFault>) -> ExitCode {
     match line {
         Some(fault) => {

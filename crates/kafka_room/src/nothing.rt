@@ -1,4 +1,4 @@
-//! A port and a clock that have nothing to give, for commands that use none.
+//! The port and the clock that `main` hands to commands that use none.
 
 ghost use Rattle.std.specs.Prelude.{◌≡◌, ◌+◌, ℕ, Some, None, Bool, false, true, option_map};
 ghost use Rattle.outside.specs.Count.{one_more};
@@ -40,7 +40,7 @@ pub struct NoPort {
 }
 
 impl NoPort {
-    /// One that was never opened.
+    /// A port that was never opened.
     pub fn new() -> NoPort
         ensures number { result.number ≡ None }
         ensures ended { result.is_ended ≡ false }
@@ -84,7 +84,7 @@ impl Port for NoPort {
     }
 }
 
-/// A clock that stands at the moment 0.
+/// A clock that stays at moment 0.
 #[derive(Clone, Copy, Debug, PartialEq, Eq)]
 pub struct NoClock;
 

@@ -1,4 +1,4 @@
-//! The replay of a trace on workers, each in a thread of its own. What comes of it is written once, behind the run.
+//! `replay --workers`: the trace is played by workers, each in a thread of its own, and the text is written once, after the run.
 
 ghost use Rattle.std.specs.Prelude.{◌≡◌, ◌≢◌, ◌≤◌, ◌↔◌, ℕ, false, List as Items, take, IfOk, IfErr, OnOk, IfSome, IsSome, IsNone};
 ghost use Rattle.std.specs.Io.KnownBytes.{Appends, Keeps, IsAtEnd};
@@ -24,7 +24,7 @@ use std::thread::Threads;
 use trace_file::{Line, REPLAY_PORT};
 use trace_workers::{NoGate, run_lines};
 
-// Plays the lines on so many workers, and tells in a text what came of it, on as many threads.
+// Plays the lines on `workers` threads, and makes the text of the run on as many.
 fn play<R: Threads + Wait + Sync>(
     rt: &R,
     alloc: Global,
@@ -41,7 +41,7 @@ fn play<R: Threads + Wait + Sync>(
     Ok((account, text))
 }
 
-/// Replays the trace that the source has on so many workers. It is never stopped by its words.
+/// Replays the source's trace on `workers` threads. It never stops with `Usage`.
 pub fn replay_on_workers<R: Threads + Wait + Sync, S: Source, K: Sink>(
     rt: &R,
     alloc: Global,
@@ -54,7 +54,7 @@ pub fn replay_on_workers<R: Threads + Wait + Sync, S: Source, K: Sink>(
     ensures told { IfOk result (λ account. (text : Items ℕ) × IsPrintOf account text × Appends (K.written sink.old) (K.written sink.new) text) }
     ensures end { OnOk result (IsAtEnd (S.left source.new)) }
     ensures words { IfErr result (λ why. stop_in why ≢ Stop.Usage) }
-    // An account that wasn't written whole is that of the trace too, and a front of its text was written.
+    // An account whose text wasn't written whole is that of the trace too, and a prefix of its text was written.
     ensures unwritten { IfErr result (λ why. IsSome (account_in why) ↔ (stop_in why ≡ Stop.WriteFault)) }
     ensures unwritten_worked { IfErr result (λ why. IfSome (account_in why) (IsWorked (S.left source.old))) }
     ensures told_in_part { IfErr result (λ why. IfSome (account_in why) (λ account. (text : Items ℕ) × (count : ℕ) × IsPrintOf account text

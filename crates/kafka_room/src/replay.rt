@@ -1,4 +1,4 @@
-//! The replay of a trace, on one thread.
+//! `replay`: the trace is played by the one-thread broker, and what each line prints is written before the next is played.
 
 ghost use Rattle.std.specs.Prelude.{◌≡◌, ◌≤◌, ℕ, List as Items, Some, IfOk, IfErr, OnOk, OnErr, IsErrOf, IfSome, IsSome, ◌⊎◌};
 ghost use Rattle.std.specs.List.{AllByRecursion};

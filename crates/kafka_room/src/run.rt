@@ -1,4 +1,4 @@
-//! The whole program, above the outside that it is handed.
+//! The whole program over the source, sink, port and clock that it is handed. `main` hands it those of the process, tests hand it others.
 
 ghost use Rattle.std.specs.Prelude.{◌≡◌, ◌∷◌, [], ◌↔◌, ◌⊎◌, ℕ, List, Some, take, codes, IfSome, IsSome};
 ghost use Rattle.std.specs.Io.KnownBytes.{Appends, Keeps, IsAtEnd};
@@ -20,7 +20,7 @@ use std::sync::Wait;
 use std::thread::Threads;
 
 /// Does what the words of the command line say, with the source, the sink, the port and the clock that are handed in. The
-/// port is new: it was never opened, it gave and got back no link, and it didn't tell that none come.
+/// port is new: it was never opened, it gave and got back no link, and it didn't report that no more come.
 pub fn run<R, S, K, P, C>(
     rt: &R,
     alloc: Global,
@@ -44,7 +44,7 @@ where
     // On one thread it is that of the trace, and exactly its printed lines were written.
     ensures printed { said words.now ≡ codes "replay" ∷ [] → IfSome result.account (λ account. (text : List ℕ) × IsReplay (S.left source.old) account text
         × Appends (K.written sink.old) (K.written sink.new) text) }
-    // After a write fault the front of such lines stands written.
+    // After a write fault, a prefix of such lines was written.
     ensures prefix { said words.now ≡ codes "replay" ∷ [] → result.code ≡ 4 → (written : List ℕ) × IsReplayFront (S.left source.old) written
         × Appends (K.written sink.old) (K.written sink.new) written }
     // Out of memory, nothing was written, or a prefix of such lines.
@@ -52,7 +52,7 @@ where
         ⊎ ((written : List ℕ) × IsReplayFront (S.left source.old) written × Appends (K.written sink.old) (K.written sink.new) written) }
     // On workers it is that of a run of the trace.
     ensures worked { IsThreaded (said words.now) → IfSome result.account (IsWorked (S.left source.old)) }
-    // Exactly what is printed of it was written, and after a write fault a front of that.
+    // Exactly what is printed of it was written, and after a write fault a prefix of that.
     ensures told { IsThreaded (said words.now) → result.code ≡ 0 → IfSome result.account (λ account. (text : List ℕ) × IsPrintOf account text
         × Appends (K.written sink.old) (K.written sink.new) text) }
     ensures told_in_part { IsThreaded (said words.now) → result.code ≡ 4 → IfSome result.account (λ account. (text : List ℕ) × (count : ℕ)
@@ -72,7 +72,7 @@ where
     ensures complete { (command : TheCommand) → IsCommand (said words.now) command → HasTrace (S.left source.old)
         → (Rose (S.faults source.old) (S.faults source.new) → ⊥) → (Rose (K.faults sink.old) (K.faults sink.new) → ⊥)
         → (result.code ≡ 0) ⊎ (result.code ≡ 6) }
-    // A bad line is told exactly with code 2: it is the first of the text.
+    // A bad line is reported exactly with code 2: it is the first one of the text.
     ensures line { IsSome result.line ↔ (result.code ≡ 2) }
     ensures bad_line { IfSome result.line (IsFirstBadOf (S.left source.old)) }
     // What wasn't used is handed back.

@@ -1,4 +1,4 @@
-//! Reading a source to its end and writing to a sink whole.
+//! Reads a source to its end, for `read_lines`, and writes a part to a sink whole, for both replays.
 
 ghost use Rattle.std.specs.Prelude.{◌≡◌, ◌<◌, ◌≤◌, ◌++◌, ℕ, List, length, take, vec_len, IfOk, IfErr, OnOk, OnErr, IsErrOf, ◌⊎◌};
 ghost use Rattle.std.specs.Io.KnownBytes.{Appends, Consumes, IsAtEnd};
@@ -14,7 +14,7 @@ use trace_file::MOST_TRACE_BYTES;
 /// The most bytes that are read at a time.
 const PIECE: usize = 65_536;
 
-// One read, put at the end of the text. It answers how many bytes came.
+// Reads once, and puts what came at the end of the text. The answer is how many bytes came.
 fn read_piece<S: Source>(source: &mut S, room: &mut [u8], text: &mut Bytes) -> Result<usize, Stop>
     requires { 0 < length room.old }
     ensures came { IfOk result (λ n. (piece : List ℕ) × (length piece ≡ n) × (n ≤ length room.old)
@@ -58,7 +58,7 @@ pub fn read_all<S: Source>(alloc: Global, source: &mut S) -> Result<Bytes, Stop>
     Ok(text)
 }
 
-/// Writes the whole part. Where a write fails, the front of the part was written.
+/// Writes the whole part. If a write fails, a prefix of the part was written.
 pub fn write_all<K: Sink>(sink: &mut K, part: &[u8]) -> Result<(), Failed>
     ensures written { OnOk result (Appends (K.written sink.old) (K.written sink.new) part.now) }
     ensures front { OnErr result ((n : ℕ) × (n ≤ length part.now)

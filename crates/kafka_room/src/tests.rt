@@ -1,8 +1,7 @@
-//! What a file of `rows` can't say: sources and sinks that fail, a stream that is cut at each byte, and what the account has of a run on two workers.
+//! What a file of `rows` can't say: sources and sinks that fail, a stream that is cut at each byte, and a run on two workers.
 
 mod pieces;
 
-use crate::exit::Exit;
 use crate::nothing::{NoClock, NoPort};
 use crate::run::run;
 use kbytes::{Bytes, List, NoMemory};
@@ -11,7 +10,7 @@ use pieces::{
     A, A_AT_1, FETCH_138, FETCHED_138, PRODUCE, PRODUCE_NO_REPLY, PRODUCE_TO_1, PRODUCED,
     PRODUCED_AT_1, WAIT_FOR_0, WAIT_FOR_1,
 };
-use std::alloc::Global;
+use std::alloc::{AllocError, Global};
 use std::sync::Wait;
 use std::test::*;
 use std::thread::Threads;
@@ -54,10 +53,27 @@ const REPLAY: &[&str] = &["replay"];
 
 const ON_ONE_WORKER: &[&str] = &["replay", "--workers", "1"];
 
-// What a run answered, and what it wrote.
+const ON_TWO_WORKERS: &[&str] = &["replay", "--workers", "2"];
+
+// The reads and writes that fail, by their numbers, and how many bytes the sink takes.
+#[derive(Clone, Copy)]
+struct Faults<'a> {
+    reads: &'a [u64],
+    writes: &'a [u64],
+    room: u64,
+}
+
+const NONE: Faults<'static> = Faults {
+    reads: &[],
+    writes: &[],
+    room: 4096,
+};
+
+// How a run ended, and what it wrote.
 #[derive(Drop)]
 struct Ran {
-    exit: Exit<NoPort, NoClock>,
+    code: u8,
+    has_account: bool,
     sink: MemSink,
 }
 
@@ -69,21 +85,25 @@ fn numbers(alloc: Global, items: &[u64]) -> Result<List<u64>, NoMemory> {
     Ok(list)
 }
 
-// Runs these words on a trace, with a source whose reads of these numbers fail.
-fn run_into<R: Threads + Wait + Sync>(
-    rt: &R,
-    alloc: Global,
-    words: &[&str],
-    text: Bytes,
-    reads: &[u64],
-    sink: MemSink,
-) -> Result<Ran, Fail> {
+fn line_of(alloc: Global, words: &[&str]) -> Result<Vec<String>, AllocError> {
     let mut line = Vec::new(alloc);
     for word in words {
         line.push(String::from_str(alloc, word)?)?;
     }
-    let mut source = MemSource::new(text, numbers(alloc, reads)?);
-    let mut sink = sink;
+    Ok(line)
+}
+
+// Runs these words on a trace.
+fn run_with<R: Threads + Wait + Sync>(
+    rt: &R,
+    alloc: Global,
+    words: &[&str],
+    text: Bytes,
+    faults: Faults<'_>,
+) -> Result<Ran, NoMemory> {
+    let line = line_of(alloc, words)?;
+    let mut source = MemSource::new(text, numbers(alloc, faults.reads)?);
+    let mut sink = MemSink::new(alloc, faults.room, numbers(alloc, faults.writes)?)?;
     let exit = run(
         rt,
         alloc,
@@ -93,20 +113,11 @@ fn run_into<R: Threads + Wait + Sync>(
         NoPort::new(),
         NoClock,
     );
-    Ok(Ran { exit, sink })
-}
-
-// The same with a sink of much room, whose writes of these numbers fail.
-fn run_with<R: Threads + Wait + Sync>(
-    rt: &R,
-    alloc: Global,
-    words: &[&str],
-    text: Bytes,
-    reads: &[u64],
-    writes: &[u64],
-) -> Result<Ran, Fail> {
-    let sink = MemSink::new(alloc, 4096, numbers(alloc, writes)?)?;
-    run_into(rt, alloc, words, text, reads, sink)
+    Ok(Ran {
+        code: exit.code,
+        has_account: exit.account.is_some(),
+        sink,
+    })
 }
 
 fn joined(alloc: Global, pieces: &[&str]) -> Result<Bytes, NoMemory> {
@@ -117,151 +128,201 @@ fn joined(alloc: Global, pieces: &[&str]) -> Result<Bytes, NoMemory> {
     Ok(text)
 }
 
-// All that is printed of the three lines. They are of one session, so that it is the same on one worker.
-fn all_printed(alloc: Global) -> Result<Bytes, NoMemory> {
+// Runs the words on a trace of these pieces.
+fn run_pieces<R: Threads + Wait + Sync>(
+    rt: &R,
+    alloc: Global,
+    words: &[&str],
+    pieces: &[&str],
+    faults: Faults<'_>,
+) -> Result<Ran, NoMemory> {
+    let text = joined(alloc, pieces)?;
+    run_with(rt, alloc, words, text, faults)
+}
+
+// What is printed of the three lines, but for the last writes. They are of one session, so it is the same on one worker.
+fn printed_before(alloc: Global, writes: usize) -> Result<Bytes, NoMemory> {
     let mut text = Bytes::new(alloc);
-    for pieces in THREE_LINES_PRINTED {
-        text.extend(joined(alloc, pieces)?.as_slice())?;
-    }
-    Ok(text)
-}
-
-// The trace that brings these digits in pieces of a session's bytes.
-fn fed(alloc: Global, digits: &[&[u8]]) -> Result<Bytes, NoMemory> {
-    let mut text = joined(alloc, &[TOPIC])?;
-    for piece in digits {
-        text.extend(TO_0.as_bytes())?;
-        text.extend(piece)?;
-        text.extend(b"\n")?;
-    }
-    text.extend(b"end\n")?;
-    Ok(text)
-}
-
-// A trace that takes more than one read.
-fn long_trace(alloc: Global) -> Result<Bytes, NoMemory> {
-    let mut text = joined(alloc, &[TOPIC])?;
-    for _ in 0..300 {
-        for piece in [TO_0, PRODUCE_NO_REPLY, A, "\n"] {
+    for pieces in THREE_LINES_PRINTED.iter().take(writes) {
+        for piece in *pieces {
             text.extend(piece.as_bytes())?;
         }
     }
-    text.extend(b"end\n")?;
     Ok(text)
 }
 
-#[test]
-fn a_stream_may_be_cut_at_any_byte(rt: HostRuntime) -> Result<(), Fail> {
-    let alloc = rt.alloc();
-    let stream = joined(alloc, STREAM)?;
-    let printed = joined(alloc, STREAM_PRINTED)?;
-    for cut in 1..stream.len() / 2 {
-        let (front, behind) = stream.as_slice().split_at(2 * cut);
-        let trace = fed(alloc, &[front, behind])?;
-        let done = run_with(&rt, alloc, REPLAY, trace, &[], &[])?;
-        assert_eq!(rt; done.exit.code, 0, "cut at byte {cut}");
-        assert_eq!(rt; done.sink.bytes(), printed.as_slice(), "cut at byte {cut}");
+fn put_feed(text: &mut Bytes, digits: &[u8]) -> Result<(), NoMemory> {
+    text.extend(TO_0.as_bytes())?;
+    text.extend(digits)?;
+    text.extend(b"\n")
+}
+
+// The trace that brings a session's bytes in two pieces.
+fn put_in_two(text: &mut Bytes, front: &[u8], rest: &[u8]) -> Result<(), NoMemory> {
+    text.extend(TOPIC.as_bytes())?;
+    put_feed(text, front)?;
+    put_feed(text, rest)?;
+    text.extend(b"end\n")
+}
+
+// Runs the stream, cut after that many of its digits.
+fn run_cut<R: Threads + Wait + Sync>(
+    rt: &R,
+    alloc: Global,
+    stream: &[u8],
+    digits: usize,
+) -> Result<Ran, NoMemory> {
+    let mut text = Bytes::new(alloc);
+    if let Some((front, rest)) = stream.split_at_checked(digits) {
+        put_in_two(&mut text, front, rest)?;
     }
-    Ok(())
+    run_with(rt, alloc, REPLAY, text, NONE)
 }
 
 #[test]
-fn each_read_that_fails_leaves_nothing_written(rt: HostRuntime) -> Result<(), Fail> {
-    let alloc = rt.alloc();
+fn a_stream_may_be_cut_at_any_byte(rt: HostRuntime) {
+    let stream = joined(rt.alloc(), STREAM).expect(&rt, "memory");
+    let printed = joined(rt.alloc(), STREAM_PRINTED).expect(&rt, "memory");
+    for cut in 1..stream.len() / 2 {
+        assert!(rt;
+            matches!(
+                run_cut(&rt, rt.alloc(), stream.as_slice(), 2 * cut),
+                Ok(ran) if ran.code == 0 && ran.sink.bytes() == printed.as_slice()
+            ),
+            "cut at byte {cut}"
+        );
+    }
+}
+
+fn put_long(text: &mut Bytes) -> Result<(), NoMemory> {
+    text.extend(TOPIC.as_bytes())?;
+    for _ in 0..300 {
+        text.extend(TO_0.as_bytes())?;
+        text.extend(PRODUCE_NO_REPLY.as_bytes())?;
+        text.extend(A.as_bytes())?;
+        text.extend(b"\n")?;
+    }
+    text.extend(b"end\n")
+}
+
+// Runs a trace that takes three reads, where this one fails.
+fn run_long<R: Threads + Wait + Sync>(
+    rt: &R,
+    alloc: Global,
+    words: &[&str],
+    read: u64,
+) -> Result<Ran, NoMemory> {
+    let mut text = Bytes::new(alloc);
+    put_long(&mut text)?;
+    let faults = Faults {
+        reads: &[read],
+        ..NONE
+    };
+    run_with(rt, alloc, words, text, faults)
+}
+
+#[test]
+fn each_read_that_fails_leaves_nothing_written(rt: HostRuntime) {
     for words in [REPLAY, ON_ONE_WORKER] {
         for read in 0..3 {
-            let failed = run_with(&rt, alloc, words, long_trace(alloc)?, &[read], &[])?;
-            assert_eq!(rt; failed.exit.code, 3, "at read {read}");
-            assert!(rt; failed.sink.bytes().is_empty(), "at read {read}");
+            assert!(rt;
+                matches!(
+                    run_long(&rt, rt.alloc(), words, read),
+                    Ok(ran) if ran.code == 3 && ran.sink.bytes().is_empty()
+                ),
+                "at read {read}"
+            );
         }
     }
-    let done = run_with(&rt, alloc, REPLAY, long_trace(alloc)?, &[3], &[])?;
-    assert_eq!(rt; done.exit.code, 0);
-    Ok(())
+    assert!(rt; matches!(run_long(&rt, rt.alloc(), REPLAY, 3), Ok(ran) if ran.code == 0));
 }
 
 #[test]
-fn each_write_that_fails_leaves_the_front_of_the_output(rt: HostRuntime) -> Result<(), Fail> {
-    let alloc = rt.alloc();
-    let mut front = Bytes::new(alloc);
-    for (write, more) in THREE_LINES_PRINTED.iter().enumerate() {
-        let trace = joined(alloc, THREE_LINES)?;
-        let failed = run_with(&rt, alloc, REPLAY, trace, &[], &[write as u64])?;
-        assert_eq!(rt; failed.exit.code, 4, "at write {write}");
-        assert_eq!(rt; failed.sink.bytes(), front.as_slice(), "at write {write}");
-        for piece in *more {
-            front.extend(piece.as_bytes())?;
-        }
-    }
-    let trace = joined(alloc, THREE_LINES)?;
-    let done = run_with(&rt, alloc, REPLAY, trace, &[], &[4])?;
-    assert_eq!(rt; done.exit.code, 0);
-    assert_eq!(rt; done.sink.bytes(), front.as_slice());
-    Ok(())
-}
-
-#[test]
-fn a_write_that_fails_on_one_worker_leaves_the_account_and_a_front(
-    rt: HostRuntime,
-) -> Result<(), Fail> {
-    let alloc = rt.alloc();
-    let printed = all_printed(alloc)?;
-    for room in [0, 1, 60, 600] {
-        let sink = MemSink::new(alloc, room, List::new(alloc))?;
-        let trace = joined(alloc, THREE_LINES)?;
-        let failed = run_into(&rt, alloc, ON_ONE_WORKER, trace, &[], sink)?;
-        assert_eq!(rt; failed.exit.code, 4, "with room {room}");
-        assert_eq!(rt; failed.sink.bytes().len() as u64, room, "with room {room}");
+fn each_write_that_fails_leaves_the_front_of_the_output(rt: HostRuntime) {
+    for write in 0..5 {
+        let front = printed_before(rt.alloc(), write).expect(&rt, "memory");
+        let code = if write < 4 { 4 } else { 0 };
+        let faults = Faults {
+            writes: &[write as u64],
+            ..NONE
+        };
         assert!(rt;
-            printed.as_slice().starts_with(failed.sink.bytes()),
+            matches!(
+                run_pieces(&rt, rt.alloc(), REPLAY, THREE_LINES, faults),
+                Ok(ran) if ran.code == code && ran.sink.bytes() == front.as_slice()
+            ),
+            "at write {write}"
+        );
+    }
+}
+
+#[test]
+fn a_full_sink_on_one_worker_leaves_the_account_and_a_front(rt: HostRuntime) {
+    let printed = printed_before(rt.alloc(), 4).expect(&rt, "memory");
+    for room in [0, 1, 60, 600] {
+        let faults = Faults { room, ..NONE };
+        let ran = run_pieces(&rt, rt.alloc(), ON_ONE_WORKER, THREE_LINES, faults);
+        let ran = ran.expect(&rt, "memory");
+        assert!(rt; ran.code == 4 && ran.has_account, "with room {room}");
+        assert!(rt;
+            ran.sink.bytes().len() as u64 == room
+                && printed.as_slice().starts_with(ran.sink.bytes()),
             "with room {room}"
         );
-        assert!(rt; failed.exit.account.is_some(), "with room {room}");
     }
-    let trace = joined(alloc, THREE_LINES)?;
-    let failed = run_with(&rt, alloc, ON_ONE_WORKER, trace, &[], &[0])?;
-    assert_eq!(rt; failed.exit.code, 4);
-    assert!(rt; failed.sink.bytes().is_empty());
-    assert!(rt; failed.exit.account.is_some());
-    let trace = joined(alloc, THREE_LINES)?;
-    let done = run_with(&rt, alloc, ON_ONE_WORKER, trace, &[], &[1])?;
-    assert_eq!(rt; done.exit.code, 0);
-    assert_eq!(rt; done.sink.bytes(), printed.as_slice());
-    Ok(())
 }
 
-// The trace of a frame of eight mebibytes, whose size is told by these digits, and what it prints.
-fn long_frame<R: Threads + Wait + Sync>(rt: &R, alloc: Global, size: &str) -> Result<Ran, Fail> {
-    let mut text = joined(alloc, &[TOPIC, TO_0, size])?;
+#[test]
+fn a_write_that_fails_on_one_worker_leaves_the_account(rt: HostRuntime) {
+    // the whole output is one write there
+    for (write, code, written) in [(0, 4, 0), (1, 0, 4)] {
+        let printed = printed_before(rt.alloc(), written).expect(&rt, "memory");
+        let faults = Faults {
+            writes: &[write],
+            ..NONE
+        };
+        let ran = run_pieces(&rt, rt.alloc(), ON_ONE_WORKER, THREE_LINES, faults);
+        let ran = ran.expect(&rt, "memory");
+        assert!(rt; ran.code == code && ran.has_account && ran.sink.bytes() == printed.as_slice());
+    }
+}
+
+fn put_long_frame(text: &mut Bytes, size: &str) -> Result<(), NoMemory> {
+    text.extend(TOPIC.as_bytes())?;
+    text.extend(TO_0.as_bytes())?;
+    text.extend(size.as_bytes())?;
     for _ in 0..262_144 {
         text.extend(b"0000000000000000000000000000000000000000000000000000000000000000")?;
     }
-    text.extend(b"\nend\n")?;
-    run_with(rt, alloc, REPLAY, text, &[], &[])
+    text.extend(b"\nend\n")
 }
 
+// Runs the trace of a frame of eight mebibytes, whose size is written in these digits.
+fn run_long_frame<R: Threads + Wait + Sync>(
+    rt: &R,
+    alloc: Global,
+    size: &str,
+) -> Result<Ran, NoMemory> {
+    let mut text = Bytes::new(alloc);
+    put_long_frame(&mut text, size)?;
+    run_with(rt, alloc, REPLAY, text, NONE)
+}
+
+const REST_OF_LONG: &[u8] =
+    b"part 0 end 0 high 0 batches 0 bytes 0\nsession 0 calls 0 replies 0 parked 0\ndone\n";
+
 #[test]
-fn a_frame_of_eight_mebibytes_is_read_and_one_more_byte_is_too_long(
-    rt: HostRuntime,
-) -> Result<(), Fail> {
-    let alloc = rt.alloc();
-    let table = [
-        ("00800000", "end 0 refused unsupported 0 0\n"),
-        ("00800001", "end 0 too-long 8388609\n"),
-    ];
-    for (size, end) in table {
-        let ran = long_frame(&rt, alloc, size)?;
-        assert_eq!(rt; ran.exit.code, 0, "size {size}");
-        let printed = joined(
-            alloc,
-            &[
-                end,
-                "part 0 end 0 high 0 batches 0 bytes 0\nsession 0 calls 0 replies 0 parked 0\ndone\n",
-            ],
-        )?;
-        assert_eq!(rt; ran.sink.bytes(), printed.as_slice(), "size {size}");
+fn a_frame_of_eight_mebibytes_is_read_and_one_more_byte_is_too_long(rt: HostRuntime) {
+    for (size, end) in [
+        ("00800000", b"end 0 refused unsupported 0 0\n".as_slice()),
+        ("00800001", b"end 0 too-long 8388609\n"),
+    ] {
+        let ran = run_long_frame(&rt, rt.alloc(), size).expect(&rt, "memory");
+        let printed = ran.sink.bytes();
+        assert!(rt;
+            ran.code == 0 && printed.split_at_checked(end.len()) == Some((end, REST_OF_LONG))
+        );
     }
-    Ok(())
 }
 
 /// Two fetches that wait for what another session produces: the first session's for the third's, and the second's for the first's.
@@ -279,21 +340,19 @@ const MEETING: &[&str] = &[
     "\nend\n",
 ];
 
-#[test]
-fn sessions_on_two_workers_wait_for_each_other(rt: HostRuntime) -> Result<(), Fail> {
-    let alloc = rt.alloc();
-    let words = ["replay", "--workers", "2"];
-    let done = run_with(&rt, alloc, &words, joined(alloc, MEETING)?, &[], &[])?;
-    assert_eq!(rt; done.exit.code, 0);
-    let account = done.exit.account.ok_or("an account")?;
-    assert_eq!(rt; account.passes.len(), 4);
-    let transcripts = account.passes.get(0).ok_or("a pass")?;
-    assert_eq!(rt; transcripts.get(0).ok_or("a transcript")?.calls.len(), 2);
-    let printed = b"part 0 end 1 high 1 batches 1 bytes 69\n\
+const END_OF_MEETING: &[u8] = b"part 0 end 1 high 1 batches 1 bytes 69\n\
 part 1 end 1 high 1 batches 1 bytes 69\n\
 session 0 calls 2 replies 2 parked 0\n\
 session 1 calls 1 replies 1 parked 0\n\
 session 2 calls 1 replies 1 parked 0\ndone\n";
-    assert!(rt; done.sink.bytes().ends_with(printed));
-    Ok(())
+
+#[test]
+fn sessions_on_two_workers_wait_for_each_other(rt: HostRuntime) {
+    assert!(rt;
+        matches!(
+            run_pieces(&rt, rt.alloc(), ON_TWO_WORKERS, MEETING, NONE),
+            Ok(ran)
+                if ran.code == 0 && ran.has_account && ran.sink.bytes().ends_with(END_OF_MEETING)
+        )
+    );
 }

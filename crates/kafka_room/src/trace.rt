@@ -1,4 +1,4 @@
-//! The trace that a source has.
+//! Reads the trace of a source, for both replays.
 
 ghost use Rattle.std.specs.Prelude.{◌≡◌, ℕ, List as Items, IfOk, IfErr, OnOk, IsErrOf, IfSome, IsSome, ◌⊎◌};
 ghost use Rattle.std.specs.Io.KnownBytes.{IsAtEnd};
@@ -14,7 +14,7 @@ use outside::Source;
 use std::alloc::Global;
 use trace_file::{Line, read_trace};
 
-/// Reads the lines of the source's trace. Its text isn't kept.
+/// Reads the lines of the source's trace. The text isn't kept.
 pub fn read_lines<S: Source>(alloc: Global, source: &mut S) -> Result<List<Line>, Stop>
     ensures trace { IfOk result (λ lines. (text : Items ℕ) × IsTrace text lines × IfSome (S.left source.old) (λ t. t ≡ text)) }
     ensures end { OnOk result (IsAtEnd (S.left source.new)) }

@@ -1,9 +1,9 @@
-//! What is wrong with a command line that is no command, as `main` reports it to whoever wrote it.
+//! What is wrong with a command line that says no command. `main` reports it.
 
 use crate::command::MOST_WORKERS;
 use std::fmt;
 
-/// Why words are no command. It is shown as one line for standard error, with the word that is wrong and what would be right.
+/// Why words say no command. It is printed as one line for standard error, with the word that is wrong and what would be right.
 #[derive(Clone, Copy, Debug, PartialEq, Eq)]
 pub enum WrongWords<'a> {
     NoCommand,
@@ -19,7 +19,7 @@ pub enum WrongWords<'a> {
 }
 
 impl<'a> WrongWords<'a> {
-    /// What is wrong with these words, which are no command.
+    /// What is wrong with these words, which say no command.
     pub fn of(words: &'a [String]) -> WrongWords<'a> {
         match words {
             [] => WrongWords::NoCommand,

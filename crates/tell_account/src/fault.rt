@@ -1,16 +1,16 @@
-//! Why nothing is told.
+//! Why the program prints no account. `main` reports it on standard error.
 
 use kbytes::NoMemory;
 use std::alloc::{AllocError, AllocFailed};
 use std::{fmt, io};
 use trace_file::{LineFault, TraceFault};
 
-/// Why nothing is told, or not all of it.
+/// Why nothing is printed, or not all of it.
 #[derive(Debug, Drop)]
 pub enum Fault {
-    /// The words of the command line aren't a number from 1 to 16, with `drain` behind it or nothing.
+    /// The words of the command line aren't a number from 1 to 16, with or without `drain` after it.
     Usage,
-    /// The input is no trace: its first bad line.
+    /// The input isn't a trace: its first bad line.
     BadLine(LineFault),
     NoMemory,
     /// The input can't be read, or the output can't be written.

@@ -1,30 +1,30 @@
-//! Plays a trace on workers and tells the whole account of the run, for a check apart from any proof.
+//! Plays a trace on workers and prints the whole account of the run, so that it can be checked without any proof.
 //!
-//! `tell_account W [drain]` reads the trace on standard input, plays it on W workers, 1 to 16, and prints the account: one fact a line, words apart by one
-//! space, numbers in decimal, bytes in pairs of hex digits, or `-` where there are none.
+//! `tell_account W [drain]` reads the trace on standard input, plays it on W workers, 1 to 16, and prints the account: one fact a line,
+//! words separated by one space, numbers in decimal, bytes as pairs of hex digits, or `-` if there are none.
 //!
 //! ```text
 //! port PORT
 //! topic NAME PARTITIONS FOLLOWERS     each topic; the name in hex
-//! part FOLLOWERS LOG                  each partition, with its entries in order behind it:
+//! part FOLLOWERS LOG                  each partition, with its entries in order after it:
 //! append BY SEQ COUNT LEN
 //! follow BY SEQ REPLICA OFFSET
 //! look BY SEQ
-//! clock                               the clock, with its entries in order behind it:
+//! clock                               the clock, with its entries in order after it:
 //! tick MOMENT
 //! look BY SEQ
-//! pass                                each pass, with its transcripts behind it:
+//! pass                                each pass, with its transcripts after it:
 //! transcript NUMBER FIRST
 //! call HOW FRAME                      HOW: quiet, at-once, satisfied WINNER, expired WINNER, parked, cut or cut WINNER
 //! accept PART PLACE                   the call's entries; part 64 is the clock
 //! finish PART PLACE
-//! end CAUSE                           where the transcript has an end; CAUSE as a replay prints it
+//! end CAUSE                           if the transcript has an end; CAUSE as a replay prints it
 //! wins COUNT                          each winner
 //! printed
 //! ...                                 what is printed of the account, to the end of the output
 //! ```
 //!
-//! Where it fails it tells why in one line on standard error, and ends with code 1.
+//! If it fails, it reports why in one line on standard error, and ends with code 1.
 #![tactic(auto)]
 
 ghost use Rattle.std.specs.Prelude.{◌≤◌, IfOk};
@@ -85,7 +85,7 @@ fn write_account<W: Write>(alloc: Global, out: &mut W, account: &Account) -> Res
     Ok(())
 }
 
-// Plays the trace, and tells the account of that.
+// Plays the trace, and prints the account of the run.
 fn run<R>(rt: &R, alloc: Global, order: Order) -> Result<(), Fault>
 where
     R: Threads + Wait + Sync + Input + Print,

@@ -1,4 +1,4 @@
-//! What the words of the command line ask for.
+//! What the words of the command line ask for. `main` plays the trace by it.
 
 ghost use Rattle.std.specs.Prelude.{◌≤◌, IfOk};
 
@@ -20,7 +20,7 @@ fn workers_of(word: &str) -> Result<u32, Fault>
     }
 }
 
-/// The order of the words: a number of workers, and nothing or `drain` behind it.
+/// The order that the words give: a number of workers, with or without `drain` after it.
 pub fn order_of(words: &[String]) -> Result<Order, Fault>
     ensures { IfOk result (λ order. (1 ≤ order.workers) × (order.workers ≤ 16)) }
 {

@@ -1,4 +1,4 @@
-//! An account, told one fact a line.
+//! Prints an account, one fact a line, in the words of `words.rt`.
 
 use crate::words::{At, Cause, ClockEntry, Entry, Hex, How};
 use audit::{Account, Call, PartAccount, Transcript};
@@ -85,7 +85,7 @@ fn tell_parts<W: Write>(out: &mut W, account: &Account) -> io::Result<()> {
     Ok(())
 }
 
-/// Tells the whole account.
+/// Prints the whole account.
 pub fn tell<W: Write>(out: &mut W, account: &Account) -> io::Result<()> {
     tell_config(out, &account.config)?;
     tell_parts(out, account)?;

@@ -1,11 +1,11 @@
-//! The words of single facts.
+//! How single facts of an account are spelled in a line of the output.
 
 use audit::{CallHow, Point, SessionEnd};
 use kwire::WireFault;
 use partlog::{ClockEvent, PartEvent};
 use std::fmt;
 
-/// Bytes as pairs of hex digits, or `-` where there are none.
+/// Bytes as pairs of hex digits, or `-` if there are none.
 #[derive(Clone, Copy, Debug)]
 pub struct Hex<'a>(pub &'a [u8]);
 
@@ -32,7 +32,7 @@ impl fmt::Display for At {
     }
 }
 
-/// How a call came to its end.
+/// How a call ended.
 #[derive(Clone, Copy, Debug)]
 pub struct How(pub CallHow);
 

@@ -1,13 +1,14 @@
 //! Orders that wait for stock: a program of three threads that share a room.
 //!
-//! A shop has two warehouses. Goods are delivered to them now and then, and an order waits until so many have come, or until it expires.
+//! A shop has two warehouses. Goods are delivered to them now and then, and an order waits until enough have come, or until it expires.
 //!
 //! - A **gauge** is a number that only rises. Here there are three: how many goods were ever delivered to warehouse 0, how many to
 //!   warehouse 1, and the clock, which is always the last gauge. What lies in stock is no gauge, since that falls too.
-//! - A **source** is the right to raise one gauge. Who delivers has those of the warehouses, and who lets time pass has the clock's.
+//! - A **source** is the right to raise one gauge. The thread that delivers has those of the warehouses, and the one that
+//!   lets time pass has the clock's.
 //! - A **pass** is the right to act in the room. Each thread has one, and with it at most one order at a time.
 //! - A **need** says what counts of a gauge: what it has past `start`, but no more than `cap`. An order is satisfied where what counts of
-//!   all its needs together comes to its least tally. It expires where the clock comes to its deadline.
+//!   all its needs together is at least its least tally. It expires where the clock has reached its deadline.
 //!
 //! Whatever the threads' order, the first order is satisfied and the second expires, so the program always prints the same.
 #![tactic(auto)]
@@ -17,7 +18,7 @@ ghost use Rattle.std.specs.Thread.{IsSync};
 ghost use Rattle.purgatory.specs.Rooms.{IsOfRoom, IsSourceOf, room_shape};
 ghost use Rattle.two_warehouses.specs.Ready.{IsParked, IsReady};
 
-use purgatory::{Done, How, Need, NoMemory, Op, Registered, Room, RoomParts, RoomPass, Source};
+use purgatory::{Done, How, List, Need, NoMemory, Op, Registered, Room, RoomPass, Source};
 use std::alloc::Global;
 use std::process::ExitCode;
 use std::sync::Wait;
@@ -25,19 +26,19 @@ use std::thread::{Threads, join};
 use std::time::{Clock, Duration};
 use std::{io, thread};
 
-// So many deliveries, each of which brings one item to warehouse 0 and two to warehouse 1: 4 and 8 come in all.
+// The number of deliveries, each of which brings one item to warehouse 0 and two to warehouse 1: 4 and 8 come in all.
 const DELIVERIES: u32 = 4;
 
-// The clock goes so far.
+// The last moment of the clock.
 const MOMENTS: u32 = 100;
 
-// Who looks for the end of its order looks so often at most, for 10 milliseconds each time.
+// A thread looks for the end of its order this many times at most, for 10 milliseconds each time.
 const LOOKS: u32 = 2_000;
 
-// Delivers. A gauge tells how many came in all, and not how many came now.
+// Delivers. A gauge says how many came in all, and not how many came now.
 //
-// `raise` stores the new number. The pass then owes a look at who waits for it, and `settle` pays that: when it returns, each order that
-// is satisfied so is won. What was raised in a row can be settled together.
+// `raise` stores the new number. The pass then owes a look at the orders that wait for it, and `settle` pays that: when it returns,
+// each order that this satisfies is won. What was raised in a row can be settled together.
 fn deliver(
     rt: &(impl Wait + Clock),
     room: &Room,
@@ -72,7 +73,7 @@ fn let_time_pass(rt: &(impl Wait + Clock), room: &Room, mut clock: Source, mut p
     }
 }
 
-// An order of so many goods from the first delivery on, of which no more than `most` may be those of warehouse 1.
+// An order of that many goods from the first delivery on, of which no more than `most` may be those of warehouse 1.
 fn order(alloc: Global, goods: u64, most: u64, deadline: u64) -> Result<Op, NoMemory>
     requires { (goods < 1_000) × (most < 1_000) }
     ensures { IfOk result (λ op. All (λ need. need.gauge < 2) op.needs) }
@@ -91,7 +92,7 @@ fn order(alloc: Global, goods: u64, most: u64, deadline: u64) -> Result<Op, NoMe
     Ok(op)
 }
 
-// Waits for the end of an order that was parked. `wait` sleeps until somebody wins the order, or for so long. It may also wake for no
+// Waits for the end of an order that was parked. `wait` sleeps until somebody wins the order, or for that long. It may also wake for no
 // reason, so `poll` has the word: None while the order waits, and then how it ended, and by whom.
 fn end_of(rt: &impl Wait, room: &Room, pass: &mut RoomPass) -> Option<Done>
     requires { IsParked room.now pass.old }
@@ -149,28 +150,49 @@ struct Shop {
     passes: (RoomPass, RoomPass, RoomPass),
 }
 
+// The three sources of the room, by gauge.
+fn three_sources(
+    room: &Room,
+    mut sources: List<Source>,
+) -> Result<(Source, Source, Source), NoMemory>
+    requires { All (IsSourceOf room.now) sources }
+    ensures { IfOk result (λ s. IsSourceOf room.now s.0 × IsSourceOf room.now s.1 × IsSourceOf room.now s.2) }
+{
+    let clock = sources.pop().ok_or(NoMemory)?;
+    let second = sources.pop().ok_or(NoMemory)?;
+    let first = sources.pop().ok_or(NoMemory)?;
+    Ok((first, second, clock))
+}
+
+// Its three passes.
+fn three_passes(
+    room: &Room,
+    mut passes: List<RoomPass>,
+) -> Result<(RoomPass, RoomPass, RoomPass), NoMemory>
+    requires { All (IsReady room.now) passes }
+    ensures { IfOk result (λ p. IsReady room.now p.0 × IsReady room.now p.1 × IsReady room.now p.2) }
+{
+    let last = passes.pop().ok_or(NoMemory)?;
+    let other = passes.pop().ok_or(NoMemory)?;
+    let one = passes.pop().ok_or(NoMemory)?;
+    Ok((one, other, last))
+}
+
 fn make_shop(alloc: Global) -> Result<Shop, NoMemory>
     ensures shape { IfOk result (λ s. s.room.table.shape ≡ room_shape 3 3) }
     ensures sources { IfOk result (λ s. IsSourceOf s.room s.first × IsSourceOf s.room s.second × IsSourceOf s.room s.clock) }
     ensures passes { IfOk result (λ s. IsReady s.room s.passes.0 × IsReady s.room s.passes.1 × IsReady s.room s.passes.2) }
 {
-    let RoomParts {
-        room,
-        mut sources,
-        mut passes,
-    } = Room::make(alloc, 3, 3)?;
-    let clock = sources.pop().ok_or(NoMemory)?;
-    let second = sources.pop().ok_or(NoMemory)?;
-    let first = sources.pop().ok_or(NoMemory)?;
-    let last = passes.pop().ok_or(NoMemory)?;
-    let other = passes.pop().ok_or(NoMemory)?;
-    let one = passes.pop().ok_or(NoMemory)?;
+    let parts = Room::make(alloc, 3, 3)?;
+    let room = parts.room;
+    let (first, second, clock) = three_sources(&room, parts.sources)?;
+    let passes = three_passes(&room, parts.passes)?;
     Ok(Shop {
         room,
         first,
         second,
         clock,
-        passes: (one, other, last),
+        passes,
     })
 }
 

@@ -6,13 +6,10 @@ use Rattle.broker_spec.specs.Board.{opening}
 use Rattle.audit.specs.Printed.{summary_of}
 use Rattle.trace_file.specs.Contents.{configuration_of}
 use Rattle.kafka_room.specs.LinesFront.{IsLinesFront}
-use Rattle.kafka_room.proofs.Replays.{declared_topics, trace_playable, played_from, play_of, printable_play, replayed, front_of_lines, front_of_text}
+use Rattle.kafka_room.proofs.Replays.{trace_playable, played_from, play_of, printable_play, replayed, front_of_lines, front_of_text}
 use Rattle.kafka_room.proofs.Writes.{front_behind}
 use Rattle.kafka_room.proofs.replay.play.Goals as goal
 use Rattle.trace_file.specs.declared.line.TheConstants.{REPLAY_PORT}
-
-pub make-requires : goal.make-requires
-make-requires g c = declared_topics c.requires.0 c.args.lines.now c.in_ok-config.config c.requires.1 c.in_ok-config.ensures
 
 pub play_lines-requires : goal.play_lines-requires
 play_lines-requires g c = trace_playable c.requires.0 c.args.lines.now c.requires.1
