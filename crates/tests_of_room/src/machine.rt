@@ -4,7 +4,6 @@ use room_core::CoreEvent::{
     Read, Relieve, Store, Win,
 };
 use room_core::{CLOCK_MARK, CLOCK_SCANNER, CoreEvent, CoreState, How, Party, Shape, run_events};
-use std::alloc::Global;
 use std::test::*;
 
 // Three gauges of a partition and the clock.
@@ -16,248 +15,245 @@ const PARTITION: Shape = Shape {
 
 const CLOCK: u32 = 3;
 
-#[derive(Drop)]
-struct Script {
-    events: Vec<CoreEvent>,
+fn makes_one(room: &mut CoreState, event: CoreEvent) -> bool {
+    matches!(room.step(event), Ok(true))
 }
 
-impl Script {
-    fn new(alloc: Global) -> Script {
-        Script {
-            events: Vec::new(alloc),
+// Whether each of these events is made, in turn.
+fn makes(room: &mut CoreState, events: &[CoreEvent]) -> bool {
+    for event in events {
+        if !makes_one(room, *event) {
+            return false;
         }
     }
+    true
+}
 
-    fn add(&mut self, events: &[CoreEvent]) -> Result<(), Fail> {
-        for event in events {
-            self.events.push(*event)?;
-        }
-        Ok(())
-    }
-
-    fn raises(&mut self, pass: u32, gauge: u32, value: u64) -> Result<(), Fail> {
-        let who = Party::Pass(pass);
-        self.add(&[
+fn raises(room: &mut CoreState, pass: u32, gauge: u32, value: u64) -> bool {
+    let who = Party::Pass(pass);
+    let ask = Ask { pass, gauge, value };
+    makes(
+        room,
+        &[
             Store { gauge, value },
             Read { who, gauge },
-            Ask { pass, gauge, value },
+            ask,
             Hush { gauge },
-        ])
-    }
+        ],
+    )
+}
 
-    fn begins(&mut self, scanner: u32, gauge: u32) -> Result<(), Fail> {
-        self.add(&[Hear { scanner, gauge }, Begin { scanner, gauge }])
-    }
+fn begins(room: &mut CoreState, scanner: u32, gauge: u32) -> bool {
+    makes(room, &[Hear { scanner, gauge }, Begin { scanner, gauge }])
+}
 
-    fn scans(&mut self, pass: u32, scanner: u32, gauge: u32) -> Result<(), Fail> {
-        self.begins(scanner, gauge)?;
-        self.add(&[Relieve { pass, gauge }])
-    }
+fn scans(room: &mut CoreState, pass: u32, scanner: u32, gauge: u32) -> bool {
+    begins(room, scanner, gauge) && makes_one(room, Relieve { pass, gauge })
+}
 
-    // The scanner meets the pass and learns these words.
-    fn learns(&mut self, scanner: u32, pass: u32, words: &[u32]) -> Result<(), Fail> {
-        self.add(&[Meet { scanner, pass }])?;
-        for at in words {
-            let at = *at;
-            self.add(&[Learn { scanner, pass, at }])?;
+// The scanner meets the pass and learns these words.
+fn learns(room: &mut CoreState, scanner: u32, pass: u32, words: &[u32]) -> bool {
+    if !makes_one(room, Meet { scanner, pass }) {
+        return false;
+    }
+    for at in words {
+        let at = *at;
+        if !makes_one(room, Learn { scanner, pass, at }) {
+            return false;
         }
-        Ok(())
     }
+    true
+}
 
-    fn lists(&mut self, scanner: u32, pass: u32, at: u32) -> Result<(), Fail> {
-        self.add(&[Mark { scanner, pass, at }, Marked { pass, at }])
-    }
+fn lists(room: &mut CoreState, scanner: u32, pass: u32, at: u32) -> bool {
+    makes(room, &[Mark { scanner, pass, at }, Marked { pass, at }])
+}
 
-    // The pass describes an operation and opens it; it is listed under its first need and under the clock.
-    fn opens(&mut self, pass: u32, words: &[u64]) -> Result<(), Fail> {
-        for (place, word) in words.iter().enumerate() {
-            let word = *word;
-            let at = u32::try_from(place)?;
-            self.add(&[Describe { pass, at, word }])?;
+fn describes(room: &mut CoreState, pass: u32, words: &[u64]) -> bool {
+    for (place, word) in words.iter().enumerate() {
+        let Ok(at) = u32::try_from(place) else {
+            return false;
+        };
+        let word = *word;
+        if !makes_one(room, Describe { pass, at, word }) {
+            return false;
         }
-        self.add(&[Open { pass }])?;
-        self.learns(0, pass, &[2, 3])?;
-        self.lists(0, pass, 0)?;
-        self.learns(CLOCK_SCANNER, pass, &[1])?;
-        self.lists(CLOCK_SCANNER, pass, CLOCK_MARK)
     }
+    makes_one(room, Open { pass })
+}
 
-    // An operation of one need is opened, and its check is left.
-    fn parks(&mut self, pass: u32, words: &[u64], gauge: u32) -> Result<(), Fail> {
-        self.opens(pass, words)?;
-        let who = Party::Pass(pass);
-        let clock = Leave {
-            who,
-            pass,
-            gauge: CLOCK,
-        };
-        self.add(&[Read { who, gauge }, clock])
-    }
+// The pass describes an operation and opens it; it is listed under its first need and under the clock.
+fn opens(room: &mut CoreState, pass: u32, words: &[u64]) -> bool {
+    describes(room, pass, words)
+        && learns(room, 0, pass, &[2, 3])
+        && lists(room, 0, pass, 0)
+        && learns(room, CLOCK_SCANNER, pass, &[1])
+        && lists(room, CLOCK_SCANNER, pass, CLOCK_MARK)
+}
 
-    // The scanner checks the operation of its duty, and wins it.
-    fn wins(&mut self, scanner: u32, pass: u32, gauge: u32, how: How) -> Result<(), Fail> {
-        let who = Party::Scanner(scanner);
-        self.learns(scanner, pass, &[0, 1, 2, 3, 4, 5])?;
-        self.add(&[Leave { who, pass, gauge }, Win { who, pass, how }])
-    }
+// An operation of one need is opened, and its check is left.
+fn parks(room: &mut CoreState, pass: u32, words: &[u64], gauge: u32) -> bool {
+    let who = Party::Pass(pass);
+    let clock = Leave {
+        who,
+        pass,
+        gauge: CLOCK,
+    };
+    opens(room, pass, words) && makes(room, &[Read { who, gauge }, clock])
+}
 
-    // A produce is parked, and a follower reaches it.
-    fn follows(&mut self) -> Result<(), Fail> {
-        self.raises(0, 0, 0)?;
-        self.raises(0, 1, 0)?;
-        self.raises(0, 2, 69)?;
-        self.scans(0, 0, 2)?;
-        self.parks(0, &[1, 1000, 1, 0, 0, 1], 0)?;
-        self.raises(1, 0, 0)?;
-        self.raises(1, 1, 0)?;
-        self.raises(1, 2, 69)?;
-        self.scans(1, 0, 2)?;
-        self.raises(1, 0, 1)?;
-        self.raises(1, 1, 69)?;
-        self.raises(1, 2, 69)?;
-        self.begins(0, 0)?;
-        self.wins(0, 0, 0, How::Satisfied)?;
-        self.add(&[Relieve { pass: 1, gauge: 0 }])?;
-        self.scans(1, 0, 1)?;
-        self.scans(1, 0, 2)
-    }
+// The scanner checks the operation of its duty, and wins it.
+fn wins(room: &mut CoreState, scanner: u32, pass: u32, gauge: u32, how: How) -> bool {
+    let who = Party::Scanner(scanner);
+    learns(room, scanner, pass, &[0, 1, 2, 3, 4, 5])
+        && makes(room, &[Leave { who, pass, gauge }, Win { who, pass, how }])
+}
 
-    // The follower's own fetch is parked, and its deadline comes.
-    fn expires(&mut self) -> Result<(), Fail> {
-        self.parks(1, &[1, 500, 1, 2, 69, 1048576], 2)?;
-        self.add(&[Peek { pass: 0 }, Idle { pass: 0 }, Peek { pass: 1 }])?;
-        self.raises(2, CLOCK, 499)?;
-        self.scans(2, CLOCK_SCANNER, CLOCK)?;
-        self.add(&[Peek { pass: 1 }])?;
-        self.raises(2, CLOCK, 500)?;
-        self.begins(CLOCK_SCANNER, CLOCK)?;
-        self.wins(CLOCK_SCANNER, 1, CLOCK, How::Expired)?;
-        let relieve = Relieve {
-            pass: 2,
-            gauge: CLOCK,
-        };
-        self.add(&[relieve, Peek { pass: 1 }, Idle { pass: 1 }])
-    }
+// A produce is parked.
+fn produces(room: &mut CoreState) -> bool {
+    raises(room, 0, 0, 0)
+        && raises(room, 0, 1, 0)
+        && raises(room, 0, 2, 69)
+        && scans(room, 0, 0, 2)
+        && parks(room, 0, &[1, 1000, 1, 0, 0, 1], 0)
+}
 
-    // The machine after these events.
-    fn run(&self, alloc: Global) -> Result<CoreState, Fail> {
-        Ok(run_events(alloc, PARTITION, &self.events)?)
-    }
+// A follower reaches it.
+fn follows(room: &mut CoreState) -> bool {
+    raises(room, 1, 0, 0)
+        && raises(room, 1, 1, 0)
+        && raises(room, 1, 2, 69)
+        && scans(room, 1, 0, 2)
+        && raises(room, 1, 0, 1)
+        && raises(room, 1, 1, 69)
+        && raises(room, 1, 2, 69)
+}
+
+// The produce is won.
+fn is_won(room: &mut CoreState) -> bool {
+    begins(room, 0, 0)
+        && wins(room, 0, 0, 0, How::Satisfied)
+        && makes_one(room, Relieve { pass: 1, gauge: 0 })
+        && scans(room, 1, 0, 1)
+        && scans(room, 1, 0, 2)
+}
+
+// The follower's own fetch is parked, and the clock is raised below its deadline.
+fn fetches(room: &mut CoreState) -> bool {
+    parks(room, 1, &[1, 500, 1, 2, 69, 1048576], 2)
+        && makes(
+            room,
+            &[Peek { pass: 0 }, Idle { pass: 0 }, Peek { pass: 1 }],
+        )
+        && raises(room, 2, CLOCK, 499)
+        && scans(room, 2, CLOCK_SCANNER, CLOCK)
+        && makes_one(room, Peek { pass: 1 })
+}
+
+// Its deadline comes.
+fn expires(room: &mut CoreState) -> bool {
+    let relieve = Relieve {
+        pass: 2,
+        gauge: CLOCK,
+    };
+    raises(room, 2, CLOCK, 500)
+        && begins(room, CLOCK_SCANNER, CLOCK)
+        && wins(room, CLOCK_SCANNER, 1, CLOCK, How::Expired)
+        && makes(room, &[relieve, Peek { pass: 1 }, Idle { pass: 1 }])
 }
 
 #[test]
-fn every_event_of_a_whole_run_is_made(rt: HostRuntime) -> Result<(), Fail> {
-    let mut script = Script::new(rt.alloc());
-    script.follows()?;
-    script.expires()?;
-    assert_eq!(rt; script.events.len(), 125);
-    let mut room = CoreState::start(rt.alloc(), PARTITION)?;
-    for event in &script.events {
-        assert!(rt; room.step(*event)?, "{event:?}");
-    }
+fn every_event_of_a_whole_run_is_made(rt: HostRuntime) {
+    let mut room = CoreState::start(rt.alloc(), PARTITION).expect(&rt, "memory");
+    assert!(rt; produces(&mut room));
+    assert!(rt; follows(&mut room));
+    assert!(rt; is_won(&mut room));
+    assert!(rt; fetches(&mut room));
+    assert!(rt; expires(&mut room));
     // each operation is over: the word of the second has generation 1, and that of the third has none
-    let mut after = script.run(rt.alloc())?;
-    assert!(rt; after.step(Part)?);
-    assert!(rt; !after.step(Peek { pass: 1 })?);
-    assert!(rt; !after.step(Idle { pass: 1 })?);
-    Ok(())
+    assert!(rt; makes_one(&mut room, Part));
+    assert!(rt; !makes_one(&mut room, Peek { pass: 1 }) && !makes_one(&mut room, Idle { pass: 1 }));
 }
 
+const REFUSED: &[CoreEvent] = &[
+    // loud, and no gauge
+    Store { gauge: 0, value: 6 },
+    Store { gauge: 4, value: 6 },
+    // not read
+    Ask {
+        pass: 0,
+        gauge: 0,
+        value: 5,
+    },
+    // of another scanner, and not heard
+    Hear {
+        scanner: CLOCK_SCANNER,
+        gauge: 0,
+    },
+    Begin {
+        scanner: 0,
+        gauge: 0,
+    },
+    // no pass, and not described
+    Relieve { pass: 3, gauge: 0 },
+    Marked { pass: 0, at: 0 },
+];
+
 #[test]
-fn what_is_not_allowed_is_not_made(rt: HostRuntime) -> Result<(), Fail> {
-    let mut room = CoreState::start(rt.alloc(), PARTITION)?;
-    assert!(rt; room.step(Store { gauge: 0, value: 5 })?);
-    let refused = [
-        // loud, and no gauge
-        Store { gauge: 0, value: 6 },
-        Store { gauge: 4, value: 6 },
-        // not read
-        Ask {
-            pass: 0,
-            gauge: 0,
-            value: 5,
-        },
-        // of another scanner, and not heard
-        Hear {
-            scanner: CLOCK_SCANNER,
-            gauge: 0,
-        },
-        Begin {
-            scanner: 0,
-            gauge: 0,
-        },
-        // no pass, and not described
-        Relieve { pass: 3, gauge: 0 },
-        Marked { pass: 0, at: 0 },
-    ];
-    for event in refused {
-        assert!(rt; !room.step(event)?, "{event:?}");
+fn what_is_not_allowed_is_not_made(rt: HostRuntime) {
+    let stored = [Store { gauge: 0, value: 5 }];
+    let mut room = run_events(rt.alloc(), PARTITION, &stored).expect(&rt, "memory");
+    for event in REFUSED {
+        assert!(rt; matches!(room.step(*event), Ok(false)));
     }
-    Ok(())
 }
 
 const TWO_NEEDS: [u64; 9] = [2, 1000, 2, 0, 0, 1, 1, 0, 1];
 
 #[test]
-fn a_check_with_a_gauge_unread_is_not_left(rt: HostRuntime) -> Result<(), Fail> {
-    let pass = 0;
-    let who = Party::Pass(pass);
-    let mut script = Script::new(rt.alloc());
-    script.opens(pass, &TWO_NEEDS)?;
-    script.learns(0, pass, &[2, 6])?;
-    script.lists(0, pass, 1)?;
-    script.add(&[Read { who, gauge: 0 }])?;
-    let mut room = script.run(rt.alloc())?;
+fn a_check_with_a_gauge_unread_is_not_left(rt: HostRuntime) {
+    let who = Party::Pass(0);
     let leave = Leave {
         who,
-        pass,
+        pass: 0,
         gauge: CLOCK,
     };
-    assert!(rt; !room.step(leave)?);
-    assert!(rt; room.step(Read { who, gauge: 1 })?);
-    assert!(rt; room.step(leave)?);
-    Ok(())
+    let mut room = CoreState::start(rt.alloc(), PARTITION).expect(&rt, "memory");
+    assert!(rt; opens(&mut room, 0, &TWO_NEEDS) && learns(&mut room, 0, 0, &[2, 6]));
+    assert!(rt; lists(&mut room, 0, 0, 1) && makes_one(&mut room, Read { who, gauge: 0 }));
+    assert!(rt; !makes_one(&mut room, leave));
+    assert!(rt; makes(&mut room, &[Read { who, gauge: 1 }, leave]));
 }
 
 #[test]
-fn a_scanner_with_a_gauge_unread_does_not_leave(rt: HostRuntime) -> Result<(), Fail> {
+fn a_scanner_with_a_gauge_unread_does_not_leave(rt: HostRuntime) {
     let who = Party::Scanner(0);
-    let mut script = Script::new(rt.alloc());
-    script.opens(0, &TWO_NEEDS)?;
-    script.raises(1, 0, 1)?;
-    script.begins(0, 0)?;
-    script.learns(0, 0, &[0, 1, 2, 3, 4, 5, 6, 7, 8])?;
-    let mut room = script.run(rt.alloc())?;
     let leave = Leave {
         who,
         pass: 0,
         gauge: 0,
     };
-    assert!(rt; !room.step(leave)?);
-    assert!(rt; room.step(Read { who, gauge: 1 })?);
-    assert!(rt; room.step(leave)?);
-    Ok(())
+    let mut room = CoreState::start(rt.alloc(), PARTITION).expect(&rt, "memory");
+    assert!(rt; opens(&mut room, 0, &TWO_NEEDS) && raises(&mut room, 1, 0, 1));
+    assert!(rt; begins(&mut room, 0, 0) && learns(&mut room, 0, 0, &[0, 1, 2, 3, 4, 5, 6, 7, 8]));
+    assert!(rt; !makes_one(&mut room, leave));
+    assert!(rt; makes(&mut room, &[Read { who, gauge: 1 }, leave]));
 }
 
 #[test]
-fn a_generation_is_won_once(rt: HostRuntime) -> Result<(), Fail> {
-    let how = How::Satisfied;
+fn a_generation_is_won_once(rt: HostRuntime) {
     let who = Party::Pass(0);
-    let mut script = Script::new(rt.alloc());
-    script.opens(0, &[1, 1000, 1, 0, 0, 1])?;
-    script.raises(1, 0, 1)?;
-    script.add(&[Read { who, gauge: 0 }])?;
-    script.begins(0, 0)?;
-    script.wins(0, 0, 0, how)?;
-    let mut room = script.run(rt.alloc())?;
+    let how = How::Satisfied;
+    let own = Win { who, pass: 0, how };
     let again = Win {
         who: Party::Scanner(0),
         pass: 0,
         how,
     };
-    assert!(rt; !room.step(again)?);
+    let mut room = CoreState::start(rt.alloc(), PARTITION).expect(&rt, "memory");
+    assert!(rt; opens(&mut room, 0, &[1, 1000, 1, 0, 0, 1]) && raises(&mut room, 1, 0, 1));
+    assert!(rt; makes_one(&mut room, Read { who, gauge: 0 }) && begins(&mut room, 0, 0));
+    assert!(rt; wins(&mut room, 0, 0, 0, how) && !makes_one(&mut room, again));
     // the owner tries too, and sees that it was won
-    assert!(rt; room.step(Win { who, pass: 0, how })?);
-    assert!(rt; !room.step(Win { who, pass: 0, how })?);
-    Ok(())
+    assert!(rt; makes_one(&mut room, own) && !makes_one(&mut room, own));
 }

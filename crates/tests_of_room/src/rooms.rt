@@ -40,51 +40,49 @@ fn done(how: How, by: u32) -> Option<Done> {
 }
 
 #[test]
-fn an_operation_waits_and_is_satisfied(rt: HostRuntime) -> Result<(), Fail> {
-    let (room, mut crew) = start(rt.alloc(), 20, 2)?;
-    let op = op_of(rt.alloc(), &[18], 5, 100)?;
-    assert_eq!(rt; crew.register(&rt, &room, 0, op), Some(Registered::Parked));
-    assert_eq!(rt; crew.poll(&room, 0), None);
+fn an_operation_waits_and_is_satisfied(rt: HostRuntime) {
+    let (room, mut crew) = start(rt.alloc(), 20, 2).expect(&rt, "memory");
+    let op = op_of(rt.alloc(), &[18], 5, 100).expect(&rt, "memory");
+    assert!(rt; crew.register(&rt, &room, 0, op) == Some(Registered::Parked));
     crew.raise(&rt, &room, 1, 18, 4);
-    assert_eq!(rt; crew.poll(&room, 0), None);
+    assert!(rt; crew.poll(&room, 0).is_none());
     crew.raise(&rt, &room, 1, 18, 5);
-    assert_eq!(rt; crew.poll(&room, 0), done(How::Satisfied, 2));
-    assert_eq!(rt; crew.gauge(&room, 0, 18), 5);
-    Ok(())
+    assert!(rt; crew.poll(&room, 0) == done(How::Satisfied, 2));
+    assert!(rt; crew.gauge(&room, 0, 18) == 5);
 }
 
 #[test]
-fn a_deadline_comes(rt: HostRuntime) -> Result<(), Fail> {
-    let (room, mut crew) = start(rt.alloc(), 4, 2)?;
-    let op = op_of(rt.alloc(), &[0, 1, 2], 5, 100)?;
-    assert_eq!(rt; crew.register(&rt, &room, 0, op), Some(Registered::Parked));
+fn a_deadline_comes(rt: HostRuntime) {
+    let (room, mut crew) = start(rt.alloc(), 4, 2).expect(&rt, "memory");
+    let op = op_of(rt.alloc(), &[0, 1, 2], 5, 100).expect(&rt, "memory");
+    assert!(rt; crew.register(&rt, &room, 0, op) == Some(Registered::Parked));
     crew.raise(&rt, &room, 1, 3, 99);
-    assert_eq!(rt; crew.poll(&room, 0), None);
+    assert!(rt; crew.poll(&room, 0).is_none());
     crew.raise(&rt, &room, 1, 3, 100);
-    assert_eq!(rt; crew.poll(&room, 0), done(How::Expired, 16));
-    Ok(())
+    assert!(rt; crew.poll(&room, 0) == done(How::Expired, 16));
 }
 
 #[test]
-fn what_is_satisfied_need_not_wait(rt: HostRuntime) -> Result<(), Fail> {
-    let (room, mut crew) = start(rt.alloc(), 4, 2)?;
+fn what_is_satisfied_need_not_wait(rt: HostRuntime) {
+    let (room, mut crew) = start(rt.alloc(), 4, 2).expect(&rt, "memory");
     crew.raise(&rt, &room, 0, 2, 5);
-    let op = op_of(rt.alloc(), &[0, 2], 5, 100)?;
-    let won = crew.register(&rt, &room, 1, op);
-    assert_eq!(rt; won, done(How::Satisfied, 18).map(Registered::Won));
-    Ok(())
+    let op = op_of(rt.alloc(), &[0, 2], 5, 100).expect(&rt, "memory");
+    let won = Done {
+        how: How::Satisfied,
+        by: 18,
+    };
+    assert!(rt; crew.register(&rt, &room, 1, op) == Some(Registered::Won(won)));
 }
 
 #[test]
-fn the_second_shard_wins(rt: HostRuntime) -> Result<(), Fail> {
-    let (room, mut crew) = start(rt.alloc(), 40, 2)?;
-    let op = op_of(rt.alloc(), &[3, 20], 5, 100)?;
-    assert_eq!(rt; crew.register(&rt, &room, 0, op), Some(Registered::Parked));
+fn the_second_shard_wins(rt: HostRuntime) {
+    let (room, mut crew) = start(rt.alloc(), 40, 2).expect(&rt, "memory");
+    let op = op_of(rt.alloc(), &[3, 20], 5, 100).expect(&rt, "memory");
+    assert!(rt; crew.register(&rt, &room, 0, op) == Some(Registered::Parked));
     crew.raise(&rt, &room, 1, 3, 3);
-    assert_eq!(rt; crew.poll(&room, 0), None);
+    assert!(rt; crew.poll(&room, 0).is_none());
     crew.raise(&rt, &room, 1, 20, 2);
-    assert_eq!(rt; crew.poll(&room, 0), done(How::Satisfied, 4));
-    Ok(())
+    assert!(rt; crew.poll(&room, 0) == done(How::Satisfied, 4));
 }
 
 // What all winners have won together.
@@ -97,37 +95,32 @@ fn sum_of(numbers: &List<u64>) -> u64 {
 }
 
 #[test]
-fn a_room_is_still_once_what_was_won_is_taken(rt: HostRuntime) -> Result<(), Fail> {
-    let (room, mut crew) = start(rt.alloc(), 20, 2)?;
-    let op = op_of(rt.alloc(), &[18], 5, 100)?;
-    assert_eq!(rt; crew.register(&rt, &room, 0, op), Some(Registered::Parked));
+fn a_room_is_still_once_what_was_won_is_taken(rt: HostRuntime) {
+    let (room, mut crew) = start(rt.alloc(), 20, 2).expect(&rt, "memory");
+    let op = op_of(rt.alloc(), &[18], 5, 100).expect(&rt, "memory");
+    assert!(rt; crew.register(&rt, &room, 0, op) == Some(Registered::Parked));
     crew.raise(&rt, &room, 1, 18, 5);
-    let whole = Whole::of(rt.alloc(), room, crew)?.ok_or("all passes and sources")?;
-    let mut whole = whole.close(&rt).err().ok_or("an end that isn't taken")?;
-    assert_eq!(rt;
-        whole.look(),
-        Ends {
-            count: 1,
-            last: done(How::Satisfied, 2)
-        }
-    );
-    let numbers = whole.close(&rt).ok().ok_or("a room that is still")?;
-    assert_eq!(rt; numbers.len(), 19);
-    assert_eq!(rt; numbers.get(2), Some(&1));
-    assert_eq!(rt; sum_of(&numbers), 1);
-    Ok(())
+    let whole = Whole::of(rt.alloc(), room, crew).expect(&rt, "memory");
+    let whole = whole.expect(&rt, "all passes and sources");
+    let mut whole = whole
+        .close(&rt)
+        .err()
+        .expect(&rt, "an end that isn't taken");
+    let ends = whole.look();
+    assert!(rt; ends.count == 1 && ends.last == done(How::Satisfied, 2));
+    let numbers = whole.close(&rt).ok().expect(&rt, "a room that is still");
+    assert!(rt; numbers.len() == 19 && numbers.get(2) == Some(&1) && sum_of(&numbers) == 1);
 }
 
 #[test]
-fn who_waits_unanswerably_keeps_no_room_from_being_still(rt: HostRuntime) -> Result<(), Fail> {
-    let (room, mut crew) = start(rt.alloc(), 20, 2)?;
-    let op = op_of(rt.alloc(), &[18], 5, 100)?;
-    assert_eq!(rt; crew.register(&rt, &room, 0, op), Some(Registered::Parked));
+fn one_that_waits_keeps_no_room_from_being_still(rt: HostRuntime) {
+    let (room, mut crew) = start(rt.alloc(), 20, 2).expect(&rt, "memory");
+    let op = op_of(rt.alloc(), &[18], 5, 100).expect(&rt, "memory");
+    assert!(rt; crew.register(&rt, &room, 0, op) == Some(Registered::Parked));
     crew.raise(&rt, &room, 1, 18, 4);
     crew.raise(&rt, &room, 1, 19, 99);
-    let whole = Whole::of(rt.alloc(), room, crew)?.ok_or("all passes and sources")?;
-    let numbers = whole.close(&rt).ok().ok_or("a room that is still")?;
-    assert_eq!(rt; numbers.len(), 19);
-    assert_eq!(rt; sum_of(&numbers), 0);
-    Ok(())
+    let whole = Whole::of(rt.alloc(), room, crew).expect(&rt, "memory");
+    let whole = whole.expect(&rt, "all passes and sources");
+    let numbers = whole.close(&rt).ok().expect(&rt, "a room that is still");
+    assert!(rt; numbers.len() == 19 && sum_of(&numbers) == 0);
 }

@@ -75,11 +75,9 @@ fn is_in_order(numbers: &Numbers, passes: u32) -> bool {
 }
 
 #[test]
-fn eight_threads_of_500_turns(rt: HostRuntime) -> Result<(), Fail> {
-    let numbers = add_in_threads(&rt, rt.alloc(), 8)?;
-    assert_eq!(rt; numbers.count(), 4_000);
-    assert!(rt; is_in_order(&numbers, 8));
-    Ok(())
+fn eight_threads_of_500_turns(rt: HostRuntime) {
+    let numbers = add_in_threads(&rt, rt.alloc(), 8).expect(&rt, "memory");
+    assert!(rt; numbers.count() == 4_000 && is_in_order(&numbers, 8));
 }
 
 // The one pass of a lock.
@@ -94,38 +92,34 @@ fn only_pass<T: Kept>(
 }
 
 #[test]
-fn a_take_in_mid_run(rt: HostRuntime) -> Result<(), Fail> {
+fn a_take_in_mid_run(rt: HostRuntime) {
     let numbers = Numbers {
         series: 1,
-        items: Vec::with_capacity(rt.alloc(), 2)?,
+        items: Vec::new(rt.alloc()),
     };
-    let (lock, passes) = TurnLock::make(rt.alloc(), numbers, 1)?;
-    let mut pass = only_pass(&lock, passes)?;
-    add_one(&rt, &lock, &mut pass, 5)?;
+    let (lock, passes) = TurnLock::make(rt.alloc(), numbers, 1).expect(&rt, "memory");
+    let mut pass = only_pass(&lock, passes).expect(&rt, "a pass");
+    assert!(rt; add_one(&rt, &lock, &mut pass, 5).is_ok());
     let mut turn = lock.turn(&rt, &mut pass);
     let added = turn.value_mut().add(6);
     let count = turn.value().count();
     let numbers = turn.take();
-    added?;
-    assert_eq!(rt; count, 2);
-    assert_eq!(rt; numbers.items.as_slice(), [5u64, 6].as_slice());
-    Ok(())
+    assert!(rt; added.is_ok() && count == 2 && numbers.items.as_slice() == [5u64, 6].as_slice());
 }
 
 #[test]
-fn a_value_without_entries(rt: HostRuntime) -> Result<(), Fail> {
+fn a_value_without_entries(rt: HostRuntime) {
     let shelf = Shelf {
         number: 7,
-        items: Vec::from_elem(rt.alloc(), 3, 2)?,
+        items: Vec::from_elem(rt.alloc(), 3, 2).expect(&rt, "memory"),
     };
-    let (lock, passes) = TurnLock::make(rt.alloc(), shelf, 1)?;
-    let mut pass = only_pass(&lock, passes)?;
+    let (lock, passes) = TurnLock::make(rt.alloc(), shelf, 1).expect(&rt, "memory");
+    let mut pass = only_pass(&lock, passes).expect(&rt, "a pass");
     let mut turn = lock.turn(&rt, &mut pass);
     let item = turn.value_mut().items.pop();
     lock.end(&mut pass, turn);
     let mut passes = List::new(rt.alloc());
-    passes.push(pass)?;
+    assert!(rt; passes.push(pass).is_ok());
     let shelf = lock.close(passes);
     assert!(rt; item == Some(3) && shelf.number == 7 && shelf.items.len() == 1);
-    Ok(())
 }

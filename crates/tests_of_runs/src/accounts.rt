@@ -1,6 +1,6 @@
 //! What is printed of the worked account of three calls that waited, put together by hand.
 ghost use Rattle.std.specs.Prelude.{◌≡◌, ◌∷◌, [], IfOk};
-ghost use Rattle.audit.specs.Worked.{three_waits, two_parts};
+ghost use Rattle.audit.specs.Worked.{cut_call, expired_call, parked_call, three_waits, two_parts};
 
 use account_print::{print_workers, workers_text};
 use audit::{
@@ -27,7 +27,7 @@ const FETCH_BOTH: [u8; 70] = [
     0, 1, 0, 0, 0, 0, 0, 0, 0, 0, 0, 0, 3, 232,
 ];
 
-// The reply to the call that expired has 49 bytes behind its size, and no records.
+// The reply to the call that expired has 49 bytes after its size, and no records.
 const PRINTED: &str = "\
 reply 0 000000310000000700000000000000010001740000000100000000000000000000000000000000000000000000ffffffff00000000
 end 2 no-memory
@@ -160,34 +160,49 @@ fn clock(alloc: Global) -> Result<List<ClockEvent>, NoMemory>
     )
 }
 
-fn passes(alloc: Global) -> Result<List<List<Transcript>>, NoMemory>
-    ensures { IfOk result (λ passes. passes ≡ (three_waits FETCH_ONE FETCH_BOTH).passes) }
+fn expired(alloc: Global) -> Result<Call, NoMemory>
+    ensures { IfOk result (λ call. call ≡ expired_call FETCH_ONE) }
 {
-    let expired = call_of(
+    call_of(
         alloc,
         &FETCH_ONE,
         &[at(0, 0), at(CLOCK_PART, 0)],
         &[at(CLOCK_PART, 3), at(0, 2)],
         CallHow::Expired { by: 0 },
-    )?;
-    let parked = call_of(
+    )
+}
+
+fn parked(alloc: Global) -> Result<Call, NoMemory>
+    ensures { IfOk result (λ call. call ≡ parked_call FETCH_ONE) }
+{
+    call_of(
         alloc,
         &FETCH_ONE,
         &[at(0, 4), at(CLOCK_PART, 5)],
         &[],
         CallHow::Parked,
-    )?;
-    let cut = call_of(
+    )
+}
+
+fn cut(alloc: Global) -> Result<Call, NoMemory>
+    ensures { IfOk result (λ call. call ≡ cut_call FETCH_BOTH) }
+{
+    call_of(
         alloc,
         &FETCH_BOTH,
         &[at(0, 1), at(1, 0), at(CLOCK_PART, 1)],
         &[at(CLOCK_PART, 4), at(0, 3)],
         CallHow::Cut { won: Some(0) },
-    )?;
+    )
+}
+
+fn passes(alloc: Global) -> Result<List<List<Transcript>>, NoMemory>
+    ensures { IfOk result (λ passes. passes ≡ (three_waits FETCH_ONE FETCH_BOTH).passes) }
+{
     let mut passes = List::new(alloc);
-    passes.push(pass_of(alloc, 0, expired, None)?)?;
-    passes.push(pass_of(alloc, 1, parked, None)?)?;
-    passes.push(pass_of(alloc, 2, cut, Some(SessionEnd::NoMemory))?)?;
+    passes.push(pass_of(alloc, 0, expired(alloc)?, None)?)?;
+    passes.push(pass_of(alloc, 1, parked(alloc)?, None)?)?;
+    passes.push(pass_of(alloc, 2, cut(alloc)?, Some(SessionEnd::NoMemory))?)?;
     Ok(passes)
 }
 
@@ -210,11 +225,15 @@ fn a_worked_account_is_told(rt: HostRuntime) -> Result<(), Fail> {
     let alloc = rt.alloc();
     let account = account(alloc)?;
     let mut out = Bytes::new(alloc);
-    print_workers(alloc, &account, &mut out)?;
-    assert_eq!(rt; out.as_slice(), PRINTED.as_bytes());
+    assert!(rt; print_workers(alloc, &account, &mut out).is_ok());
+    assert!(rt; out.as_slice() == PRINTED.as_bytes());
     for threads in 1..5 {
-        let text = workers_text(&rt, alloc, &account, threads)?;
-        assert_eq!(rt; text.as_slice(), PRINTED.as_bytes());
+        assert!(rt;
+            matches!(
+                workers_text(&rt, alloc, &account, threads),
+                Ok(text) if text.as_slice() == PRINTED.as_bytes()
+            )
+        );
     }
     Ok(())
 }

@@ -4,13 +4,10 @@ use shared_logs::{LogsEnd, SharedLogs};
 use std::test::*;
 
 #[test]
-fn closed_at_once(rt: HostRuntime) -> Result<(), Fail> {
-    let (logs, passes) = SharedLogs::make(rt.alloc(), &[1, 0], 2)?;
+fn closed_at_once(rt: HostRuntime) {
+    let (logs, passes) = SharedLogs::make(rt.alloc(), &[1, 0], 2).expect(&rt, "memory");
     let LogsEnd::Closed(closed) = logs.close(&rt, passes) else {
-        return Err("nothing was won".into());
+        panic!(rt; "nothing was won");
     };
-    assert_eq!(rt; closed.parts.len(), 2);
-    assert_eq!(rt; closed.clock.now(), 0);
-    assert_eq!(rt; closed.wins.len(), 19);
-    Ok(())
+    assert!(rt; closed.parts.len() == 2 && closed.clock.now() == 0 && closed.wins.len() == 19);
 }

@@ -1,4 +1,4 @@
-//! Who waits for what on one thread.
+//! Sessions that wait on one thread, by the calls of `lone_waiters`.
 ghost use Rattle.std.specs.Prelude.{◌≡◌, ℕ, ◌^◌, ◌<◌, ◌≤◌, All, IfOk};
 ghost use Rattle.lone_waiters.specs.Index.{last_of, moment_of};
 
@@ -8,7 +8,7 @@ use opcond::{Need, Op};
 use std::alloc::Global;
 use std::test::*;
 
-// An operation that waits for so many gauges, which stand in one shard.
+// An operation that waits for that many gauges, all of one shard.
 fn op_of(alloc: Global, gauges: u32, deadline: u64) -> Result<Op, NoMemory>
     requires { gauges ≤ 12 }
     ensures gauges { IfOk result (λ op. All (λ need. need.gauge < GAUGES) op.needs) }
@@ -50,17 +50,14 @@ fn all_wait(waiters: &mut Waiters, generation: u32, op: &Op)
 }
 
 #[test]
-fn a_set_of_sessions(rt: HostRuntime) -> Result<(), Fail> {
+fn a_set_of_sessions(rt: HostRuntime) {
     let mut set = SessionSet::none();
-    assert_eq!(rt; set.least(), None);
+    assert!(rt; set.least().is_none());
     set.insert(63);
     set.insert(5);
-    assert_eq!(rt; set.least(), Some(5));
-    assert_eq!(rt; set.least_from(6), Some(63));
-    assert!(rt; set.has(63));
+    assert!(rt; set.least() == Some(5) && set.least_from(6) == Some(63) && set.has(63));
     set.remove(63);
-    assert_eq!(rt; set.least_from(6), None);
-    Ok(())
+    assert!(rt; set.least_from(6).is_none());
 }
 
 // Session 3 waits and is looked at: the least suspect after each step.
@@ -81,10 +78,9 @@ fn least_in_a_wait(alloc: Global) -> Result<[Option<u32>; 4], NoMemory> {
 }
 
 #[test]
-fn a_session_waits(rt: HostRuntime) -> Result<(), Fail> {
-    let found = least_in_a_wait(rt.alloc()).ok().ok_or("memory")?;
-    assert_eq!(rt; found, [Some(3), None, Some(3), None]);
-    Ok(())
+fn a_session_waits(rt: HostRuntime) {
+    let found = least_in_a_wait(rt.alloc()).expect(&rt, "memory");
+    assert!(rt; found == [Some(3), None, Some(3), None]);
 }
 
 // All sessions wait, twice, and two gauges rise: the least suspect after each, and the last one.
@@ -103,8 +99,7 @@ fn least_after_rises(alloc: Global) -> Result<[Option<u32>; 3], NoMemory> {
 }
 
 #[test]
-fn all_sessions_wait_for_one_gauge(rt: HostRuntime) -> Result<(), Fail> {
-    let found = least_after_rises(rt.alloc()).ok().ok_or("memory")?;
-    assert_eq!(rt; found, [None, Some(0), Some(63)]);
-    Ok(())
+fn all_sessions_wait_for_one_gauge(rt: HostRuntime) {
+    let found = least_after_rises(rt.alloc()).expect(&rt, "memory");
+    assert!(rt; found == [None, Some(0), Some(63)]);
 }

@@ -1,11 +1,14 @@
 //! Workers meet, and the account of a run on one of them.
+ghost use Rattle.std.specs.Prelude.{◌≤◌};
 
 use audit::{Account, Call, CallHow};
-use kbytes::Bytes;
+use kbytes::{Bytes, NoMemory};
 use std::alloc::Global;
+use std::sync::Wait;
 use std::sync::atomic::{AtomicBool, AtomicU64, Ordering};
 use std::test::*;
 use std::thread;
+use std::thread::Threads;
 use std::time::{Clock, Duration};
 use trace_file::read_trace;
 use trace_workers::{Gate, NoGate, run_lines};
@@ -13,7 +16,7 @@ use trace_workers::{Gate, NoGate, run_lines};
 // A batch of one record, whose value is `a`.
 const A: &str =
     "0000000000000000000000390000000002dbe9c87600000000000000000000000000000000000000000000ffffffffffffffffffffffffffff000000010e00000001026100";
-// What stands before it in a produce with acks 1 to t/0, and to t/1.
+// What comes before it in a produce with acks 1 to t/0, and to t/1.
 const TO_0: &str =
     "0000006b0000000300000003000163ffff0001000003e800000001000174000000010000000000000045";
 
@@ -34,7 +37,7 @@ const BEHIND: &str =
 
 const TOPIC: &str = "topic t 2 0\n";
 
-fn joined(alloc: Global, pieces: &[&str]) -> Result<Bytes, Fail> {
+fn joined(alloc: Global, pieces: &[&str]) -> Result<Bytes, NoMemory> {
     let mut text = Bytes::new(alloc);
     for piece in pieces {
         text.extend(piece.as_bytes())?;
@@ -42,11 +45,38 @@ fn joined(alloc: Global, pieces: &[&str]) -> Result<Bytes, Fail> {
     Ok(text)
 }
 
+// Runs the trace of these pieces on workers.
+fn account_of<R: Threads + Wait + Sync, G: Gate + Sync>(
+    rt: &R,
+    alloc: Global,
+    pieces: &[&str],
+    workers: u32,
+    drain: bool,
+    gate: &G,
+) -> Option<Account>
+    requires { (1 ≤ workers) × (workers ≤ 16) }
+{
+    let text = joined(alloc, pieces).ok()?;
+    let lines = read_trace(alloc, text.as_slice(), false).ok()?;
+    run_lines(rt, alloc, lines.as_slice(), 9092, workers, drain, gate).ok()
+}
+
 // The calls of the one transcript of a pass.
-fn calls_of(account: &Account, pass: usize) -> Result<&[Call], Fail> {
-    let transcripts = account.passes.get(pass).ok_or("a pass")?;
-    let transcript = transcripts.get(0).ok_or("a transcript")?;
-    Ok(transcript.calls.as_slice())
+fn calls_of(account: &Account, pass: usize) -> &[Call] {
+    let Some(transcripts) = account.passes.get(pass) else {
+        return &[];
+    };
+    match transcripts.as_slice() {
+        [transcript] => transcript.calls.as_slice(),
+        _ => &[],
+    }
+}
+
+fn how_of(account: &Account, pass: usize, call: usize) -> Option<CallHow> {
+    match calls_of(account, pass).get(call) {
+        Some(call) => Some(call.how),
+        None => None,
+    }
 }
 
 const TRIES: u32 = 20_000;
@@ -57,7 +87,7 @@ struct Meeting<'a, C> {
     clock: &'a C,
     first: AtomicBool,
     second: AtomicBool,
-    // who waited in vain
+    // how many waited in vain
     alone: AtomicU64,
 }
 
@@ -79,84 +109,66 @@ impl<C: Clock> Gate for Meeting<'_, C> {
 }
 
 #[test]
-fn two_workers_meet(rt: HostRuntime) -> Result<(), Fail> {
-    let alloc = rt.alloc();
-    let text = joined(
-        alloc,
-        &[
-            TOPIC,
-            "bytes 0 ",
-            FROM_0,
-            TO_1,
-            A,
-            "\nbytes 1 ",
-            FROM_1,
-            "\nbytes 2 ",
-            TO_0,
-            A,
-            "\nend\n",
-        ],
-    )?;
-    let lines = read_trace(alloc, text.as_slice(), false)?;
+fn two_workers_meet(rt: HostRuntime) {
     let gate = Meeting {
         clock: &rt,
         first: AtomicBool::new(false),
         second: AtomicBool::new(false),
         alone: AtomicU64::new(0),
     };
-    let account = run_lines(&rt, alloc, lines.as_slice(), 9092, 2, false, &gate)?;
-    assert_eq!(rt; gate.alone.load(Ordering::SeqCst), 0);
-    assert_eq!(rt; account.passes.len(), 4);
-    assert_eq!(rt; calls_of(&account, 0)?.len(), 2);
-    assert_eq!(rt; calls_of(&account, 1)?.len(), 1);
-    assert_eq!(rt; calls_of(&account, 2)?.len(), 1);
-    Ok(())
+    let pieces = [
+        TOPIC,
+        "bytes 0 ",
+        FROM_0,
+        TO_1,
+        A,
+        "\nbytes 1 ",
+        FROM_1,
+        "\nbytes 2 ",
+        TO_0,
+        A,
+        "\nend\n",
+    ];
+    let account = account_of(&rt, rt.alloc(), &pieces, 2, false, &gate).expect(&rt, "memory");
+    assert!(rt; gate.alone.load(Ordering::SeqCst) == 0);
+    assert!(rt; account.passes.len() == 4 && calls_of(&account, 0).len() == 2);
+    assert!(rt; calls_of(&account, 1).len() == 1 && calls_of(&account, 2).len() == 1);
 }
 
 #[test]
-fn who_wins_on_one_worker(rt: HostRuntime) -> Result<(), Fail> {
-    let alloc = rt.alloc();
-    let text = joined(
-        alloc,
-        &[
-            TOPIC,
-            "bytes 0 ",
-            FROM_0,
-            TO_1,
-            A,
-            "\nbytes 1 ",
-            TO_0,
-            A,
-            "\nbytes 2 ",
-            AT_ONCE,
-            "\nbytes 2 ",
-            BEHIND,
-            "\nclock 100\nend\n",
-        ],
-    )?;
-    let lines = read_trace(alloc, text.as_slice(), false)?;
-    let account = run_lines(&rt, alloc, lines.as_slice(), 9092, 1, false, &NoGate)?;
-    let fetched = calls_of(&account, 0)?.get(0).ok_or("a fetch")?;
-    assert_eq!(rt; fetched.how, CallHow::Satisfied { by: 1 });
-    let waited = calls_of(&account, 2)?.get(1).ok_or("a fetch")?;
-    assert_eq!(rt; waited.how, CallHow::Expired { by: 16 });
+fn who_wins_on_one_worker(rt: HostRuntime) {
+    let pieces = [
+        TOPIC,
+        "bytes 0 ",
+        FROM_0,
+        TO_1,
+        A,
+        "\nbytes 1 ",
+        TO_0,
+        A,
+        "\nbytes 2 ",
+        AT_ONCE,
+        "\nbytes 2 ",
+        BEHIND,
+        "\nclock 100\nend\n",
+    ];
+    let account = account_of(&rt, rt.alloc(), &pieces, 1, false, &NoGate).expect(&rt, "memory");
+    assert!(rt; how_of(&account, 0, 0) == Some(CallHow::Satisfied { by: 1 }));
+    assert!(rt; how_of(&account, 2, 1) == Some(CallHow::Expired { by: 16 }));
     let mut wins = [0; 21];
     wins[1] = 1;
     wins[16] = 1;
-    assert_eq!(rt; account.wins.as_slice(), wins.as_slice());
-    Ok(())
+    assert!(rt; account.wins.as_slice() == wins.as_slice());
 }
 
 #[test]
-fn nobody_waits_where_a_run_is_drained(rt: HostRuntime) -> Result<(), Fail> {
-    let alloc = rt.alloc();
-    let text = joined(alloc, &[TOPIC, "bytes 0 ", FROM_0, "\nclock 30\nend\n"])?;
-    let lines = read_trace(alloc, text.as_slice(), false)?;
-    let kept = run_lines(&rt, alloc, lines.as_slice(), 9092, 1, false, &NoGate)?;
-    let waits = calls_of(&kept, 0)?.get(0).ok_or("a fetch")?;
-    assert_eq!(rt; waits.how, CallHow::Parked);
-    let drained = run_lines(&rt, alloc, lines.as_slice(), 9092, 1, true, &NoGate)?;
-    let ended = calls_of(&drained, 0)?.get(0).ok_or("a fetch")?;
-    assert_eq!(rt; ended.how, CallHow::Expired { by: 16 });
-    Ok(())
+fn nobody_waits_where_a_run_is_drained(rt: HostRuntime) {
+    let pieces = [TOPIC, "bytes 0 ", FROM_0, "\nclock 30\nend\n"];
+    for (drain, how) in [
+        (false, CallHow::Parked),
+        (true, CallHow::Expired { by: 16 }),
+    ] {
+        let account = account_of(&rt, rt.alloc(), &pieces, 1, drain, &NoGate).expect(&rt, "memory");
+        assert!(rt; how_of(&account, 0, 0) == Some(how));
+    }
 }

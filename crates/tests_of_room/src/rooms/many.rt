@@ -1,116 +1,73 @@
-//! Eight threads with sixty passes on one room.
-ghost use Rattle.std.specs.Prelude.{◌≡◌, ◌<◌, All, IfOk, IfSome};
+//! Eight threads in a ring on one room: in each round every thread waits until the next one has raised its gauge.
+ghost use Rattle.std.specs.Prelude.{◌≡◌, All, IfOk};
 ghost use Rattle.std.specs.Thread.{IsSync};
 ghost use Rattle.tests_of_room.specs.Crews.{IsCrewOf};
 
-use super::crew::{Counts, Crew, halves, joined, start};
-use super::whole::Whole;
-use super::{add_need, sum_of};
+use super::crew::{Crew, halves, start};
+use super::op_of;
 use kbytes::NoMemory;
 use opcond::Op;
-use purgatory::Room;
+use purgatory::{Registered, Room};
 use std::alloc::Global;
 use std::sync::Wait;
 use std::test::*;
 use std::thread::{Threads, map_vec};
-use std::time::{Clock, Duration, Instant};
+use std::time::Duration;
 
-// The last is the clock.
-const GAUGES: u32 = 25;
+const THREADS: u32 = 8;
 
-const PASSES: u32 = 60;
+const ROUNDS: u64 = 200;
 
-const MOST_ROUNDS: u64 = 1_000_000_000;
+// Nobody raises the clock.
+const NEVER: u64 = 1 << 40;
 
-// Random numbers, by Marsaglia's shifts.
-#[derive(Drop)]
-struct Draws {
-    state: u64,
-}
+// A thread looks at most this many times for the end of an operation, for 10 milliseconds each time.
+const LOOKS: u32 = 3_000;
 
-impl Draws {
-    fn draw(&mut self, below: u64) -> u64
-        requires { 0 < below }
-        ensures { result < below }
-    {
-        self.state ^= self.state << 13;
-        self.state ^= self.state >> 7;
-        self.state ^= self.state << 17;
-        (self.state >> 8) % below
-    }
-}
-
-// An operation with up to five needs of what gauges have from now on, and a deadline soon.
-fn random_op(
-    alloc: Global,
-    room: &Room,
-    crew: &mut Crew,
-    hand: usize,
-    draws: &mut Draws,
-) -> Result<Op, NoMemory>
+// Whether the operation of the first pass ends.
+fn ends(rt: &impl Wait, room: &Room, crew: &mut Crew) -> bool
     requires { IsCrewOf room.now crew.old }
     ensures { IsCrewOf room.now crew.new }
 {
-    let moment = crew.gauge(room, hand, GAUGES - 1);
-    let least = 1 + draws.draw(30);
-    let mut op = Op::new(alloc, least, moment.saturating_add(draws.draw(200)));
-    for _ in 0..draws.draw(6) {
-        let gauge = draws.draw(u64::from(GAUGES - 1)) as u32;
-        let start = crew.gauge(room, hand, gauge);
-        add_need(&mut op, gauge, start, 1 + draws.draw(20))?;
+    for _ in 0..LOOKS {
+        if crew.poll(room, 0).is_some() {
+            return true;
+        }
+        crew.wait(rt, room, 0, Duration::from_millis(10));
     }
-    Ok(op)
+    false
 }
 
-// One of the passes looks, or registers an operation, and raises one of the gauges.
-fn acts(
-    rt: &impl Wait,
-    alloc: Global,
-    room: &Room,
-    crew: &mut Crew,
-    draws: &mut Draws,
-) -> Result<(), NoMemory>
+// One round: an operation needs the next gauge at this value, and the own gauge is raised to it. Whether the operation ends.
+fn is_answered(rt: &impl Wait, room: &Room, crew: &mut Crew, value: u64, op: Op) -> bool
     requires { IsCrewOf room.now crew.old }
     ensures { IsCrewOf room.now crew.new }
 {
-    let size = crew.size();
-    if size == 0 {
-        return Ok(());
+    let registered = crew.register(rt, room, 0, op);
+    crew.raise(rt, room, 0, 0, value);
+    match registered {
+        Some(Registered::Won(_)) => true,
+        Some(Registered::Parked) => ends(rt, room, crew),
+        None => false,
     }
-    let hand = draws.draw(size as u64) as usize;
-    if crew.waits(hand) {
-        crew.look(room, hand);
-    } else {
-        let op = random_op(alloc, room, crew, hand, draws)?;
-        crew.begin(rt, room, hand, op);
-    }
-    crew.raise_by(rt, room, hand, draws.draw(100) as usize, draws.draw(4));
-    Ok(())
 }
 
-// For two seconds.
-fn runs(rt: &(impl Wait + Clock), alloc: Global, room: &Room, mut crew: Crew) -> Crew
+// All rounds of one thread, up to one that isn't answered.
+fn runs(rt: &impl Wait, alloc: Global, room: &Room, mut crew: Crew) -> bool
     requires { IsCrewOf room.now crew }
-    ensures { IsCrewOf room.now result }
 {
-    let Ok(start) = Instant::now(rt) else {
-        return crew;
-    };
-    let mut draws = Draws {
-        state: 88_172_645_463_325_252 ^ (crew.size() as u64),
-    };
-    for _ in 0..MOST_ROUNDS {
-        if !start
-            .elapsed(rt)
-            .is_ok_and(|time| time < Duration::from_secs(2))
-        {
-            return crew;
-        }
-        if acts(rt, alloc, room, &mut crew, &mut draws).is_err() {
-            return crew;
+    let next = crew
+        .first_gauge()
+        .map_or(0, |gauge| gauge.wrapping_add(1) % THREADS);
+    for value in 1..ROUNDS {
+        let Ok(op) = op_of(alloc, &[next], value, NEVER) else {
+            return false;
+        };
+        if !is_answered(rt, room, &mut crew, value, op) {
+            return false;
         }
     }
-    crew
+    true
 }
 
 // Two crews of each.
@@ -127,39 +84,7 @@ fn halved(alloc: Global, room: &Room, mut crews: Vec<Crew>) -> Result<Vec<Crew>,
     Ok(more)
 }
 
-// The counts of a crew, where none of its operations that still waits is answerable, and how many do.
-fn ended(room: &Room, crew: &mut Crew) -> Option<(Counts, u32)>
-    requires { IsCrewOf room.now crew.old }
-    ensures { IsCrewOf room.now crew.new }
-{
-    let mut waiting = 0u32;
-    for hand in 0..crew.size() {
-        crew.look(room, hand);
-        if crew.forgets(room, hand) {
-            return None;
-        }
-        if crew.waits(hand) {
-            waiting = waiting.saturating_add(1);
-        }
-    }
-    Some((crew.counts(), waiting))
-}
-
-// One crew of all.
-fn gathered(room: &Room, mut crews: Vec<Crew>) -> Result<Option<Crew>, NoMemory>
-    requires { All (IsCrewOf room.now) crews.items }
-    ensures { IfOk result (λ crew. IfSome crew (IsCrewOf room.now)) }
-{
-    let Some(mut all) = crews.pop() else {
-        return Ok(None);
-    };
-    while let Some(crew) = crews.pop() {
-        all = joined(room, all, crew)?;
-    }
-    Ok(Some(all))
-}
-
-// Eight crews.
+// Eight crews, each with a pass and a source. One has the clock's too.
 fn dealt(alloc: Global, room: &Room, crew: Crew) -> Result<Vec<Crew>, NoMemory>
     requires { IsCrewOf room.now crew }
     ensures { IfOk result (λ crews. All (IsCrewOf room.now) crews.items) }
@@ -171,85 +96,32 @@ fn dealt(alloc: Global, room: &Room, crew: Crew) -> Result<Vec<Crew>, NoMemory>
     halved(alloc, room, four)
 }
 
-// What is so of the room once all threads are joined.
-#[derive(Drop)]
-struct Outcome {
-    counts: Counts,
-    // how many operations still waited, none of which was answerable
-    waiting: u32,
-    // how many ends of operations were taken once the clock had come to every deadline
-    taken: u32,
-    // what all winners have won together
-    sum: u64,
-}
-
-// Nobody is forgotten. Then the clock comes to every deadline, and the room is closed.
-fn judged(
-    rt: &impl Wait,
-    alloc: Global,
-    room: Room,
-    mut crew: Crew,
-) -> Result<Option<Outcome>, NoMemory>
-    requires { IsCrewOf room crew }
-{
-    let Some((counts, waiting)) = ended(&room, &mut crew) else {
-        return Ok(None);
-    };
-    crew.raise_all(rt, &room, 1_000);
-    let Some(whole) = Whole::of(alloc, room, crew)? else {
-        return Ok(None);
-    };
-    let Some((numbers, taken)) = whole.close_in_time(rt) else {
-        return Ok(None);
-    };
-    Ok(Some(Outcome {
-        counts,
-        waiting,
-        taken,
-        sum: sum_of(&numbers),
-    }))
-}
-
-// A thread for each, and then the end of all.
-fn run_all<R: Threads + Wait + Clock + Sync>(
+// A thread for each. Whether all rounds were answered.
+fn run_all<R: Threads + Wait + Sync>(
     rt: &R,
     alloc: Global,
     room: Room,
     crews: Vec<Crew>,
-) -> Result<Option<Outcome>, NoMemory>
+) -> Result<bool, NoMemory>
     requires { All (IsCrewOf room) crews.items }
 {
     let done = map_vec(
         rt,
         crews,
-        &|crew: Crew| -> Crew
+        &|crew: Crew| -> bool
             requires { IsSync R.row × IsCrewOf room crew }
-            ensures { IsCrewOf room result }
         { runs(rt, alloc, &room, crew) },
     )?;
-    let Some(crew) = gathered(&room, done)? else {
-        return Ok(None);
-    };
-    judged(rt, alloc, room, crew)
+    Ok(done.len() == THREADS as usize && done.iter().all(|answered| *answered))
 }
 
-fn run_in_threads<R: Threads + Wait + Clock + Sync>(
-    rt: &R,
-    alloc: Global,
-) -> Result<Option<Outcome>, NoMemory> {
-    let (room, crew) = start(alloc, GAUGES, PASSES)?;
+fn run_in_threads<R: Threads + Wait + Sync>(rt: &R, alloc: Global) -> Result<bool, NoMemory> {
+    let (room, crew) = start(alloc, THREADS + 1, THREADS)?;
     let crews = dealt(alloc, &room, crew)?;
     run_all(rt, alloc, room, crews)
 }
 
 #[test]
-fn eight_threads_with_sixty_passes(rt: HostRuntime) -> Result<(), Fail> {
-    let run = run_in_threads(&rt, rt.alloc())?.ok_or("nobody forgotten, and a room that is still")?;
-    let counts = run.counts;
-    assert!(rt; counts.parked > 0 && counts.won > 0);
-    assert_eq!(rt; counts.parked, counts.ended.saturating_add(run.waiting));
-    assert_eq!(rt; counts.wrong, 0);
-    assert_eq!(rt; run.taken, run.waiting);
-    assert_eq!(rt; run.sum, u64::from(counts.parked) + u64::from(counts.won));
-    Ok(())
+fn eight_threads_wait_for_each_other(rt: HostRuntime) {
+    assert!(rt; matches!(run_in_threads(&rt, rt.alloc()), Ok(true)));
 }

@@ -5,7 +5,7 @@ ghost use Rattle.tests_of_room.specs.Crews.{IsCrewOf};
 use super::crew::{Crew, start};
 use super::op_of;
 use kbytes::NoMemory;
-use purgatory::Room;
+use purgatory::{Registered, Room};
 use std::alloc::Global;
 use std::sync::Wait;
 use std::test::*;
@@ -15,7 +15,7 @@ const OF_ONE_SHARD: [u32; 12] = [0, 16, 32, 48, 64, 80, 96, 112, 128, 144, 160, 
 
 const CLOCK: usize = 192;
 
-// So many passes have an operation each that is listed under all gauges of a shard.
+// That many passes register an operation each, which is listed under all gauges of a shard. How many wait.
 fn register_all(
     rt: &impl Wait,
     alloc: Global,
@@ -23,74 +23,85 @@ fn register_all(
     crew: &mut Crew,
     passes: usize,
     deadline: u64,
-) -> Result<(), NoMemory>
+) -> Result<u32, NoMemory>
     requires { IsCrewOf room.now crew.old }
     ensures { IsCrewOf room.now crew.new }
 {
+    let mut parked = 0u32;
     for hand in 0..passes {
         let op = op_of(alloc, &OF_ONE_SHARD, 5, deadline)?;
-        crew.begin(rt, room, hand, op);
+        if crew.register(rt, room, hand, op) == Some(Registered::Parked) {
+            parked = parked.saturating_add(1);
+        }
     }
-    Ok(())
+    Ok(parked)
 }
 
-fn look_at_all(room: &Room, crew: &mut Crew)
+// How many operations have ended since the last look.
+fn look_at_all(room: &Room, crew: &mut Crew) -> u32
     requires { IsCrewOf room.now crew.old }
     ensures { IsCrewOf room.now crew.new }
 {
+    let mut ended = 0u32;
     for hand in 0..crew.size() {
-        crew.look(room, hand);
+        if crew.poll(room, hand).is_some() {
+            ended = ended.saturating_add(1);
+        }
     }
+    ended
 }
 
 // 70 passes have 840 entries; 70 operations expire, whose entries are stale. The next 80 find the shard full of them.
 #[test]
-fn a_full_shard_loses_no_open_operation(rt: HostRuntime) -> Result<(), Fail> {
-    let (room, mut crew) = start(rt.alloc(), 193, 80)?;
-    register_all(&rt, rt.alloc(), &room, &mut crew, 70, 10)?;
+fn a_full_shard_loses_no_open_operation(rt: HostRuntime) {
+    let (room, mut crew) = start(rt.alloc(), 193, 80).expect(&rt, "memory");
+    assert!(rt;
+        matches!(
+            register_all(&rt, rt.alloc(), &room, &mut crew, 70, 10),
+            Ok(70)
+        )
+    );
     crew.raise(&rt, &room, 79, CLOCK, 10);
-    look_at_all(&room, &mut crew);
-    assert_eq!(rt; crew.counts().ended, 70);
-    register_all(&rt, rt.alloc(), &room, &mut crew, 80, 20)?;
-    assert_eq!(rt; crew.counts().parked, 150);
+    assert!(rt; look_at_all(&room, &mut crew) == 70);
+    assert!(rt;
+        matches!(
+            register_all(&rt, rt.alloc(), &room, &mut crew, 80, 20),
+            Ok(80)
+        )
+    );
     crew.raise(&rt, &room, 79, 176, 5);
-    look_at_all(&room, &mut crew);
-    assert_eq!(rt; crew.counts().ended, 150);
-    assert_eq!(rt; crew.counts().wrong, 0);
-    Ok(())
+    assert!(rt; look_at_all(&room, &mut crew) == 80);
 }
 
-// So many milliseconds, each far past the one before.
+// In milliseconds, each far past the one before.
 const DEADLINES: [u64; 6] = [1, 70, 5_000, 300_000, 20_000_000, 1 << 40];
 
-// A pass has an operation without needs for each deadline.
+// A pass has an operation without needs for each deadline. How many wait.
 fn register_each(
     rt: &impl Wait,
     alloc: Global,
     room: &Room,
     crew: &mut Crew,
-) -> Result<(), NoMemory>
+) -> Result<u32, NoMemory>
     requires { IsCrewOf room.now crew.old }
     ensures { IsCrewOf room.now crew.new }
 {
+    let mut parked = 0u32;
     for hand in 0..DEADLINES.len() {
         let op = op_of(alloc, &[], 1, DEADLINES[hand])?;
-        crew.begin(rt, room, hand, op);
+        if crew.register(rt, room, hand, op) == Some(Registered::Parked) {
+            parked = parked.saturating_add(1);
+        }
     }
-    Ok(())
+    Ok(parked)
 }
 
 #[test]
-fn the_clock_jumps_far(rt: HostRuntime) -> Result<(), Fail> {
-    let (room, mut crew) = start(rt.alloc(), 1, 7)?;
-    register_each(&rt, rt.alloc(), &room, &mut crew)?;
-    assert_eq!(rt; crew.counts().parked, 6);
+fn the_clock_jumps_far(rt: HostRuntime) {
+    let (room, mut crew) = start(rt.alloc(), 1, 7).expect(&rt, "memory");
+    assert!(rt; matches!(register_each(&rt, rt.alloc(), &room, &mut crew), Ok(6)));
     crew.raise(&rt, &room, 6, 0, 299_999);
-    look_at_all(&room, &mut crew);
-    assert_eq!(rt; crew.counts().ended, 3);
+    assert!(rt; look_at_all(&room, &mut crew) == 3);
     crew.raise(&rt, &room, 6, 0, 1 << 41);
-    look_at_all(&room, &mut crew);
-    assert_eq!(rt; crew.counts().ended, 6);
-    assert_eq!(rt; crew.counts().wrong, 0);
-    Ok(())
+    assert!(rt; look_at_all(&room, &mut crew) == 3);
 }

@@ -10,9 +10,6 @@ use std::alloc::Global;
 use std::marker::Model;
 use std::sync::Wait;
 
-// So often a room is asked for its end.
-const ASKED: u32 = 3;
-
 #[derive(Drop)]
 pub(super) struct Whole {
     room: Room,
@@ -103,21 +100,5 @@ impl Whole {
                 sources,
             }),
         }
-    }
-
-    // Looks until the room is still: how many operations each winner has won, and of how many the end was taken meanwhile.
-    pub(super) fn close_in_time(self, rt: &impl Wait) -> Option<(List<u64>, u32)> {
-        let mut whole = self;
-        let mut taken = 0u32;
-        for _ in 0..ASKED {
-            match whole.close(rt) {
-                Ok(numbers) => return Some((numbers, taken)),
-                Err(again) => {
-                    whole = again;
-                    taken = taken.saturating_add(whole.look().count);
-                }
-            }
-        }
-        None
     }
 }

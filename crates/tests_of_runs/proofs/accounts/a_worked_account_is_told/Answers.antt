@@ -26,7 +26,6 @@ told one both lawful = record {
     told = (λ e. absurd cc, ((λ e. absurd cc), ((λ e. absurd cc), tt)));
     once = numbered_apart one both;
   };
-  declared = record { each = ((omega arith, omega arith, omega arith), tt); few = omega arith };
   numbered = (omega arith, (omega arith, (omega arith, tt)));
 }
 

@@ -1,0 +1,247 @@
+//! What becomes of one partition, what is read of it, a request that waits, and the reply where one of two partitions is full.
+ghost use Rattle.std.specs.Prelude.{◌≡◌, length, IfOk};
+ghost use Rattle.kanswer.specs.LogReadings.{named_count};
+
+use crate::samples::{LONG_FRONT, ONE};
+use kanswer::{
+    Accepted, Budget, Entered, Terms, answer, decide_put, enter_batch, enter_fetch, is_quiet,
+    needs_op, op_of, read_asked, read_nothing, read_numbers, read_part, value_of_gauge,
+};
+use kbatch::view_batch;
+use kbytes::{List, NoMemory};
+use kwire::{AskView, Config, FetchPart, ProducePartView, ProduceTopicView, RequestView, Told};
+use partlog::{PartEvent, PartLog, Who};
+use std::alloc::{AllocError, Global};
+use std::test::*;
+
+const WHO: Who = Who { by: 3, seq: 7 };
+
+// A limit of 1 byte: the first batch is given whole, and nothing after it.
+#[test]
+fn one_batch_at_least(rt: HostRuntime) {
+    let batch = view_batch(&ONE).expect(&rt, "a batch");
+    let mut log = PartLog::new(rt.alloc(), 0).expect(&rt, "memory");
+    assert!(rt; log.append_view(WHO, &batch).is_ok() && log.append_view(WHO, &batch).is_ok());
+    let asked = FetchPart {
+        index: 0,
+        offset: 0,
+        most: 1,
+    };
+    let mut budget = Budget {
+        left: 500,
+        any: false,
+    };
+    for (start, records) in [(0, ONE.as_slice()), (69, &[])] {
+        assert!(rt;
+            matches!(
+                read_asked(rt.alloc(), -1, &asked, start, &log, &mut budget),
+                Ok(reading) if reading.records.as_slice() == records
+            )
+        );
+        assert!(rt; budget.left == 431 && budget.any);
+    }
+}
+
+// The partition 4 of the topic `t`, with acks -1.
+fn a_produce<'a>(alloc: Global) -> Result<RequestView<'a>, NoMemory>
+    ensures { IfOk result (λ request. named_count request.ask ≡ 1) }
+{
+    let mut parts = List::new(alloc);
+    parts.push(ProducePartView {
+        index: 4,
+        records: None,
+    })?;
+    let mut topics = List::new(alloc);
+    topics.push(ProduceTopicView { name: b"t", parts })?;
+    Ok(RequestView {
+        correlation: 9,
+        client: None,
+        ask: AskView::Produce {
+            transactional: None,
+            acks: -1,
+            timeout: 1000,
+            topics,
+        },
+    })
+}
+
+// Two records at the offset 5 of partition 4, which the followers don't have yet, at the moment 500.
+#[test]
+fn a_produce_waits(rt: HostRuntime) {
+    let request = a_produce(rt.alloc()).expect(&rt, "memory");
+    let became = Accepted::Appended {
+        part: 4,
+        base: 5,
+        count: 2,
+    };
+    let numbers = read_nothing(rt.alloc()).numbers;
+    assert!(rt; !is_quiet(&request.ask) && value_of_gauge(12, &numbers) == 0);
+    assert!(rt; needs_op(&request, &[became], &[numbers]));
+    let op = op_of(rt.alloc(), &request, &[became], 500).expect(&rt, "memory");
+    // one needs the high watermark past 6
+    assert!(rt;
+        matches!(
+            op.needs(),
+            [need] if need.gauge == 12 && need.start == 6 && need.cap == 1
+        )
+    );
+    assert!(rt; op.min() == 1 && op.deadline() == 1500);
+}
+
+// Of a produce the numbers are read, and no records.
+#[test]
+fn the_numbers_of_a_produce(rt: HostRuntime) {
+    let request = a_produce(rt.alloc()).expect(&rt, "memory");
+    let log = PartLog::new(rt.alloc(), 0).expect(&rt, "memory");
+    let mut budget = Budget::of(&request);
+    assert!(rt;
+        matches!(
+            read_part(rt.alloc(), &request, 0, 0, &log, &mut budget),
+            Ok(reading) if reading.numbers.end == 0 && reading.records.is_empty()
+        )
+    );
+}
+
+#[test]
+fn a_batch_is_put_and_fetched(rt: HostRuntime) {
+    let batch = view_batch(&ONE).expect(&rt, "a batch");
+    let mut log = PartLog::new(rt.alloc(), 1).expect(&rt, "memory");
+    let became = Accepted::Appended {
+        part: 5,
+        base: 0,
+        count: 1,
+    };
+    assert!(rt; enter_batch(&mut log, WHO, 5, &batch) == Ok(Entered { became, place: 0 }));
+    let asked = FetchPart {
+        index: 0,
+        offset: 1,
+        most: 100,
+    };
+    let became = Accepted::Seen { part: 5, start: 69 };
+    for (replica, place) in [(1, 1), (-1, 2)] {
+        assert!(rt;
+            enter_fetch(&mut log, WHO, replica, 5, &asked) == Ok(Entered { became, place })
+        );
+    }
+    let fetched = PartEvent::Follow {
+        by: 3,
+        seq: 7,
+        replica: 1,
+        offset: 1,
+    };
+    assert!(rt; log.events().get(1) == Some(&fetched));
+}
+
+// A batch of 1,048,576 bytes.
+fn long_batch(alloc: Global) -> Result<Vec<u8>, AllocError> {
+    let mut bytes = LONG_FRONT.to_vec(alloc)?;
+    bytes.resize(1_048_575, b'a')?;
+    bytes.push(0)?;
+    Ok(bytes)
+}
+
+// Whether there is room for 64 such batches.
+fn is_filled(log: &mut PartLog, bytes: &[u8]) -> bool {
+    let Ok(batch) = view_batch(bytes) else {
+        return false;
+    };
+    for _ in 0..64 {
+        if log.append_view(WHO, &batch).is_err() {
+            return false;
+        }
+    }
+    true
+}
+
+// What becomes of a partition of `t`.
+fn put_one(config: &Config, index: i32, log: &mut PartLog) -> Option<Accepted> {
+    let terms = Terms {
+        is_transactional: false,
+        acks: 1,
+    };
+    let part = ProducePartView {
+        index,
+        records: Some(&ONE),
+    };
+    match decide_put(config, terms, b"t", &part) {
+        Ok((number, batch)) => Some(enter_batch(log, WHO, number, &batch).ok()?.became),
+        Err(_) => None,
+    }
+}
+
+const REFUSED: Accepted = Accepted::Refused { code: 6 };
+
+const APPENDED: Accepted = Accepted::Appended {
+    part: 1,
+    base: 0,
+    count: 1,
+};
+
+#[test]
+fn a_full_partition_is_refused_and_another_takes_its_batch(rt: HostRuntime) {
+    let mut config = Config::new(rt.alloc(), 9092);
+    assert!(rt; config.add(b"t", 2, 1).is_ok());
+    let bytes = long_batch(rt.alloc()).expect(&rt, "memory");
+    let mut full = PartLog::new(rt.alloc(), 1).expect(&rt, "memory");
+    let mut empty = PartLog::new(rt.alloc(), 1).expect(&rt, "memory");
+    assert!(rt; is_filled(&mut full, bytes.as_slice()));
+    assert!(rt; put_one(&config, 0, &mut full) == Some(REFUSED));
+    assert!(rt; put_one(&config, 1, &mut empty) == Some(APPENDED));
+    assert!(rt; full.numbers().end == 64 && full.numbers().bytes == 67_108_864);
+    assert!(rt; empty.log() == ONE.as_slice());
+}
+
+// The partitions 0 and 1 of the topic `t`, with acks 1.
+fn a_produce_of_two<'a>(alloc: Global) -> Result<RequestView<'a>, NoMemory>
+    ensures { IfOk result (λ request. named_count request.ask ≡ 2) }
+{
+    let mut parts = List::new(alloc);
+    parts.push(ProducePartView {
+        index: 0,
+        records: Some(&ONE),
+    })?;
+    parts.push(ProducePartView {
+        index: 1,
+        records: Some(&ONE),
+    })?;
+    let mut topics = List::new(alloc);
+    topics.push(ProduceTopicView { name: b"t", parts })?;
+    Ok(RequestView {
+        correlation: 9,
+        client: None,
+        ask: AskView::Produce {
+            transactional: None,
+            acks: 1,
+            timeout: 1000,
+            topics,
+        },
+    })
+}
+
+fn is_refused_and_put(told: &Told) -> bool {
+    let Told::Produced { topics } = told else {
+        return false;
+    };
+    let [topic] = topics.as_slice() else {
+        return false;
+    };
+    matches!(
+        topic.parts.as_slice(),
+        [full, empty]
+            if full.code == 6 && full.base == -1 && empty.code == 0 && empty.base == 0
+    )
+}
+
+#[test]
+fn the_reply_where_one_of_two_partitions_is_full(rt: HostRuntime) {
+    let config = Config::new(rt.alloc(), 9092);
+    let request = a_produce_of_two(rt.alloc()).expect(&rt, "memory");
+    let log = PartLog::new(rt.alloc(), 1).expect(&rt, "memory");
+    let readings = [read_nothing(rt.alloc()), read_numbers(rt.alloc(), &log)];
+    assert!(rt;
+        matches!(
+            answer(rt.alloc(), &config, &request, &[REFUSED, APPENDED], &readings),
+            Ok(reply) if reply.correlation == 9 && is_refused_and_put(&reply.told)
+        )
+    );
+}

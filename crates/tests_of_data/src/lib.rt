@@ -1,0 +1,20 @@
+//! Tests of the crates of Kafka's data, from `kbytes` up to `kanswer`, and of `outside` and `trace_file`, by their public calls. Nothing
+//! here is for other crates.
+#![tactic(auto)]
+
+#[cfg(test)]
+mod answers;
+#[cfg(test)]
+mod batches;
+#[cfg(test)]
+mod fields;
+#[cfg(test)]
+mod frames;
+#[cfg(test)]
+mod logs;
+#[cfg(test)]
+mod samples;
+#[cfg(test)]
+mod streams;
+#[cfg(test)]
+mod traces;

@@ -1,0 +1,157 @@
+//! One partition's log and history, and the clock's.
+
+use crate::samples::{ONE, THREE};
+use kbatch::{BatchView, read_batch, view_batch};
+use partlog::{
+    ClockEvent, ClockLog, FollowFault, LogFault, MOST_MOMENT, Numbers, PartEvent, PartLog, Placed,
+    Who,
+};
+use std::test::*;
+
+const WHO: Who = Who { by: 3, seq: 7 };
+
+const ONE_ENTRY: PartEvent = PartEvent::Append {
+    by: 3,
+    seq: 7,
+    count: 1,
+    len: 69,
+};
+
+// Neither the base offset nor the leader epoch is covered by the crc.
+#[test]
+fn each_batch_is_stamped_where_it_is_put(rt: HostRuntime) {
+    let mut stamped = ONE;
+    stamped[7] = 9;
+    stamped[15] = 5;
+    let batch = read_batch(rt.alloc(), &stamped).expect(&rt, "a batch");
+    let mut part = PartLog::new(rt.alloc(), 0).expect(&rt, "memory");
+    for (base, place) in [(0, 0), (1, 1)] {
+        assert!(rt; part.append(WHO, &batch) == Ok(Placed { base, place }));
+    }
+    stamped[7] = 1;
+    stamped[15] = 0;
+    assert!(rt; part.log().starts_with(&ONE) && part.log().ends_with(&stamped));
+    let numbers = Numbers {
+        end: 2,
+        high: 2,
+        visible: 138,
+        bytes: 138,
+    };
+    assert!(rt; part.numbers() == numbers);
+    assert!(rt; part.events() == [ONE_ENTRY, ONE_ENTRY].as_slice());
+}
+
+fn put(part: &mut PartLog, batches: &[BatchView<'_>]) -> Result<(), LogFault> {
+    for batch in batches {
+        part.append_view(WHO, batch)?;
+    }
+    Ok(())
+}
+
+// Three batches of one record each, and two followers, of which the slower one decides what is shown.
+#[test]
+fn the_slowest_follower_decides(rt: HostRuntime) {
+    let one = view_batch(&ONE).expect(&rt, "a batch");
+    let mut part = PartLog::new(rt.alloc(), 2).expect(&rt, "memory");
+    for _ in 0..3 {
+        assert!(rt; part.append_view(WHO, &one).is_ok());
+    }
+    for (replica, offset, place, high, visible) in [
+        (2, 3, 3, 0, 0),
+        (1, 1, 4, 1, 69),
+        (1, 0, 5, 1, 69),
+    ] {
+        assert!(rt; part.follow(WHO, replica, offset) == Ok(place));
+        let numbers = part.numbers();
+        assert!(rt; numbers.high == high && numbers.visible == visible);
+    }
+    assert!(rt; part.follow(WHO, 0, 1) == Err(FollowFault::NoReplica));
+    assert!(rt; part.follow(WHO, 3, 1) == Err(FollowFault::NoReplica));
+    let beyond = Err(FollowFault::OutOfRange { log_end: 3 });
+    assert!(rt; part.follow(WHO, 1, -1) == beyond && part.follow(WHO, 1, 4) == beyond);
+    assert!(rt; part.followers() == 2 && part.events().len() == 6);
+}
+
+// A follower that has two of three records has no whole batch.
+#[test]
+fn a_batch_is_shown_whole(rt: HostRuntime) {
+    let three = view_batch(&THREE).expect(&rt, "a batch");
+    let mut part = PartLog::new(rt.alloc(), 1).expect(&rt, "memory");
+    assert!(rt; part.append_view(WHO, &three).is_ok() && part.follow(WHO, 1, 2) == Ok(1));
+    let numbers = Numbers {
+        end: 3,
+        high: 2,
+        visible: 0,
+        bytes: 85,
+    };
+    assert!(rt; part.numbers() == numbers);
+}
+
+// Of batches of 69, 85 and 69 bytes: from where, up to where, how many bytes at most and whether the first batch is
+// forced, and the places where the answer begins and ends.
+const READS: &[((u64, u64, u64, bool), (usize, usize))] = &[
+    ((0, 223, 10, false), (0, 0)),
+    ((0, 223, 10, true), (0, 69)),
+    ((0, 223, 69, false), (0, 69)),
+    ((0, 223, 153, true), (0, 69)),
+    ((0, 223, 154, false), (0, 154)),
+    ((69, 223, 1000, true), (69, 223)),
+    ((69, 154, 1000, false), (69, 154)),
+    ((69, 154, 84, false), (69, 69)),
+    ((0, 69, 1000, true), (0, 69)),
+    ((154, 154, 1000, true), (154, 154)),
+    ((154, 69, 1000, true), (154, 154)),
+    ((223, 223, 1000, true), (223, 223)),
+];
+
+#[test]
+fn whole_batches_are_found_and_read(rt: HostRuntime) {
+    let batches = [
+        view_batch(&ONE).expect(&rt, "a batch"),
+        view_batch(&THREE).expect(&rt, "a batch"),
+        view_batch(&ONE).expect(&rt, "a batch"),
+    ];
+    let mut part = PartLog::new(rt.alloc(), 0).expect(&rt, "memory");
+    assert!(rt; put(&mut part, &batches).is_ok());
+    for (offset, place) in [(0, 0), (1, 69), (2, 69), (3, 69), (4, 154), (5, 223)] {
+        assert!(rt; part.locate(offset) == place);
+    }
+    for ((from, upto, limit, force), (start, end)) in READS {
+        let seen = part.read(*from, *upto, *limit, *force);
+        assert!(rt; part.log().get(*start..*end) == Some(seen));
+    }
+}
+
+#[test]
+fn a_log_and_its_history_are_handed_over(rt: HostRuntime) {
+    let one = view_batch(&ONE).expect(&rt, "a batch");
+    let mut part = PartLog::new(rt.alloc(), 0).expect(&rt, "memory");
+    assert!(rt; part.append_view(WHO, &one) == Ok(Placed { base: 0, place: 0 }));
+    assert!(rt; part.look(WHO) == Ok(1));
+    let (log, events) = part.into_parts();
+    let look = PartEvent::Look { by: 3, seq: 7 };
+    assert!(rt; log.as_slice() == ONE.as_slice());
+    assert!(rt; events.as_slice() == [ONE_ENTRY, look].as_slice());
+}
+
+#[test]
+fn the_clock_only_rises(rt: HostRuntime) {
+    let mut clock = ClockLog::new(rt.alloc());
+    for (t, rose, now) in [
+        (0, false, 0),
+        (5, true, 5),
+        (5, false, 5),
+        (4, false, 5),
+        (MOST_MOMENT, true, MOST_MOMENT),
+    ] {
+        assert!(rt; clock.tick(t) == Ok(rose) && clock.now() == now);
+    }
+    assert!(rt; clock.look(WHO) == Ok(2));
+    let events = [
+        ClockEvent::Tick { t: 5 },
+        ClockEvent::Tick { t: MOST_MOMENT },
+        ClockEvent::Look { by: 3, seq: 7 },
+    ];
+    assert!(rt; clock.events() == events.as_slice());
+    assert!(rt; clock.into_events().as_slice() == events.as_slice());
+}

@@ -1,0 +1,2 @@
+-- where one session may be served
+pub mod Desks

@@ -1,0 +1,20 @@
+//! Tests of the ground on which connections are served, by its public calls: the links, ports and clocks of `outside`, the clock of
+//! `shared_clock` and the sessions of `session`. Nothing here is for other crates.
+#![tactic(auto)]
+
+#[cfg(test)]
+mod clocks;
+#[cfg(test)]
+mod frames;
+#[cfg(test)]
+mod meeting;
+#[cfg(test)]
+mod memory;
+#[cfg(test)]
+mod rooms;
+#[cfg(test)]
+mod sessions;
+#[cfg(test)]
+mod slow_link;
+#[cfg(test)]
+mod sockets;

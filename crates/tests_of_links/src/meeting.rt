@@ -1,0 +1,104 @@
+//! A fetch that waits, and a produce of another session in another thread, which answers it.
+ghost use Rattle.std.specs.Thread.{IsSync};
+ghost use Rattle.tests_of_links.specs.Desks.{IsFree};
+
+use crate::frames::{FETCH, FETCHED, PRODUCE, PRODUCED};
+use crate::memory::link_of;
+use crate::rooms::{Desk, Room};
+use crate::slow_link::SlowLink;
+use audit::SessionEnd;
+use kbytes::NoMemory;
+use outside::{Clock, MemClock};
+use std::alloc::Global;
+use std::sync::Wait;
+use std::sync::atomic::{AtomicBool, Ordering};
+use std::test::*;
+use std::thread::{Threads, join};
+use std::time;
+
+// A clock that stays at its moment for 100 rests, and notes that it was let rest: then a request waits.
+#[derive(Drop)]
+pub(crate) struct StandingClock<'a> {
+    inner: MemClock,
+    rests: u64,
+    has_rested: &'a AtomicBool,
+}
+
+impl Clock for StandingClock<'_> {
+    ghost moment = { λ c. c.inner.given };
+
+    fn now(&mut self) -> u64 {
+        self.inner.now()
+    }
+
+    fn next(&mut self) -> u64 {
+        self.has_rested.store(true, Ordering::SeqCst);
+        if self.rests >= 100 {
+            return self.inner.next();
+        }
+        self.rests += 1;
+        self.inner.now()
+    }
+}
+
+// Whether a session at the desk gets the request, no sooner than `is_due`, sends just the reply, and ends with its input.
+fn has_served<R: Wait + time::Clock, C: Clock + Drop>(
+    rt: &R,
+    alloc: Global,
+    room: &Room<C>,
+    mut desk: Desk<C>,
+    is_due: &AtomicBool,
+    request: &[u8],
+    reply: &[u8],
+) -> Result<bool, NoMemory>
+    requires { IsFree room.now.broker room.now.clock desk.pass desk.seat }
+{
+    let inner = link_of(alloc, request, 200, &[])?;
+    let mut link = SlowLink {
+        rt,
+        inner,
+        most: 200,
+        is_due,
+        faults: 0,
+    };
+    let end = room.serve(rt, alloc, &mut desk, &mut link)?;
+    Ok(end == SessionEnd::Closed && link.inner.bytes() == reply)
+}
+
+// The produce comes once the clock was let rest, which is while the fetch waits.
+fn fetch_and_produce<R: Threads + Wait + time::Clock + Sync>(
+    rt: &R,
+    alloc: Global,
+) -> Result<(bool, bool), NoMemory> {
+    let is_due = AtomicBool::new(true);
+    let has_rested = AtomicBool::new(false);
+    let clock = StandingClock {
+        inner: MemClock::new(0, 1000),
+        rests: 0,
+        has_rested: &has_rested,
+    };
+    let (room, here, there) = Room::make(alloc, clock)?;
+    let Desk { pass, seat } = here;
+    let (fetched, produced) = join(
+        rt,
+        || -> Result<bool, NoMemory>
+            requires { IsSync R.row × IsFree room.broker room.clock pass seat }
+        {
+            let here = Desk { pass, seat };
+            has_served(rt, alloc, &room, here, &is_due, &FETCH, &FETCHED)
+        },
+        || -> Result<bool, NoMemory>
+            requires { IsSync R.row × IsFree room.broker room.clock there.pass there.seat }
+        { has_served(rt, alloc, &room, there, &has_rested, &PRODUCE, &PRODUCED) },
+    );
+    Ok((fetched?, produced?))
+}
+
+#[test]
+fn a_produce_answers_a_fetch_that_waits(rt: HostRuntime) -> Result<(), Fail> {
+    match fetch_and_produce(&rt, rt.alloc())? {
+        (true, true) => Ok(()),
+        (false, _) => Err("the fetch".into()),
+        _ => Err("the produce".into()),
+    }
+}

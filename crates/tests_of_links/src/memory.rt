@@ -1,0 +1,97 @@
+//! Links and ports in memory, with faults where they are planned.
+ghost use Rattle.std.specs.Prelude.{◌≡◌, IfOk};
+ghost use Rattle.outside.specs.Wire.{IsNewWire};
+
+use kbytes::{List, NoMemory, copied};
+use outside::{Failed, Link, MemLink, MemPort, Port};
+use std::alloc::Global;
+use std::test::*;
+
+// The calls of these numbers fail.
+fn failing(alloc: Global, numbers: &[u64]) -> Result<List<u64>, NoMemory> {
+    let mut list = List::new(alloc);
+    for number in numbers {
+        list.push(*number)?;
+    }
+    Ok(list)
+}
+
+/// A link from which these bytes come, with room for `room` bytes, whose calls with these numbers fail.
+pub(crate) fn link_of(
+    alloc: Global,
+    input: &[u8],
+    room: u64,
+    fails: &[u64],
+) -> Result<MemLink, NoMemory>
+    ensures { IfOk result (λ link. IsNewWire link) }
+{
+    MemLink::new(alloc, copied(alloc, input)?, room, failing(alloc, fails)?)
+}
+
+#[test]
+fn a_link_gives_and_takes_its_bytes_and_fails_where_planned(rt: HostRuntime) -> Result<(), Fail> {
+    let mut link = link_of(rt.alloc(), b"hello", 4, &[1, 4])?;
+    let mut into = [0; 3];
+    assert_eq!(rt; link.read(&mut into), Ok(3));
+    assert_eq!(rt; link.read(&mut into), Err(Failed));
+    assert_eq!(rt; into, *b"hel");
+    assert_eq!(rt; link.read(&mut into), Ok(2));
+    assert_eq!(rt; link.read(&mut into), Ok(0));
+    assert_eq!(rt; into, *b"lol");
+    for (part, want) in [
+        (b"abc".as_slice(), Err(Failed)),
+        (b"abc", Ok(3)),
+        (b"de", Ok(1)),
+        (b"e", Err(Failed)),
+        (b"", Ok(0)),
+    ] {
+        assert_eq!(rt; link.write(part), want);
+    }
+    assert_eq!(rt; link.bytes(), b"abcd".as_slice());
+    assert!(rt; !link.was_shut());
+    link.shut();
+    assert!(rt; link.was_shut());
+    Ok(())
+}
+
+// A port with the links `a` and `b`, whose calls with these numbers fail.
+fn port_of(alloc: Global, fails: &[u64]) -> Result<MemPort, NoMemory> {
+    let mut links = List::new(alloc);
+    links.push(link_of(alloc, b"a", 1, &[])?)?;
+    links.push(link_of(alloc, b"b", 1, &[])?)?;
+    MemPort::new(alloc, links, failing(alloc, fails)?)
+}
+
+// The next link gives this byte, and is retired under this number.
+fn serves(port: &mut MemPort, number: u64) -> Result<Option<u8>, Failed> {
+    let Some(mut link) = port.accept()? else {
+        return Ok(None);
+    };
+    let mut into = [0; 1];
+    link.read(&mut into)?;
+    link.write(&into)?;
+    port.retire(number, link);
+    Ok(Some(into[0]))
+}
+
+#[test]
+fn a_port_gives_its_links_and_fails_where_planned(rt: HostRuntime) -> Result<(), Fail> {
+    let mut port = port_of(rt.alloc(), &[0, 3])?;
+    assert_eq!(rt; port.open(9092), Err(Failed));
+    assert_eq!(rt; port.open(9092), Ok(()));
+    for (number, want) in [
+        (5, Ok(Some(b'a'))),
+        (6, Err(Failed)),
+        (7, Ok(Some(b'b'))),
+        (8, Ok(None)),
+    ] {
+        assert_eq!(rt; serves(&mut port, number), want);
+    }
+    for (number, written) in [(7, b"b"), (5, b"a")] {
+        let (under, link) = port.pop_retired().ok_or("a link")?;
+        assert_eq!(rt; under, number);
+        assert_eq!(rt; link.bytes(), written.as_slice());
+    }
+    assert!(rt; port.pop_retired().is_none());
+    Ok(())
+}
