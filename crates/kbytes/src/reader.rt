@@ -58,7 +58,7 @@ impl<'a> Reader<'a> {
         &self.bytes[self.at..]
     }
 
-    // So many bytes from the front, or `Short`.
+    // That many bytes from the front, or `Short`.
     fn next(&mut self, count: usize) -> Result<&'a [u8], ByteFault>
         ensures enough { IfOk result (λ _. count ≤ length (rest_of self.old)) }
         ensures part { IfOk result (λ part. part.now ≡ take count (rest_of self.old)) }
@@ -193,7 +193,7 @@ impl<'a> Reader<'a> {
         }
     }
 
-    // So many bytes behind a length that was read ahead.
+    // That many bytes after a length that was read ahead.
     fn counted(&mut self, mut ahead: Reader<'a>, length: i64) -> Result<&'a [u8], ByteFault>
         ensures exact { Gives (λ part. part.now) self.old self.new result (counted_after self.old (length, ahead.entry)) }
     {
@@ -224,7 +224,7 @@ impl<'a> Reader<'a> {
         Ok(Some(part))
     }
 
-    /// The bytes behind a length of two bytes, which is 0 or more.
+    /// The bytes after a length of two bytes, which is 0 or more.
     #[tactic(auto, unfolding(crate::specs::Reading::string_at, crate::specs::Reading::sized_at))]
     pub fn string(&mut self) -> Result<&'a [u8], ByteFault>
         ensures exact { Gives (λ v. v.now) self.old self.new result (string_at self.old) }
@@ -256,7 +256,7 @@ impl<'a> Reader<'a> {
         self.nullable(ahead, i64::from(length))
     }
 
-    /// The bytes behind a length of four bytes, or `None` for the length -1.
+    /// The bytes after a length of four bytes, or `None` for the length -1.
     #[tactic(auto, unfolding(crate::specs::Reading::sized_at))]
     pub fn records(&mut self) -> Result<Option<&'a [u8]>, ByteFault>
         ensures exact { Gives option_copied self.old self.new result (sized_at w32 self.old) }
@@ -272,7 +272,7 @@ impl<'a> Reader<'a> {
         self.nullable(ahead, i64::from(length))
     }
 
-    /// The count of four bytes that stands before the items of an array, or `None` for the count -1.
+    /// The count of four bytes before the items of an array, or `None` for the count -1.
     #[tactic(auto, unfolding(crate::specs::Reading::array_at))]
     pub fn array(&mut self) -> Result<Option<u32>, ByteFault>
         ensures exact { Gives (λ v. v) self.old self.new result (array_at self.old) }

@@ -1,6 +1,6 @@
 //! The numbers that bound an operation.
 
-/// An operation has at most so many needs.
+/// The most needs that an operation has.
 pub const MOST_NEEDS: usize = 64;
 
 /// A cap and a least tally are below this.

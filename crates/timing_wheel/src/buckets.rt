@@ -61,7 +61,7 @@ impl Buckets {
         if node < ids { Some(node as u32) } else { None }
     }
 
-    /// Puts an id that stands in no bucket at the end of one.
+    /// Puts an id that is in no bucket at the end of one.
     pub(crate) fn put(&mut self, id: u32, bucket: u8)
         requires within { id < length self.old }
         requires bucket { bucket < ALL_BUCKETS }

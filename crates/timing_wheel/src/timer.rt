@@ -14,7 +14,7 @@ pub struct Timer {
     pub put: u64,
 }
 
-/// Where an entry stands, and the first moment of its bucket.
+/// Where an entry is, and the first moment of its bucket.
 #[derive(Clone, Copy)]
 pub(crate) struct Spot {
     pub(crate) place: Place,

@@ -1,6 +1,6 @@
 ghost use Rattle.std.specs.Prelude.{◌≡◌, ℕ, List, length};
 
-/// What may stand behind a turn lock: a value with a history.
+/// What may be behind a turn lock: a value with a history.
 pub trait Kept {
     /// One entry of the history. The program need make no value of it.
     type Entry;

@@ -1,7 +1,7 @@
 //! What passes know. No value of these types is made.
 use std::collections::LinkedList;
 
-/// Where a pass stands in the line.
+/// Where a pass is in the line.
 pub enum Stage {
     /// It has no ticket.
     Idle,

@@ -1,6 +1,6 @@
 //! A ticket lock whose history each pass can trust.
 //!
-//! As in a shop, who wants a turn draws a ticket (`turn`) and waits until its number is shown. It
+//! As in a shop, a customer draws a ticket (`turn`) and waits until its number is shown. It
 //! then has the value to itself, until it puts the value back and the next number is shown (`end`).
 //!
 //! What is new is what the lock says. Its value may keep a history (`Kept`): a list of entries that
@@ -44,20 +44,20 @@
 //! one slot, in which the value lies. Threads share nothing else, and all of them step on it through
 //! seats: a seat has a view, plain data that exists in proofs alone and that only its own steps
 //! change. Here a view is a list of what passes know (`Known`): the pass's number, the lock's name,
-//! the history as it was seen last, the pass's own entries, and where the pass stands in the line.
+//! the history as it was seen last, the pass's own entries, and where the pass is in the line.
 //!
 //! The rule (`specs/InLine.antt`) is a fact about the words, the slot and all views, which holds
 //! between any two steps. It says that there is one history: that of the value at home, or, while a
 //! pass has the value, the one that it found. For each pass the history begins with what the pass
 //! saw, and what it has of the pass is the pass's own entries. A ticket that waits is drawn, is not
 //! yet passed over, and belongs to one pass. At most one pass has the turn, and one has it exactly
-//! where the value is out. Each number stands in one view.
+//! where the value is out. Each number is in one view.
 //!
 //! A step is allowed where it keeps the rule, whatever the table is at that moment. Each move has one
 //! lemma (`proofs/Steps.antt`):
 //!
 //! - Draw, a fetch-and-add of the next ticket: the ticket found was nobody's, so it now belongs to
-//!   this pass. The number doesn't wrap, since a pass whose ticket is 2^62 or more waits for ever.
+//!   this pass. The number doesn't wrap, since a pass whose ticket is 2^62 or more waits forever.
 //! - Look, a load of the ticket that is served: where it is the pass's own, no other pass can have
 //!   the turn, so the value is at home. The seat takes the slot, and the view becomes its history.
 //! - Lift out and put back, plain moves: a slot that a seat holds is that seat's alone.

@@ -12,7 +12,7 @@ pub(crate) const SERVING: usize = 1;
 
 pub(crate) const VALUE: usize = 0;
 
-/// What the table is told once: how many passes there are, and the value as it was then, whose name is the lock's.
+/// What the table learns once: how many passes there are, and the value as it was then, whose name is the lock's.
 pub struct About<T> {
     pub passes: u32,
     pub value: Snapshot<T>,

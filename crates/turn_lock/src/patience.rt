@@ -6,7 +6,7 @@
 //! its first sleep: who finds at the end of a sleep that others still come first sleeps again at once, and longer. So
 //! many passes that wait for long cost next to nothing.
 //!
-//! There are a few benches, and a ticket's number tells its own. Who passes the turn on wakes the bench of the ticket
+//! There are a few benches, and a ticket's number gives its own. The pass that ends its turn wakes the bench of the ticket
 //! that is served next, and only where somebody sleeps there. A sleeper first counts itself, then looks at the ticket
 //! that is served, and then sleeps; who passes the turn on first shows the next ticket, and then looks whether anybody
 //! is counted. So one of the two sees the other. No proof says so: therefore each sleep ends by itself too.
@@ -58,7 +58,7 @@ impl Patience {
         }
     }
 
-    /// Waits a little, awake, where so many passes come first. False where no patience is left for that.
+    /// Waits a little, awake, with that many passes before it. False if no patience is left for that.
     pub(crate) fn rest(&mut self, ahead: u64) -> bool {
         if self.pauses >= AWAKE {
             return false;
@@ -162,7 +162,7 @@ impl Benches {
         self.of(ticket).sleep(rt, top, ticket, time)
     }
 
-    /// Wakes who sleeps until this ticket is served.
+    /// Wakes the passes that sleep until this ticket is served.
     pub(crate) fn wake(&self, ticket: u64) {
         self.of(ticket).wake();
     }

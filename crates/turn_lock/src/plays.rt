@@ -1,4 +1,4 @@
-//! What each step on the table tells.
+//! What each step on the table shows.
 ghost use Rattle.std.specs.Prelude.{[], ◌++◌, take, drop};
 ghost use Rattle.turn_lock.specs.Moves.{drew, looked, passed_on};
 

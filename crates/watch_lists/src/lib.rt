@@ -1,7 +1,7 @@
 //! One shard of keyed watchers: who watches a key, and since which generation of its id.
 //!
 //! Kafka's purgatory lists a delayed operation under each key that may complete it. When a key
-//! changes, its watchers are looked at; those that are done elsewhere are left behind, and purged
+//! changes, its watchers are looked at; those that are done elsewhere stay in the list, and are purged
 //! from time to time. Here a key and an id are numbers, and the generation of an id tells its
 //! present operation from earlier ones: a watcher of another generation is stale.
 //!
