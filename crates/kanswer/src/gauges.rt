@@ -1,5 +1,5 @@
-//! The numbers of a partition's three gauges, and their values. Operations name their gauges by these numbers, brokers raise
-//! gauges by them, and nothing else computes with them.
+//! The numbers of a partition's three gauges, and their values. Operations name their gauges by these numbers, and brokers
+//! raise gauges by them.
 
 ghost use Rattle.std.specs.Prelude.{◌≡◌, ◌<◌};
 ghost use Rattle.kwire.specs.declared.config.TheConstants.{MOST_PARTITIONS};
