@@ -3,7 +3,6 @@ use Rattle.std.proofs.Common.{◌≡◌, ◌≢◌, ℕ, zero, suc, ◌+◌, ◌
 use Rattle.std.specs.Prelude.{All, AllPairs, slice_get}
 use Rattle.std.specs.List.{AllByRecursion, flat_map}
 use Rattle.std.proofs.lemmas.List.Kept.{AllPairs-cons}
-use Rattle.kbytes.specs.Field.{fields}
 use Rattle.audit.specs.declared.account.Account.{Account}
 use Rattle.audit.specs.declared.account.SessionEnd.{SessionEnd}
 use Rattle.audit.specs.declared.account.SessionEnd.TheVariants.{Refused}
@@ -13,30 +12,10 @@ use Rattle.audit.specs.IsLawful.{IsLawful}
 use Rattle.audit.specs.Printable.{IsPrintable}
 use Rattle.audit.specs.Printed.{transcripts_of}
 use Rattle.audit.specs.RunOf.{IsRunOf, IsSessionOf}
-use Rattle.kwire.specs.declared.frame.WireFault.{WireFault}
 use Rattle.kwire.specs.declared.frame.WireFault.TheVariants.{NoMemory}
-use Rattle.kwire.specs.Layouts.{Layout, End, ◌⨾◌, Many, IsFaultAt}
-use Rattle.kwire.specs.Refusal.{IsRefused, NoHead, NoApi, NoVersion, NoField, MoreBytes, NamedTwice}
+use Rattle.kwire.proofs.Laws.{refused_for}
 use Rattle.trace_file.specs.declared.line.Line.{Line}
 use Rattle.trace_file.specs.Contents.{is_named, is_shut, sessions_of}
-
--- ---- no fault of a request is running out of memory
-
-no_fault : (left : Layout) (named at : ℕ) (bytes : List ℕ) → IsFaultAt left named at bytes NoMemory → ⊥
-no_fault End named at bytes fault = fault
-no_fault (kind ⨾ next) named at bytes fault = let e = fault.1 in absurd cc
-no_fault (Many kind things each next) named at bytes (inl fault) = let e = fault.1 in absurd cc
-no_fault (Many kind things each next) named at bytes (inr many) = let e = many.told in absurd cc
-
-refused_for : (body : List ℕ) (why : WireFault) → IsRefused body why → why ≡ NoMemory → ⊥
-refused_for body why (NoHead first) e =
-    no_fault first.left first.named (length (fields first.front)) first.rest (subst (λ (w : WireFault). IsFaultAt first.left first.named (length (fields first.front)) first.rest w) e first.fault)
-refused_for body why (NoApi head none) e = absurd cc
-refused_for body why (NoVersion head api key version other) e = absurd cc
-refused_for body why (NoField api head first) e =
-    no_fault first.left first.named (length (fields first.front)) first.rest (subst (λ (w : WireFault). IsFaultAt first.left first.named (length (fields first.front)) first.rest w) e first.fault)
-refused_for body why (MoreBytes api head fs of rest some parts) e = absurd cc
-refused_for body why (NamedTwice request spelled mention repeat) e = absurd cc
 
 -- ---- the transcripts
 

@@ -96,9 +96,9 @@ pub(crate) fn body_size(delta: u64, record: &Record) -> u64
     ensures size { result ≡ min (length (body_bytes delta record.now)) (2 ^ 64 - 1) }
     ensures record { IsRecord record.now }
 {
-    let _attributes = record.attributes;
+    let attributes = record.attributes.to_be_bytes().len() as u64;
     let time = record.time;
-    let numbers = 1 + time_size(time) + length_size(delta);
+    let numbers = attributes + time_size(time) + length_size(delta);
     let count = length_size(record.headers.len() as u64);
     (numbers + count)
         .saturating_add(nullable_size(&record.key))

@@ -32,6 +32,14 @@ impl Bytes {
         }
     }
 
+    /// Makes room for so many more bytes at the end, so that they need no more memory there. No more than that is taken.
+    pub fn reserve(&mut self, more: usize) -> Result<(), NoMemory>
+        ensures { self.new ≡ self.old }
+    {
+        self.bytes.reserve_exact(more)?;
+        Ok(())
+    }
+
     /// Puts the part at the end.
     pub fn extend(&mut self, part: &[u8]) -> Result<(), NoMemory>
         ensures ok { OnOk result (self.new ≡ self.old ++ part.now) }

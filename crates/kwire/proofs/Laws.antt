@@ -8,6 +8,8 @@ pub use Rattle.kwire.proofs.StreamLaws.{frame_kept, IsNextBody, next_body, not_t
 pub use Rattle.kwire.proofs.FramesOnce.{sent_frames}
 -- a body is one request, or is refused for one cause, and not both
 pub use Rattle.kwire.proofs.RequestLaws.{same_request, same_refusal, not_both, request_or_refusal}
+-- no body is refused because memory ran out
+pub use Rattle.kwire.proofs.NeverForMemory.{refused_for}
 -- the fields of a request that is spelled out are in range, and it names at most 64 topics and partitions
 pub use Rattle.kwire.proofs.FewNamed.{spelled_fits, spelled_topics, spelled_partitions}
 -- replies that have a frame

@@ -38,5 +38,7 @@ pub mod Spelled
 pub mod Ranges
 -- replies to produces and fetches whose lengths and counts are in range
 pub mod SpellableLaws
+-- no body is refused because memory ran out
+pub mod NeverForMemory
 -- what the crates above may cite
 pub mod Laws

@@ -1,5 +1,5 @@
 -- A partition is named twice exactly where one of the mentions was mentioned before.
-use Rattle.std.proofs.Common.{◌≡◌, ◌≢◌, ◌||◌, Decides, Bool, Option, ℕ, zero, suc, ◌+◌, ◌<◌, ℤ, true, false, List, [], ◌∷◌, ◌++◌, length, get_or, map, Some, None, refl, sym, ap, subst, ◌∙◌, arith, inl, inr}
+use Rattle.std.proofs.Common.{◌≡◌, ◌≢◌, ◌||◌, Decides, Bool, Option, ℕ, zero, suc, ◌+◌, ◌<◌, ◌≤◌, ℤ, true, false, List, [], ◌∷◌, ◌++◌, length, get_or, map, Some, None, refl, sym, ap, subst, ◌∙◌, arith, inl, inr}
 use Rattle.std.specs.Prelude.{Contains}
 use Rattle.std.specs.List.{flat_map, AllByRecursion, AllPairs, list_any}
 use Rattle.std.specs.Cmp.Lexicographic.{pointwise}
@@ -8,7 +8,7 @@ use Rattle.std.specs.Bool.{nat_eq}
 use Rattle.std.proofs.lemmas.Bool.{cases_Bool, and_parts, and_from, true≢false}
 use Rattle.std.proofs.lemmas.Bool.Decides.{Decides-int_eq, Decides-eqb}
 use Rattle.std.proofs.lemmas.Slice.Eq.{slice_eq-Decides}
-use Rattle.std.proofs.lemmas.List.{map-append}
+use Rattle.std.proofs.lemmas.List.{map-append, length-append, length-map}
 use Rattle.kwire.specs.declared.request.Ask.{Ask}
 use Rattle.kwire.specs.declared.request.Ask.TheVariants.{Produce, Fetch, Metadata, Versions}
 use Rattle.kwire.specs.declared.request.ProducePart.{ProducePart}
@@ -247,3 +247,13 @@ first_repeat_of ms m e =
 pub repeat_of_first : (ms : List Mention) (m : Mention) → IsFirstRepeat ms m → repeat_after [] ms ≡ Some m
 repeat_of_first ms m h =
     ap (repeat_after []) h.parts ∙ of_found [] h.before h.after m (none_apart_from h.before h.fresh) (any_back (is_same m) h.before ∙ named_any m h.before h.again)
+
+-- ---- one partition is named at most
+
+-- as many are named as the entries have
+pub named_count : {X Y Z : Type 0} (parts : X → List Y) (name : X → Y → Z) (topics : List X)
+    → length (flat_map (λ topic. map (name topic) (parts topic)) topics) ≡ length (flat_map parts topics)
+named_count parts name [] = refl
+named_count parts name (topic ∷ topics) =
+    let rest = named_count parts name topics in
+    omega (arith, length-append (map (name topic) (parts topic)) (flat_map (λ t. map (name t) (parts t)) topics), length-append (parts topic) (flat_map parts topics), length-map (parts topic) (name topic), rest)

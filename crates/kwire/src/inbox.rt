@@ -37,12 +37,18 @@ impl Inbox {
         }
     }
 
-    /// Adds the piece at the end. The memory of bytes that were taken is freed here.
+    /// Adds the piece at the end. The memory of bytes that were taken is used again once they are at least as many as those that are left.
     pub fn feed(&mut self, piece: &[u8]) -> Result<(), NoMemory>
         ensures ok { OnOk result (self.new ≡ self.old ++ piece.now) }
         ensures err { OnErr result (self.new ≡ self.old) }
     {
-        if self.start == 0 {
+        let left = self.bytes.len() - self.start;
+        if left == 0 {
+            self.start = 0;
+            self.bytes.truncate(0);
+            return self.bytes.extend(piece);
+        }
+        if self.start < left {
             return self.bytes.extend(piece);
         }
         let mut kept = Bytes::new(self.alloc);

@@ -1,18 +1,30 @@
 //! Writing a reply as a frame: the last step of each answer. The fields of each kind are in the other `put_` modules.
 
-ghost use Rattle.std.specs.Prelude.{◌≡◌, ◌++◌, IfOk, OnOk};
+ghost use Rattle.std.specs.Prelude.{◌≡◌, ◌≤◌, ◌<◌, ◌+◌, ◌^◌, ◌++◌, length, drop, IfOk, OnOk};
 ghost use Rattle.kbytes.specs.Field.{fields};
 ghost use Rattle.kwire.specs.declared.reply.Told.TheVariants.{Produced, Fetched};
 ghost use Rattle.kwire.specs.IsSpellable.{AreInRange, IsSpellable};
+ghost use Rattle.kwire.specs.Frames.{framed};
 ghost use Rattle.kwire.specs.Spelling.{told_fields, spelling};
 
 use crate::put_fetched::put_fetched;
-use crate::put_items::frame;
 use crate::put_metadata::{put_metadata, put_versions};
 use crate::put_produced::put_produced;
-use crate::reply::{FetchedTopic, ProducedTopic, Reply, Told};
+use crate::reply::{FetchedPart, FetchedTopic, ProducedTopic, Reply, Told};
 use kbytes::{Bytes, NoMemory, put_i32};
 use std::alloc::Global;
+
+// The bytes around the topics of a reply: the size, the correlation id, the throttle time and the count.
+const HEAD_BYTES: usize = 16;
+
+// The bytes of a topic beside its name and partitions: the name's length and the count.
+const TOPIC_BYTES: usize = 6;
+
+// The bytes of a partition that a produce names.
+const PRODUCED_PART_BYTES: usize = 22;
+
+// The bytes of a partition that a fetch names, beside its records.
+const FETCHED_PART_BYTES: usize = 30;
 
 // The topics, and after them the throttle time 0.
 fn put_produced_told(out: &mut Bytes, topics: &[ProducedTopic]) -> Result<(), NoMemory>
@@ -46,13 +58,75 @@ fn put_told(out: &mut Bytes, told: &Told) -> Result<(), NoMemory>
     }
 }
 
+// The bytes of the topics' fields. Nothing but what is reserved rests on it.
+fn produced_room(topics: &[ProducedTopic]) -> usize {
+    let mut room: usize = 0;
+    for topic in topics {
+        let parts = topic.parts.len().saturating_mul(PRODUCED_PART_BYTES);
+        room = room.saturating_add(topic.name.len()).saturating_add(parts);
+        room = room.saturating_add(TOPIC_BYTES);
+    }
+    room
+}
+
+// The same for a fetch.
+fn fetched_parts_room(parts: &[FetchedPart]) -> usize {
+    let mut room: usize = 0;
+    for part in parts {
+        room = room.saturating_add(part.records.len());
+        room = room.saturating_add(FETCHED_PART_BYTES);
+    }
+    room
+}
+
+fn fetched_room(topics: &[FetchedTopic]) -> usize {
+    let mut room: usize = 0;
+    for topic in topics {
+        let parts = fetched_parts_room(topic.parts.as_slice());
+        room = room.saturating_add(topic.name.len()).saturating_add(parts);
+        room = room.saturating_add(TOPIC_BYTES);
+    }
+    room
+}
+
+// The bytes of a frame that the reply needs, or none for a reply that is small or rare.
+fn room_of(told: &Told) -> usize {
+    match told {
+        Told::Produced { topics } => produced_room(topics.as_slice()).saturating_add(HEAD_BYTES),
+        Told::Fetched { topics, .. } => fetched_room(topics.as_slice()).saturating_add(HEAD_BYTES),
+        Told::Metadata { .. } | Told::Versions { .. } => 0,
+    }
+}
+
+// Writes the bytes over the first ones.
+fn put_front(bytes: &mut [u8], front: &[u8])
+    requires { length front.now ≤ length bytes.old }
+    ensures { bytes.new ≡ front.now ++ drop (length front.now) bytes.old }
+{
+    let count = front.len();
+    bytes[..count].copy_from_slice(front);
+}
+
+// Writes the size of a frame over its first four bytes.
+fn set_size(frame: &mut Bytes)
+    requires least { 4 ≤ length frame.old }
+    requires most { length frame.old < 2 ^ 31 + 4 }
+    ensures { frame.new ≡ framed (drop 4 frame.old) }
+{
+    let size = (frame.len() - 4) as i32;
+    put_front(frame.as_mut_slice(), &size.to_be_bytes());
+}
+
 /// The frame of a reply: the size, the correlation id and the fields.
 pub fn reply_bytes(alloc: Global, reply: &Reply) -> Result<Bytes, NoMemory>
     requires { IsSpellable reply.now }
     ensures { IfOk result (λ frame. frame ≡ spelling reply.now) }
 {
-    let mut body = Bytes::new(alloc);
-    put_i32(&mut body, reply.correlation)?;
-    put_told(&mut body, &reply.told)?;
-    frame(alloc, body.as_slice())
+    let mut frame = Bytes::new(alloc);
+    frame.reserve(room_of(&reply.told))?;
+    put_i32(&mut frame, 0)?;
+    put_i32(&mut frame, reply.correlation)?;
+    put_told(&mut frame, &reply.told)?;
+    set_size(&mut frame);
+    Ok(frame)
 }

@@ -1,7 +1,7 @@
 //! The last check of `body`: no request names a partition twice.
 
-ghost use Rattle.std.specs.Prelude.{◌≡◌, ◌≢◌, ℕ, ℤ, List as Items, [], ◌++◌, ◌<◌, ◌≤◌, ◌^◌, length, map, option_map, AllPairs, OnOk, IfOk, IfErr};
-ghost use Rattle.std.specs.List.{list_any};
+ghost use Rattle.std.specs.Prelude.{◌≡◌, ◌≢◌, ℕ, ℤ, List as Items, [], ◌++◌, ◌<◌, ◌≤◌, ◌^◌, length, map, option_map, AllPairs, IsTrue, OnOk, IfOk, IfErr};
+ghost use Rattle.std.specs.List.{flat_map, list_any};
 ghost use Rattle.kwire.specs.IsRequest.{topics_named, named_of};
 ghost use Rattle.kwire.specs.Views.{ask_of};
 ghost use Rattle.kwire.specs.Mentions.{view, place_of, parts_mentions, is_same, repeat_after};
@@ -166,6 +166,28 @@ fn mentions_of<'a>(alloc: Global, ask: &'a AskView<'_>) -> Result<List<Mention<'
     }
 }
 
+// Whether these topic entries have one partition at most.
+fn have_one<T: HasParts>(topics: &[T]) -> bool
+    ensures { IsTrue result → length (flat_map T.parts topics.now) ≤ 1 }
+{
+    match topics {
+        [] => true,
+        [topic] => topic.parts().len() <= 1,
+        _ => false,
+    }
+}
+
+// Whether one partition is named at most, as in most requests.
+fn names_one(ask: &AskView<'_>) -> bool
+    ensures { IsTrue result → length (named_of (ask_of ask.now)) ≤ 1 }
+{
+    match ask {
+        AskView::Produce { topics, .. } => have_one(topics.as_slice()),
+        AskView::Fetch { topics, .. } => have_one(topics.as_slice()),
+        AskView::Metadata { .. } | AskView::Versions { .. } => true,
+    }
+}
+
 /// Refuses with `Twice` exactly where a partition is named twice, and reports the first that is named again.
 pub fn refuse_repeats(alloc: Global, ask: &AskView<'_>) -> Result<(), WireFault>
     requires { topics_named (ask_of ask.now) ≤ MOST_NAMED }
@@ -173,6 +195,9 @@ pub fn refuse_repeats(alloc: Global, ask: &AskView<'_>) -> Result<(), WireFault>
     ensures twice { IfErr result (λ why. why ≢ OutOfMemory
         → (mention : AMention) × IsFirstRepeat (mentions_of (ask_of ask.now)) mention × (why ≡ Twice mention.entry mention.index)) }
 {
+    if names_one(ask) {
+        return Ok(());
+    }
     let mentions = mentions_of(alloc, ask)?;
     match first_repeat(mentions.as_slice()) {
         None => Ok(()),

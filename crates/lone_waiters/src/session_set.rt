@@ -5,7 +5,7 @@ ghost use Rattle.lone_waiters.specs.Sessions.{Has, IsLeastFrom};
 use std::marker::Model;
 
 /// How many sessions there can be. Their numbers are below it.
-pub const SESSIONS: u32 = 64;
+pub const SESSIONS: u32 = kbytes::MOST_SESSIONS;
 
 /// A set of sessions. A contract sees a number whose bits are the members.
 #[derive(Clone, Copy, Debug)]

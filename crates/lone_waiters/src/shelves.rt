@@ -115,7 +115,6 @@ impl Shelves {
             ≡ Some (record { key = gauge / 16; id = id; generation = generation }))) }
     {
         let shard = &self.shards[(gauge % SHARDS) as usize];
-        shard.watchers_rise();
         shard.each(gauge / SHARDS, at)
     }
 

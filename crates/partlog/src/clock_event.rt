@@ -1,5 +1,5 @@
 /// The greatest moment, in milliseconds.
-pub const MOST_MOMENT: u64 = 1_000_000_000_000_000;
+pub const MOST_MOMENT: u64 = kbytes::MOST_MOMENT;
 
 /// One entry of the clock's history.
 #[derive(Clone, Copy, Debug, PartialEq, Eq)]

@@ -279,7 +279,6 @@ impl PartLog {
         ensures whole { bytes_of self.now.events ≡ length result.now }
         ensures kept { IsKept self.now.log self.now.events }
     {
-        let _events = &self.events;
         self.log.as_slice()
     }
 

@@ -5,7 +5,7 @@ use kbytes::Bytes;
 use thiserror::Error;
 
 /// The number of sessions that a trace may have. They are numbered from 0.
-pub const MOST_SESSIONS: u32 = 64;
+pub const MOST_SESSIONS: u32 = kbytes::MOST_SESSIONS;
 
 /// The greatest number of a session of a trace.
 pub const LAST_SESSION: u32 = MOST_SESSIONS - 1;
@@ -14,7 +14,7 @@ pub const LAST_SESSION: u32 = MOST_SESSIONS - 1;
 pub const MOST_NUMBER: u32 = 4_294_967_295;
 
 /// The greatest moment that a line may write, in milliseconds.
-pub const LAST_MOMENT: u64 = 1_000_000_000_000_000;
+pub const LAST_MOMENT: u64 = kbytes::MOST_MOMENT;
 
 /// The most bytes that a trace may have.
 pub const MOST_TRACE_BYTES: usize = 67_108_864;

@@ -191,6 +191,15 @@ each_listed key ids row r at (Some x) e =
     let watch = watch_of key x.id x.generation in
     (keyed, (at, l, get_or_default row at watch x l ∙ is ∙ same_watch x watch keyed refl refl))
 
+pub each_within : (key ids : ℕ) (row : List Watch) → IsRow key ids row → (at : ℕ) (o : Option Watch) → o ≡ slice_get row at → IfSome o (λ x. (x.id < ids) × (1 ≤ x.generation))
+each_within key ids row r at None e = tt
+each_within key ids row r at (Some x) e =
+    let l = slice_get_within row at x (sym e) in
+    let is : get_or row at x ≡ x = get_or_from_slice_get row at x x (sym e) in (
+      subst (λ (y : Watch). y.id < ids) is (r.below at x l),
+      subst (λ (y : Watch). 1 ≤ y.generation) is (r.numbered at x l),
+    )
+
 pub each_all : (key : ℕ) (row : List Watch) (at : ℕ) (o : Option Watch) → o ≡ slice_get row at
     → IfNone o ((id generation : ℕ) → Contains row (record { key = key; id = id; generation = generation }) → (earlier : ℕ) × (earlier < at) × (slice_get row earlier ≡ Some (record { key = key; id = id; generation = generation })))
 each_all key row at (Some x) e = tt

@@ -75,6 +75,8 @@ impl Shard {
         ensures place { result ≡ slice_get (row_of self.now key) at }
         ensures listed { IfSome result
             (λ w. (w.key ≡ key) × IsListed self.now key w.id w.generation) }
+        ensures within { IfSome result (λ w. (w.id < self.now.ids) × (1 ≤ w.generation)) }
+        ensures row { IsRow key self.now.ids (row_of self.now key) }
         ensures all { IfNone result ((id : ℕ) (generation : ℕ) → IsListed self.now key id generation
             → (earlier : ℕ) × (earlier < at) × (slice_get (row_of self.now key) earlier
             ≡ Some (record { key = key; id = id; generation = generation }))) }

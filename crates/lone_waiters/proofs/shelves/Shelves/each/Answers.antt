@@ -6,7 +6,7 @@ use Rattle.lone_waiters.specs.Index.{IsWatching}
 use Rattle.lone_waiters.specs.Shelved.{row_at}
 use Rattle.lone_waiters.proofs.Logic.{IfNone-weaker, IfSome-weaker}
 use Rattle.lone_waiters.proofs.Prefixes.{low_ids}
-use Rattle.lone_waiters.proofs.Listings.{IsWatching-shard, row_at-shard, shard_ids, shard_keys, shard_read}
+use Rattle.lone_waiters.proofs.Listings.{IsWatching-shard, row_at-shard, shard_ids, shard_read}
 use Rattle.lone_waiters.proofs.shelves.Shelves.each.Goals as goal
 
 pub returns-clause-place : goal.returns-clause-place
@@ -17,16 +17,12 @@ returns-clause-place c =
     c.each.ensures.place ∙ ap (λ (r : List Watch). slice_get r c.args.at) (sym row) ∙ ap (λ (old : List Watches). slice_get (row_at old c.args.gauge) c.args.at) c.self.view_is
 
 pub returns-clause-low : goal.returns-clause-low
-returns-clause-low c =
-    let shard = c.index-shard.result.now in
-    let low = c.requires in
-    let keys = shard_keys c.self.inside.shards.items (c.args.gauge % 16) shard c.self.invariant (omega arith) c.index-shard.ensures in
-    low_ids c.each.result (row_of shard (c.args.gauge / 16)) c.args.at c.each.ensures.place (c.watchers_rise.ensures.rows (c.args.gauge / 16) (omega arith)).rising
+returns-clause-low c = low_ids c.each.result (row_of c.index-shard.result.now (c.args.gauge / 16)) c.args.at c.each.ensures.place c.each.ensures.row.rising
 
 pub returns-clause-within : goal.returns-clause-within
 returns-clause-within c =
     let ids = shard_ids c.self.inside.shards.items (c.args.gauge % 16) c.index-shard.result.now c.self.invariant (omega arith) c.index-shard.ensures in
-    IfSome-weaker c.each.result (λ w h. let l = (c.watchers_rise.ensures.within (c.args.gauge / 16) w.id w.generation h.1).1 in omega arith) c.each.ensures.listed
+    IfSome-weaker c.each.result (λ w h. let l = h.0 in omega arith) c.each.ensures.within
 
 pub returns-clause-watching : goal.returns-clause-watching
 returns-clause-watching c =

@@ -1,11 +1,12 @@
-use Rattle.std.proofs.Common.{◌≡◌, ℕ, ◌<◌, ◌≤◌, List, Option, Some, None, Bor, length, ap, sym, ◌∙◌}
+use Rattle.std.proofs.Common.{◌≡◌, ℕ, ◌<◌, ◌≤◌, List, Option, Some, None, Bor, length, ap, subst, sym, ◌∙◌}
 use Rattle.std.specs.List.{slice_get, HoldsAt}
 use Rattle.std.specs.Option.{MatchOption, option_copied}
 use Rattle.std.proofs.lemmas.Option.{slice_get_past, slice_get-get_or}
 use Rattle.watch_lists.specs.declared.watch.Watch.{Watch}
+use Rattle.watch_lists.specs.Row.{IsRow}
 use Rattle.watch_lists.specs.Watches.{Watches, row_of}
-use Rattle.watch_lists.proofs.Shards.{row_is, row_ok, key_within}
-use Rattle.watch_lists.proofs.Listed.{each_listed, each_all}
+use Rattle.watch_lists.proofs.Shards.{row_is, row_ok, key_within, rows_rise}
+use Rattle.watch_lists.proofs.Listed.{each_listed, each_within, each_all}
 use Rattle.watch_lists.proofs.shard.Shard.each.Goals as goal
 use Rattle.watch_lists.proofs.shard.Shard.each.Goals.{After-copied}
 
@@ -37,6 +38,16 @@ returns-clause-listed c =
     let l = key_within s.ids s.rows.items c.args.self.now c.args.key c.self.view_is c.requires in
     let row = row_ok s.ids s.rows.items c.self.invariant c.args.key l c.index.result.now c.index.ensures in
     each_listed c.args.key s.ids (row_of c.args.self.now c.args.key) (rw (row_read c) at row) c.args.at c.copied.result (place c)
+
+pub returns-clause-row : goal.returns-clause-row
+returns-clause-row c =
+    let s = c.self.inside in
+    let key = c.args.key in
+    let l = key_within s.ids s.rows.items c.args.self.now key c.self.view_is c.requires in
+    subst (λ (w : Watches). IsRow key w.ids (row_of w key)) c.self.view_is (rows_rise s.ids s.rows.items c.self.invariant key l)
+
+pub returns-clause-within : goal.returns-clause-within
+returns-clause-within c = each_within c.args.key c.args.self.now.ids (row_of c.args.self.now c.args.key) (returns-clause-row c) c.args.at c.copied.result (place c)
 
 pub returns-clause-all : goal.returns-clause-all
 returns-clause-all c = each_all c.args.key (row_of c.args.self.now c.args.key) c.args.at c.copied.result (place c)
