@@ -6,6 +6,8 @@ pub mod Count
 pub mod Causes
 -- bytes and lists that are known where an object tells them
 pub mod Told
+-- an object that shows its bytes, or doesn't, and stays so
+pub mod Alike
 -- a link as it was accepted
 pub mod NewLink
 -- what an accept does to the links given and to their end

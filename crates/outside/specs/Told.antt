@@ -7,9 +7,10 @@ abbrev pub IsBare : {A : Type 0} → Option (List A) → Type 0
 IsBare None = ⊤
 IsBare (Some xs) = xs ≡ []
 
--- where it was told, it has one more at its end, and nothing else changed
+-- where it was told, it has one more at its end, and nothing else changed. What isn't told goes on untold
 abbrev pub Gains : {A : Type 0} → Option (List A) → Option (List A) → A → Type 0
-Gains None new x = ⊤
+Gains None None x = ⊤
+Gains None (Some ys) x = ⊥
 Gains (Some xs) None x = ⊥
 Gains (Some xs) (Some ys) x = ys ≡ xs ++ x ∷ []
 

@@ -2,7 +2,7 @@ ghost use Rattle.std.specs.Prelude.{◌≡◌, ℕ, ◌≤◌};
 ghost use Rattle.outside.specs.declared.clock.TheConstants.{MOST_MOMENT};
 
 /// The greatest moment that a clock gives, in milliseconds.
-pub const MOST_MOMENT: u64 = 1_000_000_000_000_000;
+pub const MOST_MOMENT: u64 = kbytes::MOST_MOMENT;
 
 /// Moments in milliseconds that never go back, at most `MOST_MOMENT`. A clock has no fault.
 pub trait Clock {

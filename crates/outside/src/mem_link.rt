@@ -1,6 +1,7 @@
 ghost use Rattle.std.specs.Prelude.{◌≡◌, ◌↔◌, ◌-◌, ◌++◌, ◌<◌, [], false, true, Some, IsTrue, IsErr, IfOk, OnErr, min, length, take, drop};
 ghost use Rattle.std.specs.Io.{ReadsAtMost, WritesAtMost};
 ghost use Rattle.std.specs.Io.KnownBytes.{ReadConsumes, WriteAppends};
+ghost use Rattle.outside.specs.Alike.{ShowsAlike};
 ghost use Rattle.outside.specs.Causes.{HasCause};
 ghost use Rattle.outside.specs.Plan.{planned, is_due, called, faulted};
 ghost use Rattle.outside.specs.Store.{IsRefused};
@@ -79,6 +80,8 @@ impl Link for MemLink {
         ensures bound { ReadsAtMost result into.new }
         ensures bytes { ReadConsumes (Some self.old.left) (Some self.new.left) result into.new }
         ensures taken { ReadAppends (Some self.old.taken) (Some self.new.taken) result into.new }
+        ensures taken_told { ShowsAlike (Some self.old.taken) (Some self.new.taken) }
+        ensures left_told { ShowsAlike (Some self.old.left) (Some self.new.left) }
         ensures written { Some self.new.written ≡ Some self.old.written }
         ensures shut { self.new.is_shut ≡ self.old.is_shut }
         ensures cause { HasCause self.old.plan.faults self.new.plan.faults result }
@@ -98,6 +101,7 @@ impl Link for MemLink {
         ensures bound { WritesAtMost result part.now }
         ensures some { IfOk result (λ n. 0 < length part.now → 0 < n) }
         ensures bytes { WriteAppends (Some self.old.written) (Some self.new.written) result part.now }
+        ensures written_told { ShowsAlike (Some self.old.written) (Some self.new.written) }
         ensures taken { Some self.new.taken ≡ Some self.old.taken }
         ensures left { Some self.new.left ≡ Some self.old.left }
         ensures shut { self.new.is_shut ≡ self.old.is_shut }

@@ -1,13 +1,27 @@
 -- What flowed over a link, over one call and over two.
-use Rattle.std.proofs.Common.{◌≡◌, ℕ, ◌+◌, ◌≤◌, List, [], ◌++◌, take, drop, Option, sym, ap, subst, ◌∙◌, arith, append-nil}
+use Rattle.std.proofs.Common.{◌≡◌, ℕ, ◌+◌, ◌≤◌, List, [], ◌++◌, take, drop, Option, is_some, refl, sym, ap, subst, ◌∙◌, arith, append-nil}
 use Rattle.std.proofs.KnownBytes.{Appends-nil, Appends-trans, Appends-kept, Consumes-nil, Consumes-trans, Consumes-kept}
 use Rattle.std.proofs.Math.Seq.{take-add}
 use Rattle.std.proofs.lemmas.List.{take-take}
 use Rattle.std.specs.Io.KnownBytes.{Appends, Consumes, Keeps}
-use Rattle.session.specs.Flows.{HasFlowed, LinkView}
+use Rattle.outside.specs.Alike.{ShowsAlike}
+use Rattle.session.specs.Flows.{HasFlowed, IsShownAlike, LinkView}
+
+-- what it shows
+
+alike_self : (v : LinkView) → IsShownAlike v v
+alike_self v = record { taken = refl; left = refl; written = refl }
+
+alike_on : (a b c : LinkView) → IsShownAlike a b → IsShownAlike b c → IsShownAlike a c
+alike_on a b c f g = record { taken = g.taken ∙ f.taken; left = g.left ∙ f.left; written = g.written ∙ f.written }
+
+same_alike : (a b : Option (List ℕ)) → b ≡ a → ShowsAlike a b
+same_alike a b same = ap (λ (x : Option (List ℕ)). is_some x) same
+
+-- what flowed
 
 pub flowed_none : (v : LinkView) → HasFlowed [] [] v v
-flowed_none v = record { taken = Appends-nil v.taken; left = Consumes-nil v.left; written = Appends-nil v.written; later = omega arith }
+flowed_none v = record { taken = Appends-nil v.taken; left = Consumes-nil v.left; written = Appends-nil v.written; later = omega arith; alike = alike_self v }
 
 pub flowed_on : (came more went further : List ℕ) (a b c : LinkView) → HasFlowed came went a b → HasFlowed more further b c → HasFlowed (came ++ more) (went ++ further) a c
 flowed_on came more went further a b c f g = record {
@@ -15,6 +29,7 @@ flowed_on came more went further a b c f g = record {
   left = Consumes-trans a.left b.left c.left came more f.left g.left;
   written = Appends-trans a.written b.written c.written went further f.written g.written;
   later = omega (arith, f.later, g.later);
+  alike = alike_on a b c f.alike g.alike;
 }
 
 same_appends : (a b : Option (List ℕ)) → b ≡ a → Appends a b []
@@ -35,8 +50,15 @@ flowed_still came went a b c f g = subst (λ (x : List ℕ). HasFlowed came x a 
 
 -- ---- a write
 
-pub wrote : (a b : LinkView) (bytes : List ℕ) → b.taken ≡ a.taken → b.left ≡ a.left → Appends a.written b.written bytes → a.faults ≤ b.faults → HasFlowed [] bytes a b
-wrote a b bytes taken left written later = record { taken = same_appends a.taken b.taken taken; left = same_consumes a.left b.left left; written = written; later = later }
+pub wrote : (a b : LinkView) (bytes : List ℕ) → b.taken ≡ a.taken → b.left ≡ a.left → Appends a.written b.written bytes → ShowsAlike a.written b.written → a.faults ≤ b.faults
+    → HasFlowed [] bytes a b
+wrote a b bytes taken left written shown later = record {
+  taken = same_appends a.taken b.taken taken;
+  left = same_consumes a.left b.left left;
+  written = written;
+  later = later;
+  alike = record { taken = same_alike a.taken b.taken taken; left = same_alike a.left b.left left; written = shown };
+}
 
 -- the next piece stands behind those before it
 pub wrote_on : (a b c : LinkView) (part : List ℕ) (done n k : ℕ) → n ≤ k → HasFlowed [] (take done part) a b → HasFlowed [] (take n (take k (drop done part))) b c
@@ -48,12 +70,19 @@ wrote_on a b c part done n k le first second =
 
 -- it was shut, and nothing else changed
 pub shut_still : (a b : LinkView) → b.taken ≡ a.taken → b.left ≡ a.left → b.written ≡ a.written → b.faults ≡ a.faults → HasFlowed [] [] a b
-shut_still a b taken left written faults = wrote a b [] taken left (same_appends a.written b.written written) (omega (arith, faults))
+shut_still a b taken left written faults = wrote a b [] taken left (same_appends a.written b.written written) (same_alike a.written b.written written) (omega (arith, faults))
 
 -- ---- a read
 
-pub read_some : (a b : LinkView) (bytes : List ℕ) → Appends a.taken b.taken bytes → Consumes a.left b.left bytes → b.written ≡ a.written → a.faults ≤ b.faults → HasFlowed bytes [] a b
-read_some a b bytes taken left written later = record { taken = taken; left = left; written = same_appends a.written b.written written; later = later }
+pub read_some : (a b : LinkView) (bytes : List ℕ) → Appends a.taken b.taken bytes → Consumes a.left b.left bytes → ShowsAlike a.taken b.taken → ShowsAlike a.left b.left
+    → b.written ≡ a.written → a.faults ≤ b.faults → HasFlowed bytes [] a b
+read_some a b bytes taken left taken_told left_told written later = record {
+  taken = taken;
+  left = left;
+  written = same_appends a.written b.written written;
+  later = later;
+  alike = record { taken = taken_told; left = left_told; written = same_alike a.written b.written written };
+}
 
 -- known bytes that are kept grow by none and lose none
 pub kept_appends : (a b : Option (List ℕ)) → Keeps a b → Appends a b []

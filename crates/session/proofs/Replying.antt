@@ -25,7 +25,7 @@ pub answered_same : (calls : List Call) (call : Call) → is_answered call.how �
 answered_same calls call none =
     filter-append (λ (c : Call). is_answered c.how) calls (call ∷ []) ∙ ap (λ b. answered_of calls ++ cond b (call ∷ []) []) none ∙ append-nil (answered_of calls)
 
-zip_push : {A B : Type 0} (R : A → B → Type 0) (xs : List A) (ys : List B) (x : A) (y : B) → AllZip R xs ys → R x y → AllZip R (xs ++ x ∷ []) (ys ++ y ∷ [])
+pub zip_push : {A B : Type 0} (R : A → B → Type 0) (xs : List A) (ys : List B) (x : A) (y : B) → AllZip R xs ys → R x y → AllZip R (xs ++ x ∷ []) (ys ++ y ∷ [])
 zip_push R [] [] x y all one = (one, tt)
 zip_push R [] (w ∷ ys) x y all one = absurd all
 zip_push R (v ∷ xs) [] x y all one = absurd all

@@ -14,6 +14,6 @@ loop-done-preserved g c =
     let d : LinkView = link_of (g.L.Link.taken c.write.new.self) (g.L.Link.left c.write.new.self) (g.L.Link.written c.write.new.self) (g.L.Link.faults c.write.new.self) in
     let within : n ≤ length frame - done = omega (arith, e.bound, length-drop done frame, length-take (length frame - done) (drop done frame)) in
     record {
-      flowed = wrote_on a b d frame done n (length frame - done) within c.loop-done.invariant.flowed (wrote b d _ e.taken e.left e.bytes e.cause.later);
+      flowed = wrote_on a b d frame done n (length frame - done) within c.loop-done.invariant.flowed (wrote b d _ e.taken e.left e.bytes e.written_told e.cause.later);
       within = omega (arith, e.bound, length-drop done frame, length-take (length frame - done) (drop done frame), c.loop-done.invariant.within);
     }

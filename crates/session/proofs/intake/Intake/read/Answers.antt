@@ -18,7 +18,7 @@ returns-in-Ok-eq0 g c =
     let left : Consumes a.left b.left [] = subst (λ (k : ℕ). Consumes a.left b.left (take k into)) none e.bytes.0 in
     let some : 0 < length into = omega (arith, c.read.auto.into, c.deref_mut.ensures.len) in
     inl (
-      read_some a b [] taken left e.written e.cause.later,
+      read_some a b [] taken left e.taken_told e.left_told e.written e.cause.later,
       inr (
         e.bytes.1 none some,
         λ t. ends_shown t c.args.self.now.inbox c.end_of_input.result (c.end_of_input.ensures.end ∙ ap (λ (rest : List ℕ). end_of_input (length rest)) c.bytes.ensures)
