@@ -1,5 +1,5 @@
 //! Tests of the ground on which connections are served, by its public calls: the links, ports and clocks of `outside`, the clock of
-//! `shared_clock` and the sessions of `session`. Nothing here is for other crates.
+//! `shared_clock`, the queue of `link_queue` and the sessions of `session`. Nothing here is for other crates.
 #![tactic(auto)]
 
 #[cfg(test)]
@@ -10,6 +10,8 @@ mod frames;
 mod meeting;
 #[cfg(test)]
 mod memory;
+#[cfg(test)]
+mod queues;
 #[cfg(test)]
 mod rooms;
 #[cfg(test)]

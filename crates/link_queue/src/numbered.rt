@@ -1,0 +1,6 @@
+/// A link with the number under which it was accepted.
+#[derive(Clone, Copy, Debug, PartialEq, Eq, Drop)]
+pub struct Numbered<L> {
+    pub number: u64,
+    pub link: L,
+}
