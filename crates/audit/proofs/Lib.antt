@@ -26,3 +26,7 @@ mod EntryOfCall
 pub mod Bounded
 -- what became of the partitions of a request
 mod ResultsStand
+-- links in rising number
+mod RisingLinks
+-- an account has one print of its links
+pub mod OneServePrint

@@ -11,7 +11,7 @@ use Rattle.partlog.specs.Batches.{batches_after, batches_of}
 use Rattle.audit.specs.declared.account.PartAccount.{PartAccount}
 use Rattle.audit.specs.declared.account.Call.{Call}
 use Rattle.kbytes.proofs.Laws.{some_is}
-use Rattle.audit.specs.Printed.{is_parked, parked_of, numbered, part_line}
+use Rattle.audit.specs.Printed.{is_parked, parked_of, numbered}
 
 any_before : (before after : List PartEvent) (e : PartEvent) (log other : List ℕ) → length (batches_after before (e ∷ []) log) ≡ length (batches_after after (e ∷ []) other)
 any_before before after (Append by seq count len) log other = refl
@@ -44,14 +44,14 @@ numbered_more n (p ∷ parts) part =
     let same : n + 1 + length parts ≡ n + length (p ∷ parts) = omega arith in
     ap (λ (ps : List (ℕ × PartAccount)). (n, p) ∷ ps) (numbered_more (n + 1) parts part ∙ ap (λ (k : ℕ). numbered (n + 1) parts ++ (k, part) ∷ []) same)
 
--- the line of one partition more
-pub parts_more : (parts : List PartAccount) (n : ℕ) (part : PartAccount) → n < length parts → part ≡ get_or parts n part
-    → flat_map part_line (numbered 0 (take (n + 1) parts)) ≡ flat_map part_line (numbered 0 (take n parts)) ++ part_line (n, part)
-parts_more parts n part lt is =
+-- the line of one partition more, whichever line that is
+pub parts_more : (line : ℕ × PartAccount → List ℕ) (parts : List PartAccount) (n : ℕ) (part : PartAccount) → n < length parts → part ≡ get_or parts n part
+    → flat_map line (numbered 0 (take (n + 1) parts)) ≡ flat_map line (numbered 0 (take n parts)) ++ line (n, part)
+parts_more line parts n part lt is =
     let front = take n parts in
     let all : take (n + 1) parts ≡ front ++ part ∷ [] = take_more parts n part lt ∙ ap (λ (p : PartAccount). front ++ p ∷ []) (sym is) in
     let count : 0 + length front ≡ n = omega (arith, length-take n parts) in
-    ap (λ (ps : List PartAccount). flat_map part_line (numbered 0 ps)) all
-    ∙ ap (flat_map part_line) (numbered_more 0 front part ∙ ap (λ (k : ℕ). numbered 0 front ++ (k, part) ∷ []) count)
-    ∙ flat_map-append part_line (numbered 0 front) ((n, part) ∷ [])
-    ∙ ap (λ (t : List ℕ). flat_map part_line (numbered 0 front) ++ t) (append-nil (part_line (n, part)))
+    ap (λ (ps : List PartAccount). flat_map line (numbered 0 ps)) all
+    ∙ ap (flat_map line) (numbered_more 0 front part ∙ ap (λ (k : ℕ). numbered 0 front ++ (k, part) ∷ []) count)
+    ∙ flat_map-append line (numbered 0 front) ((n, part) ∷ [])
+    ∙ ap (λ (t : List ℕ). flat_map line (numbered 0 front) ++ t) (append-nil (line (n, part)))

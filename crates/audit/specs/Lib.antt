@@ -12,7 +12,15 @@ pub mod Fits
 pub mod RunOf
 -- what is printed of an account
 pub mod Printed
+-- what is printed of links that were served
+pub mod ServePrint
 -- an account that may be printed
 pub mod Printable
 -- small accounts, written out
 pub mod Worked
+-- ==== the words of private functions
+
+-- sums over sessions
+pub mod Totals
+-- transcripts that are lent
+pub mod Links

@@ -9,7 +9,7 @@ use Rattle.audit.specs.declared.account.Account.{Account}
 use Rattle.audit.specs.declared.account.Transcript.{Transcript}
 use Rattle.audit.specs.declared.account.Call.{Call}
 use Rattle.audit.specs.declared.account.CallHow.TheVariants.{AtOnce, Satisfied, Expired, Parked, Cut}
-use Rattle.audit.specs.declared.account.SessionEnd.TheVariants.{Closed, NoMemory}
+use Rattle.audit.specs.declared.account.SessionEnd.TheVariants.{Closed, NoMemory, Truncated}
 use Rattle.audit.specs.declared.account.Point.{Point}
 use Rattle.kwire.specs.declared.request.Request.{Request}
 use Rattle.kwire.specs.declared.request.Ask.TheVariants.{Produce, Fetch}
@@ -195,6 +195,14 @@ closed_run = record {
   clock = clocks.Tick 5 ∷ clocks.Tick 1000 ∷ [];
   passes = (closed_transcript ∷ []) ∷ [] ∷ [];
   wins = [];
+}
+
+-- Two links that one lane served, the second of which it took up first: it read the partition as it was at last.
+abbrev pub two_links : List ℕ → Account
+two_links one = record filled {
+  passes =
+      (record { number = 1; first = 0; calls = record { frame = one; accept = at 0 3 ∷ []; finish = []; how = AtOnce } ∷ []; end = Some Closed }
+      ∷ record { number = 0; first = 1; calls = []; end = Some (Truncated 3) } ∷ []) ∷ [];
 }
 
 -- lines, each with its line feed

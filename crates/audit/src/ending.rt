@@ -55,8 +55,8 @@ fn put_refusal(out: &mut Bytes, why: &WireFault) -> Result<(), NoMemory>
     }
 }
 
-// Adds how a session ended, as the last words of a line.
-fn put_end(out: &mut Bytes, end: &SessionEnd) -> Result<(), NoMemory>
+/// Adds how a session ended, as the last words of a line. If memory runs out, a part of them may be there.
+pub fn put_end(out: &mut Bytes, end: &SessionEnd) -> Result<(), NoMemory>
     ensures { OnOk result (out.new ≡ out.old ++ line_of (end_words end.now)) }
 {
     match end {

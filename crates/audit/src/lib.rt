@@ -9,8 +9,11 @@ mod input_end;
 mod numbers;
 mod parts;
 mod promises;
+mod serve_print;
+mod storm_print;
 mod summary;
 mod tally;
+mod totals;
 
 pub use account::{
     Account, CLOCK_PART, Call, CallHow, MOST_CALLS, PartAccount, Point, SessionEnd, Transcript,
@@ -19,7 +22,9 @@ pub use ending::put_end_line;
 pub use input_end::end_of_input;
 pub use parts::part_accounts;
 pub use promises::{
-    lawful_logs_are_bounded, looks_stand, one_print, one_reply, results_stand, worked_account,
-    worked_calls, worked_prints, worked_replies, worked_requests, worked_run,
+    lawful_logs_are_bounded, looks_stand, one_print, one_reply, one_serve_print, results_stand,
+    worked_account, worked_calls, worked_prints, worked_replies, worked_requests, worked_run,
 };
+pub use serve_print::print_serve;
+pub use storm_print::print_storm;
 pub use summary::print_replay;

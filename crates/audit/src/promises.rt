@@ -19,8 +19,9 @@ ghost use Rattle.audit.specs.IsLawful.{IsLawful};
 ghost use Rattle.kwire.specs.IsRequest.{IsRequest, request_fields};
 ghost use Rattle.audit.specs.Printed.{IsPrintOf, link_line, session_text, storm_summary_of, summary_of};
 ghost use Rattle.audit.specs.RunOf.{IsRunOf};
+ghost use Rattle.audit.specs.ServePrint.{IsServePrint};
 ghost use Rattle.kwire.specs.Spelling.{spelling};
-ghost use Rattle.audit.specs.Worked.{astray_call, closed_lines, closed_run, cut_as_satisfied, cut_call, cut_unwon, expired_call, fetch_both, fetch_now, fetch_one, filled, lines_of, parked_call, produce_call, produce_of, produced_reply, read_call, replicated, replicated_call, reply_of, satisfied_call, swapped_print, three_waits, told_later};
+ghost use Rattle.audit.specs.Worked.{astray_call, closed_lines, closed_run, cut_as_satisfied, cut_call, cut_unwon, expired_call, fetch_both, fetch_now, fetch_one, filled, lines_of, parked_call, produce_call, produce_of, produced_reply, read_call, replicated, replicated_call, reply_of, satisfied_call, swapped_print, three_waits, told_later, two_links};
 ghost use Rattle.audit.specs.declared.account.Account.{Account as TheAccount};
 ghost use Rattle.audit.specs.declared.account.Call.{Call as TheCall};
 ghost use Rattle.audit.specs.declared.account.SessionEnd.TheVariants.{Closed, NoMemory};
@@ -45,6 +46,11 @@ pub fn one_print()
         → HasReplies account calls others → sent replies ≡ sent others }
     ensures frames { (replies : List Reply) (bodies : List (List ℕ)) → map spelling replies ≡ map framed bodies
         → AllByRecursion IsFrameBody bodies → AreFramesOf (sent replies) bodies [] }
+{}
+
+/// Law: no account has two prints of its links.
+pub fn one_serve_print()
+    ensures { (account : TheAccount) (text other : List ℕ) → IsServePrint account text → IsServePrint account other → text ≡ other }
 {}
 
 /// Law: no log of a lawful account has more records than a log may have bytes. Each append was made by a lawful call, which
@@ -106,7 +112,8 @@ pub fn worked_account()
     ensures miscounted { (one both : List ℕ) → IsLawful (record (three_waits one both) { wins = 1 ∷ [] }) → ⊥ }
 {}
 
-/// Law: what a worked account prints, where one thread plays a trace and where a storm runs, and what is printed of a link.
+/// Law: what a worked account prints, where one thread plays a trace, where a storm runs and where links are served, the second of
+/// which began first; and what is printed of a link.
 pub fn worked_prints()
     ensures summary { (one both : List ℕ) → summary_of (three_waits one both) ≡ lines_of (codes "part 0 end 0 high 0 batches 0 bytes 0"
         ∷ codes "part 1 end 0 high 0 batches 0 bytes 0" ∷ codes "session 0 calls 1 replies 1 parked 0"
@@ -121,6 +128,8 @@ pub fn worked_prints()
         ≡ lines_of (codes "link 4 calls 1 replies 1 closed" ∷ []) }
     ensures open_link { (one : List ℕ) → link_line (record { number = 5; first = 0; calls = parked_call one ∷ []; end = None })
         ≡ lines_of (codes "link 5 calls 1 replies 0" ∷ []) }
+    ensures served { (one : List ℕ) → IsServePrint (two_links one) (lines_of (codes "link 0 calls 0 replies 0 truncated 3" ∷ codes "link 1 calls 1 replies 1 closed"
+        ∷ codes "part 0 end 1 high 1 batches 1 bytes 1" ∷ codes "part 1 end 0 high 0 batches 0 bytes 0" ∷ codes "done" ∷ [])) }
     ensures ended { (both : List ℕ) → session_text (record { number = 2; first = 0; calls = cut_call both ∷ []; end = Some NoMemory }, [])
         ≡ lines_of (codes "end 2 no-memory" ∷ []) }
 {}

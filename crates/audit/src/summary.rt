@@ -52,8 +52,8 @@ fn put_session(out: &mut Bytes, transcript: &Transcript) -> Result<(), NoMemory>
     out.push(b'\n')
 }
 
-// The same for each partition, numbered from 0.
-fn put_parts(out: &mut Bytes, parts: &[PartAccount]) -> Result<(), NoMemory>
+/// Adds the line of each partition at the end, numbered from 0. If memory runs out, a part of them may be there.
+pub fn put_parts(out: &mut Bytes, parts: &[PartAccount]) -> Result<(), NoMemory>
     requires { All (λ part. log_end_of part.events < 2 ^ 64) parts.now }
     ensures { OnOk result (out.new ≡ out.old ++ flat_map part_line (numbered 0 parts.now)) }
 {

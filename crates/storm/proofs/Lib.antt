@@ -16,3 +16,5 @@ pub mod Ordered
 pub mod Texts
 -- lines, one request after the other
 pub mod Fronts
+-- how long requests wait, and how late the moments are
+pub mod Drained

@@ -8,6 +8,8 @@ pub mod Places
 pub mod Requests
 -- the lines of a load
 pub mod Lines
+-- how long a request may wait, and how far the clock can go until none does
+pub mod Waits
 -- ==== the words of private functions
 
 -- a request that can be sent as a frame

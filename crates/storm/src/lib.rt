@@ -13,7 +13,7 @@ mod promises;
 mod same_as_model;
 mod sending;
 
-pub use asking::Wish;
+pub use asking::{LONGEST_WAIT, Wish};
 pub use kind::Kind;
-pub use load::{MOST_REQUESTS, storm};
-pub use promises::{each_block_is_counted, loads_are_traces};
+pub use load::{MOST_REQUESTS, MOST_STEP, storm};
+pub use promises::{each_block_is_counted, loads_are_traces, loads_can_be_drained};

@@ -17,6 +17,9 @@ pub const MOST_REQUESTS: u32 = 200_000;
 /// The milliseconds that pass with each block.
 pub const BLOCK_TIME: u64 = 10;
 
+/// The most milliseconds by which the clock may go on at a time after the lines, until no request waits.
+pub const MOST_STEP: u64 = 1_000;
+
 fn topic_line(alloc: Global) -> Result<Line, NoMemory>
     ensures { IfOk result (λ line. line ≡ topic_line) }
 {

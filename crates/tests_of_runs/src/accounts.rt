@@ -4,14 +4,31 @@ ghost use Rattle.audit.specs.Worked.{cut_call, expired_call, parked_call, three_
 
 use account_print::{print_workers, workers_text};
 use audit::{
-    Account, CLOCK_PART, Call, CallHow, PartAccount, Point, SessionEnd, Transcript, worked_account,
-    worked_requests,
+    Account, CLOCK_PART, Call, CallHow, PartAccount, Point, SessionEnd, Transcript, print_serve,
+    print_storm, worked_account, worked_requests,
 };
 use kbytes::{Bytes, List, NoMemory, copied};
 use kwire::Config;
 use partlog::{ClockEvent, PartEvent};
 use std::alloc::Global;
 use std::test::*;
+
+// The sums over the three calls, and the line of each as of a link. The first two have no end.
+const SUMMED_UP: &str = "\
+part 0 end 0 batches 0 bytes 0
+part 1 end 0 batches 0 bytes 0
+sessions 3 calls 3 replies 1 parked 1
+done
+";
+
+const AS_LINKS: &str = "\
+link 0 calls 1 replies 1
+link 1 calls 1 replies 0
+link 2 calls 1 replies 0 no-memory
+part 0 end 0 high 0 batches 0 bytes 0
+part 1 end 0 high 0 batches 0 bytes 0
+done
+";
 
 // A fetch, version 4, with correlation id 7 and no client: a consumer asks partition 0 of `t` from its start for 1,000 bytes at
 // most, and waits 100 milliseconds for one.
@@ -227,6 +244,12 @@ fn a_worked_account_is_told(rt: HostRuntime) -> Result<(), Fail> {
     let mut out = Bytes::new(alloc);
     assert!(rt; print_workers(alloc, &account, &mut out).is_ok());
     assert!(rt; out.as_slice() == PRINTED.as_bytes());
+    let mut storm = Bytes::new(alloc);
+    assert!(rt; print_storm(alloc, &account, &mut storm).is_ok());
+    assert!(rt; storm.as_slice() == SUMMED_UP.as_bytes());
+    let mut served = Bytes::new(alloc);
+    assert!(rt; print_serve(alloc, &account, &mut served).is_ok());
+    assert!(rt; served.as_slice() == AS_LINKS.as_bytes());
     for threads in 1..5 {
         assert!(rt;
             matches!(

@@ -1,4 +1,4 @@
-//! Tests of the crates that play, print and wait, by their public calls: `account_print`, `lone_waiters`, `shared_logs` and
+//! Tests of the crates that play, print and wait, by their public calls: `account_print`, `audit`, `lone_waiters`, `shared_logs` and
 //! `trace_workers`. Nothing here is for other crates.
 #![tactic(auto)]
 

@@ -1,4 +1,4 @@
-use Rattle.audit.proofs.WorkedPrints.{waits_summary, filled_summary, waits_storm, filled_storm, closed_link, open_link, cut_text}
+use Rattle.audit.proofs.WorkedPrints.{waits_summary, filled_summary, waits_storm, filled_storm, closed_link, open_link, cut_text, two_served}
 use Rattle.audit.proofs.promises.worked_prints.Goals as goal
 
 pub returns-clause-summary : goal.returns-clause-summary
@@ -21,3 +21,6 @@ returns-clause-open_link c = open_link
 
 pub returns-clause-ended : goal.returns-clause-ended
 returns-clause-ended c = cut_text
+
+pub returns-clause-served : goal.returns-clause-served
+returns-clause-served c = two_served

@@ -14,4 +14,4 @@ loop-number-preserved c =
     c.in_ok-put_part.ensures
     ∙ ap (λ (text : List ℕ). text ++ part_line (n, part)) c.loop-number.invariant
     ∙ append_assoc old front (part_line (n, part))
-    ∙ ap (λ (text : List ℕ). old ++ text) (sym (parts_more parts n part c.loop-number-test.true c.index-parts-number.is))
+    ∙ ap (λ (text : List ℕ). old ++ text) (sym (parts_more part_line parts n part c.loop-number-test.true c.index-parts-number.is))

@@ -2,6 +2,7 @@ use Rattle.std.proofs.Common.{◌≢◌, ℕ, zero, suc, List, sym, subst, arith
 use Rattle.std.specs.Prelude.{AllPairs}
 use Rattle.kwire.specs.IsRequest.{IsRequest}
 use Rattle.audit.specs.IsLawful.{IsLawful}
+use Rattle.audit.specs.Printable.{IsPrintable}
 use Rattle.audit.specs.Printed.{transcripts_of}
 use Rattle.audit.specs.Worked.{three_waits, fetch_one, fetch_both}
 use Rattle.account_print.specs.Tellable.{IsTellable}
@@ -41,3 +42,15 @@ loop-threads-init g c =
     let one : IsRequest FETCH_ONE fetch_one = c.worked_requests.ensures.one in
     let both : IsRequest FETCH_BOTH fetch_both = c.worked_requests.ensures.both in
     subst IsTellable (sym c.in_ok-account.ensures) (told FETCH_ONE FETCH_BOTH (c.worked_account.ensures.lawful FETCH_ONE FETCH_BOTH one both))
+
+pub print_storm-requires : goal.print_storm-requires
+print_storm-requires g c =
+    let one : IsRequest FETCH_ONE fetch_one = c.worked_requests.ensures.one in
+    let both : IsRequest FETCH_BOTH fetch_both = c.worked_requests.ensures.both in
+    subst IsPrintable (sym c.in_ok-account.ensures) (told FETCH_ONE FETCH_BOTH (c.worked_account.ensures.lawful FETCH_ONE FETCH_BOTH one both)).printable
+
+pub print_serve-requires : goal.print_serve-requires
+print_serve-requires g c =
+    let one : IsRequest FETCH_ONE fetch_one = c.worked_requests.ensures.one in
+    let both : IsRequest FETCH_BOTH fetch_both = c.worked_requests.ensures.both in
+    subst IsPrintable (sym c.in_ok-account.ensures) (told FETCH_ONE FETCH_BOTH (c.worked_account.ensures.lawful FETCH_ONE FETCH_BOTH one both)).printable
