@@ -6,3 +6,5 @@ pub mod Writes
 pub mod Replays
 -- what a replay on workers comes to
 pub mod Workings
+-- what a storm comes to
+pub mod Stormings

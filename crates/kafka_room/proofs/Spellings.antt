@@ -3,7 +3,9 @@ use Rattle.std.proofs.Common.{◌≡◌, ◌<◌, ◌≤◌, ℕ, Bool, true, fa
 use Rattle.std.specs.Cmp.Lexicographic.{pointwise, same_text, other_text}
 use Rattle.std.specs.Fmt.{decimal}
 use Rattle.kafka_room.specs.Commands.{IsCommand}
-use Rattle.kafka_room.specs.declared.command.Command.TheVariants.{Workers}
+use Rattle.kafka_room.specs.declared.command.Command.TheVariants.{Storm, Workers}
+use Rattle.kafka_room.specs.declared.command.Load.{Load}
+use Rattle.std.proofs.lemmas.Fmt.{decimal_injective}
 use Rattle.kafka_room.specs.declared.command.TheConstants.{MOST_WORKERS}
 
 pub only_item : {X : Type 0} (xs : List X) (x : X) → 1 ≤ length xs → length xs < 2 → x ≡ get_or xs 0 x → xs ≡ x ∷ []
@@ -18,6 +20,14 @@ three_items (a ∷ b ∷ []) x y z least below first second third = absurd (omeg
 three_items (a ∷ b ∷ c ∷ []) x y z least below first second third = cc
 three_items (a ∷ b ∷ c ∷ d ∷ xs) x y z least below first second third = absurd (omega (arith, below))
 
+pub four_items : {X : Type 0} (xs : List X) (w x y z : X) → 4 ≤ length xs → length xs < 5 → w ≡ get_or xs 0 w → x ≡ get_or xs 1 x → y ≡ get_or xs 2 y → z ≡ get_or xs 3 z → xs ≡ w ∷ x ∷ y ∷ z ∷ []
+four_items [] w x y z least below first second third fourth = absurd (omega (arith, least))
+four_items (a ∷ []) w x y z least below first second third fourth = absurd (omega (arith, least))
+four_items (a ∷ b ∷ []) w x y z least below first second third fourth = absurd (omega (arith, least))
+four_items (a ∷ b ∷ c ∷ []) w x y z least below first second third fourth = absurd (omega (arith, least))
+four_items (a ∷ b ∷ c ∷ d ∷ []) w x y z least below first second third fourth = cc
+four_items (a ∷ b ∷ c ∷ d ∷ e ∷ xs) w x y z least below first second third fourth = absurd (omega (arith, below))
+
 first_of_one : (a b : List ℕ) → a ∷ [] ≡ b ∷ [] → a ≡ b
 first_of_one a b e = cc
 
@@ -30,4 +40,21 @@ is_word bytes want false e = (λ h. absurd cc, λ h. absurd (other_text bytes wa
 pub workers_said : (number : Option ℕ) (words : List (List ℕ)) (word option count : List ℕ) → words ≡ word ∷ option ∷ count ∷ [] → word ≡ codes "replay" → option ≡ codes "--workers"
     → IfSome number (λ n. count ≡ decimal n) → IfSome number (λ n. (1 ≤ n) × (n ≤ MOST_WORKERS)) → IfSome number (λ n. IsCommand words (Workers n))
 workers_said None words word option count is first second third range = tt
-workers_said (Some n) words word option count is first second third range = (is ∙ rw (first, second, third) refl, range.0, range.1)
+workers_said (Some n) words word option count is first second third range = (is ∙ rw (first, second, third) refl, range)
+
+-- four words with three numbers
+pub load_said : (words : List (List ℕ)) (word first second third : List ℕ) (seed requests workers : ℕ) → words ≡ word ∷ first ∷ second ∷ third ∷ [] → word ≡ codes "storm"
+    → first ≡ decimal seed → second ≡ decimal requests → third ≡ decimal workers
+    → words ≡ codes "storm" ∷ decimal seed ∷ decimal requests ∷ decimal workers ∷ []
+load_said words word first second third seed requests workers is named one two three = is ∙ rw (named, one, two, three) refl
+
+-- a load has one spelling
+pub one_load : (words : List (List ℕ)) (load other : Load) → IsCommand words (Storm load) → IsCommand words (Storm other) → load ≡ other
+one_load words load other a b =
+    let same = sym a.0 ∙ b.0 in
+    let seed : load.seed ≡ other.seed = decimal_injective load.seed other.seed a.1.seed b.1.seed cc in
+    let requests : load.requests ≡ other.requests = decimal_injective load.requests other.requests (omega (arith, a.1.most)) (omega (arith, b.1.most)) cc in
+    let workers : load.workers ≡ other.workers = decimal_injective load.workers other.workers (omega (arith, a.1.workers.1)) (omega (arith, b.1.workers.1)) cc in
+    ap (λ (s : ℕ). record { seed = s; requests = load.requests; workers = load.workers }) seed
+    ∙ ap (λ (r : ℕ). record { seed = other.seed; requests = r; workers = load.workers }) requests
+    ∙ ap (λ (w : ℕ). record { seed = other.seed; requests = other.requests; workers = w }) workers

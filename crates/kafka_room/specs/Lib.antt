@@ -8,6 +8,8 @@ pub mod Codes
 pub mod Replay
 -- what a replay on workers gives
 pub mod Worked
+-- what a storm comes to
+pub mod Stormed
 -- ==== the words of private functions
 
 -- what is written of lines that weren't played to the last

@@ -1,14 +1,24 @@
 //! The commands that `run` carries out, and the words of the command line that say each of them.
 
-ghost use Rattle.std.specs.Prelude.{◌≡◌, ◌≢◌, ◌≤◌, ◌∷◌, [], ◌↔◌, ℕ, codes, IfSome, IfNone, IsTrue};
+ghost use Rattle.std.specs.Prelude.{◌≡◌, ◌≢◌, ◌≤◌, ◌<◌, ◌^◌, ◌∷◌, [], ◌↔◌, ℕ, codes, IfSome, IfNone, IsTrue};
 ghost use Rattle.std.specs.Fmt.{decimal};
 ghost use Rattle.kafka_room.specs.Commands.{IsCommand, said};
 ghost use Rattle.kafka_room.specs.declared.command.Command.{Command as TheCommand};
+ghost use Rattle.kafka_room.specs.declared.command.Load.{Load as TheLoad};
 
 use itoa::Buffer;
+use storm::MOST_REQUESTS;
 
-/// The most workers that a replay may have.
+/// The most workers that a run may have.
 pub const MOST_WORKERS: u32 = 16;
+
+/// A load that is to be generated and played.
+#[derive(Clone, Copy, Debug, PartialEq, Eq)]
+pub struct Load {
+    pub seed: u64,
+    pub requests: u32,
+    pub workers: u32,
+}
 
 /// What the program is asked to do.
 #[derive(Clone, Copy, Debug, PartialEq, Eq)]
@@ -17,6 +27,8 @@ pub enum Command {
     Replay,
     /// `replay --workers COUNT`: it is replayed on that many threads.
     Workers(u32),
+    /// `storm SEED REQUESTS WORKERS`: a load is generated, and played on that many threads until nobody waits.
+    Storm(Load),
 }
 
 impl Command {
@@ -28,7 +40,10 @@ impl Command {
         if is_replay(words) {
             return Some(Command::Replay);
         }
-        Some(Command::Workers(workers_in(words)?))
+        if let Some(count) = workers_in(words) {
+            return Some(Command::Workers(count));
+        }
+        Some(Command::Storm(load_in(words)?))
     }
 }
 
@@ -48,26 +63,50 @@ fn workers_in(words: &[String]) -> Option<u32>
 {
     match words {
         [word, option, count] if word.as_str() == "replay" && option.as_str() == "--workers" =>
-            workers(count.as_str()),
+            number_to(count.as_str(), MOST_WORKERS),
         _ => None,
     }
 }
 
-// The number of workers that the word says. A number has one spelling, without sign or leading zeros.
-fn workers(word: &str) -> Option<u32>
-    ensures some { IfSome result (λ count. word.now ≡ decimal count) }
-    ensures in_range { IfSome result (λ count. (1 ≤ count) × (count ≤ MOST_WORKERS)) }
-    ensures none { IfNone result ((count : ℕ) → 1 ≤ count → count ≤ MOST_WORKERS → word.now ≢ decimal count) }
+// The load that is to be played.
+fn load_in(words: &[String]) -> Option<Load>
+    ensures some { IfSome result (λ load. IsCommand (said words.now) (TheCommand.Storm load)) }
+    ensures none { IfNone result ((load : TheLoad) → IsCommand (said words.now) (TheCommand.Storm load) → ⊥) }
 {
-    let Ok(count) = word.parse::<u32>() else {
+    match words {
+        [word, seed, requests, workers] if word.as_str() == "storm" => Some(Load {
+            seed: number(seed.as_str())?,
+            requests: number_to(requests.as_str(), MOST_REQUESTS)?,
+            workers: number_to(workers.as_str(), MOST_WORKERS)?,
+        }),
+        _ => None,
+    }
+}
+
+// The number that the word says. A number has one spelling, without sign or leading zeros.
+fn number(word: &str) -> Option<u64>
+    ensures some { IfSome result (λ number. word.now ≡ decimal number) }
+    ensures none { IfNone result ((number : ℕ) → number < 2 ^ 64 → word.now ≢ decimal number) }
+{
+    let Ok(number) = word.parse::<u64>() else {
         return None;
     };
-    if count == 0 || MOST_WORKERS < count {
-        return None;
-    }
-    if Buffer::new().format(count) == word {
-        Some(count)
+    if Buffer::new().format(number) == word {
+        Some(number)
     } else {
         None
     }
+}
+
+// The number from 1 to `most` that the word says.
+fn number_to(word: &str, most: u32) -> Option<u32>
+    ensures some { IfSome result (λ number. word.now ≡ decimal number) }
+    ensures in_range { IfSome result (λ number. (1 ≤ number) × (number ≤ most)) }
+    ensures none { IfNone result ((number : ℕ) → 1 ≤ number → number ≤ most → word.now ≢ decimal number) }
+{
+    let number = number(word)?;
+    if number == 0 || u64::from(most) < number {
+        return None;
+    }
+    Some(number as u32)
 }

@@ -1,4 +1,5 @@
-//! The request purgatory of a Kafka broker: `kafka_room replay` replays a recorded trace, on one thread or on several.
+//! The request purgatory of a Kafka broker: `kafka_room replay` replays a recorded trace, on one thread or on several, and
+//! `kafka_room storm` plays a load that it generates.
 #![tactic(auto)]
 
 mod command;
@@ -7,6 +8,7 @@ mod nothing;
 mod on_workers;
 mod replay;
 mod run;
+mod storming;
 mod streams;
 #[cfg(test)]
 mod tests;
@@ -28,6 +30,8 @@ kafka_room: the request purgatory of a Kafka broker
 Usage:
   kafka_room replay              replays the trace on standard input
   kafka_room replay --workers W  replays it on W threads, 1 to 16
+  kafka_room storm SEED N W      plays a generated load of N requests, 1 to
+                                 200000, on W threads, until nobody waits
   kafka_room --help or -h        prints this text
   kafka_room --version or -V     prints the version
 
@@ -57,6 +61,13 @@ and after the last, for each partition and each session that a line named:
 With --workers nothing is printed before all is done: then session by session,
 in rising number, its replies in order and its end, and after them the summary.
 
+A storm reads no input. SEED, 0 to 18446744073709551615, sets what is drawn.
+Sixteen sessions produce to eight partitions and fetch from them, and after the
+last request the clock goes on until all are answered. Then this is printed:
+  part P end LOG_END batches COUNT bytes BYTES
+  sessions COUNT calls COUNT replies COUNT parked 0
+  done
+
 Exit codes:
   0  all was done and written        3  the input can't be read
   1  the command line is faulty      4  the output can't be written
@@ -66,6 +77,7 @@ Exit codes:
 Examples: kafka_room replay < examples/produce.trace
           kafka_room replay < examples/acks_all.trace
           kafka_room replay --workers 4 < examples/two_sessions.trace
+          kafka_room storm 7 20000 4
 ";
 
 const VERSION: &str = "kafka_room 0.1.0\n";

@@ -11,8 +11,8 @@ returns-in-len3-clause-some c =
     let word = c.as_str.result.now in
     let option = c.as_str-then-eq.result.now in
     let count = c.as_str-in-len3.result.now in
-    workers_said c.workers.result (said words) word option count
+    workers_said c.number_to.result (said words) word option count
     (ap said three ∙ rw (c.as_str.ensures.value, c.as_str-then-eq.ensures.value, c.as_str-in-len3.ensures.value) refl)
     (same_text word (codes "replay") (sym c.if-eq.true ∙ c.eq.ensures))
     (same_text option (codes "--workers") (sym c.if-eq-2.true ∙ c.eq-then-eq.ensures))
-    c.workers.ensures.some c.workers.ensures.in_range
+    c.number_to.ensures.some c.number_to.ensures.in_range

@@ -1,6 +1,9 @@
-use Rattle.std.proofs.Common.{◌≡◌, Err, ap}
-use Rattle.kafka_room.specs.Codes.{exit_code_of, stop_in}
+use Rattle.std.proofs.Common.{◌≡◌, Err, Some, ap, subst}
+use Rattle.kafka_room.specs.Codes.{account_in, exit_code_of, stop_in}
+use Rattle.kafka_room.specs.Commands.{IsCommand, said}
+use Rattle.kafka_room.specs.declared.command.Command.TheVariants.{Storm}
 use Rattle.kafka_room.proofs.Replays.{stopped_by}
+use Rattle.kafka_room.proofs.Stormings.{stormed_as}
 use Rattle.kafka_room.proofs.run.run.Goals as goal
 
 pub returns-in-Err-clause-complete : goal.returns-in-Err-clause-complete
@@ -16,3 +19,24 @@ returns-in-Err-replay_on_workers-clause-complete g c = λ command words has quie
     let code : c.unfinished.result.code ≡ exit_code_of stop = ap (λ e. e.code) c.unfinished.ensures in
     let came = c.in-Err-replay_on_workers.ensures in
     rw code (stopped_by (g.S.Source.left c.args.source.now) stop came.words came.read_fault came.write_fault came.bad_line has quiet still)
+
+pub returns-in_default-clause-stormed : goal.returns-in_default-clause-stormed
+returns-in_default-clause-stormed g c = λ load is. absurd (c.in_default.ensures.none (Storm load) is)
+
+pub returns-in_default-clause-played : goal.returns-in_default-clause-played
+returns-in_default-clause-played g c = λ is still. absurd (c.in_default.ensures.none (Storm is.0) is.1)
+
+pub returns-in-Ok-play_storm-clause-stormed : goal.returns-in-Ok-play_storm-clause-stormed
+returns-in-Ok-play_storm-clause-stormed g c = λ load is.
+    let words = said c.args.words.now in
+    let said_first : IsCommand words (Storm c.in-Storm.load) = subst (IsCommand words) c.in-Storm.is c.in-Some.ensures.some in
+    rw c.done-in-Ok-play_storm.ensures
+    (stormed_as words c.in-Storm.load load 0 (Some c.in-Ok-play_storm.account) (g.K.Sink.written c.args.sink.now) (g.K.Sink.written c.play_storm.new.sink) said_first is c.in-Ok-play_storm.ensures.done)
+
+pub returns-in-Err-play_storm-clause-stormed : goal.returns-in-Err-play_storm-clause-stormed
+returns-in-Err-play_storm-clause-stormed g c = λ load is.
+    let words = said c.args.words.now in
+    let said_first : IsCommand words (Storm c.in-Storm.load) = subst (IsCommand words) c.in-Storm.is c.in-Some.ensures.some in
+    let why = c.in-Err-play_storm.why in
+    rw c.unfinished-in-Err-play_storm.ensures
+    (stormed_as words c.in-Storm.load load (exit_code_of (stop_in why)) (account_in why) (g.K.Sink.written c.args.sink.now) (g.K.Sink.written c.play_storm.new.sink) said_first is c.in-Err-play_storm.ensures.unfinished)
