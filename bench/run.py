@@ -1,5 +1,5 @@
 #!/usr/bin/env python3
-"""Times `kafka_room replay` on traces that are made here. README.md says what is run and what is printed.
+"""Times `kafka_room replay` on traces that are made here, and `kafka_room storm`. README.md says what is run and what is printed.
 Run it at the top of the repository: `python3 -B -m bench.run`."""
 
 import argparse
@@ -246,6 +246,26 @@ def show_workers(program, folder, name, lines, requests):
               f" {replies} answered, {waiting} wait", flush=True)
 
 
+def stormed(program, requests, workers, folder):
+    """The seconds of a storm, after which nobody may wait."""
+    seconds, _ = least([str(program), "storm", "7", str(requests), str(workers)], folder / "trace", folder / "out")
+    if b" calls %d replies %d parked 0\n" % (requests, requests) not in (folder / "out").read_bytes():
+        raise Wrong(f"{program} left requests of the storm without a reply")
+    return seconds
+
+
+def show_storms(program, folder, requests, other):
+    """Beside another program with the same command, where one is named."""
+    write(folder, [])
+    print(f"storm: {requests} requests", flush=True)
+    first = None
+    for workers in (1, 2, 4):
+        seconds = stormed(program, requests, workers, folder)
+        first = first or seconds
+        than = "" if other is None else f", {seconds / stormed(other, requests, workers, folder):.2f} times as long as {other.name}"
+        print(f"  {workers} workers: {seconds:.3f} s, {first / seconds:.2f} times as fast as one worker{than}", flush=True)
+
+
 def show_growth(program, folder, name, lines_of, produces_of, first):
     print(f"growth: {name}", flush=True)
     before = None
@@ -264,6 +284,7 @@ def main():
     options.add_argument("--large", type=int, default=31, metavar="N", help="batches of 1,048,576 bytes, at most 31")
     options.add_argument("--lines", type=int, default=20, metavar="N", help="batches of 1,048,576 bytes in short lines")
     options.add_argument("--growth", type=int, default=10000, metavar="N", help="the requests of the first of three runs")
+    options.add_argument("--beside", type=pathlib.Path, metavar="PATH", help="another program with the command storm")
     chosen = options.parse_args()
     if not os.access(chosen.program, os.X_OK):
         print(f"{chosen.program} isn't there: `make build` makes it", file=sys.stderr)
@@ -283,6 +304,7 @@ def main():
             show_lines(chosen.program, folder, chosen.lines)
             show_workers(chosen.program, folder, "requests that wait", storm(chosen.small), chosen.small)
             show_workers(chosen.program, folder, "64 sessions apart", apart(5 * chosen.small), 5 * chosen.small)
+            show_storms(chosen.program, folder, chosen.small, chosen.beside)
             show_growth(chosen.program, folder, "one partition", lambda requests: small(requests, 1), lambda requests: requests // 2,
                         chosen.growth)
             show_growth(chosen.program, folder, "requests that wait", storm, storm_produces, chosen.growth)
