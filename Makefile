@@ -1,13 +1,27 @@
 SHELL := bash
 .SHELLFLAGS := -o pipefail -c
 TRACE ?= examples/acks_all.trace
-.PHONY: run build test check fmt edits bench compare definitions workers explain clean
+PORT ?= 9092
+TOPICS ?= orders 3 0
+LANES ?= 4
+CONNECTIONS ?= 100
+.PHONY: run serve build test check fmt edits bench clients compare definitions workers explain clean
 
 # Plays TRACE, on WORKERS threads where they are given, and shows what is printed, in bytes and in words. It is a build that
 # proves nothing, and takes a minute or two: proving the program takes longer than a first look should. `make build` proves it.
 run:
 	@(cd crates/kafka_room && rt try -- replay $(if $(WORKERS),--workers $(WORKERS)) < $(abspath $(TRACE))) | \
 		python3 -B -m model.words.explain --printed - $(TRACE)
+
+# Serves TOPICS on PORT to Kafka clients, by a build that proves nothing, for a day at most. A topic is NAME PARTITIONS FOLLOWERS, and
+# commas stand between several. What the program writes is shown only once it has ended, so what it would say at its start is said here.
+serve:
+	@if python3 -B -m clients.listens $(PORT); then echo "Another program listens on 127.0.0.1:$(PORT): name another PORT." >&2; exit 1; fi
+	@echo "Compiles for a minute or two, and then listens on 127.0.0.1:$(PORT), with $(LANES) lanes: so many connections are served at a time."
+	@echo "It ends after $(CONNECTIONS) connections, and prints what it served. Control-C stops it before that, and then it prints nothing."
+	@python3 -B -m clients.listens $(PORT) --wait & trap "kill $$! 2> /dev/null" EXIT; cd crates/kafka_room && \
+		{ tr , '\n' <<< '$(TOPICS)' | sed -E 's/^ +| +$$//g; s/^/topic /'; echo end; } | \
+		rt try --seconds 86400 -- serve --port $(PORT) --lanes $(LANES) --connections $(CONNECTIONS)
 
 # The proved program stays as crates/kafka_room/out/kafka_room.
 build:
@@ -32,6 +46,10 @@ edits:
 bench:
 	python3 -B -m bench.run
 	cd crates/bench_parts && rt run -- measure
+
+# Lets real Kafka clients speak to `serve` of the program that `make build` leaves. clients/README.md says which, and what is checked.
+clients:
+	python3 -B -m clients.check
 
 # Plays random traces by the model and by the program that `make build` leaves: 1,000 of each kind, or COUNT, or of one KIND. With
 # UNPROVED=yes it is played by a build that proves nothing.

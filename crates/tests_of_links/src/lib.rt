@@ -7,6 +7,8 @@ mod clocks;
 #[cfg(test)]
 mod frames;
 #[cfg(test)]
+mod lanes;
+#[cfg(test)]
 mod meeting;
 #[cfg(test)]
 mod memory;
@@ -18,5 +20,7 @@ mod rooms;
 mod sessions;
 #[cfg(test)]
 mod slow_link;
+#[cfg(test)]
+mod slow_port;
 #[cfg(test)]
 mod sockets;

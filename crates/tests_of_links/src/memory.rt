@@ -8,7 +8,7 @@ use std::alloc::Global;
 use std::test::*;
 
 // The calls of these numbers fail.
-fn failing(alloc: Global, numbers: &[u64]) -> Result<List<u64>, NoMemory> {
+pub(crate) fn failing(alloc: Global, numbers: &[u64]) -> Result<List<u64>, NoMemory> {
     let mut list = List::new(alloc);
     for number in numbers {
         list.push(*number)?;

@@ -13,7 +13,7 @@ use std::alloc::Global;
 use std::sync::Wait;
 
 // The topic `t` with one partition.
-fn config(alloc: Global) -> Result<Config, NoMemory> {
+pub(crate) fn config(alloc: Global) -> Result<Config, NoMemory> {
     let mut config = Config::new(alloc, 9092);
     match config.add(b"t", 1, 0) {
         Ok(()) => Ok(config),

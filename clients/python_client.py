@@ -1,0 +1,48 @@
+"""What kafka-python does in a check: run by an interpreter that has it, and told what by words.
+
+    python_client.py produce ADDRESS ACKS TOPIC PARTITION FIRST COUNT
+    python_client.py consume ADDRESS TOPIC PARTITION OFFSET COUNT
+
+`produce` sends records that say their numbers, and prints the offset of each. `consume` prints each record that it gets from the offset
+on, until there were so many, and then looks once more whether there is another. The broker is told to be of Kafka 0.11.0, as its
+versions of the apis are those of that release; so the client asks for no list of them.
+"""
+
+import sys
+import time
+
+import kafka
+
+VERSION = (0, 11, 0)
+SECONDS = 8
+
+
+def produce(address, acks, topic, partition, first, count):
+    producer = kafka.KafkaProducer(bootstrap_servers=address, api_version=VERSION, acks=acks if acks == "all" else int(acks), retries=0)
+    numbers = range(int(first), int(first) + int(count))
+    sent = [
+        producer.send(topic, f"value {n}".encode(), f"key {n}".encode(), [("number", str(n).encode())], int(partition)) for n in numbers
+    ]
+    for future in sent:
+        print(future.get(SECONDS).offset)
+    producer.close()
+
+
+def consume(address, topic, partition, offset, count):
+    consumer = kafka.KafkaConsumer(bootstrap_servers=address, api_version=VERSION, fetch_max_wait_ms=100)
+    place = kafka.TopicPartition(topic, int(partition))
+    consumer.assign([place])
+    consumer.seek(place, int(offset))
+    end, left = time.monotonic() + SECONDS, int(count)
+    while time.monotonic() < end:
+        was, got = left, [record for records in consumer.poll(200).values() for record in records]
+        for record in got:
+            print(record.offset, record.key, record.value, record.headers)
+        left -= len(got)
+        if was <= 0:
+            break
+    consumer.close()
+
+
+if __name__ == "__main__":
+    {"produce": produce, "consume": consume}[sys.argv[1]](*sys.argv[2:])

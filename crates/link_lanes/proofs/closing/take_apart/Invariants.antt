@@ -1,0 +1,10 @@
+use Rattle.std.proofs.Common.{◌≡◌}
+use Rattle.link_lanes.specs.Closed.{keys_of, passes_of, seats_of}
+use Rattle.link_lanes.proofs.closing.take_apart.Given as goal
+
+abbrev pub invariant-loop-server : goal.invariant-loop-server
+invariant-loop-server g l = record {
+  passes : l.passes ≡ passes_of l.yielded;
+  seats : l.seats ≡ seats_of l.yielded;
+  keys : l.keys ≡ keys_of l.yielded;
+}

@@ -1,0 +1,18 @@
+-- A server of a hall, between two links or with one in hand.
+use Rattle.std.specs.Prelude.{◌≡◌, ℕ, List, []}
+use Rattle.lane_books.specs.LaneBook.{IsLaneBook}
+use Rattle.lane_books.specs.Shown.{ShownLink}
+use Rattle.shared_clock.specs.ClockViews as clock
+use Rattle.shared_port.specs.Entries.{opened}
+use Rattle.shared_port.specs.PortViews as port
+use Rattle.link_lanes.specs.Halls.{HallView, ServerView, book_of}
+
+-- The server is the hall's, all its passes have this number, and it never opened the port. With these links in hand, it has the book of a lane that put and took
+-- these.
+pub record IsServing {L : Type 0} (see : L → ShownLink) (hall : HallView) (at : ℕ) (held put taken : List ℕ) (server : ServerView L) : Type 0 where
+  pub seat : clock.IsPassOf hall.clock server.seat
+  pub key : port.IsPassOf hall.port server.key
+  pub number : server.pass.logs.number ≡ at
+  pub key_number : server.key.number ≡ at
+  pub unopened : opened server.key.own ≡ []
+  pub book : IsLaneBook hall.broker held (book_of see server put taken)

@@ -1,0 +1,262 @@
+//! Runs of lanes over links in memory, some of which fail, and a fetch that waits in one lane for the produce of another.
+ghost use Rattle.std.specs.Prelude.{◌≡◌, ◌≤◌, [], Some, IfOk, All};
+ghost use Rattle.outside.specs.Wire.{IsNewWire};
+ghost use Rattle.shared_port.specs.History.{IsNewPort};
+
+use crate::frames::{FETCH, FETCHED, PRODUCE, PRODUCED};
+use crate::meeting::StandingClock;
+use crate::memory::{failing, link_of};
+use crate::rooms::config;
+use crate::slow_link::SlowLink;
+use crate::slow_port::SlowPort;
+use audit::print_serve;
+use kbytes::{Bytes, List, NoMemory};
+use lane_books::served_accounts_are_printable;
+use link_lanes::{LaneRun, MOST_LANES, Serving, serve_links};
+use outside::{Clock, MemClock, MemLink, MemPort, Port};
+use std::alloc::Global;
+use std::sync::Wait;
+use std::sync::atomic::AtomicBool;
+use std::test::*;
+use std::thread::Threads;
+use std::time;
+
+// A run over a port and a clock, and what is printed of it.
+struct Told<P: Drop, C: Drop> {
+    run: LaneRun<P, C>,
+    text: Bytes,
+}
+
+// Serves at most so many links of the port on so many lanes, at the topic `t` with one partition.
+fn tell<R: Threads + Wait + Sync, P: Port + Send + Drop, C: Clock + Send + Drop>(
+    rt: &R,
+    alloc: Global,
+    port: P,
+    clock: C,
+    lanes: u32,
+    most: u64,
+) -> Result<Told<P, C>, NoMemory>
+where
+    P::Link: Send + Drop,
+    requires new { IsNewPort (record { faults = P.faults port; opened_with = P.opened_with port; given = P.given port; is_ended = P.is_ended port; retired_count = P.retired_count port; retired = P.retired port }) }
+    requires lanes { (1 ≤ lanes) × (lanes ≤ MOST_LANES) }
+{
+    let serving = Serving {
+        number: 9092,
+        lanes,
+        most,
+    };
+    let run = serve_links(rt, alloc, config(alloc)?, port, clock, serving)?;
+    // a law: it does nothing
+    served_accounts_are_printable();
+    let mut text = Bytes::new(alloc);
+    print_serve(alloc, &run.account, &mut text)?;
+    Ok(Told { run, text })
+}
+
+// What comes of some links in memory, each of which sends a produce and then ends.
+struct Case<'a> {
+    // for each link the numbers of its calls that fail
+    links: &'a [&'a [u64]],
+    // the numbers of the calls of the port that fail
+    fails: &'a [u64],
+    lanes: u32,
+    most: u64,
+    has_failed: bool,
+    // how many links were handed back
+    given: u32,
+    text: &'a str,
+}
+
+// A link that sends a produce, whose calls of these numbers fail.
+fn producer(alloc: Global, fails: &[u64]) -> Result<MemLink, NoMemory>
+    ensures { IfOk result (λ link. IsNewWire link) }
+{
+    link_of(alloc, &PRODUCE, 45, fails)
+}
+
+impl Case<'_> {
+    fn port(&self, alloc: Global) -> Result<MemPort, NoMemory>
+        ensures { IfOk result (λ port. IsNewPort (record { faults = port.plan.faults; opened_with = port.opened_with; given = port.given; is_ended = port.is_ended; retired_count = port.retired_count; retired = Some port.retired })) }
+    {
+        let mut links = List::new(alloc);
+        for fails in self.links {
+            links.push(producer(alloc, fails)?)?;
+        }
+        MemPort::new(alloc, links, failing(alloc, self.fails)?)
+    }
+
+    // Each link comes back once, and shut.
+    fn comes_back(&self, rt: &HostRuntime, mut port: MemPort) -> Result<(), Fail> {
+        let mut seen = [false; 8];
+        for _link in 0..self.given {
+            let (number, link) = port.pop_retired().ok_or("a link")?;
+            assert!(rt; link.was_shut());
+            match seen.get_mut(number as usize) {
+                Some(before) if !*before => *before = true,
+                _ => return Err("a number".into()),
+            }
+        }
+        assert!(rt; port.pop_retired().is_none());
+        Ok(())
+    }
+
+    fn holds(&self, rt: &HostRuntime) -> Result<(), Fail>
+        requires { (1 ≤ self.now.lanes) × (self.now.lanes ≤ MOST_LANES) }
+    {
+        let alloc = rt.alloc();
+        let Told { run, text } = tell(
+            rt,
+            alloc,
+            self.port(alloc)?,
+            MemClock::new(0, 1),
+            self.lanes,
+            self.most,
+        )?;
+        assert_eq!(rt; text.as_slice(), self.text.as_bytes());
+        assert_eq!(rt; run.has_failed, self.has_failed);
+        self.comes_back(rt, run.port)
+    }
+}
+
+const FIVE: &str = "\
+link 0 calls 1 replies 1 closed
+link 1 calls 1 replies 1 closed
+link 2 calls 1 replies 1 closed
+link 3 calls 1 replies 1 closed
+link 4 calls 1 replies 1 closed
+part 0 end 5 high 5 batches 5 bytes 345
+done
+";
+
+const WITH_FAULTS: &str = "\
+link 0 calls 1 replies 1 write-fault
+link 1 calls 1 replies 1 closed
+link 2 calls 0 replies 0 read-fault
+part 0 end 2 high 2 batches 2 bytes 138
+done
+";
+
+const ONE: &str = "\
+link 0 calls 1 replies 1 closed
+part 0 end 1 high 1 batches 1 bytes 69
+done
+";
+
+const NONE: &str = "\
+part 0 end 0 high 0 batches 0 bytes 0
+done
+";
+
+// All links are served, to the end of the port.
+#[test]
+fn each_link_is_served_and_comes_back_once(rt: HostRuntime) -> Result<(), Fail> {
+    let all = Case {
+        links: &[&[], &[], &[], &[], &[]],
+        fails: &[],
+        lanes: 2,
+        most: 9,
+        has_failed: false,
+        given: 5,
+        text: FIVE,
+    };
+    all.holds(&rt)?;
+    let none = Case {
+        links: &[],
+        lanes: 64,
+        given: 0,
+        text: NONE,
+        ..all
+    };
+    none.holds(&rt)
+}
+
+// The first link's first write fails and the third link's first read; no more links are asked for than may come.
+#[test]
+fn a_link_that_fails_ends_alone(rt: HostRuntime) -> Result<(), Fail> {
+    let faults = Case {
+        links: &[&[1], &[], &[0], &[]],
+        fails: &[],
+        lanes: 2,
+        most: 3,
+        has_failed: false,
+        given: 3,
+        text: WITH_FAULTS,
+    };
+    faults.holds(&rt)
+}
+
+// An accept fails after the first link, and an opening.
+#[test]
+fn a_port_that_fails_ends_the_run(rt: HostRuntime) -> Result<(), Fail> {
+    let accept = Case {
+        links: &[&[], &[], &[]],
+        fails: &[2],
+        lanes: 2,
+        most: 9,
+        has_failed: true,
+        given: 1,
+        text: ONE,
+    };
+    accept.holds(&rt)?;
+    let opening = Case {
+        fails: &[0],
+        given: 0,
+        text: NONE,
+        ..accept
+    };
+    opening.holds(&rt)
+}
+
+const MET: &str = "\
+link 0 calls 1 replies 1 closed
+link 1 calls 1 replies 1 closed
+part 0 end 1 high 1 batches 1 bytes 69
+done
+";
+
+// A link that sends this request once that is due.
+fn slow<'a, R>(
+    rt: &'a R,
+    alloc: Global,
+    request: &[u8],
+    is_due: &'a AtomicBool,
+) -> Result<SlowLink<'a, R>, NoMemory> {
+    Ok(SlowLink {
+        rt,
+        inner: link_of(alloc, request, 200, &[])?,
+        most: 200,
+        is_due,
+        faults: 0,
+    })
+}
+
+// The first link fetches and waits. The second produces, once the clock was let rest, which is while the fetch waits.
+fn meet<R: Threads + Wait + time::Clock + Sync>(rt: &R, alloc: Global) -> Result<bool, NoMemory> {
+    let is_due = AtomicBool::new(true);
+    let has_rested = AtomicBool::new(false);
+    let clock = StandingClock {
+        inner: MemClock::new(0, 1000),
+        rests: 0,
+        has_rested: &has_rested,
+    };
+    let mut links = Vec::new(alloc);
+    links.push(slow(rt, alloc, &PRODUCE, &has_rested)?)?;
+    links.push(slow(rt, alloc, &FETCH, &is_due)?)?;
+    let port = SlowPort::new(alloc, links);
+    let Told { run, text } = tell(rt, alloc, port, clock, 2, 2)?;
+    Ok(
+        text.as_slice() == MET.as_bytes()
+            && run.port.was_sent(0, &FETCHED)
+            && run.port.was_sent(1, &PRODUCED),
+    )
+}
+
+#[test]
+fn two_lanes_run_beside_each_other(rt: HostRuntime) -> Result<(), Fail> {
+    if meet(&rt, rt.alloc())? {
+        Ok(())
+    } else {
+        Err("a reply".into())
+    }
+}
