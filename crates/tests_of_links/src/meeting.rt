@@ -24,6 +24,16 @@ pub(crate) struct StandingClock<'a> {
     has_rested: &'a AtomicBool,
 }
 
+impl<'a> StandingClock<'a> {
+    pub(crate) fn new(has_rested: &'a AtomicBool) -> StandingClock<'a> {
+        StandingClock {
+            inner: MemClock::new(0, 1000),
+            rests: 0,
+            has_rested,
+        }
+    }
+}
+
 impl Clock for StandingClock<'_> {
     ghost moment = { λ c. c.inner.given };
 
@@ -72,11 +82,7 @@ fn fetch_and_produce<R: Threads + Wait + time::Clock + Sync>(
 ) -> Result<(bool, bool), NoMemory> {
     let is_due = AtomicBool::new(true);
     let has_rested = AtomicBool::new(false);
-    let clock = StandingClock {
-        inner: MemClock::new(0, 1000),
-        rests: 0,
-        has_rested: &has_rested,
-    };
+    let clock = StandingClock::new(&has_rested);
     let (room, here, there) = Room::make(alloc, clock)?;
     let Desk { pass, seat } = here;
     let (fetched, produced) = join(
