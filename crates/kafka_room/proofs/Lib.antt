@@ -8,3 +8,5 @@ pub mod Replays
 pub mod Workings
 -- what a storm comes to
 pub mod Stormings
+-- what stops a service before it opens its port, and which service it is
+pub mod Services

@@ -1,5 +1,5 @@
 -- What a replay comes to, from what was read and what was played.
-use Rattle.std.proofs.Common.{◌≡◌, ◌≤◌, ◌<◌, ◌+◌, ◌⊎◌, ℕ, zero, suc, false, eqb, List, [], ◌∷◌, ◌++◌, length, take, drop, get_or, Option, Some, None, IfSome, IsSome, inl, inr, refl, sym, ap, subst, ◌∙◌, arith, append-nil, length-append}
+use Rattle.std.proofs.Common.{◌≡◌, ◌≤◌, ◌<◌, ◌+◌, ◌⊎◌, ℕ, zero, suc, Bool, false, eqb, List, [], ◌∷◌, ◌++◌, length, take, drop, get_or, Option, Some, None, IfSome, IsSome, inl, inr, refl, sym, ap, subst, ◌∙◌, arith, append-nil, length-append}
 use Rattle.std.proofs.lemmas.List.{take_all, take-append-le}
 use Rattle.std.specs.Io.KnownBytes.{Consumes, IsAtEnd}
 use Rattle.std.specs.List.{count_by, AllByRecursion, AllZip}
@@ -39,31 +39,33 @@ read_whole left new text input size =
     elim input.whole [ inl at ↦ at | inr long ↦ absurd (omega arith) ]
 
 -- a text that is too long stays so, whatever comes after it
-long_front : (text rest : List ℕ) (fault : LineFault) → length text ≡ MOST_TRACE_BYTES + 1 → IsFirstBad text false fault → IsFirstBad (text ++ rest) false fault
-long_front text rest fault len (inl bad) =
+long_front : (text rest : List ℕ) (only_topics : Bool) (fault : LineFault) → length text ≡ MOST_TRACE_BYTES + 1 → IsFirstBad text only_topics fault → IsFirstBad (text ++ rest) only_topics fault
+long_front text rest only_topics fault len (inl bad) =
     let same : take MOST_TRACE_BYTES (text ++ rest) ≡ take MOST_TRACE_BYTES text = take-append-le MOST_TRACE_BYTES text rest (omega arith) in
     inl (record {
       long = omega (arith, bad.long, length-append text rest);
       line = bad.line ∙ ap (λ (front : List ℕ). count_by (λ byte. eqb byte 10) front + 1) (sym same);
       kind = bad.kind;
     })
-long_front text rest fault len (inr (inl bad)) = absurd (omega (arith, bad.size))
-long_front text rest fault len (inr (inr bad)) = absurd (omega (arith, bad.size))
+long_front text rest only_topics fault len (inr (inl bad)) = absurd (omega (arith, bad.size))
+long_front text rest only_topics fault len (inr (inr bad)) = absurd (omega (arith, bad.size))
 
 -- the first bad line of what was read is that of what the source had
-pub first_bad_of : (left new : Option (List ℕ)) (text : List ℕ) (fault : LineFault) → IsInput left new text → IsFirstBad text false fault → IsFirstBadOf left fault
-first_bad_of None new text fault input bad = tt
-first_bad_of (Some trace) None text fault input bad = absurd input.consumed
-first_bad_of (Some trace) (Some rest) text fault input bad =
+pub first_bad_of : (left new : Option (List ℕ)) (text : List ℕ) (only_topics : Bool) (fault : LineFault) → IsInput left new text → IsFirstBad text only_topics fault
+    → IsFirstBadOf left only_topics fault
+first_bad_of None new text only_topics fault input bad = tt
+first_bad_of (Some trace) None text only_topics fault input bad = absurd input.consumed
+first_bad_of (Some trace) (Some rest) text only_topics fault input bad =
     elim input.whole [
-      | inl at ↦ subst (λ (t : List ℕ). IsFirstBad t false fault) (sym (input.consumed ∙ ap (λ (r : List ℕ). text ++ r) at ∙ append-nil text)) bad
-      | inr long ↦ subst (λ (t : List ℕ). IsFirstBad t false fault) (sym input.consumed) (long_front text rest fault long bad)
+      | inl at ↦ subst (λ (t : List ℕ). IsFirstBad t only_topics fault) (sym (input.consumed ∙ ap (λ (r : List ℕ). text ++ r) at ∙ append-nil text)) bad
+      | inr long ↦ subst (λ (t : List ℕ). IsFirstBad t only_topics fault) (sym input.consumed) (long_front text rest only_topics fault long bad)
     ]
 
 -- and so it is told
-pub bad_line_told : (left new : Option (List ℕ)) (text : List ℕ) (fault : TraceFault) → IsInput left new text → TellsFirstBad text false fault → IfSome (bad_line_of (stop_of fault)) (IsFirstBadOf left)
-bad_line_told left new text (Bad fault) input bad = first_bad_of left new text fault input bad
-bad_line_told left new text NoMemory input bad = tt
+pub bad_line_told : (left new : Option (List ℕ)) (text : List ℕ) (only_topics : Bool) (fault : TraceFault) → IsInput left new text → TellsFirstBad text only_topics fault
+    → IfSome (bad_line_of (stop_of fault)) (IsFirstBadOf left only_topics)
+bad_line_told left new text only_topics (Bad fault) input bad = first_bad_of left new text only_topics fault input bad
+bad_line_told left new text only_topics NoMemory input bad = tt
 
 -- the text of a trace that was read is what the source had
 pub text_of : (left new : Option (List ℕ)) (text : List ℕ) → IsInput left new text → length text ≤ MOST_TRACE_BYTES → IsAtEnd new × IfSome left (λ trace. trace ≡ text)
@@ -170,13 +172,13 @@ front_of_source left text written told f =
 -- ---- a trace is replayed
 
 -- what has a trace has no bad line
-pub has_no_bad_line : (left : Option (List ℕ)) (line : Option LineFault) → HasTrace left → IsSome line → IfSome line (IsFirstBadOf left) → ⊥
+pub has_no_bad_line : (left : Option (List ℕ)) (line : Option LineFault) → HasTrace left → IsSome line → IfSome line (IsFirstBadOf left false) → ⊥
 has_no_bad_line None line has some bad = has
 has_no_bad_line (Some text) None has some bad = absurd cc
 has_no_bad_line (Some text) (Some fault) has some bad = trace_has_none text false has.0 fault (record { trace = has.1; declares = λ yes. absurd cc }) bad
 
 -- what stops the replay of a trace, where no count rose, is running out of memory
-pub stopped_by : {R W : Type 0} (left : Option (List ℕ)) (stop : Stop) → (stop ≡ Usage → ⊥) → (stop ≡ ReadFault → R) → (stop ≡ WriteFault → W) → IfSome (bad_line_of stop) (IsFirstBadOf left)
+pub stopped_by : {R W : Type 0} (left : Option (List ℕ)) (stop : Stop) → (stop ≡ Usage → ⊥) → (stop ≡ ReadFault → R) → (stop ≡ WriteFault → W) → IfSome (bad_line_of stop) (IsFirstBadOf left false)
     → HasTrace left → (R → ⊥) → (W → ⊥) → (exit_code_of stop ≡ 0) ⊎ (exit_code_of stop ≡ 6)
 stopped_by left Usage words read write bad has quiet still = absurd (words refl)
 stopped_by left (BadLine fault) words read write bad has quiet still = absurd (has_no_bad_line left (Some fault) has refl bad)

@@ -1,10 +1,11 @@
 -- The words of the command line, as they are matched.
-use Rattle.std.proofs.Common.{◌≡◌, ◌<◌, ◌≤◌, ℕ, Bool, true, false, List, [], ◌∷◌, length, get_or, Option, Some, None, IfSome, IsTrue, codes, nat_eq, refl, ap, sym, ◌∙◌, arith}
+use Rattle.std.proofs.Common.{◌≡◌, ◌<◌, ◌≤◌, ℕ, Bool, true, false, List, [], ◌∷◌, length, get_or, Option, Some, None, IfSome, IsTrue, String, codes, string_bytes, nat_eq, refl, ap, sym, ◌∙◌, arith}
 use Rattle.std.specs.Cmp.Lexicographic.{pointwise, same_text, other_text}
 use Rattle.std.specs.Fmt.{decimal}
-use Rattle.kafka_room.specs.Commands.{IsCommand}
-use Rattle.kafka_room.specs.declared.command.Command.TheVariants.{Storm, Workers}
+use Rattle.kafka_room.specs.Commands.{IsCommand, said, service_words}
+use Rattle.kafka_room.specs.declared.command.Command.TheVariants.{Serve, Storm, Workers}
 use Rattle.kafka_room.specs.declared.command.Load.{Load}
+use Rattle.kafka_room.specs.declared.command.Service.{Service}
 use Rattle.std.proofs.lemmas.Fmt.{decimal_injective}
 use Rattle.kafka_room.specs.declared.command.TheConstants.{MOST_WORKERS}
 
@@ -28,6 +29,15 @@ four_items (a ∷ b ∷ c ∷ []) w x y z least below first second third fourth 
 four_items (a ∷ b ∷ c ∷ d ∷ []) w x y z least below first second third fourth = cc
 four_items (a ∷ b ∷ c ∷ d ∷ e ∷ xs) w x y z least below first second third fourth = absurd (omega (arith, below))
 
+pub seven_items : {X : Type 0} (xs : List X) (a b c d e f g : X) → 7 ≤ length xs → length xs < 8 → a ≡ get_or xs 0 a → b ≡ get_or xs 1 b → c ≡ get_or xs 2 c → d ≡ get_or xs 3 d → e ≡ get_or xs 4 e → f ≡ get_or xs 5 f → g ≡ get_or xs 6 g
+    → xs ≡ a ∷ b ∷ c ∷ d ∷ e ∷ f ∷ g ∷ []
+seven_items [] a b c d e f g least below first second third fourth fifth sixth seventh = absurd (omega (arith, least))
+seven_items (x ∷ []) a b c d e f g least below first second third fourth fifth sixth seventh = absurd (omega (arith, least))
+seven_items (x ∷ y ∷ []) a b c d e f g least below first second third fourth fifth sixth seventh = absurd (omega (arith, least))
+seven_items (x ∷ y ∷ z ∷ rest) a b c d e f g least below first second third fourth fifth sixth seventh =
+    let last = four_items rest d e f g (omega (arith, least)) (omega (arith, below)) fourth fifth sixth seventh in
+    cc
+
 first_of_one : (a b : List ℕ) → a ∷ [] ≡ b ∷ [] → a ≡ b
 first_of_one a b e = cc
 
@@ -48,6 +58,21 @@ pub load_said : (words : List (List ℕ)) (word first second third : List ℕ) (
     → words ≡ codes "storm" ∷ decimal seed ∷ decimal requests ∷ decimal workers ∷ []
 load_said words word first second third seed requests workers is named one two three = is ∙ rw (named, one, two, three) refl
 
+-- what the words of a service are
+pub service_parts : {Z : Type 0} {words : List (String Z)} {word first port second lanes third connections : String Z} (service : Service) → words ≡ word ∷ first ∷ port ∷ second ∷ lanes ∷ third ∷ connections ∷ []
+    → said words ≡ service_words service
+    → ((string_bytes first ≡ codes "--port") × (string_bytes port ≡ decimal service.port)) × ((string_bytes second ≡ codes "--lanes") × (string_bytes lanes ≡ decimal service.lanes))
+    × ((string_bytes third ≡ codes "--connections") × (string_bytes connections ≡ decimal service.connections))
+service_parts {Z = Z} service is said_is =
+    let same = sym (ap (said {Z = Z}) is) ∙ said_is in
+    ((cc, cc), (cc, cc), (cc, cc))
+
+-- and words that are those ask for it
+pub service_said : {Z : Type 0} {words : List (String Z)} {word first port second lanes third connections : String Z} (service : Service) → words ≡ word ∷ first ∷ port ∷ second ∷ lanes ∷ third ∷ connections ∷ []
+    → string_bytes word ≡ codes "serve" → (string_bytes first ≡ codes "--port") × (string_bytes port ≡ decimal service.port) → (string_bytes second ≡ codes "--lanes") × (string_bytes lanes ≡ decimal service.lanes)
+    → (string_bytes third ≡ codes "--connections") × (string_bytes connections ≡ decimal service.connections) → said words ≡ service_words service
+service_said {Z = Z} service is named one two three = ap (said {Z = Z}) is ∙ rw (named, one.0, one.1, two.0, two.1, three.0, three.1) refl
+
 -- a load has one spelling
 pub one_load : (words : List (List ℕ)) (load other : Load) → IsCommand words (Storm load) → IsCommand words (Storm other) → load ≡ other
 one_load words load other a b =
@@ -58,3 +83,14 @@ one_load words load other a b =
     ap (λ (s : ℕ). record { seed = s; requests = load.requests; workers = load.workers }) seed
     ∙ ap (λ (r : ℕ). record { seed = other.seed; requests = r; workers = load.workers }) requests
     ∙ ap (λ (w : ℕ). record { seed = other.seed; requests = other.requests; workers = w }) workers
+
+-- and so has a service
+pub one_service : (words : List (List ℕ)) (service other : Service) → IsCommand words (Serve service) → IsCommand words (Serve other) → service ≡ other
+one_service words service other a b =
+    let same = sym a.0 ∙ b.0 in
+    let port : service.port ≡ other.port = decimal_injective service.port other.port (omega (arith, a.1.port.1)) (omega (arith, b.1.port.1)) cc in
+    let lanes : service.lanes ≡ other.lanes = decimal_injective service.lanes other.lanes (omega (arith, a.1.lanes.1)) (omega (arith, b.1.lanes.1)) cc in
+    let connections : service.connections ≡ other.connections = decimal_injective service.connections other.connections (omega (arith, a.1.connections.1)) (omega (arith, b.1.connections.1)) cc in
+    ap (λ (p : ℕ). record { port = p; lanes = service.lanes; connections = service.connections }) port
+    ∙ ap (λ (l : ℕ). record { port = other.port; lanes = l; connections = service.connections }) lanes
+    ∙ ap (λ (c : ℕ). record { port = other.port; lanes = other.lanes; connections = c }) connections

@@ -1,5 +1,5 @@
 -- What a storm comes to, from how it was run.
-use Rattle.std.proofs.Common.{◌≡◌, ◌≢◌, ℕ, true, List, [], ◌∷◌, take, Option, Some, None, refl, inl, inr, subst, arith}
+use Rattle.std.proofs.Common.{◌≡◌, ℕ, true, List, [], ◌∷◌, take, Option, Some, None, refl, inl, inr, subst, arith}
 use Rattle.std.specs.Io.KnownBytes.{Appends, Keeps}
 use Rattle.audit.specs.declared.account.Account.{Account}
 use Rattle.audit.specs.Printable.{IsPrintable}

@@ -10,9 +10,13 @@ pub mod Replay
 pub mod Worked
 -- what a storm comes to
 pub mod Stormed
+-- what a service comes to
+pub mod Served
 -- ==== the words of private functions
 
 -- what is written of lines that weren't played to the last
 pub mod LinesFront
 -- what was read of a source
 pub mod Streams
+-- how a run ends whose lanes are done
+pub mod Finish

@@ -1,5 +1,5 @@
 -- What a replay gives: its account is lawful, is that of the run of the trace that was read, and this is what is printed.
-use Rattle.std.specs.Prelude.{ℕ, ◌≡◌, List, [], take, Option, Some, None, Bool, false, IfSome, ◌⊎◌}
+use Rattle.std.specs.Prelude.{ℕ, ◌≡◌, List, [], take, Option, Some, None, Bool, IfSome, ◌⊎◌}
 use Rattle.audit.specs.declared.account.Account.{Account}
 use Rattle.trace_file.specs.declared.line.Line.{Line}
 use Rattle.trace_file.specs.declared.line.TheConstants.{REPLAY_PORT}
@@ -39,9 +39,9 @@ pub record IsReplayFront (left : Option (List ℕ)) (written : List ℕ) : Type 
   pub count : ℕ
   pub front : written ≡ take count text
 
--- this line is the first bad one of what the source had, if it shows its bytes
-abbrev pub IsFirstBadOf : Option (List ℕ) → LineFault → Type 0
-IsFirstBadOf left fault = IfSome left (λ trace. IsFirstBad trace false fault)
+-- this line is the first bad one of what the source had, if it shows its bytes, where a trace is read or topics alone
+abbrev pub IsFirstBadOf : Option (List ℕ) → Bool → LineFault → Type 0
+IsFirstBadOf left only_topics fault = IfSome left (λ text. IsFirstBad text only_topics fault)
 
 -- the source shows its bytes, and what it had is a trace
 abbrev pub HasTrace : Option (List ℕ) → Type 0
@@ -51,10 +51,3 @@ HasTrace (Some text) = (lines : List Line) × IsTrace text lines
 -- the codes of a run that writes nothing
 abbrev pub IsSilent : ℕ → Type 0
 IsSilent code = (code ≡ 1) ⊎ (code ≡ 2) ⊎ (code ≡ 3)
-
--- a port that was never used
-pub record IsNewPort (opened_with : Option ℕ) (given : ℕ) (is_ended : Bool) (retired : ℕ) : Type 0 where
-  pub unopened : opened_with ≡ None
-  pub none_given : given ≡ 0
-  pub not_ended : is_ended ≡ false
-  pub none_retired : retired ≡ 0

@@ -111,15 +111,16 @@ impl From<NoMemory> for Unfinished {
     }
 }
 
-/// What a run answers. The port and the clock are those that were handed in.
+/// What a run answers. The port and the clock are those that were handed in, as the run left them.
 #[derive(Debug, Drop)]
 pub struct Exit<P: Drop, C: Drop> {
     /// 0 done, 1 a faulty command line, 2 a bad line, 3 a read fault, 4 a write fault, 5 a port fault, 6 out of memory.
     pub code: u8,
     /// The first bad line, only with code 2.
     pub line: Option<LineFault>,
-    /// With code 0, and with code 4 if the run was done on workers before its text was written.
+    /// With codes 0 and 5, and with code 4 if the run was done on several threads before its text was written.
     pub account: Option<Account>,
+    /// `None` only with code 6, where memory ran out while connections were served.
     pub port: Option<P>,
     pub clock: Option<C>,
 }
@@ -161,6 +162,32 @@ impl<P: Drop, C: Drop> Exit<P, C> {
             account: Some(account),
             port: Some(port),
             clock: Some(clock),
+        }
+    }
+
+    /// The port failed: what was served until then has this account.
+    pub fn port_failed(account: Account, port: P, clock: C) -> Exit<P, C>
+        ensures { result ≡ record { code = 5; line = None; account = Some account; port = Some port; clock = Some clock } }
+    {
+        Exit {
+            code: 5,
+            line: None,
+            account: Some(account),
+            port: Some(port),
+            clock: Some(clock),
+        }
+    }
+
+    /// Memory ran out while connections were served, and what served them is gone.
+    pub fn lost() -> Exit<P, C>
+        ensures { result ≡ record { code = 6; line = None; account = None; port = None; clock = None } }
+    {
+        Exit {
+            code: Stop::NoMemory.code(),
+            line: None,
+            account: None,
+            port: None,
+            clock: None,
         }
     }
 

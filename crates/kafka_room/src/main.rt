@@ -1,13 +1,15 @@
-//! The request purgatory of a Kafka broker: `kafka_room replay` replays a recorded trace, on one thread or on several, and
-//! `kafka_room storm` plays a load that it generates.
+//! The request purgatory of a Kafka broker: `kafka_room replay` replays a recorded trace, on one thread or on several,
+//! `kafka_room storm` plays a load that it generates, and `kafka_room serve` serves the connections of clients.
 #![tactic(auto)]
 
+mod announce;
 mod command;
 mod exit;
 mod nothing;
 mod on_workers;
 mod replay;
 mod run;
+mod serving;
 mod storming;
 mod streams;
 #[cfg(test)]
@@ -15,13 +17,20 @@ mod tests;
 mod trace;
 mod usage;
 
+use announce::{KeptSource, SpokenPort};
+use command::{Command, Service};
 use exit::{Stop, exit_text};
 use nothing::{NoClock, NoPort};
-use outside::{StdSink, StdSource};
+use outside::{StdSink, StdSource, SystemClock, TcpPort};
 use run::run;
+use std::alloc::Global;
+use std::net::{Net, TcpListener, TcpStream};
 use std::process::ExitCode;
+use std::sync::{OnceLock, Wait};
+use std::thread::Threads;
+use std::time::Clock;
 use std::{env, io, mem};
-use trace_file::LineFault;
+use trace_file::{LineFault, LineKind};
 use usage::WrongWords;
 
 const HELP: &str = "\
@@ -32,6 +41,9 @@ Usage:
   kafka_room replay --workers W  replays it on W threads, 1 to 16
   kafka_room storm SEED N W      plays a generated load of N requests, 1 to
                                  200000, on W threads, until nobody waits
+  kafka_room serve --port N --lanes L --connections C
+                                 serves the topics on standard input to
+                                 clients, at port N of 127.0.0.1
   kafka_room --help or -h        prints this text
   kafka_room --version or -V     prints the version
 
@@ -68,16 +80,28 @@ last request the clock goes on until all are answered. Then this is printed:
   sessions COUNT calls COUNT replies COUNT parked 0
   done
 
+A service reads lines topic and then end. It accepts C connections, 1 to 65536,
+and serves each until its client ends it, on one of L lanes, 1 to 64, which are
+threads: with all lanes at work the next connection waits. N is 1 to 65535. A
+line on standard error says where it listens. After the last connection this is
+printed, link by link in the order in which they were accepted:
+  link N calls COUNT replies COUNT CAUSE
+  part P end LOG_END high HIGH_WATERMARK batches COUNT bytes BYTES
+  done
+CAUSE is as above, or calls-full, read-fault, write-fault or no-memory.
+
 Exit codes:
   0  all was done and written        3  the input can't be read
   1  the command line is faulty      4  the output can't be written
-  2  the input is no trace: its      6  out of memory
-     first bad line is reported
+  2  the input is no trace: its      5  the port failed, or can't be opened
+     first bad line is reported      6  out of memory
 
 Examples: kafka_room replay < examples/produce.trace
           kafka_room replay < examples/acks_all.trace
           kafka_room replay --workers 4 < examples/two_sessions.trace
           kafka_room storm 7 20000 4
+          printf 'topic orders 3 0\\nend\\n' |
+            kafka_room serve --port 9092 --lanes 4 --connections 100
 ";
 
 const VERSION: &str = "kafka_room 0.1.0\n";
@@ -140,6 +164,84 @@ fn shown(rt: &HostRuntime, text: &str) -> ExitCode {
     )
 }
 
+// How a run ended.
+#[derive(Clone, Copy)]
+struct Outcome {
+    code: u8,
+    line: Option<LineFault>,
+    // its port couldn't be opened, and has said why
+    was_refused: bool,
+}
+
+// Serves connections of this machine.
+fn run_service<R>(rt: &R, alloc: Global, words: &[String], service: Service) -> Outcome
+where
+    R: Threads + Wait + Sync,
+    R: Net<Listener = TcpListener, Stream = TcpStream> + Clock + Input + Print + Eprint,
+{
+    let topics = OnceLock::new();
+    let mut source = KeptSource::new(alloc, StdSource::new(rt.reader()), &topics);
+    let mut sink = StdSink::new(io::writer(rt));
+    let port = SpokenPort::new(rt, alloc, TcpPort::new(rt), service, &topics);
+    let clock = SystemClock::new(rt);
+    let exit = run(rt, alloc, words, &mut source, &mut sink, port, clock);
+    let came = Outcome {
+        code: exit.code,
+        line: exit.line,
+        was_refused: match &exit.port {
+            Some(port) => port.was_refused(),
+            None => false,
+        },
+    };
+    // The process ends: the system takes all memory of the account at once.
+    mem::forget(exit);
+    came
+}
+
+// Plays a trace or a load, or refuses words that say nothing.
+fn run_lines<R>(rt: &R, alloc: Global, words: &[String]) -> Outcome
+where
+    R: Threads + Wait + Sync + Input + Print,
+{
+    let mut source = StdSource::new(rt.reader());
+    let mut sink = StdSink::new(io::writer(rt));
+    let exit = run(
+        rt,
+        alloc,
+        words,
+        &mut source,
+        &mut sink,
+        NoPort::new(),
+        NoClock,
+    );
+    let (code, line) = (exit.code, exit.line);
+    mem::forget(exit);
+    Outcome {
+        code,
+        line,
+        was_refused: false,
+    }
+}
+
+// Ends as the service did. What isn't a topic or the end is no fault of a trace's order to it.
+fn ended_service(rt: &HostRuntime, came: Outcome) -> ExitCode {
+    match came.line {
+        Some(
+            LineFault {
+                line,
+                kind: LineKind::Order,
+            },
+        ) => {
+            let _ = rt.eprintln(format_args!(
+                "kafka_room: line {line}: serve reads lines topic and then end, and nothing after it"
+            ));
+            ExitCode::from(came.code)
+        }
+        _ if came.was_refused => ExitCode::from(came.code),
+        line => ended_run(rt, came.code, line),
+    }
+}
+
 fn main(rt: HostRuntime) -> ExitCode {
     let words = match words(&rt) {
         Ok(words) => words,
@@ -155,22 +257,13 @@ fn main(rt: HostRuntime) -> ExitCode {
     {
         return shown(&rt, text);
     }
-    let mut source = StdSource::new(rt.reader());
-    let mut sink = StdSink::new(io::writer(&rt));
-    let exit = run(
-        &rt,
-        rt.alloc(),
-        words.as_slice(),
-        &mut source,
-        &mut sink,
-        NoPort::new(),
-        NoClock,
-    );
-    let (code, line) = (exit.code, exit.line);
-    // The process ends: the system takes all memory of the account at once.
-    mem::forget(exit);
-    if code == Stop::Usage.code() {
+    if let Some(Command::Serve(service)) = Command::of(words.as_slice()) {
+        let came = run_service(&rt, rt.alloc(), words.as_slice(), service);
+        return ended_service(&rt, came);
+    }
+    let came = run_lines(&rt, rt.alloc(), words.as_slice());
+    if came.code == Stop::Usage.code() {
         return ended_words(&rt, words.as_slice());
     }
-    ended_run(&rt, code, line)
+    ended_run(&rt, came.code, came.line)
 }

@@ -63,9 +63,9 @@ pub fn replay_on_workers<R: Threads + Wait + Sync, S: Source, K: Sink>(
     ensures end_written { IfErr result (λ why. stop_in why ≡ Stop.WriteFault → IsAtEnd (S.left source.new)) }
     ensures read_fault { IfErr result (λ why. stop_in why ≡ Stop.ReadFault → Rose (S.faults source.old) (S.faults source.new)) }
     ensures write_fault { IfErr result (λ why. stop_in why ≡ Stop.WriteFault → Rose (K.faults sink.old) (K.faults sink.new)) }
-    ensures bad_line { IfErr result (λ why. IfSome (bad_line_of (stop_in why)) (IsFirstBadOf (S.left source.old))) }
+    ensures bad_line { IfErr result (λ why. IfSome (bad_line_of (stop_in why)) (IsFirstBadOf (S.left source.old) false)) }
 {
-    let lines = read_lines(alloc, source)?;
+    let lines = read_lines(alloc, source, false)?;
     let (account, text) = play(rt, alloc, lines.as_slice(), workers)?;
     match write_all(sink, text.as_slice()) {
         Ok(()) => Ok(account),

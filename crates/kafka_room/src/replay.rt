@@ -1,6 +1,6 @@
 //! `replay`: the trace is played by the one-thread broker, and what each line prints is written before the next is played.
 
-ghost use Rattle.std.specs.Prelude.{◌≡◌, ◌≤◌, ℕ, List as Items, Some, IfOk, IfErr, OnOk, OnErr, IsErrOf, IfSome, IsSome, ◌⊎◌};
+ghost use Rattle.std.specs.Prelude.{◌≡◌, ◌≤◌, ℕ, false, List as Items, Some, IfOk, IfErr, OnOk, OnErr, IsErrOf, IfSome, IsSome, ◌⊎◌};
 ghost use Rattle.std.specs.List.{AllByRecursion};
 ghost use Rattle.std.specs.Io.KnownBytes.{Appends, Keeps, IsAtEnd};
 ghost use Rattle.outside.specs.Causes.{Rose};
@@ -84,8 +84,8 @@ pub fn replay<S: Source, K: Sink>(
         → Keeps (K.written sink.old) (K.written sink.new)) }
     ensures read_fault { IsErrOf result Stop.ReadFault → Rose (S.faults source.old) (S.faults source.new) }
     ensures write_fault { IsErrOf result Stop.WriteFault → Rose (K.faults sink.old) (K.faults sink.new) }
-    ensures bad_line { IfErr result (λ stop. IfSome (bad_line_of stop) (IsFirstBadOf (S.left source.old))) }
+    ensures bad_line { IfErr result (λ stop. IfSome (bad_line_of stop) (IsFirstBadOf (S.left source.old) false)) }
 {
-    let lines = read_lines(alloc, source)?;
+    let lines = read_lines(alloc, source, false)?;
     play(alloc, lines.as_slice(), sink)
 }

@@ -1,8 +1,12 @@
 //! What is wrong with a command line that says no command. `main` reports it.
 
-use crate::command::MOST_WORKERS;
+use crate::command::{MOST_CONNECTIONS, MOST_PORT, MOST_WORKERS};
+use link_lanes::MOST_LANES;
 use std::fmt;
 use storm::MOST_REQUESTS;
+
+/// A service, as it is asked for.
+const SERVICE: &str = "serve --port 9092 --lanes 4 --connections 100";
 
 /// A number that a command wants.
 #[derive(Clone, Copy, Debug, PartialEq, Eq)]
@@ -13,6 +17,9 @@ pub enum Wanted {
     Requests,
     /// The number of workers of a storm.
     StormWorkers,
+    Port,
+    Lanes,
+    Connections,
 }
 
 impl Wanted {
@@ -21,6 +28,9 @@ impl Wanted {
             Wanted::Seed => "seed",
             Wanted::Requests => "number of requests",
             Wanted::ReplayWorkers | Wanted::StormWorkers => "number of workers",
+            Wanted::Port => "port number",
+            Wanted::Lanes => "number of lanes",
+            Wanted::Connections => "number of connections",
         }
     }
 
@@ -29,6 +39,9 @@ impl Wanted {
             Wanted::Seed => "0 to 18446744073709551615",
             Wanted::Requests => "1 to 200000",
             Wanted::ReplayWorkers | Wanted::StormWorkers => "1 to 16",
+            Wanted::Port => "1 to 65535",
+            Wanted::Lanes => "1 to 64",
+            Wanted::Connections => "1 to 65536",
         }
     }
 
@@ -36,6 +49,9 @@ impl Wanted {
         match self {
             Wanted::ReplayWorkers => "--workers W",
             Wanted::Seed | Wanted::Requests | Wanted::StormWorkers => "storm SEED N W",
+            Wanted::Port => "--port N",
+            Wanted::Lanes => "--lanes L",
+            Wanted::Connections => "--connections C",
         }
     }
 
@@ -43,6 +59,7 @@ impl Wanted {
         match self {
             Wanted::ReplayWorkers => "--workers 4",
             Wanted::Seed | Wanted::Requests | Wanted::StormWorkers => "storm 7 20000 4",
+            Wanted::Port | Wanted::Lanes | Wanted::Connections => SERVICE,
         }
     }
 
@@ -61,6 +78,9 @@ impl Wanted {
             Wanted::Requests => 1 <= number && number <= u64::from(MOST_REQUESTS),
             Wanted::ReplayWorkers | Wanted::StormWorkers => 1 <= number
                 && number <= u64::from(MOST_WORKERS),
+            Wanted::Port => 1 <= number && number <= u64::from(MOST_PORT),
+            Wanted::Lanes => 1 <= number && number <= u64::from(MOST_LANES),
+            Wanted::Connections => 1 <= number && number <= u64::from(MOST_CONNECTIONS),
         }
     }
 }
@@ -71,6 +91,10 @@ pub enum WrongWords<'a> {
     NoCommand,
     UnknownCommand(&'a str),
     UnknownOption(&'a str),
+    /// This option of a service should come after the last word.
+    NoOption(&'a str),
+    /// The second word stands where this option of a service should.
+    OtherOption(&'a str, &'a str),
     /// A number should come after the last word.
     NoNumber(Wanted),
     /// The word isn't written as a number.
@@ -86,6 +110,7 @@ impl<'a> WrongWords<'a> {
             [] => WrongWords::NoCommand,
             [command, ..] if command.as_str() == "replay" => WrongWords::in_replay(words),
             [command, ..] if command.as_str() == "storm" => WrongWords::in_storm(words),
+            [command, ..] if command.as_str() == "serve" => WrongWords::in_serve(words),
             [command, ..] => WrongWords::UnknownCommand(command.as_str()),
         }
     }
@@ -122,6 +147,35 @@ impl<'a> WrongWords<'a> {
         }
     }
 
+    fn in_serve(words: &'a [String]) -> WrongWords<'a> {
+        for (at, option, wanted) in [
+            (1, "--port", Wanted::Port),
+            (3, "--lanes", Wanted::Lanes),
+            (5, "--connections", Wanted::Connections),
+        ] {
+            match words.get(at) {
+                None => return WrongWords::NoOption(option),
+                Some(word) if word.as_str() != option => return WrongWords::OtherOption(
+                    option,
+                    word.as_str(),
+                ),
+                Some(_) => {}
+            }
+            match words.get(at + 1) {
+                None => return WrongWords::NoNumber(wanted),
+                Some(word) if !wanted.takes(word.as_str()) => return WrongWords::in_number(
+                    wanted,
+                    word.as_str(),
+                ),
+                Some(_) => {}
+            }
+        }
+        match words.get(7) {
+            Some(word) => WrongWords::OneTooMany(Wanted::Connections, word.as_str()),
+            None => WrongWords::NoNumber(Wanted::Connections),
+        }
+    }
+
     // What is wrong with a word that isn't the number that is wanted.
     fn in_number(wanted: Wanted, word: &'a str) -> WrongWords<'a> {
         if is_number(word) {
@@ -137,15 +191,20 @@ impl fmt::Display for WrongWords<'_> {
         match self {
             WrongWords::NoCommand => write!(
                 f,
-                "no command is given: write replay, replay --workers W, or storm SEED N W"
+                "no command is given: write replay, replay --workers W, storm SEED N W, or serve --port N --lanes L --connections C"
             ),
             WrongWords::UnknownCommand(word) => write!(
                 f,
-                "{word:?} is no command: write replay, replay --workers W, or storm SEED N W"
+                "{word:?} is no command: write replay, replay --workers W, storm SEED N W, or serve --port N --lanes L --connections C"
             ),
             WrongWords::UnknownOption(word) => write!(
                 f,
                 "{word:?} is no option: only --workers W may follow replay"
+            ),
+            WrongWords::NoOption(option) => write!(f, "{option} is missing: write {SERVICE}"),
+            WrongWords::OtherOption(option, word) => write!(
+                f,
+                "{word:?} stands where {option} should: write {SERVICE}"
             ),
             WrongWords::NoNumber(wanted) => {
                 let (form, name) = (wanted.form(), wanted.name());

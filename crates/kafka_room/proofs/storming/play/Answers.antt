@@ -1,4 +1,3 @@
-use Rattle.storm.specs.Lines.{storm_lines}
 use Rattle.kafka_room.proofs.Stormings.{storm_printable}
 use Rattle.kafka_room.proofs.storming.play.Goals as goal
 
