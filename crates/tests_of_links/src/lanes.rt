@@ -247,15 +247,17 @@ fn slow<'a, R>(
 }
 
 // The first link fetches and waits. The second produces, once the clock was let rest, which is while the fetch waits.
-fn meet<R: Threads + Wait + time::Clock + Sync>(rt: &R, alloc: Global) -> Result<bool, NoMemory> {
-    let is_due = AtomicBool::new(true);
-    let has_rested = AtomicBool::new(false);
-    let clock = StandingClock::new(&has_rested);
+fn meet<'a, R: Threads + Wait + time::Clock + Sync>(
+    rt: &'a R,
+    alloc: Global,
+    is_due: &'a AtomicBool,
+    has_rested: &'a AtomicBool,
+) -> Result<bool, NoMemory> {
     let mut links = Vec::new(alloc);
-    links.push(slow(rt, alloc, &PRODUCE, &has_rested)?)?;
-    links.push(slow(rt, alloc, &FETCH, &is_due)?)?;
+    links.push(slow(rt, alloc, &PRODUCE, has_rested)?)?;
+    links.push(slow(rt, alloc, &FETCH, is_due)?)?;
     let port = SlowPort::new(alloc, links);
-    let Told { run, text } = tell(rt, alloc, port, clock, 2, 2)?;
+    let Told { run, text } = tell(rt, alloc, port, StandingClock::new(has_rested), 2, 2)?;
     Ok(
         text.as_slice() == MET.as_bytes()
             && run.port.was_sent(0, &FETCHED)
@@ -265,7 +267,9 @@ fn meet<R: Threads + Wait + time::Clock + Sync>(rt: &R, alloc: Global) -> Result
 
 #[test]
 fn two_lanes_run_beside_each_other(rt: HostRuntime) -> Result<(), Fail> {
-    if meet(&rt, rt.alloc())? {
+    let is_due = AtomicBool::new(true);
+    let has_rested = AtomicBool::new(false);
+    if meet(&rt, rt.alloc(), &is_due, &has_rested)? {
         Ok(())
     } else {
         Err("a reply".into())
