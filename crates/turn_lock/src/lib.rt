@@ -2,6 +2,7 @@
 //!
 //! As in a shop, a customer draws a ticket (`turn`) and waits until its number is shown. It
 //! then has the value to itself, until it puts the value back and the next number is shown (`end`).
+//! Who finds customers with tickets waits for a while before drawing one (`src/patience.rt` says why).
 //!
 //! What is new is what the lock says. Its value may keep a history (`Kept`): a list of entries that
 //! each name a pass. Nothing is known of a value under a plain lock but its type. Here a pass carries

@@ -15,7 +15,7 @@ use std::sync::Wait;
 // The first ticket that is never served.
 const LATE: u64 = 1 << 62;
 
-/// A ticket lock round one value.
+/// A ticket lock round one value. A pass draws its ticket once nobody else has one, or after it has waited for that.
 #[derive(Drop)]
 pub struct TurnLock<T: Kept> {
     board: Board<T>,
@@ -139,6 +139,7 @@ impl<T: Kept> TurnLock<T> {
         ensures pass { IsPassOf T.name self.now pass.new × HasTurn pass.new result
             × (known pass.new ≡ begun T.entries result.ticket result.value (known pass.old)) }
     {
+        self.benches.come::<T>(rt, &self.board.shared);
         let ticket = self.draw(&mut pass.seat);
         self.wait(rt, &mut pass.seat, ticket);
         let found = self.board.shared.exchange(&mut pass.seat, VALUE, None);
@@ -167,7 +168,7 @@ impl<T: Kept> TurnLock<T> {
         let found = shared.exchange(&mut pass.seat, VALUE, Some(value));
         let None = found else { unreachable!() };
         shared.store::<PassOn>(&mut pass.seat, SERVING, ticket + 1);
-        self.benches.wake(ticket + 1);
+        self.benches.wake::<T>(shared, ticket + 1);
     }
 
     // Takes all passes back into one seat.

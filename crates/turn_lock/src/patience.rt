@@ -1,14 +1,18 @@
-//! How a pass waits: at first it stays awake, and looks again and again at the ticket that is served; the more passes come
-//! before it, the longer it pauses between two looks. After 40 to 200 microseconds it sleeps on a bench. That is longer
-//! than it takes to wake a sleeper, so that one pass that came late doesn't send those after it to sleep as well, each of
-//! whom would have to be woken in turn. It doesn't yield its processor in between: where others want it, a yield gives
-//! away a whole slice of time, and the pass isn't there when its turn comes. A pass stays awake so once in a turn, before
-//! its first sleep: who finds at the end of a sleep that others still come first sleeps again at once, and longer. So
+//! How a pass waits. While others have tickets it draws none: it stays at the gate, since a ticket in the hand of a pass that has no
+//! processor holds up all who drew after it, and each of those would have to be woken in turn. At the gate it first stays awake for 40 to
+//! 200 microseconds, which is longer than it takes to wake a sleeper. Then it sleeps, and whoever ends a turn that nobody else has drawn a
+//! ticket for wakes one of the sleepers at the gate. If its whole sleep goes by without a call, or others were ahead of it too often, it
+//! draws a ticket all the same: no stream of others keeps it out.
+//!
+//! With its ticket it looks again and again at the ticket that is served, awake for as long as at the gate; the more passes come
+//! before it, the longer it pauses between two looks. It doesn't yield its processor in between: where others want it, a yield gives
+//! away a whole slice of time, and the pass isn't there when its turn comes. Then it sleeps on a bench. A pass stays awake so once in a
+//! turn, before its first sleep: who finds at the end of a sleep that others still come first sleeps again at once, and longer. So
 //! many passes that wait for long cost next to nothing.
 //!
 //! There are a few benches, and a ticket's number gives its own. The pass that ends its turn wakes the bench of the ticket
-//! that is served next, and only where somebody sleeps there. A sleeper first counts itself, then looks at the ticket
-//! that is served, and then sleeps; who passes the turn on first shows the next ticket, and then looks whether anybody
+//! that is served next, and only where somebody sleeps there. A sleeper first counts itself, then looks whether it still has to
+//! wait, and then sleeps; who passes the turn on first shows the next ticket, and then looks whether anybody
 //! is counted. So one of the two sees the other. No proof says so: therefore each sleep ends by itself too.
 ghost use Rattle.std.specs.Prelude.{◌<◌, ◌≤◌};
 
@@ -35,6 +39,9 @@ const LONGEST_SLEEP: u64 = 1_000;
 
 // Tickets that are as many apart share a bench.
 const BENCHES: u64 = 8;
+
+// The calls at the gate after which a pass draws its ticket.
+const CALLS: u32 = 16;
 
 /// The patience of one pass in one turn.
 #[derive(Drop)]
@@ -87,7 +94,27 @@ fn low(word: u64) -> u32 {
     (word & u32::MAX as u64) as u32
 }
 
-// Where the passes of some tickets sleep.
+// What a sleeper waits for.
+#[derive(Clone, Copy)]
+enum Awaited {
+    // this ticket's turn
+    Turn(u64),
+    // that nobody has a ticket which isn't past its turn
+    FreeLock,
+}
+
+impl Awaited {
+    fn has_come<T: Kept>(self, top: &Top<T>) -> bool
+        requires { 1 < top.now.table_id.words }
+    {
+        match self {
+            Awaited::Turn(ticket) => top.peek(SERVING) == ticket,
+            Awaited::FreeLock => top.peek(SERVING) == top.peek(TICKET),
+        }
+    }
+}
+
+// Where passes sleep.
 #[derive(Drop)]
 struct Bench {
     asleep: AtomicU64,
@@ -102,36 +129,52 @@ impl Bench {
         }
     }
 
-    // Sleeps so long, where the ticket isn't served yet. Whether somebody woke the bench meanwhile.
-    fn sleep<T: Kept>(&self, rt: &impl Wait, top: &Top<T>, ticket: u64, time: Duration) -> bool
+    // Sleeps so long, where what is awaited hasn't come yet. Whether somebody called the bench meanwhile.
+    fn sleep<T: Kept>(&self, rt: &impl Wait, top: &Top<T>, awaited: Awaited, time: Duration) -> bool
         requires { 1 < top.now.table_id.words }
     {
         let calls = self.calls.load(Ordering::SeqCst);
         self.asleep.fetch_add(1, Ordering::SeqCst);
-        if top.peek(SERVING) != ticket {
+        if !awaited.has_come::<T>(top) {
             self.calls.park_timeout(rt, low(calls), time);
         }
         self.asleep.fetch_sub(1, Ordering::SeqCst);
         self.calls.load(Ordering::SeqCst) != calls
     }
 
-    fn wake(&self) {
-        if self.asleep.load(Ordering::SeqCst) != 0 {
+    // Whether anybody was there to be called.
+    fn call(&self) -> bool {
+        let some = self.asleep.load(Ordering::SeqCst) != 0;
+        if some {
             self.calls.fetch_add(1, Ordering::SeqCst);
+        }
+        some
+    }
+
+    fn wake_all(&self) {
+        if self.call() {
             self.calls.wake_all();
+        }
+    }
+
+    fn wake_one(&self) {
+        if self.call() {
+            self.calls.wake_one();
         }
     }
 }
 
-/// The benches of a lock.
+/// The benches of a lock, of which one is at its gate.
 #[derive(Drop)]
 pub(crate) struct Benches {
+    gate: Bench,
     benches: [Bench; BENCHES as usize],
 }
 
 impl Benches {
     pub(crate) fn new() -> Benches {
         Benches {
+            gate: Bench::new(),
             benches: [
                 Bench::new(),
                 Bench::new(),
@@ -159,12 +202,41 @@ impl Benches {
     ) -> bool
         requires { 1 < top.now.table_id.words }
     {
-        self.of(ticket).sleep(rt, top, ticket, time)
+        self.of(ticket).sleep(rt, top, Awaited::Turn(ticket), time)
     }
 
-    /// Wakes the passes that sleep until this ticket is served.
-    pub(crate) fn wake(&self, ticket: u64) {
-        self.of(ticket).wake();
+    /// Waits at the gate until nobody has a ticket, or for so long that the pass may draw its own all the same.
+    pub(crate) fn come<T: Kept>(&self, rt: &impl Wait, top: &Top<T>)
+        requires { 1 < top.now.table_id.words }
+    {
+        for _ in 0..CALLS {
+            let mut patience = Patience::new();
+            for _ in rt.forever() {
+                if Awaited::FreeLock.has_come::<T>(top) {
+                    return;
+                }
+                if !patience.rest(1) {
+                    break;
+                }
+            }
+            if !self
+                .gate
+                .sleep::<T>(rt, top, Awaited::FreeLock, patience.sleep())
+            {
+                return;
+            }
+        }
+    }
+
+    /// Wakes who waits for this ticket's turn, or one of those at the gate if nobody has drawn the ticket.
+    pub(crate) fn wake<T: Kept>(&self, top: &Top<T>, ticket: u64)
+        requires { 1 < top.now.table_id.words }
+    {
+        if top.peek(TICKET) == ticket {
+            self.gate.wake_one();
+        } else {
+            self.of(ticket).wake_all();
+        }
     }
 }
 
