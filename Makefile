@@ -5,7 +5,7 @@ PORT ?= 9092
 TOPICS ?= orders 3 0
 LANES ?= 4
 CONNECTIONS ?= 100
-.PHONY: run serve build test check fmt edits bench clients compare fuzz definitions workers explain clean
+.PHONY: run serve build test check fmt edits bench clients compare fuzz definitions workers lanes memory explain clean
 
 # Plays TRACE, on WORKERS threads where they are given, and shows what is printed, in bytes and in words. It is a build that
 # proves nothing, and takes a minute or two: proving the program takes longer than a first look should. `make build` proves it.
@@ -71,6 +71,16 @@ definitions:
 workers:
 	$(if $(UNPROVED),,cd crates/tell_account && rt run -- 1 < stdin > /dev/null)
 	python3 -B -m model.checks.check_workers $(if $(COUNT),--count $(COUNT)) $(if $(UNPROVED),--unproved)
+
+# Serves random links on 1, 2, 3 and 16 lanes, in memory, and checks the account of each run: 50 texts, or COUNT.
+lanes:
+	cd crates/tell_account && rt run -- 1 < stdin > /dev/null
+	python3 -B -m model.checks.check_lanes $(if $(COUNT),--count $(COUNT))
+
+# Refuses each allocation of some runs in turn, of the program that `make build` leaves and of tell_account. It takes a C compiler.
+memory:
+	cd crates/tell_account && rt run -- 1 < stdin > /dev/null
+	python3 -B -m model.checks.refused_memory --teller crates/tell_account/out/tell_account
 
 # Tells TRACE and what the model prints of it in words.
 explain:

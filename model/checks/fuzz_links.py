@@ -217,9 +217,8 @@ def check_links(links, kept, rude):
     """The lines are those of the connections, in any order. A client that went away may have been heard to any place."""
     left = collections.Counter(links)
     left.subtract(told_of(spoken.talk) for spoken in kept)
-    missing = [line for line, count in left.items() if count < 0]
-    expect(not missing, f"these lines should be printed, and aren't: {missing}, where these are: {[line for line, count in left.items() if count > 0]}")
-    others = list(left.elements())
+    missing, others = [line for line, count in left.items() if count < 0], list(left.elements())
+    expect(not missing, f"these lines should be printed, and aren't: {missing}, where these are: {others}")
     expect(len(others) == len(rude), f"{len(rude)} lines should be of clients that went away, and {len(others)} are")
     ends = {"read-fault", "write-fault"} | {spoken.talk.reading.end for spoken in rude}
     for line in others:

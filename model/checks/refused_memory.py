@@ -4,7 +4,8 @@ with two connections.
 
 Each run has to end with what it comes to else, or with code 6; on one thread a front of the output may have been written by then, and
 else nothing. A `serve` may also end with 0, where links end as `no-memory`; what its clients were told before is right. With `--teller`
-the accounts of runs on workers are told too (`tell_account`): each that is there has to be lawful, as check_workers.py checks it.
+the accounts of runs on workers and lanes are told too (`tell_account`): each that is there has to be lawful, as check_workers.py and
+check_lanes.py have it.
 
 It takes a C compiler, and a program that takes its memory from the C library by `malloc` and `realloc`. Run it at the top of the
 repository: `python3 -B -m model.checks.refused_memory`.
@@ -23,7 +24,7 @@ from dataclasses import dataclass
 from clients import frames
 from clients.served import HOST, PATIENCE, Failed, expect, free_port, is_listening, text_of, until
 from model.broker import batches
-from model.checks import check_workers, repository
+from model.checks import check_lanes, check_workers, repository
 
 SHIM = r"""
 #define _GNU_SOURCE
@@ -228,34 +229,41 @@ def serve_in_turn(refusing, program):
 # ---- accounts
 
 
-def tell_in_turn(refusing, teller, case):
-    """How many runs ended with each code. Where one has an account, that is looked at."""
-    codes = collections.Counter()
+def tell_in_turn(refusing, teller, case, check):
+    """How many runs ended with each code. Where one has an account, that is looked at. With the codes, in how many of these a link ran out
+    of memory."""
+    codes, without = collections.Counter(), 0
     for number in refusing.all_numbers():
         code, told, errors = came_to_an_end(refusing.starts(number, [teller, *case.words]), case.text)
         if code == 0:
             try:
-                check_workers.check(case, told)
+                check(case, told)
             except check_workers.WRONG as wrong:
                 raise Failed(f"{case.name}, allocation {number}: {wrong}") from None
         else:
             expect(told == b"" and errors.count(b"\n") <= 1, f"{case.name}, allocation {number}: it told {told!r}, {errors!r}")
         codes[code] += refusing.has_refused()
-    return codes
+        without += b"end no-memory\n" in told
+    return codes, without
 
 
 def cases():
+    """Runs that are told, and what looks at their accounts. On lanes they have the two connections of `serve`, and one that is cut."""
     for name in ("produce_waits_for_its_follower", "edges_of_numbers_on_3_workers"):
         for workers in (1, 3):
-            yield check_workers.Case(name, workers, False, row(name)[0])
+            yield check_workers.Case(name, workers, False, row(name)[0]), check_workers.check
+    text = check_lanes.text_of([(b"t", 1, 0)], [frames.fetch(1, b"t", 0, wait=20), frames.produce(2, b"t", BATCH), BATCH[:7]])
+    for lanes in (1, 2):
+        yield check_lanes.Case(f"two connections on {lanes} lanes", lanes, text), check_lanes.check_lawful
 
 
 # ---- the whole
 
 
-def show(title, codes):
+def show(title, codes, without=None):
     told = ", ".join(f"{count} with code {code}" for code, count in sorted(codes.items()))
-    print(f"{title}: {sum(codes.values())} allocations refused in turn, {told}", flush=True)
+    links = f"; links ran out of memory in {without}" if without else ""
+    print(f"{title}: {sum(codes.values())} allocations refused in turn, {told}{links}", flush=True)
 
 
 def main():
@@ -273,8 +281,8 @@ def main():
             for run in runs():
                 show(run.title, in_turn(refusing, program, run))
             show("serve with two connections", serve_in_turn(refusing, program))
-            for case in cases() if chosen.teller else []:
-                show(f"the account of {case.name}", tell_in_turn(refusing, chosen.teller.resolve(), case))
+            for case, check in cases() if chosen.teller else []:
+                show(f"the account of {case.name}", *tell_in_turn(refusing, chosen.teller.resolve(), case, check))
         except Failed as failed:
             print(failed, file=sys.stderr)
             return 1

@@ -71,8 +71,8 @@ def wait_of(request):
     return request.fields.get("wait", 0)
 
 
-def is_short(data):
-    return all(wait_of(request) <= MOST_WAIT for request in Reading(data).requests)
+def is_short(data, most=MOST_WAIT):
+    return all(wait_of(request) <= most for request in Reading(data).requests)
 
 
 def stream(random_, topics):

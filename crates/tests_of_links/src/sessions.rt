@@ -1,9 +1,7 @@
 //! Sessions over links in memory, each alone on a new broker.
 ghost use Rattle.std.specs.Prelude.{◌≤◌, length};
 
-use crate::frames::{
-    FETCH, FETCHED, FETCHED_NOTHING, METADATA, PRODUCE, PRODUCED, VERSIONS,
-};
+use crate::frames::{FETCH, FETCHED, FETCHED_NOTHING, METADATA, PRODUCE, PRODUCED, VERSIONS};
 use crate::memory::link_of;
 use crate::rooms::serve_alone;
 use crate::slow_link::SlowLink;
@@ -111,12 +109,7 @@ fn a_call_of_the_link_fails(rt: HostRuntime) -> Result<(), Fail> {
 }
 
 // Whether a session that gets just the first bytes of the frame sends nothing, and ends with so many of them.
-fn ends_with(
-    rt: &impl Wait,
-    alloc: Global,
-    frame: &[u8],
-    count: usize,
-) -> Result<bool, NoMemory>
+fn ends_with(rt: &impl Wait, alloc: Global, frame: &[u8], count: usize) -> Result<bool, NoMemory>
     requires { count ≤ length frame.now }
 {
     let link = link_of(alloc, &frame[..count], 200, &[])?;
