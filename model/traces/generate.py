@@ -2,9 +2,10 @@
 
 import random
 
-from model.traces import crowded, requests, waiting
+from model.broker import traces
+from model.traces import crowded, mutated, requests, waiting
 
-KINDS = ["plain", "mixed", "waiting", "crowded", "spoiled"]
+KINDS = ["plain", "mixed", "waiting", "crowded", "changed", "spoiled"]
 
 
 def events(random_, declared, waits):
@@ -74,9 +75,26 @@ def spoiled(random_, whole):
     return b"\n".join(lines)
 
 
+def is_trace(text):
+    try:
+        traces.read(text)
+    except traces.Bad:
+        return False
+    return True
+
+
+def changed(random_):
+    """A trace that comes of another by some changes."""
+    while True:
+        text = mutated.text(random_, made(random_.choice(["mixed", "waiting"]), random_.randrange(2**32)))
+        if is_trace(text):
+            return text
+
+
 def made(kind, seed):
     """The text of a kind: `plain`, whose requests mostly wait for nothing, `mixed`, in which all may come, `waiting`, in which what
-    comes just meets or just misses what waits, `crowded`, in which many sessions wait for the same, or `spoiled`."""
+    comes just meets or just misses what waits, `crowded`, in which many sessions wait for the same, `changed`, which comes of one of these by
+    changes and still is a trace, or `spoiled`."""
     random_ = random.Random(f"{kind} {seed}")
     if kind in ("plain", "mixed"):
         return text(random_, waits=kind == "mixed")
@@ -84,4 +102,6 @@ def made(kind, seed):
         return waiting.Maker(random_).made()
     if kind == "crowded":
         return crowded.Crowd(random_).made()
+    if kind == "changed":
+        return changed(random_)
     return spoiled(random_, text(random_, waits=random_.random() < 0.5))
