@@ -9,7 +9,7 @@ use Rattle.lane_books.specs.Times.{once_below, times, total}
 use Rattle.lane_books.specs.Together.{AreAllBooks, AreInOrder}
 use Rattle.shared_broker.specs.Closing.{IsAccountOf}
 use Rattle.shared_broker.specs.Passes as broker
-use Rattle.shared_clock.specs.ClockViews as clock
+use Rattle.session.specs.clock.ClockViews as clock
 use Rattle.shared_port.specs.declared.port_entry.PortEntry.{PortEntry}
 use Rattle.shared_port.specs.declared.port_entry.PortEntry.TheVariants.{Opened, Faulted}
 use Rattle.shared_port.specs.Entries.{accepted, accepted_number, opened, opened_number, retired, retired_link}

@@ -4,7 +4,7 @@ use Rattle.std.proofs.lemmas.List.Elements.{All-cons, All-map, All-nil, All-push
 use Rattle.lane_books.specs.LaneBook.{LaneBook}
 use Rattle.lane_books.specs.Shown.{ShownLink}
 use Rattle.shared_broker.specs.Passes as broker
-use Rattle.shared_clock.specs.ClockViews as clock
+use Rattle.session.specs.clock.ClockViews as clock
 use Rattle.shared_port.specs.PortViews as port
 use Rattle.link_lanes.specs.Closed.{keys_of, passes_of, seats_of}
 use Rattle.link_lanes.specs.Halls.{HallView, ServerView}

@@ -22,8 +22,8 @@ use Rattle.shared_port.proofs.Laws as shared_port
 use Rattle.shared_broker.proofs.broker.Broker.TheSendSync as broker
 use Rattle.link_queue.proofs.queue_pass.QueuePass.TheSendSync as hand
 use Rattle.link_queue.proofs.link_queue.LinkQueue.TheSendSync as ring
-use Rattle.shared_clock.proofs.clock_pass.ClockPass.TheSendSync as seat
-use Rattle.shared_clock.proofs.shared.Shared.TheSendSync as shared
+use Rattle.session.proofs.clock.clock_pass.ClockPass.TheSendSync as seat
+use Rattle.session.proofs.clock.shared.Shared.TheSendSync as shared
 
 module _ (P C L : RattleType) (port : _) (link : _) (clock : _) (sent : IsSend P) (told : IsSend C) (linked : IsSend L) where
   server_fields : AllSend (declared.shape (server.the_type P C L port link clock)).fields

@@ -11,8 +11,8 @@ use Rattle.lane_books.specs.Times.{times}
 use Rattle.session.specs.Flows.{LinkView}
 use Rattle.session.specs.Onwards.{HasGoneOn}
 use Rattle.session.specs.Served.{HasServed}
+use Rattle.session.specs.clock.ClockViews as clock
 use Rattle.shared_broker.specs.Passes as broker
-use Rattle.shared_clock.specs.ClockViews as clock
 use Rattle.shared_port.specs.Asked.{HasEntered, HasHandedBack, accept_entries}
 use Rattle.shared_port.specs.declared.accepting.Accepting.{Accepting}
 use Rattle.shared_port.specs.declared.accepting.Accepting.TheVariants as accepting

@@ -3,7 +3,7 @@ use Rattle.std.specs.Prelude.{◌≡◌, ◌≤◌, ◌⊎◌, ◌++◌, ℕ, Bo
 use Rattle.audit.specs.declared.account.Account.{Account}
 use Rattle.shared_broker.specs.Closing.{IsAccountOf}
 use Rattle.shared_broker.specs.Passes as broker
-use Rattle.shared_clock.specs.ClockViews as clock
+use Rattle.session.specs.clock.ClockViews as clock
 use Rattle.shared_port.specs.declared.port_entry.PortEntry.TheVariants.{Opened, Faulted}
 use Rattle.shared_port.specs.Closed.{IsClosed}
 use Rattle.shared_port.specs.History.{PortFacts}

@@ -5,7 +5,7 @@ use Rattle.lane_books.specs.Shown.{ShownLink}
 use Rattle.link_queue.specs.declared.numbered.Numbered.{Numbered}
 use Rattle.link_queue.specs.QueueViews as queue
 use Rattle.shared_broker.specs.Passes as broker
-use Rattle.shared_clock.specs.ClockViews as clock
+use Rattle.session.specs.clock.ClockViews as clock
 use Rattle.shared_port.specs.Entries.{accepted, retired}
 use Rattle.shared_port.specs.PortViews as port
 use Rattle.link_lanes.specs.Seen.{seen_with}

@@ -5,8 +5,8 @@ use Rattle.link_queue.specs.Passes.{part_pass}
 use Rattle.link_queue.specs.QueueViews as queue
 use Rattle.shared_broker.specs.Making as broker_making
 use Rattle.shared_broker.specs.Passes as broker
-use Rattle.shared_clock.specs.ClockViews as clock
-use Rattle.shared_clock.specs.Fresh as clock_fresh
+use Rattle.session.specs.clock.ClockViews as clock
+use Rattle.session.specs.clock.Fresh as clock_fresh
 use Rattle.shared_port.specs.Fresh as port_fresh
 use Rattle.shared_port.specs.PortViews as port
 use Rattle.link_lanes.specs.Halls.{HallView, LaneView, ServerView}

@@ -2,7 +2,7 @@
 use Rattle.std.specs.Prelude.{◌≡◌, ℕ, List, []}
 use Rattle.lane_books.specs.LaneBook.{IsLaneBook}
 use Rattle.lane_books.specs.Shown.{ShownLink}
-use Rattle.shared_clock.specs.ClockViews as clock
+use Rattle.session.specs.clock.ClockViews as clock
 use Rattle.shared_port.specs.Entries.{opened}
 use Rattle.shared_port.specs.PortViews as port
 use Rattle.link_lanes.specs.Halls.{HallView, ServerView, book_of}

@@ -9,8 +9,8 @@ use crate::server::Server;
 use kbytes::{List, NoMemory};
 use link_queue::QueuePass;
 use outside::{Clock, Port};
+use session::ClockPass;
 use shared_broker::Pass;
-use shared_clock::ClockPass;
 use shared_port::PortPass;
 use std::alloc::Global;
 
