@@ -5,7 +5,7 @@ PORT ?= 9092
 TOPICS ?= orders 3 0
 LANES ?= 4
 CONNECTIONS ?= 100
-.PHONY: run serve build test check fmt edits bench clients compare definitions workers explain clean
+.PHONY: run serve build test check fmt edits bench clients compare fuzz definitions workers lanes memory explain clean
 
 # Plays TRACE, on WORKERS threads where they are given, and shows what is printed, in bytes and in words. It is a build that
 # proves nothing, and takes a minute or two: proving the program takes longer than a first look should. `make build` proves it.
@@ -56,6 +56,12 @@ clients:
 compare:
 	python3 -B -m model.checks.compare $(if $(COUNT),--count $(COUNT)) $(if $(KIND),--kind $(KIND)) $(if $(UNPROVED),--unproved)
 
+# Plays changed texts by the model and by the program that `make build` leaves, 20,000 or COUNT, and sends changed streams to its
+# `serve`, over 2,000 connections or LINKS.
+fuzz:
+	python3 -B -m model.checks.fuzz_traces $(if $(COUNT),--count $(COUNT))
+	python3 -B -m model.checks.fuzz_links $(if $(LINKS),--count $(LINKS))
+
 # Runs the definitions, transcribed, on random traces and on small changes of their accounts: 100 traces, or COUNT.
 definitions:
 	python3 -B -m model.checks.check_definitions $(COUNT)
@@ -65,6 +71,16 @@ definitions:
 workers:
 	$(if $(UNPROVED),,cd crates/tell_account && rt run -- 1 < stdin > /dev/null)
 	python3 -B -m model.checks.check_workers $(if $(COUNT),--count $(COUNT)) $(if $(UNPROVED),--unproved)
+
+# Serves random links on 1, 2, 3 and 16 lanes, in memory, and checks the account of each run: 50 texts, or COUNT.
+lanes:
+	cd crates/tell_account && rt run -- 1 < stdin > /dev/null
+	python3 -B -m model.checks.check_lanes $(if $(COUNT),--count $(COUNT))
+
+# Refuses each allocation of some runs in turn, of the program that `make build` leaves and of tell_account. It takes a C compiler.
+memory:
+	cd crates/tell_account && rt run -- 1 < stdin > /dev/null
+	python3 -B -m model.checks.refused_memory --teller crates/tell_account/out/tell_account
 
 # Tells TRACE and what the model prints of it in words.
 explain:

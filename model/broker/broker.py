@@ -93,8 +93,8 @@ class Session:
 
 
 class Broker:
-    def __init__(self, topics):
-        self.topics = topics
+    def __init__(self, topics, port=PORT):
+        self.topics, self.port = topics, port
         self.partitions = [Partition(topic.followers) for topic in topics for _ in range(topic.partitions)]
         self.sessions = [Session() for _ in range(64)]
         self.waiting = []
@@ -173,7 +173,7 @@ class Broker:
             topics = [(name, [self.told_fetched(request, part, budget) for part in named]) for name, named in told]
             return wire.fetched(request.correlation, request.fields["isolation"], topics)
         if request.key == 3:
-            return wire.metadata(request.correlation, PORT, self.described(request.fields["names"]))
+            return wire.metadata(request.correlation, self.port, self.described(request.fields["names"]))
         return wire.versions(request.correlation, 0 if request.version == 0 else 35)
 
     def told_produced(self, request, part):

@@ -180,27 +180,34 @@ class SlowReading:
 
     # ---- sessions
 
+    def calls_in(self, number, transcript, data, places):
+        """A transcript's calls are the frames at the front of its input, in order. Gives what stands behind them."""
+        for seq, call in enumerate(transcript.calls, transcript.first):
+            kind, body = wire.next_frame(data)
+            need((kind, body) == ("whole", call.frame), f"the call {seq} of pass {number} isn't the next frame")
+            data = data[4 + len(body):]
+            for point in call.accept + call.finish:
+                need(places.get(point.part, -1) < point.place, f"an entry of pass {number} stands before its earlier ones")
+                places[point.part] = point.place
+            self.broker.sessions[number].calls += 1
+            self.answer((number, seq), call)
+            need(kind_of(call.how) != "Parked" or call is transcript.calls[-1], "a call behind a parked one")
+        return data
+
+    def check_end(self, transcript, end):
+        told = transcript.end and " ".join(str(word) for word in (transcript.end.kind, transcript.end.what) if word is not None)
+        need(told == end, f"{transcript.number} ended as {told}, not as {end}")
+
     def session(self, number, data, is_shut):
         """A session's calls are the frames of its input, in order, and it ended as the rest of that asks."""
         need(len(self.account.passes[number]) == 1, f"session {number} has another number of transcripts")
         (transcript,) = self.account.passes[number]
         need((transcript.number, transcript.first) == (number, 0), f"the transcript of session {number} is another's")
         self.broker.sessions[number].is_named = True
-        places = {}
-        for seq, call in enumerate(transcript.calls):
-            kind, body = wire.next_frame(data)
-            need((kind, body) == ("whole", call.frame), f"the call {seq} of session {number} isn't its frame {seq}")
-            data = data[4 + len(body):]
-            for point in call.accept + call.finish:
-                need(places.get(point.part, -1) < point.place, f"an entry of session {number} stands before its earlier ones")
-                places[point.part] = point.place
-            self.broker.sessions[number].calls += 1
-            self.answer((number, seq), call)
-            need(kind_of(call.how) != "Parked" or seq == len(transcript.calls) - 1, "a call behind a parked one")
+        rest = self.calls_in(number, transcript, data, {})
         is_parked = transcript.calls != () and kind_of(transcript.calls[-1].how) == "Parked"
-        end = None if is_parked else self.end_of(data, is_shut)
-        told = transcript.end and " ".join(str(word) for word in (transcript.end.kind, transcript.end.what) if word is not None)
-        need(told == end, f"session {number} ended as {told}, not as {end}")
+        end = None if is_parked else self.end_of(rest, is_shut)
+        self.check_end(transcript, end)
         if end is not None:
             self.broker.finish(number, end)
         if is_parked:
@@ -234,3 +241,29 @@ class SlowReading:
         self.broker.partitions = self.final()
         self.broker.summary()
         return b"".join(self.broker.out)
+
+    # ---- links
+
+    def link(self, number, transcript, data, places):
+        """The line of a link that a lane served to the end of its input."""
+        session = self.broker.sessions[number] = broker.Session()
+        end = self.end_of(self.calls_in(number, transcript, data, places), True)
+        self.check_end(transcript, end)
+        return f"link {transcript.number} calls {session.calls} replies {session.replies} {end}\n".encode()
+
+    def told_links(self, inputs):
+        """All that has to be printed of links, by the numbers of which each brought one of the inputs, whole, and was served to its end."""
+        self.check_wins()
+        lines = {}
+        for number, transcripts in enumerate(self.account.passes):
+            first, places = 0, {}
+            for transcript in transcripts:
+                need(transcript.first == first, f"the calls of link {transcript.number} are counted from elsewhere")
+                need(transcript.number not in lines and transcript.number < len(inputs), f"link {transcript.number} has a transcript too many")
+                lines[transcript.number] = self.link(number, transcript, inputs[transcript.number], places)
+                first += len(transcript.calls)
+        need(len(lines) == len(inputs), "a link has no transcript")
+        self.broker.partitions, self.broker.out = self.final(), []
+        self.broker.summary()
+        parts = [line for line in self.broker.out if line.startswith(b"part ")]
+        return b"".join([*(lines[number] for number in sorted(lines)), *parts, b"done\n"])

@@ -715,3 +715,14 @@ def session_text(transcript, replies):
 def IsPrintOf(account):
     """The one print of a lawful account, session by session."""
     return b"".join(session_text(t, HasReplies(account, t.calls)) for t in transcripts_of(account)) + summary_of(account)
+
+
+# ==== audit/specs/ServePrint.antt
+
+
+def IsServePrintOf(account):
+    """The one print of the account of links, or None where two of them have one number."""
+    links = sorted(transcripts_of(account), key=lambda transcript: transcript.number)
+    if any(later.number <= before.number for before, later in zip(links, links[1:])):
+        return None
+    return b"".join(map(link_line, links)) + b"".join(part_line(*part) for part in numbered(0, account.parts)) + done_line

@@ -8,7 +8,7 @@ use trace_file::{LineFault, TraceFault};
 /// Why nothing is printed, or not all of it.
 #[derive(Debug, Drop)]
 pub enum Fault {
-    /// The words of the command line aren't a number from 1 to 16, with or without `drain` after it.
+    /// The words of the command line aren't a number from 1 to 16, with or without `drain` after it, nor `lanes` and a number from 1 to 64.
     Usage,
     /// The input isn't a trace: its first bad line.
     BadLine(LineFault),
@@ -59,7 +59,7 @@ impl fmt::Display for Fault {
         match self {
             Fault::Usage => write!(
                 f,
-                "the words are a number of workers from 1 to 16, and drain or nothing"
+                "the words are a number of workers from 1 to 16, and drain or nothing, or lanes and a number from 1 to 64"
             ),
             Fault::BadLine(fault) => write!(f, "{fault}"),
             Fault::NoMemory => write!(f, "no memory was left"),

@@ -1,7 +1,10 @@
-//! Plays a trace on workers and prints the whole account of the run, so that it can be checked without any proof.
+//! Plays a trace on workers, or serves links on lanes, and prints the whole account of the run, so that it can be checked without any proof.
 //!
 //! `tell_account W [drain]` reads the trace on standard input, plays it on W workers, 1 to 16, and prints the account: one fact a line,
 //! words separated by one space, numbers in decimal, bytes as pairs of hex digits, or `-` if there are none.
+//!
+//! `tell_account lanes L` serves links on L lanes, 1 to 64, with the topics of the trace. Each line `bytes` is a link, in order: its client
+//! sends these bytes and no more. The other lines count for nothing. What is printed of the account is then that of a service.
 //!
 //! ```text
 //! port PORT
@@ -28,10 +31,10 @@
 #![tactic(auto)]
 
 ghost use Rattle.std.specs.Prelude.{◌≤◌, IfOk};
-ghost use Rattle.account_print.specs.Tellable.{IsTellable};
 ghost use Rattle.trace_workers.specs.Playable.{AreTraced};
 
 mod fault;
+mod lanes;
 mod order;
 mod telling;
 mod words;
@@ -40,7 +43,9 @@ use account_print::print_workers;
 use audit::Account;
 use fault::Fault;
 use kbytes::{Bytes, List};
-use order::{Order, order_of};
+use lanes::{Told, serve_lines};
+use link_lanes::MOST_LANES;
+use order::{Order, lanes_of, order_of};
 use std::alloc::Global;
 use std::io::{BufWriter, Read, Write};
 use std::process::ExitCode;
@@ -51,15 +56,13 @@ use telling::tell;
 use trace_file::{Line, REPLAY_PORT, read_trace};
 use trace_workers::{NoGate, run_lines};
 
-// What the words of the command line ask for.
-fn asked(rt: &HostRuntime) -> Result<Order, Fault>
-    ensures { IfOk result (λ order. (1 ≤ order.workers) × (order.workers ≤ 16)) }
-{
+// The words of the command line.
+fn words_of(rt: &HostRuntime) -> Result<Vec<String>, Fault> {
     let mut words = Vec::new(rt.alloc());
     for word in env::args(rt)?.skip(1) {
         words.push(word)?;
     }
-    order_of(words.as_slice())
+    Ok(words)
 }
 
 // The lines of the trace on standard input.
@@ -73,22 +76,17 @@ fn read_lines(rt: &impl Input, alloc: Global) -> Result<List<Line>, Fault>
 }
 
 // Writes the account, and what is printed of it.
-fn write_account<W: Write>(alloc: Global, out: &mut W, account: &Account) -> Result<(), Fault>
-    requires { IsTellable account.now }
-{
-    let mut text = Bytes::new(alloc);
-    print_workers(alloc, account, &mut text)?;
+fn write_account<W: Write>(out: &mut W, account: &Account, text: &Bytes) -> io::Result<()> {
     tell(out, account)?;
     writeln!(out, "printed")?;
     out.write_all(text.as_slice())?;
-    out.flush()?;
-    Ok(())
+    out.flush()
 }
 
-// Plays the trace, and prints the account of the run.
-fn run<R>(rt: &R, alloc: Global, order: Order) -> Result<(), Fault>
+// Plays the trace on workers.
+fn play<R>(rt: &R, alloc: Global, order: Order) -> Result<Told, Fault>
 where
-    R: Threads + Wait + Sync + Input + Print,
+    R: Threads + Wait + Sync + Input,
     requires { (1 ≤ order.workers) × (order.workers ≤ 16) }
 {
     let lines = read_lines(rt, alloc)?;
@@ -101,13 +99,39 @@ where
         order.drain,
         &NoGate,
     )?;
+    let mut text = Bytes::new(alloc);
+    print_workers(alloc, &account, &mut text)?;
+    Ok(Told { account, text })
+}
+
+// Serves the links of the trace on lanes.
+fn serve<R>(rt: &R, alloc: Global, lanes: u32) -> Result<Told, Fault>
+where
+    R: Threads + Wait + Sync + Input,
+    requires { (1 ≤ lanes) × (lanes ≤ MOST_LANES) }
+{
+    let lines = read_lines(rt, alloc)?;
+    let told = serve_lines(rt, alloc, lines.as_slice(), lanes)?;
+    Ok(told)
+}
+
+// Does what the words ask for, and prints the account.
+fn run<R>(rt: &R, alloc: Global, words: &[String]) -> Result<(), Fault>
+where
+    R: Threads + Wait + Sync + Input + Print,
+{
+    let told = match lanes_of(words) {
+        Some(lanes) => serve(rt, alloc, lanes)?,
+        None => play(rt, alloc, order_of(words)?)?,
+    };
     let mut out = BufWriter::new(alloc, io::writer(rt))?;
-    write_account(alloc, &mut out, &account)
+    write_account(&mut out, &told.account, &told.text)?;
+    Ok(())
 }
 
 fn main(rt: HostRuntime) -> ExitCode {
-    let done = match asked(&rt) {
-        Ok(order) => run(&rt, rt.alloc(), order),
+    let done = match words_of(&rt) {
+        Ok(words) => run(&rt, rt.alloc(), words.as_slice()),
         Err(fault) => Err(fault),
     };
     match done {

@@ -1,8 +1,9 @@
 //! What the words of the command line ask for. `main` plays the trace by it.
 
-ghost use Rattle.std.specs.Prelude.{◌≤◌, IfOk};
+ghost use Rattle.std.specs.Prelude.{◌≤◌, IfOk, IfSome};
 
 use crate::fault::Fault;
+use link_lanes::MOST_LANES;
 
 /// How many workers play, and whether the run is drained.
 #[derive(Clone, Copy, Debug)]
@@ -34,5 +35,18 @@ pub fn order_of(words: &[String]) -> Result<Order, Fault>
             drain: true,
         }),
         _ => Err(Fault::Usage),
+    }
+}
+
+/// The number of lanes, if the words ask that lanes serve the lines.
+pub fn lanes_of(words: &[String]) -> Option<u32>
+    ensures { IfSome result (λ lanes. (1 ≤ lanes) × (lanes ≤ MOST_LANES)) }
+{
+    match words {
+        [word, number] if word.as_str() == "lanes" => match number.as_str().parse::<u32>() {
+            Ok(lanes) if (1..=MOST_LANES).contains(&lanes) => Some(lanes),
+            _ => None,
+        },
+        _ => None,
     }
 }

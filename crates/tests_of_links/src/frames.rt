@@ -36,3 +36,47 @@ pub(crate) const FETCHED_NOTHING: [u8; 53] = [
     0, 0, 0, 49, 0, 0, 0, 2, 0, 0, 0, 0, 0, 0, 0, 1, 0, 1, 116, 0, 0, 0, 1, 0, 0, 0, 0, 0, 0, 0, 0,
     0, 0, 0, 0, 0, 0, 0, 0, 0, 0, 0, 0, 0, 0, 255, 255, 255, 255, 0, 0, 0, 0,
 ];
+
+/// Metadata, version 1, with correlation id 7 and client `c`, of all topics.
+pub(crate) const METADATA: [u8; 19] = [
+    0, 0, 0, 15, 0, 3, 0, 1, 0, 0, 0, 7, 0, 1, 99, 255, 255, 255, 255,
+];
+
+/// ApiVersions, version 3, with correlation id 5 and client `c`: the software `k` in its version `1`.
+pub(crate) const VERSIONS: [u8; 21] = [
+    0, 0, 0, 17, 0, 18, 0, 3, 0, 0, 0, 5, 0, 1, 99, 0, 2, 107, 2, 49, 0,
+];
+
+// The places of the partition's number, of which the last byte is another for partition 1.
+const IN_PRODUCE: usize = 37;
+
+const IN_PRODUCED: usize = 22;
+
+const IN_FETCH: usize = 46;
+
+const IN_FETCHED: usize = 26;
+
+/// These frames for partition 1 of `t`.
+#[derive(Drop)]
+pub(crate) struct OfSecond {
+    pub(crate) produce: [u8; 111],
+    pub(crate) produced: [u8; 45],
+    pub(crate) fetch: [u8; 59],
+    pub(crate) fetched: [u8; 122],
+}
+
+impl OfSecond {
+    pub(crate) fn new() -> OfSecond {
+        let mut frames = OfSecond {
+            produce: PRODUCE,
+            produced: PRODUCED,
+            fetch: FETCH,
+            fetched: FETCHED,
+        };
+        frames.produce[IN_PRODUCE] = 1;
+        frames.produced[IN_PRODUCED] = 1;
+        frames.fetch[IN_FETCH] = 1;
+        frames.fetched[IN_FETCHED] = 1;
+        frames
+    }
+}

@@ -3,7 +3,7 @@ ghost use Rattle.std.specs.Prelude.{◌≡◌, ◌≤◌, [], Some, IfOk, All};
 ghost use Rattle.outside.specs.Wire.{IsNewWire};
 ghost use Rattle.link_lanes.specs.port.History.{IsNewPort};
 
-use crate::frames::{FETCH, FETCHED, PRODUCE, PRODUCED};
+use crate::frames::{FETCH, FETCHED, OfSecond, PRODUCE, PRODUCED};
 use crate::meeting::StandingClock;
 use crate::memory::{failing, link_of};
 use crate::rooms::config;
@@ -54,11 +54,35 @@ where
     Ok(Told { run, text })
 }
 
-// What comes of some links in memory, each of which sends a produce and then ends.
+// What a link in memory sends before it ends, and the numbers of its calls that fail.
+#[derive(Clone, Copy)]
+struct Sent<'a> {
+    bytes: &'a [u8],
+    fails: &'a [u64],
+}
+
+const A_PRODUCE: Sent<'static> = Sent {
+    bytes: &PRODUCE,
+    fails: &[],
+};
+
+const A_FETCH: Sent<'static> = Sent {
+    bytes: &FETCH,
+    fails: &[],
+};
+
+impl Sent<'_> {
+    fn link(&self, alloc: Global) -> Result<MemLink, NoMemory>
+        ensures { IfOk result (λ link. IsNewWire link) }
+    {
+        link_of(alloc, self.bytes, 200, self.fails)
+    }
+}
+
+// What comes of some links in memory.
 #[derive(Clone, Copy)]
 struct Case<'a> {
-    // for each link the numbers of its calls that fail
-    links: &'a [&'a [u64]],
+    links: &'a [Sent<'a>],
     // the numbers of the calls of the port that fail
     fails: &'a [u64],
     lanes: u32,
@@ -69,20 +93,13 @@ struct Case<'a> {
     text: &'a str,
 }
 
-// A link that sends a produce, whose calls of these numbers fail.
-fn producer(alloc: Global, fails: &[u64]) -> Result<MemLink, NoMemory>
-    ensures { IfOk result (λ link. IsNewWire link) }
-{
-    link_of(alloc, &PRODUCE, 45, fails)
-}
-
 impl Case<'_> {
     fn port(&self, alloc: Global) -> Result<MemPort, NoMemory>
         ensures { IfOk result (λ port. IsNewPort (record { faults = port.plan.faults; opened_with = port.opened_with; given = port.given; is_ended = port.is_ended; retired_count = port.retired_count; retired = Some port.retired })) }
     {
         let mut links = List::new(alloc);
-        for fails in self.links {
-            links.push(producer(alloc, fails)?)?;
+        for sent in self.links {
+            links.push(sent.link(alloc)?)?;
         }
         MemPort::new(alloc, links, failing(alloc, self.fails)?)
     }
@@ -140,6 +157,7 @@ link 2 calls 1 replies 1 closed
 link 3 calls 1 replies 1 closed
 link 4 calls 1 replies 1 closed
 part 0 end 5 high 5 batches 5 bytes 345
+part 1 end 0 high 0 batches 0 bytes 0
 done
 ";
 
@@ -148,17 +166,28 @@ link 0 calls 1 replies 1 write-fault
 link 1 calls 1 replies 1 closed
 link 2 calls 0 replies 0 read-fault
 part 0 end 2 high 2 batches 2 bytes 138
+part 1 end 0 high 0 batches 0 bytes 0
+done
+";
+
+const IN_MID_FRAME: &str = "\
+link 0 calls 0 replies 0 read-fault
+link 1 calls 1 replies 1 closed
+part 0 end 0 high 0 batches 0 bytes 0
+part 1 end 0 high 0 batches 0 bytes 0
 done
 ";
 
 const ONE: &str = "\
 link 0 calls 1 replies 1 closed
 part 0 end 1 high 1 batches 1 bytes 69
+part 1 end 0 high 0 batches 0 bytes 0
 done
 ";
 
 const NONE: &str = "\
 part 0 end 0 high 0 batches 0 bytes 0
+part 1 end 0 high 0 batches 0 bytes 0
 done
 ";
 
@@ -166,7 +195,7 @@ done
 #[test]
 fn each_link_is_served_and_comes_back_once(rt: HostRuntime) -> Result<(), Fail> {
     let all = Case {
-        links: &[&[], &[], &[], &[], &[]],
+        links: &[A_PRODUCE; 5],
         fails: &[],
         lanes: 2,
         most: 9,
@@ -188,8 +217,16 @@ fn each_link_is_served_and_comes_back_once(rt: HostRuntime) -> Result<(), Fail> 
 // The first link's first write fails and the third link's first read; no more links are asked for than may come.
 #[test]
 fn a_link_that_fails_ends_alone(rt: HostRuntime) -> Result<(), Fail> {
+    let write = Sent {
+        fails: &[1],
+        ..A_PRODUCE
+    };
+    let read = Sent {
+        fails: &[0],
+        ..A_PRODUCE
+    };
     let faults = Case {
-        links: &[&[1], &[], &[0], &[]],
+        links: &[write, A_PRODUCE, read, A_PRODUCE],
         fails: &[],
         lanes: 2,
         most: 3,
@@ -197,14 +234,27 @@ fn a_link_that_fails_ends_alone(rt: HostRuntime) -> Result<(), Fail> {
         given: 3,
         text: WITH_FAULTS,
     };
-    none_lacks(faults.lacks(&rt, rt.alloc())?)
+    none_lacks(faults.lacks(&rt, rt.alloc())?)?;
+    // a read fails after half a frame; a fetch waits when the input ends, and is answered once its time is over
+    let half = Sent {
+        bytes: &PRODUCE[..55],
+        fails: &[1],
+    };
+    let ends = Case {
+        links: &[half, A_FETCH],
+        most: 2,
+        given: 2,
+        text: IN_MID_FRAME,
+        ..faults
+    };
+    none_lacks(ends.lacks(&rt, rt.alloc())?)
 }
 
 // An accept fails after the first link, and an opening.
 #[test]
 fn a_port_that_fails_ends_the_run(rt: HostRuntime) -> Result<(), Fail> {
     let accept = Case {
-        links: &[&[], &[], &[]],
+        links: &[A_PRODUCE; 3],
         fails: &[2],
         lanes: 2,
         most: 9,
@@ -226,19 +276,29 @@ const MET: &str = "\
 link 0 calls 1 replies 1 closed
 link 1 calls 1 replies 1 closed
 part 0 end 1 high 1 batches 1 bytes 69
+part 1 end 0 high 0 batches 0 bytes 0
 done
 ";
 
-// A link that sends this request once that is due.
+const MET_BESIDE_A_FAULT: &str = "\
+link 0 calls 1 replies 1 write-fault
+link 1 calls 1 replies 1 closed
+link 2 calls 1 replies 1 closed
+part 0 end 1 high 1 batches 1 bytes 69
+part 1 end 1 high 1 batches 1 bytes 69
+done
+";
+
+// A link that sends this once that is due.
 fn slow<'a, R>(
     rt: &'a R,
     alloc: Global,
-    request: &[u8],
+    sent: Sent<'_>,
     is_due: &'a AtomicBool,
 ) -> Result<SlowLink<'a, R>, NoMemory> {
     Ok(SlowLink {
         rt,
-        inner: link_of(alloc, request, 200, &[])?,
+        inner: sent.link(alloc)?,
         most: 200,
         is_due,
         faults: 0,
@@ -253,8 +313,8 @@ fn meet<'a, R: Threads + Wait + time::Clock + Sync>(
     has_rested: &'a AtomicBool,
 ) -> Result<bool, NoMemory> {
     let mut links = Vec::new(alloc);
-    links.push(slow(rt, alloc, &PRODUCE, has_rested)?)?;
-    links.push(slow(rt, alloc, &FETCH, is_due)?)?;
+    links.push(slow(rt, alloc, A_PRODUCE, has_rested)?)?;
+    links.push(slow(rt, alloc, A_FETCH, is_due)?)?;
     let port = SlowPort::new(alloc, links);
     let Told { run, text } = tell(rt, alloc, port, StandingClock::new(has_rested), 2, 2)?;
     Ok(
@@ -264,11 +324,48 @@ fn meet<'a, R: Threads + Wait + time::Clock + Sync>(
     )
 }
 
+// The same at the other partition, beside a link whose first write fails. It comes first.
+fn meet_beside_a_fault<'a, R: Threads + Wait + time::Clock + Sync>(
+    rt: &'a R,
+    alloc: Global,
+    is_due: &'a AtomicBool,
+    has_rested: &'a AtomicBool,
+) -> Result<bool, NoMemory> {
+    let frames = OfSecond::new();
+    let mut links = Vec::new(alloc);
+    for (bytes, fails, mark) in [
+        (frames.produce.as_slice(), [].as_slice(), has_rested),
+        (&frames.fetch, &[], is_due),
+        (&PRODUCE, &[1], is_due),
+    ] {
+        links.push(slow(rt, alloc, Sent { bytes, fails }, mark)?)?;
+    }
+    let port = SlowPort::new(alloc, links);
+    let Told { run, text } = tell(rt, alloc, port, StandingClock::new(has_rested), 2, 3)?;
+    Ok(
+        text.as_slice() == MET_BESIDE_A_FAULT.as_bytes()
+            && run.port.was_sent(0, &[])
+            && run.port.was_sent(1, &frames.fetched)
+            && run.port.was_sent(2, &frames.produced),
+    )
+}
+
 #[test]
 fn two_lanes_run_beside_each_other(rt: HostRuntime) -> Result<(), Fail> {
     let is_due = AtomicBool::new(true);
     let has_rested = AtomicBool::new(false);
     if meet(&rt, rt.alloc(), &is_due, &has_rested)? {
+        Ok(())
+    } else {
+        Err("a reply".into())
+    }
+}
+
+#[test]
+fn a_fault_leaves_the_others_whole(rt: HostRuntime) -> Result<(), Fail> {
+    let is_due = AtomicBool::new(true);
+    let has_rested = AtomicBool::new(false);
+    if meet_beside_a_fault(&rt, rt.alloc(), &is_due, &has_rested)? {
         Ok(())
     } else {
         Err("a reply".into())

@@ -11,10 +11,10 @@ use shared_broker::{Broker, Pass};
 use std::alloc::Global;
 use std::sync::Wait;
 
-// The topic `t` with one partition.
+// The topic `t` with two partitions.
 pub(crate) fn config(alloc: Global) -> Result<Config, NoMemory> {
     let mut config = Config::new(alloc, 9092);
-    match config.add(b"t", 1, 0) {
+    match config.add(b"t", 2, 0) {
         Ok(()) => Ok(config),
         Err(_) => Err(NoMemory),
     }

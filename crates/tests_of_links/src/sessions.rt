@@ -1,6 +1,7 @@
 //! Sessions over links in memory, each alone on a new broker.
+ghost use Rattle.std.specs.Prelude.{◌≤◌, length};
 
-use crate::frames::{FETCH, FETCHED, FETCHED_NOTHING, PRODUCE, PRODUCED};
+use crate::frames::{FETCH, FETCHED, FETCHED_NOTHING, METADATA, PRODUCE, PRODUCED, VERSIONS};
 use crate::memory::link_of;
 use crate::rooms::serve_alone;
 use crate::slow_link::SlowLink;
@@ -103,6 +104,29 @@ fn a_call_of_the_link_fails(rt: HostRuntime) -> Result<(), Fail> {
         let link = link_of(alloc, requests.as_slice(), room, &[call])?;
         let found = end_after(&rt, alloc, link, sent, replies.as_slice())?;
         assert_eq!(rt; found, Some(end), "call {call}, room {room}");
+    }
+    Ok(())
+}
+
+// Whether a session that gets just the first bytes of the frame sends nothing, and ends with so many of them.
+fn ends_with(rt: &impl Wait, alloc: Global, frame: &[u8], count: usize) -> Result<bool, NoMemory>
+    requires { count ≤ length frame.now }
+{
+    let link = link_of(alloc, &frame[..count], 200, &[])?;
+    match end_after(rt, alloc, link, 0, &[])? {
+        Some(SessionEnd::Closed) => Ok(count == 0),
+        Some(SessionEnd::Truncated { got }) => Ok(count > 0 && got as usize == count),
+        _ => Ok(false),
+    }
+}
+
+#[test]
+fn a_frame_that_is_cut_at_any_byte_is_no_call(rt: HostRuntime) -> Result<(), Fail> {
+    let alloc = rt.alloc();
+    for frame in [PRODUCE.as_slice(), &FETCH, &METADATA, &VERSIONS] {
+        for count in 0..frame.len() {
+            assert!(rt; ends_with(&rt, alloc, frame, count)?, "cut at {count}");
+        }
     }
     Ok(())
 }

@@ -5,4 +5,4 @@ use Rattle.tests_of_links.proofs.lanes.Case.port.Goals as goal
 
 pub loop-fails-preserved : goal.loop-fails-preserved
 loop-fails-preserved c =
-    subst (All IsNewWire) (sym c.in_ok-push.ensures.ok) (All-push IsNewWire c.loop-fails.links c.in_ok-producer.field-0 c.loop-fails.invariant c.in_ok-producer.ensures)
+    subst (All IsNewWire) (sym c.in_ok-push.ensures.ok) (All-push IsNewWire c.loop-fails.links c.in_ok-link.field-0 c.loop-fails.invariant c.in_ok-link.ensures)
