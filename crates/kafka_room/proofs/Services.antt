@@ -1,8 +1,8 @@
 -- What stops a service before it opens its port, and which service it is.
 use Rattle.std.proofs.Common.{◌≡◌, ◌⊎◌, ℕ, true, List, Option, Some, None, IfSome, IsSome, inl, inr, refl, subst}
 use Rattle.audit.specs.declared.account.Account.{Account}
-use Rattle.lane_books.specs.Shown.{ShownLink}
-use Rattle.shared_port.specs.History.{PortFacts}
+use Rattle.link_lanes.specs.books.Shown.{ShownLink}
+use Rattle.link_lanes.specs.port.History.{PortFacts}
 use Rattle.trace_file.specs.declared.line.LineFault.{LineFault}
 use Rattle.trace_file.proofs.Laws.{trace_has_none}
 use Rattle.kafka_room.specs.declared.exit.Stop.{Stop}

@@ -7,8 +7,8 @@ use Rattle.audit.specs.ServePrint.{IsServePrint}
 use Rattle.trace_file.specs.declared.line.Line.{Line}
 use Rattle.trace_file.specs.Contents.{configuration_of}
 use Rattle.trace_file.specs.FirstBad.{IsTraceRead}
-use Rattle.lane_books.specs.Shown.{ShownLink}
-use Rattle.shared_port.specs.History.{PortFacts}
+use Rattle.link_lanes.specs.books.Shown.{ShownLink}
+use Rattle.link_lanes.specs.port.History.{PortFacts}
 use Rattle.link_lanes.specs.LaneRun.{IsLaneRun}
 use Rattle.kafka_room.specs.declared.command.Service.{Service}
 

@@ -3,18 +3,15 @@ use Rattle.std.proofs.Common.{◌≡◌, ◌∙◌, ◌⊎◌, inl, inr, ℕ, ze
 use Rattle.std.proofs.lemmas.List.Elements.{All-append, All-cons, All-contains_itself, All-head, All-map, All-nil, All-tail, All-weaker, recursion_from_All}
 use Rattle.std.specs.List.{AllByRecursion, cons_option}
 use Rattle.audit.specs.declared.account.Account.{Account}
-use Rattle.lane_books.specs.LaneBook.{IsLaneBook, LaneBook, retired_numbers}
-use Rattle.lane_books.specs.Shown.{ShownLink}
-use Rattle.lane_books.specs.Times.{once_below, times, total}
-use Rattle.lane_books.specs.Together.{AreAllBooks, AreInOrder}
-use Rattle.shared_broker.specs.Closing.{IsAccountOf}
-use Rattle.shared_broker.specs.Passes as broker
-use Rattle.shared_clock.specs.ClockViews as clock
-use Rattle.shared_port.specs.declared.port_entry.PortEntry.{PortEntry}
-use Rattle.shared_port.specs.declared.port_entry.PortEntry.TheVariants.{Opened, Faulted}
-use Rattle.shared_port.specs.Entries.{accepted, accepted_number, opened, opened_number, retired, retired_link}
-use Rattle.shared_port.specs.History.{PortFacts}
-use Rattle.shared_port.specs.PortViews as port
+use Rattle.link_lanes.specs.books.LaneBook.{IsLaneBook, LaneBook, retired_numbers}
+use Rattle.link_lanes.specs.books.Shown.{ShownLink}
+use Rattle.link_lanes.specs.books.Times.{once_below, times, total}
+use Rattle.link_lanes.specs.books.Together.{AreAllBooks, AreInOrder}
+use Rattle.link_lanes.specs.declared.port.port_entry.PortEntry.{PortEntry}
+use Rattle.link_lanes.specs.declared.port.port_entry.PortEntry.TheVariants.{Opened, Faulted}
+use Rattle.link_lanes.specs.port.Entries.{accepted, accepted_number, opened, opened_number, retired, retired_link}
+use Rattle.link_lanes.specs.port.History.{PortFacts}
+use Rattle.link_lanes.specs.port.PortViews as port
 use Rattle.link_lanes.specs.Closed.{HasOpened, HaveClosed, keys_of, passes_of, seats_of}
 use Rattle.link_lanes.specs.Halls.{HallView, ServerView, book_of}
 use Rattle.link_lanes.specs.Seen.{seen_with}
@@ -24,6 +21,9 @@ use Rattle.link_lanes.proofs.FoundParts.{any_here, any_there, contains_map}
 use Rattle.link_lanes.proofs.NumberTimes.{last_is, none_below, times_range}
 use Rattle.link_lanes.proofs.PartSums.{total_same, total_zero}
 use Rattle.link_lanes.proofs.PortParts.{found_own, own_adds_up}
+use Rattle.shared_broker.specs.Closing.{IsAccountOf}
+use Rattle.shared_broker.specs.Passes as broker
+use Rattle.session.specs.clock.ClockViews as clock
 
 -- ---- servers and their books
 

@@ -1,6 +1,6 @@
 -- How often a number stands in lists that are joined.
 use Rattle.std.proofs.Common.{◌≡◌, ℕ, ◌+◌, List, [], ◌∷◌, ◌++◌, arith}
-use Rattle.lane_books.specs.Times.{times}
+use Rattle.link_lanes.specs.books.Times.{times}
 
 pub times_append : (n : ℕ) (xs ys : List ℕ) → times n (xs ++ ys) ≡ times n xs + times n ys
 times_append n [] ys = omega arith

@@ -4,11 +4,11 @@ use Rattle.std.proofs.lemmas.List.{map-append}
 use Rattle.std.proofs.lemmas.List.Sorted.{sum_by-IsPermutation}
 use Rattle.std.proofs.lemmas.List.Sums.{sum_by-cons}
 use Rattle.std.specs.Prelude.{IsPermutation}
-use Rattle.lane_books.specs.LaneBook.{LaneBook}
-use Rattle.lane_books.specs.Shown.{ShownLink}
-use Rattle.lane_books.specs.Times.{one_where, times, total}
-use Rattle.link_queue.specs.declared.numbered.Numbered.{Numbered}
-use Rattle.link_queue.specs.QueueViews as queue
+use Rattle.link_lanes.specs.books.LaneBook.{LaneBook}
+use Rattle.link_lanes.specs.books.Shown.{ShownLink}
+use Rattle.link_lanes.specs.books.Times.{one_where, times, total}
+use Rattle.link_lanes.specs.declared.queue.numbered.Numbered.{Numbered}
+use Rattle.link_lanes.specs.queue.QueueViews as queue
 use Rattle.link_lanes.specs.Gathered.{AreGathered}
 use Rattle.link_lanes.specs.Going.{HasGone, IsReady}
 use Rattle.link_lanes.specs.Halls.{HallView, LaneView, ServerView, book_of, numbers}

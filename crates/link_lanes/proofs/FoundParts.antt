@@ -2,7 +2,7 @@
 use Rattle.std.proofs.Common.{◌≡◌, ◌⊎◌, inl, inr, ℕ, zero, suc, ◌+◌, ◌==◌, ◌||◌, Bool, true, false, cond, List, [], ◌∷◌, ◌++◌, Option, Some, None, All, Any, Contains, filter, filter_map, map, refl, ap, sym, subst, arith, eqb-true, eq-eqb}
 use Rattle.std.specs.List.{AllByRecursion, cons_option, list_any}
 use Rattle.std.proofs.lemmas.List.Elements.{All-cons, All-head, All-nil, All-tail}
-use Rattle.lane_books.specs.Times.{one_where}
+use Rattle.link_lanes.specs.books.Times.{one_where}
 use Rattle.link_lanes.proofs.PartSums.{having, part_of}
 
 -- ---- some item, and an item of a list

@@ -4,12 +4,12 @@ use Rattle.std.proofs.lemmas.List.{map-append}
 use Rattle.std.proofs.lemmas.List.FromFn.{get_or-map-range_with_len, length-map-range_with_len}
 use Rattle.std.proofs.lemmas.List.Sums.{sum_by-cons}
 use Rattle.std.specs.List.{range_with_len}
-use Rattle.lane_books.specs.LaneBook.{LaneBook}
-use Rattle.lane_books.specs.Shown.{ShownLink}
-use Rattle.lane_books.specs.Times.{times, total}
-use Rattle.link_queue.specs.declared.numbered.Numbered.{Numbered}
-use Rattle.link_queue.specs.declared.queue_pass.TheConstants.{PARTS}
-use Rattle.link_queue.specs.QueueViews as queue
+use Rattle.link_lanes.specs.books.LaneBook.{LaneBook}
+use Rattle.link_lanes.specs.books.Shown.{ShownLink}
+use Rattle.link_lanes.specs.books.Times.{times, total}
+use Rattle.link_lanes.specs.declared.queue.numbered.Numbered.{Numbered}
+use Rattle.link_lanes.specs.declared.queue.queue_pass.TheConstants.{PARTS}
+use Rattle.link_lanes.specs.queue.QueueViews as queue
 use Rattle.link_lanes.specs.Begun.{AreNew}
 use Rattle.link_lanes.specs.Gathered.{AreGathered, with_all}
 use Rattle.link_lanes.specs.Going.{IsReady}

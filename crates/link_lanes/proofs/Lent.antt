@@ -1,7 +1,7 @@
 -- The lanes as they are lent to threads and come back.
 use Rattle.std.proofs.Common.{◌≡◌, ◌∙◌, false, List, ◌++◌, length, take, drop, sym, ap, subst}
 use Rattle.std.proofs.lemmas.List.{take_at}
-use Rattle.lane_books.specs.Shown.{ShownLink}
+use Rattle.link_lanes.specs.books.Shown.{ShownLink}
 use Rattle.link_lanes.specs.Going.{HasGone}
 use Rattle.link_lanes.specs.Halls.{HallView, LaneView}
 use Rattle.link_lanes.specs.Together.{AreReady, HaveGone}

@@ -3,16 +3,16 @@ use Rattle.std.proofs.Common.{◌≡◌, ◌∙◌, ℕ, ◌+◌, List, [], ◌�
 use Rattle.std.proofs.lemmas.List.FromFn.{length-map-range_with_len, map-range_with_len_more}
 use Rattle.std.proofs.lemmas.List.{length-map, same_from_push}
 use Rattle.std.specs.List.{range_with_len}
-use Rattle.lane_books.specs.Shown.{ShownLink}
-use Rattle.shared_broker.specs.Making as broker_making
-use Rattle.shared_broker.specs.Passes as broker
-use Rattle.shared_clock.specs.ClockViews as clock
-use Rattle.shared_clock.specs.Fresh as clock_fresh
-use Rattle.shared_port.specs.Fresh as port_fresh
-use Rattle.shared_port.specs.PortViews as port
+use Rattle.link_lanes.specs.books.Shown.{ShownLink}
+use Rattle.link_lanes.specs.port.Fresh as port_fresh
+use Rattle.link_lanes.specs.port.PortViews as port
 use Rattle.link_lanes.specs.Halls.{HallView, LaneView, ServerView}
 use Rattle.link_lanes.specs.Made.{new_lane, new_server, new_servers, seated}
 use Rattle.link_lanes.specs.Serving.{IsServing}
+use Rattle.shared_broker.specs.Making as broker_making
+use Rattle.shared_broker.specs.Passes as broker
+use Rattle.session.specs.clock.ClockViews as clock
+use Rattle.session.specs.clock.Fresh as clock_fresh
 
 pub as_many_servers : (L : Type 0) (hall : HallView) (count : ℕ) → length (new_servers {L = L} hall count) ≡ count
 as_many_servers L hall count = length-map-range_with_len (new_server {L = L} hall) 0 count

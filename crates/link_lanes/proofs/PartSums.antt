@@ -4,7 +4,7 @@ use Rattle.std.proofs.lemmas.List.Elements.{All-head, All-tail}
 use Rattle.std.proofs.lemmas.Bool.Decides.{Decides-eqb, same_from_decides}
 use Rattle.std.proofs.lemmas.List.Recursion.{is_sum_by}
 use Rattle.std.specs.List.{AllByRecursion, cons_option}
-use Rattle.lane_books.specs.Times.{one_where, total}
+use Rattle.link_lanes.specs.books.Times.{one_where, total}
 
 module _ {A : Type 0} where
   -- sums of equal numbers are equal

@@ -4,17 +4,14 @@ use Rattle.std.proofs.lemmas.List.Elements.{All-contains, Contains-push}
 use Rattle.std.specs.List.{AllByRecursion, range_with_len}
 use Rattle.audit.specs.declared.account.Account.{Account}
 use Rattle.kwire.specs.Configuration.{Configuration}
-use Rattle.lane_books.specs.LaneBook.{LaneBook}
-use Rattle.lane_books.specs.Shown.{ShownLink}
-use Rattle.lane_books.specs.Together.{AreAllBooks, AreServed}
-use Rattle.outside.specs.Causes.{Rose}
-use Rattle.partlog.specs.Moment.{moment_of}
-use Rattle.shared_broker.specs.Passes as broker
-use Rattle.shared_port.specs.declared.port_entry.PortEntry.{PortEntry}
-use Rattle.shared_port.specs.declared.port_entry.PortEntry.TheVariants.{Faulted}
-use Rattle.shared_port.specs.Entries.{accepted, entered_by, has_ended, has_faulted, is_end, is_fault, retired}
-use Rattle.shared_port.specs.History.{PortFacts, Terms}
-use Rattle.shared_port.specs.PortViews as port
+use Rattle.link_lanes.specs.books.LaneBook.{LaneBook}
+use Rattle.link_lanes.specs.books.Shown.{ShownLink}
+use Rattle.link_lanes.specs.books.Together.{AreAllBooks, AreServed}
+use Rattle.link_lanes.specs.declared.port.port_entry.PortEntry.{PortEntry}
+use Rattle.link_lanes.specs.declared.port.port_entry.PortEntry.TheVariants.{Faulted}
+use Rattle.link_lanes.specs.port.Entries.{accepted, entered_by, has_ended, has_faulted, is_end, is_fault, retired}
+use Rattle.link_lanes.specs.port.History.{PortFacts, Terms}
+use Rattle.link_lanes.specs.port.PortViews as port
 use Rattle.link_lanes.specs.declared.lane.LaneEnd.TheVariants.{Over, Failed}
 use Rattle.link_lanes.specs.Closed.{HasOpened, HasStopped, HaveClosed, keys_of}
 use Rattle.link_lanes.specs.Going.{HasEnded}
@@ -26,6 +23,9 @@ use Rattle.link_lanes.proofs.AllBooks.{all_books, all_told, opened_so}
 use Rattle.link_lanes.proofs.FoundParts.{all_keys, any_kept, any_with}
 use Rattle.link_lanes.proofs.PartSums.{part_of}
 use Rattle.link_lanes.proofs.PortParts.{all_given, found_still}
+use Rattle.outside.specs.Causes.{Rose}
+use Rattle.partlog.specs.Moment.{moment_of}
+use Rattle.shared_broker.specs.Passes as broker
 
 -- what the contract of `books_are_served` says: all books together give each link its transcript
 abbrev pub BooksAreServed : Type 0

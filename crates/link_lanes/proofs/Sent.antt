@@ -14,20 +14,20 @@ use Rattle.link_lanes.specs.contracts.server.Server as Server
 use Rattle.link_lanes.specs.contracts.server.Server.TheInside as server
 use Rattle.link_lanes.specs.contracts.hall.Hall as Hall
 use Rattle.link_lanes.specs.contracts.hall.Hall.TheInside as hall
+use Rattle.link_lanes.proofs.port.Sent as port_sent
+use Rattle.link_lanes.proofs.queue.queue_pass.QueuePass.TheSendSync as hand
+use Rattle.link_lanes.proofs.queue.link_queue.LinkQueue.TheSendSync as ring
 use Rattle.outside.specs.declared.clock.Clock as clock_trait
 use Rattle.outside.specs.declared.link.Link as link_trait
 use Rattle.outside.specs.declared.port.Port as port_trait
 use Rattle.shared_broker.proofs.Laws.{pass_is_send}
-use Rattle.shared_port.proofs.Laws as shared_port
 use Rattle.shared_broker.proofs.broker.Broker.TheSendSync as broker
-use Rattle.link_queue.proofs.queue_pass.QueuePass.TheSendSync as hand
-use Rattle.link_queue.proofs.link_queue.LinkQueue.TheSendSync as ring
-use Rattle.shared_clock.proofs.clock_pass.ClockPass.TheSendSync as seat
-use Rattle.shared_clock.proofs.shared.Shared.TheSendSync as shared
+use Rattle.session.proofs.clock.clock_pass.ClockPass.TheSendSync as seat
+use Rattle.session.proofs.clock.shared.Shared.TheSendSync as shared
 
 module _ (P C L : RattleType) (port : _) (link : _) (clock : _) (sent : IsSend P) (told : IsSend C) (linked : IsSend L) where
   server_fields : AllSend (declared.shape (server.the_type P C L port link clock)).fields
-  server_fields = (pass_is_send, (search (told, seat.the_send, crosses, sendable) depth 20, (shared_port.pass_is_send P L port link sent, tt)))
+  server_fields = (pass_is_send, (search (told, seat.the_send, crosses, sendable) depth 20, (port_sent.pass_is_send P L port link sent, tt)))
 
   server_is_send : IsSend (Server.the_row P C L port link clock)
   server_is_send = view_send (server.the_row P C L port link clock) _ _ _ _ (recorded_send (server.the_field P C L port link clock).row _ _ (server.the_type P C L port link clock).to_one (struct_send (declared.shape (server.the_type P C L port link clock)) server_fields))
@@ -39,7 +39,7 @@ module _ (P C L : RattleType) (port : _) (link : _) (clock : _) (sent : IsSend P
   lane_is_send = view_send (lane.the_row P C L port link clock) _ _ _ _ (recorded_send (lane.the_field P C L port link clock).row _ _ (lane.the_type P C L port link clock).to_one (struct_send (declared.shape (lane.the_type P C L port link clock)) lane_fields))
 
   hall_fields : AllSync (declared.shape (hall.the_type P C L port link clock)).fields
-  hall_fields = (search (crosses, sendable), (broker.the_sync, (search (told, shared.the_sync, crosses, sendable) depth 20, (shared_port.port_is_sync P L port link sent, (search (linked, ring.the_sync, crosses, sendable) depth 20, tt)))))
+  hall_fields = (search (crosses, sendable), (broker.the_sync, (search (told, shared.the_sync, crosses, sendable) depth 20, (port_sent.port_is_sync P L port link sent, (search (linked, ring.the_sync, crosses, sendable) depth 20, tt)))))
 
   pub hall_is_sync : IsSync (Hall.the_row P C L port link clock)
   hall_is_sync = view_sync (hall.the_row P C L port link clock) _ _ _ _ (recorded_sync (hall.the_field P C L port link clock).row _ _ (hall.the_type P C L port link clock).to_one (struct_sync (declared.shape (hall.the_type P C L port link clock)) hall_fields))

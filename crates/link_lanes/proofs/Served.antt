@@ -4,28 +4,28 @@ use Rattle.std.specs.List.{AllZip}
 use Rattle.std.proofs.lemmas.List.{map-append}
 use Rattle.std.proofs.lemmas.List.Elements.{filter_map-append}
 use Rattle.audit.specs.declared.account.SessionEnd.{SessionEnd}
-use Rattle.lane_books.specs.LaneBook.{IsLaneBook, IsTranscriptOf, LaneBook, retired_numbers}
-use Rattle.lane_books.specs.Serving.{IsFreshLink, served_after, shut_link}
-use Rattle.lane_books.specs.Shown.{ShownLink}
-use Rattle.lane_books.specs.Times.{times}
-use Rattle.session.specs.Flows.{LinkView}
-use Rattle.session.specs.Onwards.{HasGoneOn}
-use Rattle.session.specs.Served.{HasServed}
-use Rattle.shared_broker.specs.Passes as broker
-use Rattle.shared_clock.specs.ClockViews as clock
-use Rattle.shared_port.specs.Asked.{HasEntered, HasHandedBack, accept_entries}
-use Rattle.shared_port.specs.declared.accepting.Accepting.{Accepting}
-use Rattle.shared_port.specs.declared.accepting.Accepting.TheVariants as accepting
-use Rattle.shared_port.specs.declared.port_entry.PortEntry.{PortEntry}
-use Rattle.shared_port.specs.declared.port_entry.PortEntry.TheVariants.{Ended, Faulted, Retired}
-use Rattle.shared_port.specs.Entries.{accepted, accepted_number, has_ended, has_faulted, opened, opened_number, retired, retired_link}
-use Rattle.shared_port.specs.PortViews as port
+use Rattle.link_lanes.specs.books.LaneBook.{IsLaneBook, IsTranscriptOf, LaneBook, retired_numbers}
+use Rattle.link_lanes.specs.books.Serving.{IsFreshLink, served_after, shut_link}
+use Rattle.link_lanes.specs.books.Shown.{ShownLink}
+use Rattle.link_lanes.specs.books.Times.{times}
+use Rattle.link_lanes.specs.port.Asked.{HasEntered, HasHandedBack, accept_entries}
+use Rattle.link_lanes.specs.declared.port.accepting.Accepting.{Accepting}
+use Rattle.link_lanes.specs.declared.port.accepting.Accepting.TheVariants as accepting
+use Rattle.link_lanes.specs.declared.port.port_entry.PortEntry.{PortEntry}
+use Rattle.link_lanes.specs.declared.port.port_entry.PortEntry.TheVariants.{Ended, Faulted, Retired}
+use Rattle.link_lanes.specs.port.Entries.{accepted, accepted_number, has_ended, has_faulted, opened, opened_number, retired, retired_link}
+use Rattle.link_lanes.specs.port.PortViews as port
 use Rattle.link_lanes.specs.Accepted.{numbers_in}
 use Rattle.link_lanes.specs.Going.{HasServedOn}
 use Rattle.link_lanes.specs.Halls.{HallView, ServerView, book_of}
 use Rattle.link_lanes.specs.Seen.{seen_with}
 use Rattle.link_lanes.specs.Serving.{IsServing}
 use Rattle.link_lanes.proofs.Counting.{times_append}
+use Rattle.session.specs.Flows.{LinkView}
+use Rattle.session.specs.Onwards.{HasGoneOn}
+use Rattle.session.specs.Served.{HasServed}
+use Rattle.session.specs.clock.ClockViews as clock
+use Rattle.shared_broker.specs.Passes as broker
 
 pub none_there : {A : Type 0} (o : Option A) → is_some o ≡ false → o ≡ None
 none_there None none = refl

@@ -1,10 +1,10 @@
 -- All that a run begins with.
 use Rattle.std.specs.Prelude.{◌≡◌, ◌+◌, ◌≤◌, ℕ, List, map}
 use Rattle.kwire.specs.Configuration.{Configuration}
-use Rattle.link_queue.specs.Passes.{first_pass}
-use Rattle.link_queue.specs.QueueViews as queue
-use Rattle.shared_port.specs.Fresh.{fresh_pass}
-use Rattle.shared_port.specs.PortViews as port
+use Rattle.link_lanes.specs.queue.Passes.{first_pass}
+use Rattle.link_lanes.specs.queue.QueueViews as queue
+use Rattle.link_lanes.specs.port.Fresh.{fresh_pass}
+use Rattle.link_lanes.specs.port.PortViews as port
 use Rattle.link_lanes.specs.declared.runs.TheConstants.{MOST_LANES}
 use Rattle.link_lanes.specs.Halls.{HallView, LaneView}
 use Rattle.link_lanes.specs.Made.{new_lane, new_servers, with_fewer_parts}

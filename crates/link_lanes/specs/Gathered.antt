@@ -1,10 +1,10 @@
 -- What the lanes come to once their threads are joined.
 use Rattle.std.specs.Prelude.{◌≡◌, ◌+◌, ◌++◌, ℕ, Bool, true, false, List, Any, sum_by}
 use Rattle.std.specs.List.{flat_map}
-use Rattle.lane_books.specs.LaneBook.{LaneBook}
-use Rattle.lane_books.specs.Shown.{ShownLink}
-use Rattle.lane_books.specs.Times.{times, total}
-use Rattle.link_queue.specs.QueueViews as queue
+use Rattle.link_lanes.specs.books.LaneBook.{LaneBook}
+use Rattle.link_lanes.specs.books.Shown.{ShownLink}
+use Rattle.link_lanes.specs.books.Times.{times, total}
+use Rattle.link_lanes.specs.queue.QueueViews as queue
 use Rattle.link_lanes.specs.Going.{HasEnded}
 use Rattle.link_lanes.specs.declared.lane.LaneEnd.TheVariants.{Over, Failed}
 use Rattle.link_lanes.specs.Halls.{HallView, LaneView, ServerView, numbers}

@@ -1,11 +1,11 @@
 -- A lane that goes on: what it put into the queue and took from it, and how its server went on meanwhile.
 use Rattle.std.specs.Prelude.{◌≡◌, ◌⊎◌, ℕ, true, List, [], ◌++◌, ⊤}
 use Rattle.std.specs.List.{range_with_len}
-use Rattle.lane_books.specs.Shown.{ShownLink}
-use Rattle.link_queue.specs.declared.numbered.Numbered.{Numbered}
-use Rattle.link_queue.specs.QueueViews as queue
-use Rattle.shared_port.specs.declared.port_entry.PortEntry.{PortEntry}
-use Rattle.shared_port.specs.Entries.{accepted, has_ended, has_faulted}
+use Rattle.link_lanes.specs.books.Shown.{ShownLink}
+use Rattle.link_lanes.specs.declared.queue.numbered.Numbered.{Numbered}
+use Rattle.link_lanes.specs.queue.QueueViews as queue
+use Rattle.link_lanes.specs.declared.port.port_entry.PortEntry.{PortEntry}
+use Rattle.link_lanes.specs.port.Entries.{accepted, has_ended, has_faulted}
 use Rattle.link_lanes.specs.declared.lane.LaneEnd.{LaneEnd}
 use Rattle.link_lanes.specs.declared.lane.LaneEnd.TheVariants.{Over, Failed, NoMemory}
 use Rattle.link_lanes.specs.Halls.{HallView, LaneView, ServerView, numbers}

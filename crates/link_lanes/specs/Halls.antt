@@ -1,14 +1,14 @@
 -- The hall in which links are served, and what a clause sees of a server and of a lane in it.
 use Rattle.std.specs.Prelude.{ℕ, Bool, List, map}
-use Rattle.lane_books.specs.LaneBook.{LaneBook}
-use Rattle.lane_books.specs.Shown.{ShownLink}
-use Rattle.link_queue.specs.declared.numbered.Numbered.{Numbered}
-use Rattle.link_queue.specs.QueueViews as queue
-use Rattle.shared_broker.specs.Passes as broker
-use Rattle.shared_clock.specs.ClockViews as clock
-use Rattle.shared_port.specs.Entries.{accepted, retired}
-use Rattle.shared_port.specs.PortViews as port
+use Rattle.link_lanes.specs.books.LaneBook.{LaneBook}
+use Rattle.link_lanes.specs.books.Shown.{ShownLink}
+use Rattle.link_lanes.specs.declared.queue.numbered.Numbered.{Numbered}
+use Rattle.link_lanes.specs.queue.QueueViews as queue
+use Rattle.link_lanes.specs.port.Entries.{accepted, retired}
+use Rattle.link_lanes.specs.port.PortViews as port
 use Rattle.link_lanes.specs.Seen.{seen_with}
+use Rattle.shared_broker.specs.Passes as broker
+use Rattle.session.specs.clock.ClockViews as clock
 
 -- what all lanes share
 pub record HallView : Type 0 where

@@ -3,12 +3,12 @@ use Rattle.std.specs.Prelude.{◌≡◌, ◌≤◌, ◌⊎◌, ℕ, Bool, true, 
 use Rattle.audit.specs.declared.account.Account.{Account}
 use Rattle.audit.specs.IsLawful.{IsLawful}
 use Rattle.kwire.specs.Configuration.{Configuration}
-use Rattle.lane_books.specs.Shown.{ShownLink}
-use Rattle.lane_books.specs.Together.{AreServed}
+use Rattle.link_lanes.specs.books.Shown.{ShownLink}
+use Rattle.link_lanes.specs.books.Together.{AreServed}
+use Rattle.link_lanes.specs.port.History.{PortFacts}
+use Rattle.link_lanes.specs.Seen.{seen_with}
 use Rattle.outside.specs.Causes.{Rose}
 use Rattle.partlog.specs.Moment.{moment_of}
-use Rattle.shared_port.specs.History.{PortFacts}
-use Rattle.link_lanes.specs.Seen.{seen_with}
 
 -- with what a run begins: the topics, the number under which the port is to be opened, the most links that it may give, and its count of faults
 pub record Plan : Type 0 where

@@ -1,6 +1,6 @@
 -- What a clause sees of a link that was served, by the meanings of its trait.
 use Rattle.std.specs.Prelude.{ℕ, Bool, List, Option}
-use Rattle.lane_books.specs.Shown.{ShownLink, shown_link}
+use Rattle.link_lanes.specs.books.Shown.{ShownLink, shown_link}
 
 -- the link, by what is taken from it, left, written to it, its count of faults, and whether it was shut
 abbrev pub seen_by : {L : Type 0} → (L → Option (List ℕ)) → (L → Option (List ℕ)) → (L → Option (List ℕ)) → (L → ℕ) → (L → Bool) → L → ShownLink

@@ -1,11 +1,11 @@
 -- A server of a hall, between two links or with one in hand.
 use Rattle.std.specs.Prelude.{◌≡◌, ℕ, List, []}
-use Rattle.lane_books.specs.LaneBook.{IsLaneBook}
-use Rattle.lane_books.specs.Shown.{ShownLink}
-use Rattle.shared_clock.specs.ClockViews as clock
-use Rattle.shared_port.specs.Entries.{opened}
-use Rattle.shared_port.specs.PortViews as port
+use Rattle.link_lanes.specs.books.LaneBook.{IsLaneBook}
+use Rattle.link_lanes.specs.books.Shown.{ShownLink}
+use Rattle.link_lanes.specs.port.Entries.{opened}
+use Rattle.link_lanes.specs.port.PortViews as port
 use Rattle.link_lanes.specs.Halls.{HallView, ServerView, book_of}
+use Rattle.session.specs.clock.ClockViews as clock
 
 -- The server is the hall's, all its passes have this number, and it never opened the port. With these links in hand, it has the book of a lane that put and took
 -- these.

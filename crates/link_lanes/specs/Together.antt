@@ -1,8 +1,8 @@
 -- All lanes of a hall, before and after their threads, and all servers once the queue is empty.
 use Rattle.std.specs.Prelude.{◌≡◌, ◌<◌, ◌+◌, ℕ, false, List, [], ◌∷◌, length, slice_index_or}
-use Rattle.lane_books.specs.LaneBook.{LaneBook}
-use Rattle.lane_books.specs.Shown.{ShownLink}
-use Rattle.lane_books.specs.Times.{times, total}
+use Rattle.link_lanes.specs.books.LaneBook.{LaneBook}
+use Rattle.link_lanes.specs.books.Shown.{ShownLink}
+use Rattle.link_lanes.specs.books.Times.{times, total}
 use Rattle.link_lanes.specs.Going.{HasGone, IsReady}
 use Rattle.link_lanes.specs.Halls.{HallView, LaneView, ServerView, book_of}
 use Rattle.link_lanes.specs.Serving.{IsServing}

@@ -2,19 +2,19 @@
 ghost use Rattle.std.specs.Prelude.{◌≡◌, ◌+◌, All, IfOk, length};
 ghost use Rattle.shared_broker.specs.Closing.{IsAccountOf};
 ghost use Rattle.shared_broker.specs.Passes.{made_with};
-ghost use Rattle.shared_port.specs.PortViews.{IsPassOf};
+ghost use Rattle.link_lanes.specs.port.PortViews.{IsPassOf};
 ghost use Rattle.link_lanes.specs.Closed.{HaveClosed, keys_of, passes_of, seats_of};
 ghost use Rattle.link_lanes.specs.Seen.{seen_by};
 ghost use Rattle.link_lanes.specs.Together.{AreIdle};
 
 use crate::hall::Hall;
+use crate::port::PortPass;
 use crate::server::Server;
 use audit::Account;
 use kbytes::{List, NoMemory};
 use outside::{Clock, Port};
+use session::ClockPass;
 use shared_broker::{Broker, BrokerEnd, Pass};
-use shared_clock::ClockPass;
-use shared_port::PortPass;
 use std::alloc::Global;
 use std::sync::Wait;
 

@@ -1,9 +1,9 @@
 use crate::new_link::NewLink;
-use link_queue::LinkQueue;
+use crate::port::SharedPort;
+use crate::queue::LinkQueue;
 use outside::{Clock, Port};
+use session::Shared;
 use shared_broker::Broker;
-use shared_clock::Shared;
-use shared_port::SharedPort;
 use std::alloc::Global;
 use std::marker::Model;
 

@@ -4,8 +4,12 @@
 //! the port, which it then puts into the queue; it serves the link as one session of a broker that all lanes share, and hands it back to the
 //! port. The run ends when no more links come, and every one that came was served once: its account is lawful, and has one transcript of
 //! each link, which fits what the link's peer sent and was sent.
+//!
+//! What the lanes share has modules of its own: the port that reports what happened at it, the queue through which links pass, and the laws
+//! of the books that lanes keep.
 #![tactic(auto)]
 
+mod books;
 mod closing;
 mod crossing;
 mod gathering;
@@ -13,7 +17,11 @@ mod hall;
 mod lane;
 mod making;
 mod new_link;
+mod port;
+mod queue;
 mod runs;
 mod server;
 
+pub use books::{books_are_served, served_accounts_are_printable, served_links_are_booked};
+pub use queue::{AnyLink, Condition, LinkQueue, Numbered, PARTS, QueuePass};
 pub use runs::{LaneRun, MOST_LANES, Serving, serve_links};

@@ -1,17 +1,17 @@
 //! The lanes of a hall as they are made.
 ghost use Rattle.std.specs.Prelude.{◌≡◌, ◌<◌, ◌-◌, IfOk, OnOk, length, map};
-ghost use Rattle.link_queue.specs.QueueViews.{IsPassOf};
+ghost use Rattle.link_lanes.specs.queue.QueueViews.{IsPassOf};
 ghost use Rattle.link_lanes.specs.Made.{new_lane, seated, with_fewer_parts};
 
 use crate::hall::Hall;
 use crate::lane::Lane;
+use crate::port::PortPass;
+use crate::queue::QueuePass;
 use crate::server::Server;
 use kbytes::{List, NoMemory};
-use link_queue::QueuePass;
 use outside::{Clock, Port};
+use session::ClockPass;
 use shared_broker::Pass;
-use shared_clock::ClockPass;
-use shared_port::PortPass;
 use std::alloc::Global;
 
 /// A server of each pass of the broker, with a pass of the clock and one of the port, in their order.

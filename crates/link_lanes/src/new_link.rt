@@ -1,4 +1,4 @@
-use link_queue::{Condition, Numbered};
+use crate::queue::{Condition, Numbered};
 use outside::Link;
 
 /// What each link in the queue meets: nothing was taken from it or written to it, it has not failed, and it wasn't shut.

@@ -1,7 +1,7 @@
 //! `serve_links`, which a program calls: it makes the hall, opens the port, runs the lanes in threads, and closes all that they shared.
 ghost use Rattle.std.specs.Prelude.{◌≡◌, ◌≤◌, [], false, All, IfOk, length};
-ghost use Rattle.shared_port.specs.History.{IsNewPort};
-ghost use Rattle.shared_port.specs.PortViews.{IsPassOf};
+ghost use Rattle.link_lanes.specs.port.History.{IsNewPort};
+ghost use Rattle.link_lanes.specs.port.PortViews.{IsPassOf};
 ghost use Rattle.link_lanes.specs.Begun.{AreNew, HasBegun};
 ghost use Rattle.link_lanes.specs.Closed.{HasOpened, HasStopped};
 ghost use Rattle.link_lanes.specs.Gathered.{IsOver};
@@ -12,20 +12,20 @@ ghost use Rattle.link_lanes.specs.Seen.{seen_by};
 ghost use Rattle.link_lanes.specs.Together.{AreIdle, AreReady, HaveGone};
 ghost use Rattle.link_lanes.specs.declared.runs.TheConstants.{MOST_LANES};
 
+use crate::books::books_are_served;
 use crate::gathering::{finish, gather};
 use crate::hall::Hall;
 use crate::lane::Lane;
 use crate::making::{make_lanes, seat_servers};
+use crate::port::{Opening, PortPass, SharedPort};
+use crate::queue::{LinkQueue, QueuePass};
 use crate::server::Server;
 use audit::Account;
 use kbytes::{List, NoMemory};
 use kwire::Config;
-use lane_books::books_are_served;
-use link_queue::{LinkQueue, QueuePass};
 use outside::{Clock, Port};
+use session::Shared;
 use shared_broker::Broker;
-use shared_clock::Shared;
-use shared_port::{Opening, PortPass, SharedPort};
 use std::alloc::Global;
 use std::sync::Wait;
 use std::thread;

@@ -1,21 +1,20 @@
 //! A server, which has a pass of everything that lanes share but the queue: it serves one link after the other.
 ghost use Rattle.std.specs.Prelude.{◌≡◌, ◌∷◌, [], ℕ, List, OnOk};
 ghost use Rattle.outside.specs.NewLink.{IsNewLink};
-ghost use Rattle.shared_port.specs.Asked.{IfLink, IsAnswer};
+ghost use Rattle.link_lanes.specs.port.Asked.{IfLink, IsAnswer};
 ghost use Rattle.link_lanes.specs.Accepted.{numbers_in};
 ghost use Rattle.link_lanes.specs.Going.{HasServedOn};
 ghost use Rattle.link_lanes.specs.Seen.{seen_by};
 ghost use Rattle.link_lanes.specs.Serving.{IsServing};
 
+use crate::books::served_links_are_booked;
 use crate::hall::Hall;
+use crate::port::{Accepting, PortPass};
+use crate::queue::Numbered;
 use kbytes::NoMemory;
-use lane_books::served_links_are_booked;
-use link_queue::Numbered;
 use outside::{Clock, Port};
-use session::serve_session;
+use session::{ClockPass, serve_session};
 use shared_broker::Pass;
-use shared_clock::ClockPass;
-use shared_port::{Accepting, PortPass};
 use std::marker::Model;
 use std::sync::Wait;
 

@@ -12,10 +12,10 @@ use Rattle.partlog.specs.Moment.{moment_of}
 use Rattle.partlog.specs.Ticked.{ticked}
 use Rattle.session.specs.Answering.{HasOnlyLooked}
 use Rattle.session.specs.Onwards.{HasGoneOn, latest}
+use Rattle.session.specs.clock.Asked.{WasTold}
+use Rattle.session.specs.clock.ClockViews.{PassView as SeatView}
 use Rattle.shared_broker.specs.Passes.{PassView, made_with}
 use Rattle.shared_broker.specs.Sessions.{HasOnlySeen, HasToldClock}
-use Rattle.shared_clock.specs.Asked.{WasTold}
-use Rattle.shared_clock.specs.ClockViews.{PassView as SeatView}
 use Rattle.shared_logs.specs.Asked.{HasTicked}
 use Rattle.shared_logs.specs.Shared.{LogPassView}
 use Rattle.shared_logs.proofs.Laws.{grown_on}

@@ -1,15 +1,15 @@
 //! A request of a session is answered, without its link: the clock is asked, the frame is handled, and where the request waits, so does this.
 ghost use Rattle.std.specs.Prelude.{◌≡◌, ◌≤◌, IfErr, IfOk, IsSome, None, OnErr, false};
 ghost use Rattle.session.specs.Answering.{HasAnswered, HasOnlyLooked, IsCutShort, IsFinished};
+ghost use Rattle.session.specs.clock.ClockViews.{IsPassOf};
 ghost use Rattle.shared_broker.specs.Passes.{made_with};
 ghost use Rattle.shared_broker.specs.Sessions.{is_cut_off};
-ghost use Rattle.shared_clock.specs.ClockViews.{IsPassOf};
 
+use crate::clock::{ClockPass, Shared};
 use audit::SessionEnd;
 use kbytes::{Bytes, NoMemory};
 use outside::Clock;
 use shared_broker::{Broker, Collected, Handled, Pass};
-use shared_clock::{ClockPass, Shared};
 use std::sync::Wait;
 use std::time::Duration;
 

@@ -3,12 +3,16 @@
 //! [`serve_session`] serves one connection on a pass of the broker that threads share: it reads frames from the link, handles each as one
 //! call, writes each reply whole, and waits where a request waits. Whoever accepts connections calls it once for each, and keeps the pass
 //! and the seat of the clock for the next one.
+//!
+//! The clock is a [`Shared`], which threads share and which reports what it told to whom.
 #![tactic(auto)]
 
 mod answers;
+mod clock;
 mod intake;
 mod served;
 mod writing;
 
+pub use clock::{ClockDesk, ClockPass, Shared, ToldMoment};
 pub use intake::MOST_READ;
 pub use served::serve_session;

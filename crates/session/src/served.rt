@@ -6,10 +6,11 @@ ghost use Rattle.session.specs.Flows.{link_of};
 ghost use Rattle.session.specs.Onwards.{HasGoneOn};
 ghost use Rattle.session.specs.Served.{HasServed};
 ghost use Rattle.session.specs.Standing.{HasStepped, IsEnding, IsServing, Start as Began, began};
+ghost use Rattle.session.specs.clock.ClockViews.{IsPassOf};
 ghost use Rattle.shared_broker.specs.Passes.{made_with};
-ghost use Rattle.shared_clock.specs.ClockViews.{IsPassOf};
 
 use crate::answers::{Answered, Room};
+use crate::clock::{ClockPass, Shared};
 use crate::intake::Intake;
 use crate::writing::write_whole;
 use audit::SessionEnd;
@@ -17,7 +18,6 @@ use kbytes::NoMemory;
 use kwire::Frame;
 use outside::{Clock, Link};
 use shared_broker::{Broker, Pass};
-use shared_clock::{ClockPass, Shared};
 use std::alloc::Global;
 use std::sync::Wait;
 

@@ -6,8 +6,7 @@ ghost use Rattle.trace_file.specs.IsInOrder.{AreNewTopics};
 
 use audit::{Account, print_serve};
 use kbytes::{Bytes, List, NoMemory, copied};
-use lane_books::served_accounts_are_printable;
-use link_lanes::{LaneRun, MOST_LANES, Serving, serve_links};
+use link_lanes::{LaneRun, MOST_LANES, Serving, serve_links, served_accounts_are_printable};
 use outside::{MemClock, MemLink, MemPort};
 use std::alloc::Global;
 use std::sync::Wait;

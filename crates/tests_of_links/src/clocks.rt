@@ -2,7 +2,7 @@
 
 use kbytes::List;
 use outside::{Clock, MOST_MOMENT, MemClock, SystemClock};
-use shared_clock::Shared;
+use session::Shared;
 use std::test::*;
 
 #[test]

@@ -1,7 +1,7 @@
 //! Runs of lanes over links in memory, some of which fail, and a fetch that waits in one lane for the produce of another.
 ghost use Rattle.std.specs.Prelude.{◌≡◌, ◌≤◌, [], Some, IfOk, All};
 ghost use Rattle.outside.specs.Wire.{IsNewWire};
-ghost use Rattle.shared_port.specs.History.{IsNewPort};
+ghost use Rattle.link_lanes.specs.port.History.{IsNewPort};
 
 use crate::frames::{FETCH, FETCHED, OfSecond, PRODUCE, PRODUCED};
 use crate::meeting::StandingClock;
@@ -11,8 +11,7 @@ use crate::slow_link::SlowLink;
 use crate::slow_port::SlowPort;
 use audit::print_serve;
 use kbytes::{Bytes, List, NoMemory};
-use lane_books::served_accounts_are_printable;
-use link_lanes::{LaneRun, MOST_LANES, Serving, serve_links};
+use link_lanes::{LaneRun, MOST_LANES, Serving, serve_links, served_accounts_are_printable};
 use outside::{Clock, MemClock, MemLink, MemPort, Port};
 use std::alloc::Global;
 use std::sync::Wait;

@@ -1,5 +1,5 @@
-//! Tests of the ground on which connections are served, by its public calls: the links, ports and clocks of `outside`, the clock of
-//! `shared_clock`, the queue of `link_queue` and the sessions of `session`. Nothing here is for other crates.
+//! Tests of the ground on which connections are served, by its public calls: the links, ports and clocks of `outside`, the shared clock
+//! and the sessions of `session`, the queue and the lanes of `link_lanes`. Nothing here is for other crates.
 #![tactic(auto)]
 
 #[cfg(test)]

@@ -1,6 +1,6 @@
 //! A queue of links with two passes.
 
-use link_queue::{AnyLink, LinkQueue, Numbered};
+use link_lanes::{AnyLink, LinkQueue, Numbered};
 use std::test::*;
 
 fn numbered(number: u64) -> Numbered<u64> {

@@ -6,9 +6,8 @@ use audit::SessionEnd;
 use kbytes::{List, NoMemory};
 use kwire::Config;
 use outside::{Clock, Link};
-use session::serve_session;
+use session::{ClockPass, Shared, serve_session};
 use shared_broker::{Broker, Pass};
-use shared_clock::{ClockPass, Shared};
 use std::alloc::Global;
 use std::sync::Wait;
 

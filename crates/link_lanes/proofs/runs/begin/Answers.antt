@@ -1,10 +1,10 @@
 use Rattle.std.proofs.Common.{◌∙◌, ℕ, List, ap, arith, length, map, sym}
-use Rattle.link_queue.specs.QueueViews as queue
-use Rattle.shared_broker.specs.Making as broker_making
+use Rattle.link_lanes.specs.queue.QueueViews as queue
 use Rattle.link_lanes.specs.Halls.{HallView, ServerView}
 use Rattle.link_lanes.specs.Made.{new_lane, with_fewer_parts}
 use Rattle.link_lanes.proofs.Made.{as_many_new, as_many_servers, last_key, seated_so}
 use Rattle.link_lanes.proofs.runs.begin.Goals as goal
+use Rattle.shared_broker.specs.Making as broker_making
 
 pub seat_servers-requires-clause-keys : goal.seat_servers-requires-clause-keys
 seat_servers-requires-clause-keys g c =

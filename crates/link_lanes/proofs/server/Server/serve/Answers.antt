@@ -1,11 +1,11 @@
 use Rattle.std.proofs.Common.{◌≡◌, ◌∙◌, Bool, true, [], ◌∷◌, ap, sym}
 use Rattle.std.proofs.lemmas.Result.{on_ok_weaker}
-use Rattle.lane_books.specs.Shown.{shown_link}
-use Rattle.session.specs.Flows.{LinkView, link_of}
+use Rattle.link_lanes.specs.books.Shown.{shown_link}
 use Rattle.link_lanes.specs.Halls.{ServerView}
 use Rattle.link_lanes.specs.Seen.{seen_by}
 use Rattle.link_lanes.proofs.Served.{found, none_there, served_from, served_on}
 use Rattle.link_lanes.proofs.server.Server.serve.Goals as goal
+use Rattle.session.specs.Flows.{LinkView, link_of}
 
 pub serve_session-requires : goal.serve_session-requires
 serve_session-requires g c =

@@ -1,0 +1,22 @@
+use crate::port::port_desk::PortDesk;
+use outside::Port;
+use std::marker::Model;
+use turn_lock::TurnPass;
+
+/// The right to ask a shared port, one thread at a time.
+#[derive(Drop)]
+pub struct PortPass<P: Port> {
+    pub(crate) number: u32,
+    pub(crate) key: TurnPass<PortDesk<P>>,
+}
+
+impl<P: Port> Model for PortPass<P> {
+    ghost use Rattle.link_lanes.specs.port.PortViews.{PassView};
+    ghost use Rattle.link_lanes.specs.port.Keys.{IsPortPass, pass_view};
+
+    ghost Value = { PassView P.Link };
+
+    ghost view = { λ p. pass_view p.number p.key };
+
+    ghost invariant = { λ p. IsPortPass p.number p.key };
+}
