@@ -3,6 +3,6 @@ use Rattle.std.proofs.lemmas.List.Elements.{All-push}
 use Rattle.outside.specs.Wire.{IsNewWire}
 use Rattle.tests_of_links.proofs.lanes.Case.port.Goals as goal
 
-pub loop-fails-preserved : goal.loop-fails-preserved
-loop-fails-preserved c =
-    subst (All IsNewWire) (sym c.in_ok-push.ensures.ok) (All-push IsNewWire c.loop-fails.links c.in_ok-link.field-0 c.loop-fails.invariant c.in_ok-link.ensures)
+pub loop-sent-preserved : goal.loop-sent-preserved
+loop-sent-preserved c =
+    subst (All IsNewWire) (sym c.in_ok-push.ensures.ok) (All-push IsNewWire c.loop-sent.links c.in_ok-link.field-0 c.loop-sent.invariant c.in_ok-link.ensures)
