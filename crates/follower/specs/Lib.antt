@@ -14,6 +14,8 @@ pub mod Asking
 pub mod Flows
 -- the course of a follower over the bytes that come
 pub mod Course
+-- dials
+pub mod Dialling
 -- ==== the words of private functions
 
 -- what holds of every copy

@@ -3,14 +3,20 @@
 
 mod batches;
 mod course;
+mod dial;
 mod fault;
 mod intake;
+mod mem_dial;
 mod promises;
 mod replica;
+mod tcp_dial;
 mod told;
 mod writing;
 
 pub use course::follow;
+pub use dial::Dial;
 pub use fault::{FollowEnd, TakeFault};
+pub use mem_dial::MemDial;
 pub use promises::verdicts_are_one;
 pub use replica::{LONGEST_WAIT, MOST_ASKED, Replica};
+pub use tcp_dial::{DialledLink, TcpDial};
