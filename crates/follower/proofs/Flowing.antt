@@ -43,6 +43,13 @@ wrote_on a b c part done n k le first second =
     take-add done n part ∙ ap (λ (xs : List ℕ). take done part ++ xs) (sym (take-take n k (drop done part) le)) in
     subst (λ (bytes : List ℕ). HasFlowed [] bytes a c) (sym joined) (flowed_on [] [] (take done part) (take n (take k (drop done part))) a b c first second)
 
+-- the same of what a sink got
+pub appends_on : (a b c : Option (List ℕ)) (part : List ℕ) (done n k : ℕ) → n ≤ k → Appends a b (take done part) → Appends b c (take n (take k (drop done part))) → Appends a c (take (done + n) part)
+appends_on a b c part done n k le first second =
+    let joined : take (done + n) part ≡ take done part ++ take n (take k (drop done part)) =
+    take-add done n part ∙ ap (λ (xs : List ℕ). take done part ++ xs) (sym (take-take n k (drop done part) le)) in
+    subst (λ (bytes : List ℕ). Appends a c bytes) (sym joined) (Appends-trans a b c (take done part) (take n (take k (drop done part))) first second)
+
 -- ---- a read
 
 pub read_some : (a b : LinkView) (bytes : List ℕ) → Appends a.taken b.taken bytes → Consumes a.left b.left bytes → b.written ≡ a.written → a.faults ≤ b.faults → HasFlowed bytes [] a b

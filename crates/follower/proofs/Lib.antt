@@ -20,3 +20,5 @@ mod Flowing
 mod Filling
 -- whole rounds, and the one that breaks off
 mod Going
+-- a run, from its words to its status
+mod Runs

@@ -18,3 +18,7 @@ pub record HasFlowed (input output : List ℕ) (old new : LinkView) : Type 0 whe
   pub left : Consumes old.left new.left input
   pub written : Appends old.written new.written output
   pub later : old.faults ≤ new.faults
+
+-- the same, by the meanings of a link's trait
+abbrev pub link_by : {L : Type 0} → (L → Option (List ℕ)) → (L → Option (List ℕ)) → (L → Option (List ℕ)) → (L → ℕ) → L → LinkView
+link_by taken left written faults link = link_of (taken link) (left link) (written link) (faults link)

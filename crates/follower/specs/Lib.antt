@@ -16,6 +16,10 @@ pub mod Flows
 pub mod Course
 -- dials
 pub mod Dialling
+-- the words with which a follower is started
+pub mod Commands
+-- a follower's run
+pub mod Running
 -- ==== the words of private functions
 
 -- what holds of every copy

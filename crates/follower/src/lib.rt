@@ -9,8 +9,10 @@ mod intake;
 mod mem_dial;
 mod promises;
 mod replica;
+mod run;
 mod tcp_dial;
 mod told;
+mod words;
 mod writing;
 
 pub use course::follow;
@@ -19,4 +21,6 @@ pub use fault::{FollowEnd, TakeFault};
 pub use mem_dial::MemDial;
 pub use promises::verdicts_are_one;
 pub use replica::{LONGEST_WAIT, MOST_ASKED, Replica};
+pub use run::run_follower;
 pub use tcp_dial::{DialledLink, TcpDial};
+pub use words::{MOST_NUMBER, MOST_PORT, number_in};

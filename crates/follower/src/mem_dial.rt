@@ -32,11 +32,7 @@ impl Model for MemDial {
 impl MemDial {
     /// A dial that gives these links in order. Those of its calls of `dial` fail whose numbers are in `fails`, counted from 0, and those for
     /// which no link is left.
-    pub fn new(
-        alloc: Global,
-        links: List<MemLink>,
-        fails: List<u64>,
-    ) -> Result<MemDial, NoMemory>
+    pub fn new(alloc: Global, links: List<MemLink>, fails: List<u64>) -> Result<MemDial, NoMemory>
         requires { All IsNewWire links }
         ensures { IfOk result (λ dial. dial ≡ record { links = links; plan = planned fails; missed = 0; dialled = 0; retired = [] }) }
     {
