@@ -1,6 +1,6 @@
 -- A copy of a log that takes some of the log's batches goes on to be a copy of it: their base offsets leave one place for them.
-use Rattle.std.proofs.Common.{◌≡◌, ◌≢◌, ℕ, ◌+◌, ◌<◌, ◌≤◌, ℤ, pos, List, [], ◌∷◌, ◌++◌, length, take, inl, inr, refl, sym, ap, subst, ◌∙◌, append_assoc, append-nil, arith, length-append}
-use Rattle.std.proofs.lemmas.List.{append_cancel_left, take_at}
+use Rattle.std.proofs.Common.{◌≡◌, ℕ, ◌+◌, ◌≤◌, ℤ, pos, List, [], ◌∷◌, ◌++◌, length, take, refl, sym, ap, subst, ◌∙◌, append_assoc, append-nil, arith}
+use Rattle.std.proofs.lemmas.List.{take_at}
 use Rattle.kbatch.proofs.Laws.{batch_count}
 use Rattle.kbatch.specs.Kept.{count_of}
 use Rattle.follower.specs.Copies.{Copy}
