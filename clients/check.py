@@ -11,12 +11,15 @@ import pathlib
 import sys
 import time
 
-from clients import held_lanes, hostile_frames, kafka_python, kcat, own_frames
+from clients import followers, held_lanes, hostile_frames, kafka_python, kcat, own_frames
 from clients.served import Failed, Program
 from model.checks import repository
 
 # The checks of a client, and the client; those of our own frames need none.
-GROUPS = [(own_frames.CHECKS, None), (hostile_frames.CHECKS, None), (held_lanes.CHECKS, None), (kcat.CHECKS, kcat), (kafka_python.CHECKS, kafka_python)]
+GROUPS = [
+    (own_frames.CHECKS, None), (hostile_frames.CHECKS, None), (held_lanes.CHECKS, None),
+    (kcat.CHECKS, kcat), (kafka_python.CHECKS, kafka_python), (followers.CHECKS, followers),
+]
 # The most letters that are told of what was seen.
 MOST_TOLD = 600
 NAMES = [name for checks, _ in GROUPS for name in checks]

@@ -16,6 +16,7 @@ use Rattle.follower.specs.declared.fault.FollowEnd.TheVariants as ends
 use Rattle.follower.specs.declared.fault.TakeFault.{TakeFault}
 use Rattle.follower.specs.declared.fault.TakeFault.TheVariants as causes
 use Rattle.follower.proofs.Flowing.{flowed_none, flowed_on}
+use Rattle.follower.proofs.Verdicts.{one_taking}
 use Rattle.follower.proofs.Filling.{stops_on}
 
 -- ---- a reply that isn't taken
@@ -194,3 +195,11 @@ followed_broken rounds round old new end inbox a b c fewer going broken = record
         (breaks_on end round new broken.last (inbox ++ broken.piece) a b c going.flowed.later broken.why);
   });
 }
+
+-- the bodies decide the rest
+pub one_course : (round : ℕ) (old new other : Copy) (bodies : List (List ℕ)) (asked frames : List ℕ) → HasGone round old bodies asked new → HasGone round old bodies frames other → (asked ≡ frames) × (new ≡ other)
+one_course round old new other [] asked frames p q = (p.0 ∙ sym q.0, p.1 ∙ sym q.1)
+one_course round old new other (body ∷ bodies) asked frames p q =
+    let same : p.1 ≡ q.1 = (one_taking old (pos round) body p.0 q.0 p.1 q.1 p.3 q.3).1 in
+    let rest = one_course (round + 1) p.1 new other bodies p.2 q.2 p.5 (subst (λ (k : Copy). HasGone (round + 1) k bodies q.2 other) (sym same) q.5) in
+    (p.4 ∙ ap (λ (bytes : List ℕ). asked_frame old (pos round) ++ bytes) rest.0 ∙ sym q.4, rest.1)

@@ -20,5 +20,7 @@ mod Flowing
 mod Filling
 -- whole rounds, and the one that breaks off
 mod Going
+-- copies of one log
+mod Prefixes
 -- a run, from its words to its status
 mod Runs

@@ -1,5 +1,5 @@
 -- A reply is taken in one way, or refused for one cause, and not both.
-use Rattle.std.proofs.Common.{◌≡◌, ◌≢◌, ℕ, ◌+◌, ◌≤◌, ℤ, pos, List, [], ◌∷◌, ◌++◌, length, take, drop, Bool, true, false, inl, inr, refl, sym, ap, subst, ◌∙◌, append_assoc, arith, length-append, max, min}
+use Rattle.std.proofs.Common.{◌≡◌, ◌≢◌, ℕ, ◌+◌, ◌≤◌, ℤ, pos, List, [], ◌∷◌, ◌++◌, length, take, drop, Bool, true, false, inl, inr, refl, sym, ap, subst, ◌∙◌, append_assoc, append-nil, arith, length-append, max, min}
 use Rattle.std.specs.Prelude.{◌+ℤ◌}
 use Rattle.std.specs.Int.{w32, from_be_bytes, cast_signed}
 use Rattle.std.specs.Ordering.{int_eq}
@@ -115,6 +115,15 @@ compare from (x ∷ xs) d r (y ∷ ys) e s p q same =
     let behind : joined xs ++ r ≡ joined ys ++ s = append_cancel_left y (joined xs ++ r) (joined ys ++ s) (ap (λ (b : List ℕ). b ++ (joined xs ++ r)) (sym first) ∙ both) in
     let others : FollowOn (from + count_of x) ys e = subst (λ (b : List ℕ). FollowOn (from + count_of b) ys e) (sym first) q.2 in
     compared_on x y xs d r ys e s first (compare (from + count_of x) xs d r ys e s p.2 others behind)
+
+-- two rows of batches of the same bytes are the same
+pub same_rows : (from : ℕ) (xs : List (List ℕ)) (d : ℕ) (ys : List (List ℕ)) (e : ℕ) → FollowOn from xs d → FollowOn from ys e → joined xs ≡ joined ys → (xs ≡ ys) × (d ≡ e)
+same_rows from xs d ys e p q same =
+    elim (compare from xs d [] ys e [] p q (append-nil (joined xs) ∙ same ∙ sym (append-nil (joined ys)))) [
+      | alike all end rest ↦ (all, end)
+      | longer next ↦ absurd (none_in_nothing d next)
+      | shorter next ↦ absurd (none_in_nothing e next)
+    ]
 
 -- ---- one verdict
 

@@ -14,6 +14,8 @@ pub mod Asking
 pub mod Flows
 -- the course of a follower over the bytes that come
 pub mod Course
+-- copies of one log
+pub mod CopyOf
 -- dials
 pub mod Dialling
 -- the words with which a follower is started

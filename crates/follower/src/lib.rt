@@ -19,7 +19,7 @@ pub use course::follow;
 pub use dial::Dial;
 pub use fault::{FollowEnd, TakeFault};
 pub use mem_dial::MemDial;
-pub use promises::verdicts_are_one;
+pub use promises::{copies_stay_prefixes, rounds_are_one, verdicts_are_one};
 pub use replica::{LONGEST_WAIT, MOST_ASKED, Replica};
 pub use run::run_follower;
 pub use tcp_dial::{DialledLink, TcpDial};

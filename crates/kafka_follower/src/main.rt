@@ -2,6 +2,8 @@
 //! the port, and so lets produces with acks all be answered.
 #![tactic(auto)]
 
+#[cfg(test)]
+mod tests;
 mod usage;
 
 use follower::{TcpDial, run_follower};
