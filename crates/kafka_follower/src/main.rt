@@ -5,12 +5,15 @@
 #[cfg(test)]
 mod tests;
 mod usage;
+mod watched;
 
 use follower::{TcpDial, run_follower};
 use outside::StdSink;
+use std::io::IsTerminal;
 use std::process::ExitCode;
 use std::{env, io};
 use usage::{HELP, VERSION, WrongWords, status_text};
+use watched::WatchedDial;
 
 // The text that a word alone asks for.
 fn text_asked(word: &str) -> Option<&'static str> {
@@ -61,7 +64,7 @@ fn main(rt: HostRuntime) -> ExitCode {
         return ended(&rt, if rt.print(text).is_ok() { 0 } else { 4 });
     }
     let mut sink = StdSink::new(io::writer(&rt));
-    let mut dial = TcpDial::new(&rt);
+    let mut dial = WatchedDial::new(&rt, TcpDial::new(&rt), rt.stderr().is_terminal());
     match run_follower(rt.alloc(), words.as_slice(), &mut sink, &mut dial) {
         1 => ended_words(&rt, words.as_slice()),
         status => ended(&rt, status),

@@ -24,6 +24,7 @@ says how far the copy has come: a produce with acks all waits for that. Nothing
 is taken that isn't a batch at the copy's end. The copy is kept in memory, at
 most 67108864 bytes, and is gone when the program ends. In the end it prints:
   follower end OFFSET bytes BYTES
+On a terminal, standard error says once a second how far the copy has come.
 
 Exit codes:
   0  all was done and written, or the leader ended the connection between
