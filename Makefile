@@ -23,9 +23,10 @@ serve:
 		{ tr , '\n' <<< '$(TOPICS)' | sed -E 's/^ +| +$$//g; s/^/topic /'; echo end; } | \
 		rt try --seconds 86400 -- serve --port $(PORT) --lanes $(LANES) --connections $(CONNECTIONS)
 
-# The proved program stays as crates/kafka_room/out/kafka_room.
+# The proved programs stay as crates/kafka_room/out/kafka_room and crates/kafka_follower/out/kafka_follower.
 build:
 	cd crates/kafka_room && rt run -- --version
+	cd crates/kafka_follower && rt run -- --version
 
 # The gate, as it is run before a merge.
 test:
