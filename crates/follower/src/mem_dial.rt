@@ -46,6 +46,7 @@ impl MemDial {
     /// Takes out the link that was retired last, with its port: so a test reads what was written to it.
     pub fn pop_retired(&mut self) -> Option<(u64, MemLink)>
         ensures last { MatchOption result (self.old.retired ≡ []) (λ last. self.old.retired ≡ self.new.retired ++ last ∷ []) }
+        ensures rest { self.new ≡ record self.old { retired = self.new.retired } }
     {
         self.peers.pop_retired()
     }
