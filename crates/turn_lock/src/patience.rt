@@ -1,8 +1,12 @@
-//! How a pass waits. While others have tickets it draws none: it stays at the gate, since a ticket in the hand of a pass that has no
-//! processor holds up all who drew after it, and each of those would have to be woken in turn. At the gate it first stays awake for 40 to
-//! 200 microseconds, which is longer than it takes to wake a sleeper. Then it sleeps, and whoever ends a turn that nobody else has drawn a
-//! ticket for wakes one of the sleepers at the gate. If its whole sleep goes by without a call, or others were ahead of it too often, it
-//! draws a ticket all the same: no stream of others keeps it out.
+//! How a pass waits: first at the gate, without a ticket, and then with its ticket.
+//!
+//! A ticket in the hand of a pass that has no processor holds up all who drew after it, and each of those would have to be woken in
+//! turn. So a pass draws its ticket only once the lock is free, when the next ticket is the one that is served. Until then it stays
+//! at the gate: awake for 40 to 200 microseconds, which is longer than it takes to wake a sleeper, and then asleep for up to 20
+//! milliseconds. Whoever ends its turn while nobody else has a ticket calls one of the sleepers. A call keeps nothing for it, and
+//! another pass may draw first; so after a call it is awake at the gate again, and looks again. No stream of others keeps it there:
+//! it draws its ticket all the same after a sleep in which nobody called, and after CALLS sleeps with a call, about a third of a
+//! second.
 //!
 //! With its ticket it looks again and again at the ticket that is served, awake for as long as at the gate; the more passes come
 //! before it, the longer it pauses between two looks. It doesn't yield its processor in between: where others want it, a yield gives
@@ -40,7 +44,7 @@ const LONGEST_SLEEP: u64 = 1_000;
 // Tickets that are as many apart share a bench.
 const BENCHES: u64 = 8;
 
-// The calls at the gate after which a pass draws its ticket.
+// The most rounds of a pass at the gate, each awake and then asleep. After the last it draws its ticket, whoever has one.
 const CALLS: u32 = 16;
 
 /// The patience of one pass in one turn.
@@ -111,6 +115,22 @@ impl Awaited {
             Awaited::Turn(ticket) => top.peek(SERVING) == ticket,
             Awaited::FreeLock => top.peek(SERVING) == top.peek(TICKET),
         }
+    }
+
+    // Stays awake until it has come, for a while at most. Whether it has.
+    fn comes_soon<T: Kept>(self, rt: &impl Wait, top: &Top<T>) -> bool
+        requires { 1 < top.now.table_id.words }
+    {
+        let mut patience = Patience::new();
+        for _ in rt.forever() {
+            if self.has_come::<T>(top) {
+                return true;
+            }
+            if !patience.rest(1) {
+                return false;
+            }
+        }
+        unreachable!()
     }
 }
 
@@ -205,24 +225,21 @@ impl Benches {
         self.of(ticket).sleep(rt, top, Awaited::Turn(ticket), time)
     }
 
+    // Waits at the gate once, awake and then asleep. False if somebody called there while it slept.
+    fn stay<T: Kept>(&self, rt: &impl Wait, top: &Top<T>) -> bool
+        requires { 1 < top.now.table_id.words }
+    {
+        let free = Awaited::FreeLock;
+        let time = Duration::from_millis(FIRST_SLEEP);
+        free.comes_soon::<T>(rt, top) || !self.gate.sleep::<T>(rt, top, free, time)
+    }
+
     /// Waits at the gate until nobody has a ticket, or for so long that the pass may draw its own all the same.
     pub(crate) fn come<T: Kept>(&self, rt: &impl Wait, top: &Top<T>)
         requires { 1 < top.now.table_id.words }
     {
         for _ in 0..CALLS {
-            let mut patience = Patience::new();
-            for _ in rt.forever() {
-                if Awaited::FreeLock.has_come::<T>(top) {
-                    return;
-                }
-                if !patience.rest(1) {
-                    break;
-                }
-            }
-            if !self
-                .gate
-                .sleep::<T>(rt, top, Awaited::FreeLock, patience.sleep())
-            {
+            if self.stay::<T>(rt, top) {
                 return;
             }
         }
