@@ -27,6 +27,7 @@ mod std_source;
 mod system_clock;
 mod tcp_link;
 mod tcp_port;
+mod writing;
 
 pub use clock::{Clock, MOST_MOMENT};
 pub use failed::Failed;
@@ -44,3 +45,4 @@ pub use std_source::StdSource;
 pub use system_clock::SystemClock;
 pub use tcp_link::TcpLink;
 pub use tcp_port::TcpPort;
+pub use writing::write_whole;

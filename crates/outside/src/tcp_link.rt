@@ -8,7 +8,7 @@ use std::io::{self, ErrorKind, Read, Write};
 use std::marker::Model;
 use std::net::{OpenStream, Shutdown};
 
-/// A link over a stream of std's network. A port gives it.
+/// A link over a stream of std's network, to a peer that a port accepted or that was dialled.
 #[derive(Debug, Drop)]
 pub struct TcpLink<S> {
     stream: S,
@@ -51,8 +51,8 @@ fn write_to<S: Write>(stream: &mut S, part: &[u8]) -> io::Result<usize>
 }
 
 impl<S> TcpLink<S> {
-    /// A link over a stream that was just accepted.
-    pub(crate) fn new(stream: S) -> TcpLink<S>
+    /// A link over a stream of which nothing was read yet, and to which nothing was written.
+    pub fn new(stream: S) -> TcpLink<S>
         ensures { result ≡ record { faults = 0; is_shut = false } }
     {
         TcpLink {

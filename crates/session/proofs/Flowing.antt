@@ -1,8 +1,6 @@
 -- What flowed over a link, over one call and over two.
-use Rattle.std.proofs.Common.{◌≡◌, ℕ, ◌+◌, ◌≤◌, List, [], ◌++◌, take, drop, Option, is_some, refl, sym, ap, subst, ◌∙◌, arith, append-nil}
+use Rattle.std.proofs.Common.{◌≡◌, ℕ, ◌≤◌, List, [], ◌++◌, Option, is_some, refl, sym, ap, subst, ◌∙◌, arith, append-nil}
 use Rattle.std.proofs.KnownBytes.{Appends-nil, Appends-trans, Appends-kept, Consumes-nil, Consumes-trans, Consumes-kept}
-use Rattle.std.proofs.Math.Seq.{take-add}
-use Rattle.std.proofs.lemmas.List.{take-take}
 use Rattle.std.specs.Io.KnownBytes.{Appends, Consumes, Keeps}
 use Rattle.outside.specs.Alike.{ShowsAlike}
 use Rattle.session.specs.Flows.{HasFlowed, IsShownAlike, LinkView}
@@ -59,14 +57,6 @@ wrote a b bytes taken left written shown later = record {
   later = later;
   alike = record { taken = same_alike a.taken b.taken taken; left = same_alike a.left b.left left; written = shown };
 }
-
--- the next piece stands behind those before it
-pub wrote_on : (a b c : LinkView) (part : List ℕ) (done n k : ℕ) → n ≤ k → HasFlowed [] (take done part) a b → HasFlowed [] (take n (take k (drop done part))) b c
-    → HasFlowed [] (take (done + n) part) a c
-wrote_on a b c part done n k le first second =
-    let joined : take (done + n) part ≡ take done part ++ take n (take k (drop done part)) =
-    take-add done n part ∙ ap (λ (xs : List ℕ). take done part ++ xs) (sym (take-take n k (drop done part) le)) in
-    subst (λ (bytes : List ℕ). HasFlowed [] bytes a c) (sym joined) (flowed_on [] [] (take done part) (take n (take k (drop done part))) a b c first second)
 
 -- it was shut, and nothing else changed
 pub shut_still : (a b : LinkView) → b.taken ≡ a.taken → b.left ≡ a.left → b.written ≡ a.written → b.faults ≡ a.faults → HasFlowed [] [] a b

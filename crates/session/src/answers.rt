@@ -10,12 +10,15 @@ use audit::SessionEnd;
 use kbytes::{Bytes, NoMemory};
 use outside::Clock;
 use shared_broker::{Broker, Collected, Handled, Pass};
+use std::alloc::Global;
 use std::sync::Wait;
 use std::time::Duration;
 
-/// Where a session is served: a broker, and the clock that it is told.
+/// Where a session is served: a broker, the clock that it is told, and what a session takes of the machine.
 #[derive(Drop)]
-pub(crate) struct Room<'a, C: Clock> {
+pub(crate) struct Room<'a, C: Clock, R: Wait> {
+    pub(crate) rt: &'a R,
+    pub(crate) alloc: Global,
     pub(crate) broker: &'a Broker,
     pub(crate) clock: &'a Shared<C>,
 }
@@ -31,31 +34,31 @@ pub(crate) enum Answered {
     Ended(SessionEnd),
 }
 
-impl<C: Clock> Room<'_, C> {
+impl<C: Clock, R: Wait> Room<'_, C, R> {
     // The clock of the broker is told what moment it is.
-    fn tick(&self, rt: &impl Wait, pass: &mut Pass, seat: &mut ClockPass<C>) -> Result<(), NoMemory>
+    fn tick(&self, pass: &mut Pass, seat: &mut ClockPass<C>) -> Result<(), NoMemory>
         requires made { made_with pass.old ≡ self.now.broker.now }
         requires seat { IsPassOf self.now.clock.now seat.old }
         ensures looked { HasOnlyLooked seat.new.told pass.old pass.new }
         ensures seat { seat.new.made ≡ seat.old.made }
         ensures later { seat.old.told ≤ seat.new.told }
     {
-        let moment = self.clock.now(rt, seat)?;
-        self.broker.tick(rt, pass, moment)
+        let moment = self.clock.now(self.rt, seat)?;
+        self.broker.tick(self.rt, pass, moment)
     }
 
     // The request that waits wasn't won yet: rests, and ticks where its deadline has come. Answers the moment after the rest.
-    fn rest(&self, rt: &impl Wait, pass: &mut Pass, seat: &mut ClockPass<C>, deadline: u64) -> u64
+    fn rest(&self, pass: &mut Pass, seat: &mut ClockPass<C>, deadline: u64) -> u64
         requires made { made_with pass.old ≡ self.now.broker.now }
         requires seat { IsPassOf self.now.clock.now seat.old }
         ensures looked { HasOnlyLooked seat.new.told pass.old pass.new }
         ensures seat { seat.new.made ≡ seat.old.made }
         ensures later { seat.old.told ≤ seat.new.told }
     {
-        let moment = self.clock.rest(rt, seat);
+        let moment = self.clock.rest(self.rt, seat);
         if moment >= deadline {
             // Where memory runs out here, the request goes on waiting.
-            let _ = self.tick(rt, pass, seat);
+            let _ = self.tick(pass, seat);
         }
         moment
     }
@@ -63,7 +66,6 @@ impl<C: Clock> Room<'_, C> {
     // Waits until the request that waits is won, by another or by its deadline, and takes the reply.
     fn collect(
         &self,
-        rt: &impl Wait,
         pass: &mut Pass,
         seat: &mut ClockPass<C>,
         deadline: u64,
@@ -77,12 +79,12 @@ impl<C: Clock> Room<'_, C> {
         ensures later { seat.old.told ≤ seat.new.told }
     {
         let mut moment = seat.told();
-        for _ in rt.forever() {
+        for _ in self.rt.forever() {
             let most = Duration::from_millis(deadline.saturating_sub(moment));
-            self.broker.wait(rt, pass, most);
-            match self.broker.collect(rt, pass) {
+            self.broker.wait(self.rt, pass, most);
+            match self.broker.collect(self.rt, pass) {
                 Collected::Reply(frame) => return Ok(frame),
-                Collected::NotYet => moment = self.rest(rt, pass, seat, deadline),
+                Collected::NotYet => moment = self.rest(pass, seat, deadline),
                 Collected::NoMemory => return Err(NoMemory),
             }
         }
@@ -90,13 +92,7 @@ impl<C: Clock> Room<'_, C> {
     }
 
     /// The body of a frame is handled as one call, at the moment that it is; where its request waits, the reply is waited for.
-    pub(crate) fn answer(
-        &self,
-        rt: &impl Wait,
-        pass: &mut Pass,
-        seat: &mut ClockPass<C>,
-        body: &[u8],
-    ) -> Answered
+    pub(crate) fn answer(&self, pass: &mut Pass, seat: &mut ClockPass<C>, body: &[u8]) -> Answered
         requires made { made_with pass.old ≡ self.now.broker.now }
         requires seat { IsPassOf self.now.clock.now seat.old }
         requires begun { IsSome pass.old.going }
@@ -106,13 +102,13 @@ impl<C: Clock> Room<'_, C> {
         ensures seat { seat.new.made ≡ seat.old.made }
         ensures later { seat.old.told ≤ seat.new.told }
     {
-        if self.tick(rt, pass, seat).is_err() {
+        if self.tick(pass, seat).is_err() {
             return Answered::Ended(SessionEnd::NoMemory);
         }
-        match self.broker.handle(rt, pass, body) {
+        match self.broker.handle(self.rt, pass, body) {
             Handled::Reply(frame) => Answered::Reply(frame),
             Handled::Quiet => Answered::Quiet,
-            Handled::Parked { deadline } => match self.collect(rt, pass, seat, deadline) {
+            Handled::Parked { deadline } => match self.collect(pass, seat, deadline) {
                 Ok(frame) => Answered::Reply(frame),
                 Err(NoMemory) => Answered::Ended(SessionEnd::NoMemory),
             },

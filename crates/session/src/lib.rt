@@ -11,7 +11,6 @@ mod answers;
 mod clock;
 mod intake;
 mod served;
-mod writing;
 
 pub use clock::{ClockDesk, ClockPass, Shared, ToldMoment};
 pub use intake::MOST_READ;

@@ -1,7 +1,5 @@
 //! One session, from its link's bytes to its link's bytes.
 ghost use Rattle.std.specs.Prelude.{◌≡◌, ◌≤◌, None, true};
-ghost use Rattle.kwire.specs.declared.frame.Frame.TheVariants.{Whole};
-ghost use Rattle.kwire.specs.Frames.{next_frame_of};
 ghost use Rattle.session.specs.Flows.{link_of};
 ghost use Rattle.session.specs.Onwards.{HasGoneOn};
 ghost use Rattle.session.specs.Served.{HasServed};
@@ -12,31 +10,27 @@ ghost use Rattle.shared_broker.specs.Passes.{made_with};
 use crate::answers::{Answered, Room};
 use crate::clock::{ClockPass, Shared};
 use crate::intake::Intake;
-use crate::writing::write_whole;
 use audit::SessionEnd;
 use kbytes::NoMemory;
 use kwire::Frame;
-use outside::{Clock, Link};
+use outside::{Clock, Link, write_whole};
 use shared_broker::{Broker, Pass};
 use std::alloc::Global;
 use std::sync::Wait;
 
-impl<C: Clock> Room<'_, C> {
-    // The frame at the front, which ends before the place `end`, is handled, and its reply is written.
-    fn serve_frame<L: Link>(
+impl<C: Clock, R: Wait> Room<'_, C, R> {
+    // One frame is served where one is there, and else more is read.
+    fn step<L: Link>(
         &self,
-        rt: &impl Wait,
         pass: &mut Pass,
         seat: &mut ClockPass<C>,
         link: &mut L,
         intake: &mut Intake,
-        end: usize,
     ) -> Option<SessionEnd>
         requires made { made_with pass.old ≡ self.now.broker.now }
         requires seat { IsPassOf self.now.clock.now seat.old }
         requires serving { (start : Began) × IsServing start seat.old.told pass.old
             (link_of (L.taken link.old) (L.left link.old) (L.written link.old) (L.faults link.old)) intake.old.inbox }
-        requires whole { next_frame_of intake.old.inbox ≡ Whole end }
         ensures stepped { (start : Began) → IsServing start seat.old.told pass.old
             (link_of (L.taken link.old) (L.left link.old) (L.written link.old) (L.faults link.old)) intake.old.inbox
             → HasStepped start seat.new.told result pass.new
@@ -45,7 +39,12 @@ impl<C: Clock> Room<'_, C> {
         ensures seat { seat.new.made ≡ seat.old.made }
         ensures later { seat.old.told ≤ seat.new.told }
     {
-        match self.answer(rt, pass, seat, intake.body(end)) {
+        let end = match intake.next() {
+            Frame::Whole { end } => end,
+            Frame::TooLong { size } => return Some(SessionEnd::FrameTooLong { size }),
+            Frame::NotYet => return intake.read(link),
+        };
+        match self.answer(pass, seat, intake.body(end)) {
             Answered::Reply(frame) => {
                 intake.pass(end);
                 match write_whole(link, frame.as_slice()) {
@@ -61,38 +60,9 @@ impl<C: Clock> Room<'_, C> {
         }
     }
 
-    // One frame is served where one is there, and else more is read.
-    fn step<L: Link>(
-        &self,
-        rt: &impl Wait,
-        pass: &mut Pass,
-        seat: &mut ClockPass<C>,
-        link: &mut L,
-        intake: &mut Intake,
-    ) -> Option<SessionEnd>
-        requires made { made_with pass.old ≡ self.now.broker.now }
-        requires seat { IsPassOf self.now.clock.now seat.old }
-        requires serving { (start : Began) × IsServing start seat.old.told pass.old
-            (link_of (L.taken link.old) (L.left link.old) (L.written link.old) (L.faults link.old)) intake.old.inbox }
-        ensures stepped { (start : Began) → IsServing start seat.old.told pass.old
-            (link_of (L.taken link.old) (L.left link.old) (L.written link.old) (L.faults link.old)) intake.old.inbox
-            → HasStepped start seat.new.told result pass.new
-            (link_of (L.taken link.new) (L.left link.new) (L.written link.new) (L.faults link.new)) intake.new.inbox }
-        ensures made { made_with pass.new ≡ made_with pass.old }
-        ensures seat { seat.new.made ≡ seat.old.made }
-        ensures later { seat.old.told ≤ seat.new.told }
-    {
-        match intake.next() {
-            Frame::Whole { end } => self.serve_frame(rt, pass, seat, link, intake, end),
-            Frame::TooLong { size } => Some(SessionEnd::FrameTooLong { size }),
-            Frame::NotYet => intake.read(link),
-        }
-    }
-
     // Goes on until the session is to end.
     fn serve<L: Link>(
         &self,
-        rt: &impl Wait,
         pass: &mut Pass,
         seat: &mut ClockPass<C>,
         link: &mut L,
@@ -110,8 +80,8 @@ impl<C: Clock> Room<'_, C> {
         ensures seat { seat.new.made ≡ seat.old.made }
         ensures later { seat.old.told ≤ seat.new.told }
     {
-        for _ in rt.forever() {
-            if let Some(end) = self.step(rt, pass, seat, link, intake) {
+        for _ in self.rt.forever() {
+            if let Some(end) = self.step(pass, seat, link, intake) {
                 return end;
             }
         }
@@ -121,8 +91,6 @@ impl<C: Clock> Room<'_, C> {
     // Begins the transcript of this number, and serves the frames that come.
     fn run<L: Link>(
         &self,
-        rt: &impl Wait,
-        alloc: Global,
         pass: &mut Pass,
         number: u64,
         seat: &mut ClockPass<C>,
@@ -140,10 +108,10 @@ impl<C: Clock> Room<'_, C> {
     {
         pass.keeps();
         self.broker.begin(pass, number);
-        let Ok(mut intake) = Intake::new(alloc) else {
+        let Ok(mut intake) = Intake::new(self.alloc) else {
             return SessionEnd::NoMemory;
         };
-        self.serve(rt, pass, seat, link, &mut intake)
+        self.serve(pass, seat, link, &mut intake)
     }
 }
 
@@ -172,8 +140,13 @@ pub fn serve_session<L: Link, C: Clock>(
     ensures seat { seat.new.made ≡ seat.old.made }
     ensures later { seat.old.told ≤ seat.new.told }
 {
-    let room = Room { broker, clock };
-    let end = room.run(rt, alloc, pass, number, seat, link);
+    let room = Room {
+        rt,
+        alloc,
+        broker,
+        clock,
+    };
+    let end = room.run(pass, number, seat, link);
     let finished = broker.finish(pass, end);
     link.shut();
     match finished {

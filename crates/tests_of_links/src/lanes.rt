@@ -27,25 +27,30 @@ struct Told<P: Drop, C: Drop> {
     text: Bytes,
 }
 
-// Serves at most so many links of the port on so many lanes, at the topic `t` with one partition.
+// Port 9092, so many lanes, and at most so many links.
+fn serving(lanes: u32, most: u64) -> Serving
+    ensures { (result.lanes ≡ lanes) × (result.most ≡ most) }
+{
+    Serving {
+        number: 9092,
+        lanes,
+        most,
+    }
+}
+
+// Serves links of the port on lanes, at the topic `t` with one partition.
 fn tell<R: Threads + Wait + Sync, P: Port + Send + Drop, C: Clock + Send + Drop>(
     rt: &R,
     alloc: Global,
     port: P,
     clock: C,
-    lanes: u32,
-    most: u64,
+    serving: Serving,
 ) -> Result<Told<P, C>, NoMemory>
 where
     P::Link: Send + Drop,
     requires new { IsNewPort (record { faults = P.faults port; opened_with = P.opened_with port; given = P.given port; is_ended = P.is_ended port; retired_count = P.retired_count port; retired = P.retired port }) }
-    requires lanes { (1 ≤ lanes) × (lanes ≤ MOST_LANES) }
+    requires lanes { (1 ≤ serving.lanes) × (serving.lanes ≤ MOST_LANES) }
 {
-    let serving = Serving {
-        number: 9092,
-        lanes,
-        most,
-    };
     let run = serve_links(rt, alloc, config(alloc)?, port, clock, serving)?;
     // a law: it does nothing
     served_accounts_are_printable();
@@ -128,7 +133,8 @@ impl Case<'_> {
         requires { (1 ≤ self.now.lanes) × (self.now.lanes ≤ MOST_LANES) }
     {
         let port = self.port(alloc)?;
-        let Told { run, text } = tell(rt, alloc, port, MemClock::new(0, 1), self.lanes, self.most)?;
+        let serving = serving(self.lanes, self.most);
+        let Told { run, text } = tell(rt, alloc, port, MemClock::new(0, 1), serving)?;
         if text.as_slice() != self.text.as_bytes() {
             return Ok(Some("the print"));
         }
@@ -316,7 +322,13 @@ fn meet<'a, R: Threads + Wait + time::Clock + Sync>(
     links.push(slow(rt, alloc, A_PRODUCE, has_rested)?)?;
     links.push(slow(rt, alloc, A_FETCH, is_due)?)?;
     let port = SlowPort::new(alloc, links);
-    let Told { run, text } = tell(rt, alloc, port, StandingClock::new(has_rested), 2, 2)?;
+    let Told { run, text } = tell(
+        rt,
+        alloc,
+        port,
+        StandingClock::new(has_rested),
+        serving(2, 2),
+    )?;
     Ok(
         text.as_slice() == MET.as_bytes()
             && run.port.was_sent(0, &FETCHED)
@@ -341,7 +353,13 @@ fn meet_beside_a_fault<'a, R: Threads + Wait + time::Clock + Sync>(
         links.push(slow(rt, alloc, Sent { bytes, fails }, mark)?)?;
     }
     let port = SlowPort::new(alloc, links);
-    let Told { run, text } = tell(rt, alloc, port, StandingClock::new(has_rested), 2, 3)?;
+    let Told { run, text } = tell(
+        rt,
+        alloc,
+        port,
+        StandingClock::new(has_rested),
+        serving(2, 3),
+    )?;
     Ok(
         text.as_slice() == MET_BESIDE_A_FAULT.as_bytes()
             && run.port.was_sent(0, &[])

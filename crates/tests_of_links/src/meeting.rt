@@ -51,28 +51,34 @@ impl Clock for StandingClock<'_> {
     }
 }
 
-// Whether a session at the desk gets the request, no sooner than `is_due`, sends just the reply, and ends with its input.
+// What a peer sends, no sooner than `is_due`, and what it is to get.
+#[derive(Clone, Copy)]
+struct Exchange<'a> {
+    is_due: &'a AtomicBool,
+    request: &'a [u8],
+    reply: &'a [u8],
+}
+
+// Whether a session at the desk gets the request, sends just the reply, and ends with its input.
 fn has_served<R: Wait + time::Clock, C: Clock + Drop>(
     rt: &R,
     alloc: Global,
     room: &Room<C>,
     mut desk: Desk<C>,
-    is_due: &AtomicBool,
-    request: &[u8],
-    reply: &[u8],
+    exchange: &Exchange<'_>,
 ) -> Result<bool, NoMemory>
     requires { IsFree room.now.broker room.now.clock desk.pass desk.seat }
 {
-    let inner = link_of(alloc, request, 200, &[])?;
+    let inner = link_of(alloc, exchange.request, 200, &[])?;
     let mut link = SlowLink {
         rt,
         inner,
         most: 200,
-        is_due,
+        is_due: exchange.is_due,
         faults: 0,
     };
     let end = room.serve(rt, alloc, &mut desk, &mut link)?;
-    Ok(end == SessionEnd::Closed && link.inner.bytes() == reply)
+    Ok(end == SessionEnd::Closed && link.inner.bytes() == exchange.reply)
 }
 
 // The produce comes once the clock was let rest, which is while the fetch waits.
@@ -91,11 +97,33 @@ fn fetch_and_produce<R: Threads + Wait + time::Clock + Sync>(
             requires { IsSync R.row × IsFree room.broker room.clock pass seat }
         {
             let here = Desk { pass, seat };
-            has_served(rt, alloc, &room, here, &is_due, &FETCH, &FETCHED)
+            has_served(
+                rt,
+                alloc,
+                &room,
+                here,
+                &Exchange {
+                    is_due: &is_due,
+                    request: &FETCH,
+                    reply: &FETCHED,
+                },
+            )
         },
         || -> Result<bool, NoMemory>
             requires { IsSync R.row × IsFree room.broker room.clock there.pass there.seat }
-        { has_served(rt, alloc, &room, there, &has_rested, &PRODUCE, &PRODUCED) },
+        {
+            has_served(
+                rt,
+                alloc,
+                &room,
+                there,
+                &Exchange {
+                    is_due: &has_rested,
+                    request: &PRODUCE,
+                    reply: &PRODUCED,
+                },
+            )
+        },
     );
     Ok((fetched?, produced?))
 }

@@ -8,7 +8,7 @@ mod shards;
 mod waits;
 mod whole;
 
-use crew::start;
+use crew::{Rise, start};
 use kbytes::{List, NoMemory};
 use opcond::{Need, Op};
 use purgatory::{Done, Registered};
@@ -44,9 +44,9 @@ fn an_operation_waits_and_is_satisfied(rt: HostRuntime) {
     let (room, mut crew) = start(rt.alloc(), 20, 2).expect(&rt, "memory");
     let op = op_of(rt.alloc(), &[18], 5, 100).expect(&rt, "memory");
     assert!(rt; crew.register(&rt, &room, 0, op) == Some(Registered::Parked));
-    crew.raise(&rt, &room, 1, 18, 4);
+    crew.raise(&rt, &room, 1, Rise::of(18, 4));
     assert!(rt; crew.poll(&room, 0).is_none());
-    crew.raise(&rt, &room, 1, 18, 5);
+    crew.raise(&rt, &room, 1, Rise::of(18, 5));
     assert!(rt; crew.poll(&room, 0) == done(How::Satisfied, 2));
     assert!(rt; crew.gauge(&room, 0, 18) == 5);
 }
@@ -56,16 +56,16 @@ fn a_deadline_comes(rt: HostRuntime) {
     let (room, mut crew) = start(rt.alloc(), 4, 2).expect(&rt, "memory");
     let op = op_of(rt.alloc(), &[0, 1, 2], 5, 100).expect(&rt, "memory");
     assert!(rt; crew.register(&rt, &room, 0, op) == Some(Registered::Parked));
-    crew.raise(&rt, &room, 1, 3, 99);
+    crew.raise(&rt, &room, 1, Rise::of(3, 99));
     assert!(rt; crew.poll(&room, 0).is_none());
-    crew.raise(&rt, &room, 1, 3, 100);
+    crew.raise(&rt, &room, 1, Rise::of(3, 100));
     assert!(rt; crew.poll(&room, 0) == done(How::Expired, 16));
 }
 
 #[test]
 fn what_is_satisfied_need_not_wait(rt: HostRuntime) {
     let (room, mut crew) = start(rt.alloc(), 4, 2).expect(&rt, "memory");
-    crew.raise(&rt, &room, 0, 2, 5);
+    crew.raise(&rt, &room, 0, Rise::of(2, 5));
     let op = op_of(rt.alloc(), &[0, 2], 5, 100).expect(&rt, "memory");
     let won = Done {
         how: How::Satisfied,
@@ -79,9 +79,9 @@ fn the_second_shard_wins(rt: HostRuntime) {
     let (room, mut crew) = start(rt.alloc(), 40, 2).expect(&rt, "memory");
     let op = op_of(rt.alloc(), &[3, 20], 5, 100).expect(&rt, "memory");
     assert!(rt; crew.register(&rt, &room, 0, op) == Some(Registered::Parked));
-    crew.raise(&rt, &room, 1, 3, 3);
+    crew.raise(&rt, &room, 1, Rise::of(3, 3));
     assert!(rt; crew.poll(&room, 0).is_none());
-    crew.raise(&rt, &room, 1, 20, 2);
+    crew.raise(&rt, &room, 1, Rise::of(20, 2));
     assert!(rt; crew.poll(&room, 0) == done(How::Satisfied, 4));
 }
 
@@ -99,7 +99,7 @@ fn a_room_is_still_once_what_was_won_is_taken(rt: HostRuntime) {
     let (room, mut crew) = start(rt.alloc(), 20, 2).expect(&rt, "memory");
     let op = op_of(rt.alloc(), &[18], 5, 100).expect(&rt, "memory");
     assert!(rt; crew.register(&rt, &room, 0, op) == Some(Registered::Parked));
-    crew.raise(&rt, &room, 1, 18, 5);
+    crew.raise(&rt, &room, 1, Rise::of(18, 5));
     let whole = Whole::of(rt.alloc(), room, crew).expect(&rt, "memory");
     let whole = whole.expect(&rt, "all passes and sources");
     let mut whole = whole
@@ -117,8 +117,8 @@ fn one_that_waits_keeps_no_room_from_being_still(rt: HostRuntime) {
     let (room, mut crew) = start(rt.alloc(), 20, 2).expect(&rt, "memory");
     let op = op_of(rt.alloc(), &[18], 5, 100).expect(&rt, "memory");
     assert!(rt; crew.register(&rt, &room, 0, op) == Some(Registered::Parked));
-    crew.raise(&rt, &room, 1, 18, 4);
-    crew.raise(&rt, &room, 1, 19, 99);
+    crew.raise(&rt, &room, 1, Rise::of(18, 4));
+    crew.raise(&rt, &room, 1, Rise::of(19, 99));
     let whole = Whole::of(rt.alloc(), room, crew).expect(&rt, "memory");
     let whole = whole.expect(&rt, "all passes and sources");
     let numbers = whole.close(&rt).ok().expect(&rt, "a room that is still");

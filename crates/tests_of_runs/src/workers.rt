@@ -45,19 +45,36 @@ fn joined(alloc: Global, pieces: &[&str]) -> Result<Bytes, NoMemory> {
     Ok(text)
 }
 
-// Runs the trace of these pieces on workers.
+// On how many workers a trace runs, and whether it goes on until nobody waits.
+#[derive(Clone, Copy, Debug)]
+struct Running {
+    workers: u32,
+    drain: bool,
+}
+
+const ONE: Running = Running {
+    workers: 1,
+    drain: false,
+};
+
+const TWO: Running = Running {
+    workers: 2,
+    drain: false,
+};
+
+// Runs the trace of these pieces so.
 fn account_of<R: Threads + Wait + Sync, G: Gate + Sync>(
     rt: &R,
     alloc: Global,
     pieces: &[&str],
-    workers: u32,
-    drain: bool,
+    running: Running,
     gate: &G,
 ) -> Option<Account>
-    requires { (1 ≤ workers) × (workers ≤ 16) }
+    requires { (1 ≤ running.workers) × (running.workers ≤ 16) }
 {
     let text = joined(alloc, pieces).ok()?;
     let lines = read_trace(alloc, text.as_slice(), false).ok()?;
+    let Running { workers, drain } = running;
     run_lines(rt, alloc, lines.as_slice(), 9092, workers, drain, gate).ok()
 }
 
@@ -129,7 +146,7 @@ fn two_workers_meet(rt: HostRuntime) {
         A,
         "\nend\n",
     ];
-    let account = account_of(&rt, rt.alloc(), &pieces, 2, false, &gate).expect(&rt, "memory");
+    let account = account_of(&rt, rt.alloc(), &pieces, TWO, &gate).expect(&rt, "memory");
     assert!(rt; gate.alone.load(Ordering::SeqCst) == 0);
     assert!(rt; account.passes.len() == 4 && calls_of(&account, 0).len() == 2);
     assert!(rt; calls_of(&account, 1).len() == 1 && calls_of(&account, 2).len() == 1);
@@ -152,7 +169,7 @@ fn who_wins_on_one_worker(rt: HostRuntime) {
         BEHIND,
         "\nclock 100\nend\n",
     ];
-    let account = account_of(&rt, rt.alloc(), &pieces, 1, false, &NoGate).expect(&rt, "memory");
+    let account = account_of(&rt, rt.alloc(), &pieces, ONE, &NoGate).expect(&rt, "memory");
     assert!(rt; how_of(&account, 0, 0) == Some(CallHow::Satisfied { by: 1 }));
     assert!(rt; how_of(&account, 2, 1) == Some(CallHow::Expired { by: 16 }));
     let mut wins = [0; 21];
@@ -168,7 +185,8 @@ fn nobody_waits_where_a_run_is_drained(rt: HostRuntime) {
         (false, CallHow::Parked),
         (true, CallHow::Expired { by: 16 }),
     ] {
-        let account = account_of(&rt, rt.alloc(), &pieces, 1, drain, &NoGate).expect(&rt, "memory");
+        let running = Running { workers: 1, drain };
+        let account = account_of(&rt, rt.alloc(), &pieces, running, &NoGate).expect(&rt, "memory");
         assert!(rt; how_of(&account, 0, 0) == Some(how));
     }
 }

@@ -196,24 +196,31 @@ fn make_shop(alloc: Global) -> Result<Shop, NoMemory>
     })
 }
 
+// What the thread needs that lets time pass.
+#[derive(Drop)]
+struct Ticker {
+    clock: Source,
+    pass: RoomPass,
+}
+
 // Two of the threads.
 fn order_while_time_passes<R: Threads + Wait + Clock + Sync>(
     rt: &R,
     alloc: Global,
     room: &Room,
-    clock: Source,
-    one: RoomPass,
+    ticker: Ticker,
     other: RoomPass,
 ) -> Option<(Done, Done)>
     requires shape { room.now.table.shape ≡ room_shape 3 3 }
-    requires clock { IsSourceOf room.now clock }
-    requires passes { IsOfRoom room.now one × IsReady room.now other }
+    requires ticker { IsSourceOf room.now ticker.clock × IsOfRoom room.now ticker.pass }
+    requires pass { IsReady room.now other }
 {
+    let Ticker { clock, pass } = ticker;
     let ((), ended) = join(
         rt,
         ||
-            requires { IsSync R.row × IsSourceOf room.now clock × IsOfRoom room.now one }
-        { let_time_pass(rt, room, clock, one) },
+            requires { IsSync R.row × IsSourceOf room.now clock × IsOfRoom room.now pass }
+        { let_time_pass(rt, room, clock, pass) },
         || -> Option<(Done, Done)>
             requires { IsSync R.row × (room.now.table.shape ≡ room_shape 3 3) × IsReady room.now other }
         { place_both(rt, alloc, room, other) },
@@ -238,7 +245,10 @@ fn run<R: Threads + Wait + Clock + Sync>(rt: &R, alloc: Global) -> Option<(Done,
         { deliver(rt, &room, first, second, one) },
         || -> Option<(Done, Done)>
             requires { IsSync R.row × (room.table.shape ≡ room_shape 3 3) × IsSourceOf room clock × IsOfRoom room other × IsReady room last }
-        { order_while_time_passes(rt, alloc, &room, clock, other, last) },
+        {
+            let ticker = Ticker { clock, pass: other };
+            order_while_time_passes(rt, alloc, &room, ticker, last)
+        },
     );
     ended
 }

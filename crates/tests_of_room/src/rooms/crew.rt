@@ -108,6 +108,19 @@ impl Hand {
     }
 }
 
+// A gauge is to rise to this value, by the source at this place.
+#[derive(Clone, Copy)]
+pub(super) struct Rise {
+    source: usize,
+    value: u64,
+}
+
+impl Rise {
+    pub(super) fn of(source: usize, value: u64) -> Rise {
+        Rise { source, value }
+    }
+}
+
 // Passes and sources of one room, by their places.
 #[derive(Drop)]
 pub(super) struct Crew {
@@ -221,17 +234,11 @@ impl Crew {
     }
 
     // A pass raises a gauge to this value, if it isn't past it, and settles.
-    pub(super) fn raise(
-        &mut self,
-        rt: &impl Wait,
-        room: &Room,
-        hand: usize,
-        source: usize,
-        value: u64,
-    )
+    pub(super) fn raise(&mut self, rt: &impl Wait, room: &Room, hand: usize, rise: Rise)
         requires { IsCrewOf room.now self.old }
         ensures { IsCrewOf room.now self.new }
     {
+        let Rise { source, value } = rise;
         if hand >= self.hands.len() || source >= self.sources.len() {
             return;
         }

@@ -3,7 +3,7 @@ ghost use Rattle.std.specs.Prelude.{◌≡◌, All, IfOk};
 ghost use Rattle.std.specs.Thread.{IsSync};
 ghost use Rattle.tests_of_room.specs.Crews.{IsCrewOf};
 
-use super::crew::{Crew, halves, start};
+use super::crew::{Crew, Rise, halves, start};
 use super::op_of;
 use kbytes::NoMemory;
 use opcond::Op;
@@ -44,7 +44,7 @@ fn is_answered(rt: &impl Wait, room: &Room, crew: &mut Crew, value: u64, op: Op)
     ensures { IsCrewOf room.now crew.new }
 {
     let registered = crew.register(rt, room, 0, op);
-    crew.raise(rt, room, 0, 0, value);
+    crew.raise(rt, room, 0, Rise::of(0, value));
     match registered {
         Some(Registered::Won(_)) => true,
         Some(Registered::Parked) => ends(rt, room, crew),

@@ -3,7 +3,7 @@ ghost use Rattle.std.specs.Prelude.{◌≡◌};
 ghost use Rattle.std.specs.Thread.{IsSync};
 ghost use Rattle.tests_of_room.specs.Crews.{IsCrewOf};
 
-use super::crew::{Crew, halves, start};
+use super::crew::{Crew, Rise, halves, start};
 use super::op_of;
 use kbytes::NoMemory;
 use purgatory::{Registered, Room};
@@ -19,7 +19,7 @@ fn raises(rt: &(impl Wait + Clock), room: &Room, mut crew: Crew)
     requires { IsCrewOf room.now crew }
 {
     thread::sleep(rt, Duration::from_millis(300));
-    crew.raise(rt, room, 0, 0, 1);
+    crew.raise(rt, room, 0, Rise::of(0, 1));
 }
 
 // How long it slept, where its operation was won then.
