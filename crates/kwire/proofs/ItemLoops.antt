@@ -1,7 +1,7 @@
 -- Items that are read one after the other: those that were read, and what reading the others gives.
 use Rattle.std.proofs.Common.{◌≡◌, ℕ, suc, ◌+◌, ◌-◌, ◌<◌, List, [], ◌∷◌, ◌++◌, length, map, Result, Ok, Err, refl, sym, ap, subst, ◌∙◌, append_assoc, arith}
 use Rattle.std.specs.Prelude.{IsErrAnd}
-use Rattle.std.specs.List.{flat_map}
+use Rattle.std.specs.List.{flat_map, AllByRecursion}
 use Rattle.std.proofs.lemmas.List.{append-nil, length_push}
 use Rattle.std.proofs.lemmas.Grind.{flat_map-append}
 use Rattle.kbytes.specs.Cursor.{Cursor}
@@ -68,6 +68,11 @@ module _ {X : Type 0} (each : ℕ → Cursor → ReadFields) (spelled : X → Li
   items_whole n before start items named c len so_far =
       let none : n - length items ≡ 0 = omega arith in
       so_far ∙ ap (λ (k : ℕ). after (flat_map spelled items) (times_at each (layout_at End) k named c)) none ∙ ap (λ (fs : List Field). got fs named c) (append-nil (flat_map spelled items))
+
+-- one more that is so
+pub all_pushed : {X : Type 0} (P : X → Type 0) (xs : List X) (x : X) → AllByRecursion P xs → P x → AllByRecursion P (xs ++ x ∷ [])
+all_pushed P [] x all is = (is, tt)
+all_pushed P (y ∷ xs) x all is = (all.0, all_pushed P xs x all.1 is)
 
 -- a fault of one item is the fault of all
 pub fault_on : {X Y : Type 0} (one : Result X WireFault) (all : Result Y WireFault) → ((e : WireFault) → one ≡ Err e → all ≡ Err e) → (e : WireFault) → IsFaultOf one e → IsFaultOf all e

@@ -1,5 +1,7 @@
 -- looking for a name among topics
 pub mod Names
+-- what a fetch asks of one partition, as it is read
+pub mod FetchParts
 -- a whole frame at the front of a stream, both ways
 pub mod FrameLaws
 -- places after fields

@@ -17,7 +17,7 @@ refused_for body why (NoHead first) e =
     no_fault first.left first.named (length (fields first.front)) first.rest (subst (λ (w : WireFault). IsFaultAt first.left first.named (length (fields first.front)) first.rest w) e first.fault)
 refused_for body why (NoApi head none) e = absurd cc
 refused_for body why (NoVersion head api key version other) e = absurd cc
-refused_for body why (NoField api head first) e =
+refused_for body why (NoField api read head first) e =
     no_fault first.left first.named (length (fields first.front)) first.rest (subst (λ (w : WireFault). IsFaultAt first.left first.named (length (fields first.front)) first.rest w) e first.fault)
-refused_for body why (MoreBytes api head fs of rest some parts) e = absurd cc
+refused_for body why (MoreBytes api read head fs of rest some parts) e = absurd cc
 refused_for body why (NamedTwice request spelled mention repeat) e = absurd cc

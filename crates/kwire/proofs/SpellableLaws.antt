@@ -7,7 +7,7 @@ use native.Mathlib.Nat.{suc-mul}
 use Rattle.std.proofs.lemmas.List.{length-append}
 use Rattle.std.specs.List.{range_with_len}
 use Rattle.std.proofs.lemmas.List.FromFn.{length-range_with_len}
-use Rattle.kbytes.specs.Field.{Field, Int8, Int32, String, Array, field, fields}
+use Rattle.kbytes.specs.Field.{Field, Int8, Int32, Int64, String, Records, Array, field, fields}
 use Rattle.kwire.specs.declared.reply.Told.TheVariants.{Produced, Fetched, Metadata, Versions}
 use Rattle.kwire.specs.declared.reply.ProducedPart.{ProducedPart}
 use Rattle.kwire.specs.declared.reply.ProducedTopic.{ProducedTopic}
@@ -15,7 +15,9 @@ use Rattle.kwire.specs.declared.reply.FetchedPart.{FetchedPart}
 use Rattle.kwire.specs.declared.reply.FetchedTopic.{FetchedTopic}
 use Rattle.kwire.specs.declared.reply.TopicInfo.{TopicInfo}
 use Rattle.kwire.specs.IsSpellable.{AreInRange, IsSpellable}
-use Rattle.kwire.specs.Spelling.{produced_part_fields, produced_topic_fields, fetched_part_fields, fetched_topic_fields, replica_fields, partition_fields, topic_info_fields, told_fields, spelling}
+use Rattle.kwire.specs.Apis.{has_log_start}
+use Rattle.kwire.specs.IsRequest.{only_field}
+use Rattle.kwire.specs.Spelling.{aborted, produced_part_fields, produced_topic_fields, fetched_part_fields, fetched_topic_fields, replica_fields, partition_fields, topic_info_fields, told_fields, spelling}
 use Rattle.kwire.proofs.Places.{fields-append}
 
 pub record IsProducedTopic (topic : ProducedTopic) : Type 0 where
@@ -42,32 +44,46 @@ module _ {X : Type 0} (kind : X → List Field) (Fine : X → Type 0) (fine : (x
 few_fit : (n : ℕ) → n ≤ 64 → n < 2 ^ 31
 few_fit n le = omega arith
 
+all_true : {X : Type 0} (xs : List X) → AllByRecursion (λ (x : X). ⊤) xs
+all_true [] = tt
+all_true (x ∷ xs) = (tt, all_true xs)
+
+-- an integer that stands there only in some versions
+start_in_range : (b : Bool) (z : ℤ) (fs : List Field) → AreInRange fs → AreInRange (only_field b (Int64 z) fs)
+start_in_range true z fs all = (tt, all)
+start_in_range false z fs all = all
+
+start_length : (b : Bool) (z : ℤ) (fs : List Field) → length (fields (only_field b (Int64 z) fs)) ≤ 8 + length (fields fs)
+start_length true z fs = omega arith
+start_length false z fs = omega arith
+
 -- a part has integers alone
-produced_parts_in_range : (parts : List ProducedPart) → AreInRange (flat_map produced_part_fields parts)
-produced_parts_in_range [] = tt
-produced_parts_in_range (part ∷ parts) = (tt, (tt, (tt, (tt, produced_parts_in_range parts))))
+produced_part_in_range : (version : ℤ) (part : ProducedPart) → ⊤ → AreInRange (produced_part_fields version part)
+produced_part_in_range version part _ = (tt, (tt, (tt, (tt, start_in_range (has_log_start version) part.start [] tt))))
 
-produced_topic_in_range : (topic : ProducedTopic) → IsProducedTopic topic → AreInRange (produced_topic_fields topic)
-produced_topic_in_range topic is = (is.name, (few_fit (length topic.parts) is.few, produced_parts_in_range topic.parts))
+produced_topic_in_range : (version : ℤ) (topic : ProducedTopic) → IsProducedTopic topic → AreInRange (produced_topic_fields version topic)
+produced_topic_in_range version topic is =
+    (is.name, (few_fit (length topic.parts) is.few, in_range_all (produced_part_fields version) (λ _. ⊤) (produced_part_in_range version) topic.parts (all_true topic.parts)))
 
-pub produced_in_range : (topics : List ProducedTopic) → length topics ≤ 64 → AllByRecursion IsProducedTopic topics → AreInRange (told_fields (Produced topics))
-produced_in_range topics few all =
-    (few_fit (length topics) few, in_range_both (flat_map produced_topic_fields topics) _ (in_range_all produced_topic_fields IsProducedTopic produced_topic_in_range topics all) (tt, tt))
+pub produced_in_range : (version : ℤ) (topics : List ProducedTopic) → length topics ≤ 64 → AllByRecursion IsProducedTopic topics → AreInRange (told_fields (Produced version topics))
+produced_in_range version topics few all =
+    (few_fit (length topics) few, in_range_both (flat_map (produced_topic_fields version) topics) _ (in_range_all (produced_topic_fields version) IsProducedTopic (produced_topic_in_range version) topics all) (tt, tt))
 
 aborted_in_range : (b : Bool) → IfSome (cond b None (Some 0)) (λ (n : ℕ). n < 2 ^ 31)
 aborted_in_range true = tt
 aborted_in_range false = lit< tt
 
-fetched_part_in_range : (isolation : ℤ) (part : FetchedPart) → IsFetchedPart part → AreInRange (fetched_part_fields isolation part)
-fetched_part_in_range isolation part is = (tt, (tt, (tt, (tt, (aborted_in_range (int_eq isolation (pos 0)), (is, tt))))))
+fetched_part_in_range : (version isolation : ℤ) (part : FetchedPart) → IsFetchedPart part → AreInRange (fetched_part_fields version isolation part)
+fetched_part_in_range version isolation part is =
+    (tt, (tt, (tt, (tt, start_in_range (has_log_start version) part.start (Array (aborted isolation) ∷ Records (Some part.records) ∷ []) (aborted_in_range (int_eq isolation (pos 0)), (is, tt))))))
 
-fetched_topic_in_range : (isolation : ℤ) (topic : FetchedTopic) → IsFetchedTopic topic → AreInRange (fetched_topic_fields isolation topic)
-fetched_topic_in_range isolation topic is =
-    (is.name, (few_fit (length topic.parts) is.few, in_range_all (fetched_part_fields isolation) IsFetchedPart (fetched_part_in_range isolation) topic.parts is.parts))
+fetched_topic_in_range : (version isolation : ℤ) (topic : FetchedTopic) → IsFetchedTopic topic → AreInRange (fetched_topic_fields version isolation topic)
+fetched_topic_in_range version isolation topic is =
+    (is.name, (few_fit (length topic.parts) is.few, in_range_all (fetched_part_fields version isolation) IsFetchedPart (fetched_part_in_range version isolation) topic.parts is.parts))
 
-pub fetched_in_range : (isolation : ℤ) (topics : List FetchedTopic) → length topics ≤ 64 → AllByRecursion IsFetchedTopic topics → AreInRange (told_fields (Fetched isolation topics))
-fetched_in_range isolation topics few all =
-    (tt, (few_fit (length topics) few, in_range_all (fetched_topic_fields isolation) IsFetchedTopic (fetched_topic_in_range isolation) topics all))
+pub fetched_in_range : (version isolation : ℤ) (topics : List FetchedTopic) → length topics ≤ 64 → AllByRecursion IsFetchedTopic topics → AreInRange (told_fields (Fetched version isolation topics))
+fetched_in_range version isolation topics few all =
+    (tt, (few_fit (length topics) few, in_range_all (fetched_topic_fields version isolation) IsFetchedTopic (fetched_topic_in_range version isolation) topics all))
 
 -- ---- lengths of frames
 
@@ -92,10 +108,6 @@ none_of_none : {X : Type 0} (xs : List X) → length (flat_map (nothing {X = X})
 none_of_none [] = refl
 none_of_none (x ∷ xs) = none_of_none xs
 
-all_true : {X : Type 0} (xs : List X) → AllByRecursion (λ (x : X). ⊤) xs
-all_true [] = tt
-all_true (x ∷ xs) = (tt, all_true xs)
-
 -- the records of a topic, one partition after the other
 abbrev pub records_in : FetchedTopic → List ℕ
 records_in topic = flat_map (λ part. part.records) topic.parts
@@ -108,45 +120,53 @@ topic_length name count parts =
     let behind : length rest ≡ 4 + length (fields parts) = omega arith in
     omega (arith, length-append name rest)
 
-produced_topic_length : (topic : ProducedTopic) → IsProducedTopic topic → length (fields (produced_topic_fields topic)) ≤ 40000 + 0
-produced_topic_length topic is =
-    let all = topic_length topic.name (length topic.parts) (flat_map produced_part_fields topic.parts) in
-    let part : (p : ProducedPart) → ⊤ → length (fields (produced_part_fields p)) ≤ 22 + 0 = λ p _. omega arith in
-    let parts = length_all produced_part_fields nothing (λ _. ⊤) 22 part topic.parts (all_true topic.parts) in
+produced_part_length : (version : ℤ) (part : ProducedPart) → ⊤ → length (fields (produced_part_fields version part)) ≤ 30 + 0
+produced_part_length version part _ =
+    let start = only_field (has_log_start version) (Int64 part.start) [] in
+    let whole : length (fields (produced_part_fields version part)) ≡ 22 + length (fields start) = omega arith in
+    omega (arith, start_length (has_log_start version) part.start [])
+
+produced_topic_length : (version : ℤ) (topic : ProducedTopic) → IsProducedTopic topic → length (fields (produced_topic_fields version topic)) ≤ 40000 + 0
+produced_topic_length version topic is =
+    let all = topic_length topic.name (length topic.parts) (flat_map (produced_part_fields version) topic.parts) in
+    let parts = length_all (produced_part_fields version) nothing (λ _. ⊤) 30 (produced_part_length version) topic.parts (all_true topic.parts) in
     let none = none_of_none topic.parts in
     let name = is.name in
     let few = is.few in
     omega arith
 
-pub produced_spellable : (correlation : ℤ) (topics : List ProducedTopic) → length topics ≤ 64 → AllByRecursion IsProducedTopic topics → IsSpellable (record { correlation = correlation; told = Produced topics })
-produced_spellable correlation topics few all =
-    let in_topics = flat_map produced_topic_fields topics in
-    let each = length_all produced_topic_fields nothing IsProducedTopic 40000 produced_topic_length topics all in
+pub produced_spellable : (correlation version : ℤ) (topics : List ProducedTopic) → length topics ≤ 64 → AllByRecursion IsProducedTopic topics → IsSpellable (record { correlation = correlation; told = Produced version topics })
+produced_spellable correlation version topics few all =
+    let in_topics = flat_map (produced_topic_fields version) topics in
+    let each = length_all (produced_topic_fields version) nothing IsProducedTopic 40000 (produced_topic_length version) topics all in
     let none = none_of_none topics in
     let joined : length (fields (in_topics ++ Int32 (pos 0) ∷ [])) ≡ length (fields in_topics) + 4 =
     ap length (fields-append in_topics (Int32 (pos 0) ∷ [])) ∙ length-append (fields in_topics) (fields (Int32 (pos 0) ∷ [])) in
-    let whole : length (spelling (record { correlation = correlation; told = Produced topics })) ≡ 12 + length (fields (in_topics ++ Int32 (pos 0) ∷ [])) = omega arith in
-    record { in_range = produced_in_range topics few all; short = omega arith }
+    let whole : length (spelling (record { correlation = correlation; told = Produced version topics })) ≡ 12 + length (fields (in_topics ++ Int32 (pos 0) ∷ [])) = omega arith in
+    record { in_range = produced_in_range version topics few all; short = omega arith }
 
-fetched_part_length : (isolation : ℤ) (part : FetchedPart) → ⊤ → length (fields (fetched_part_fields isolation part)) ≤ 30 + length part.records
-fetched_part_length isolation part _ =
-    let whole : length (fields (fetched_part_fields isolation part)) ≡ 30 + length (part.records ++ []) = omega arith in
-    omega (arith, length-append part.records [])
+fetched_part_length : (version isolation : ℤ) (part : FetchedPart) → ⊤ → length (fields (fetched_part_fields version isolation part)) ≤ 38 + length part.records
+fetched_part_length version isolation part _ =
+    let last = Array (aborted isolation) ∷ Records (Some part.records) ∷ [] in
+    let start = only_field (has_log_start version) (Int64 part.start) last in
+    let whole : length (fields (fetched_part_fields version isolation part)) ≡ 22 + length (fields start) = omega arith in
+    let behind : length (fields last) ≡ 8 + length (part.records ++ []) = omega arith in
+    omega (arith, start_length (has_log_start version) part.start last, length-append part.records [])
 
-fetched_topic_length : (isolation : ℤ) (topic : FetchedTopic) → IsFetchedTopic topic → length (fields (fetched_topic_fields isolation topic)) ≤ 40000 + length (records_in topic)
-fetched_topic_length isolation topic is =
-    let all = topic_length topic.name (length topic.parts) (flat_map (fetched_part_fields isolation) topic.parts) in
-    let parts = length_all (fetched_part_fields isolation) (λ part. part.records) (λ _. ⊤) 30 (fetched_part_length isolation) topic.parts (all_true topic.parts) in
+fetched_topic_length : (version isolation : ℤ) (topic : FetchedTopic) → IsFetchedTopic topic → length (fields (fetched_topic_fields version isolation topic)) ≤ 40000 + length (records_in topic)
+fetched_topic_length version isolation topic is =
+    let all = topic_length topic.name (length topic.parts) (flat_map (fetched_part_fields version isolation) topic.parts) in
+    let parts = length_all (fetched_part_fields version isolation) (λ part. part.records) (λ _. ⊤) 38 (fetched_part_length version isolation) topic.parts (all_true topic.parts) in
     let name = is.name in
     let few = is.few in
     omega arith
 
-pub fetched_spellable : (correlation isolation : ℤ) (topics : List FetchedTopic) → length topics ≤ 64 → AllByRecursion IsFetchedTopic topics → length (flat_map records_in topics) ≤ 2 ^ 30
-    → IsSpellable (record { correlation = correlation; told = Fetched isolation topics })
-fetched_spellable correlation isolation topics few all bytes =
-    let each = length_all (fetched_topic_fields isolation) records_in IsFetchedTopic 40000 (fetched_topic_length isolation) topics all in
-    let whole : length (spelling (record { correlation = correlation; told = Fetched isolation topics })) ≡ 16 + length (fields (flat_map (fetched_topic_fields isolation) topics)) = omega arith in
-    record { in_range = fetched_in_range isolation topics few all; short = omega arith }
+pub fetched_spellable : (correlation version isolation : ℤ) (topics : List FetchedTopic) → length topics ≤ 64 → AllByRecursion IsFetchedTopic topics → length (flat_map records_in topics) ≤ 2 ^ 30
+    → IsSpellable (record { correlation = correlation; told = Fetched version isolation topics })
+fetched_spellable correlation version isolation topics few all bytes =
+    let each = length_all (fetched_topic_fields version isolation) records_in IsFetchedTopic 40000 (fetched_topic_length version isolation) topics all in
+    let whole : length (spelling (record { correlation = correlation; told = Fetched version isolation topics })) ≡ 16 + length (fields (flat_map (fetched_topic_fields version isolation) topics)) = omega arith in
+    record { in_range = fetched_in_range version isolation topics few all; short = omega arith }
 
 -- ---- metadata, and the versions of the apis
 

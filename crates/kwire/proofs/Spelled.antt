@@ -1,5 +1,5 @@
 -- Fields that are written one after the other.
-use Rattle.std.proofs.Common.{◌≡◌, ℕ, zero, suc, ◌+◌, ◌<◌, ◌≤◌, List, [], ◌∷◌, ◌++◌, length, get_or, take, sym, ap, subst, ◌∙◌, append_assoc, arith}
+use Rattle.std.proofs.Common.{◌≡◌, Bool, true, false, refl, ℕ, zero, suc, ◌+◌, ◌<◌, ◌≤◌, List, [], ◌∷◌, ◌++◌, length, get_or, take, sym, ap, subst, ◌∙◌, append_assoc, arith}
 use Rattle.std.specs.List.{flat_map}
 use Rattle.std.proofs.lemmas.List.{append-nil, take_more, take_all}
 use Rattle.std.proofs.lemmas.Grind.{flat_map-append}
@@ -7,6 +7,7 @@ use Rattle.kbytes.specs.Field.{Field, field, fields, Int8, Int16, Int32, Uint32,
 use Rattle.kbytes.specs.FitsField.{FitsField}
 use Rattle.std.specs.Prelude.{Result, Ok, Err, OnOk}
 use Rattle.kbytes.specs.declared.no_memory.NoMemory.{NoMemory}
+use Rattle.kwire.specs.IsRequest.{only_field}
 use Rattle.kwire.specs.IsSpellable.{HasShortLength, AreInRange}
 use Rattle.kwire.proofs.Places.{AllFit, fields-append}
 
@@ -65,6 +66,11 @@ last_field (Err e) before now after fs f so_far is = tt
 pub on_ok : {P Q : Type 0} (r : Result (Unit {0}) NoMemory) → (P → Q) → OnOk r P → OnOk r Q
 on_ok (Ok x) f h = f h
 on_ok (Err e) f h = tt
+
+-- a field that stands there only in some versions, and those after it
+pub started : (b : Bool) (f : Field) (fs : List Field) → only_field b f [] ++ fs ≡ only_field b f fs
+started true f fs = refl
+started false f fs = refl
 
 -- ---- fields in the range of their types have short lengths
 

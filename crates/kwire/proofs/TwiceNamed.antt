@@ -1,5 +1,5 @@
 -- A partition is named twice exactly where one of the mentions was mentioned before.
-use Rattle.std.proofs.Common.{◌≡◌, ◌≢◌, ◌||◌, Decides, Bool, Option, ℕ, zero, suc, ◌+◌, ◌<◌, ◌≤◌, ℤ, true, false, List, [], ◌∷◌, ◌++◌, length, get_or, map, Some, None, refl, sym, ap, subst, ◌∙◌, arith, inl, inr}
+use Rattle.std.proofs.Common.{◌≡◌, ◌≢◌, ◌||◌, Decides, Bool, Option, ℕ, zero, suc, ◌+◌, ◌<◌, ℤ, true, false, List, [], ◌∷◌, ◌++◌, length, get_or, map, Some, None, refl, sym, ap, subst, ◌∙◌, arith, inl, inr}
 use Rattle.std.specs.Prelude.{Contains}
 use Rattle.std.specs.List.{flat_map, AllByRecursion, AllPairs, list_any}
 use Rattle.std.specs.Cmp.Lexicographic.{pointwise}
@@ -40,8 +40,8 @@ module _ {X Y : Type 0} (name : X → List ℕ) (parts : X → List Y) (index : 
       ∙ ap (λ (ns : List Named). named_in topic ++ ns) (topic_names (entry + 1) topics)
 
 pub names_are : (ask : Ask) → map named (mentions_of ask) ≡ named_of ask
-names_are (Produce transactional acks timeout topics) = topic_names (λ (t : ProduceTopic). t.name) (λ (t : ProduceTopic). t.parts) (λ (p : ProducePart). p.index) 0 topics
-names_are (Fetch replica max_wait min_bytes max_bytes isolation topics) = topic_names (λ (t : FetchTopic). t.name) (λ (t : FetchTopic). t.parts) (λ (p : FetchPart). p.index) 0 topics
+names_are (Produce version transactional acks timeout topics) = topic_names (λ (t : ProduceTopic). t.name) (λ (t : ProduceTopic). t.parts) (λ (p : ProducePart). p.index) 0 topics
+names_are (Fetch version replica max_wait min_bytes max_bytes isolation topics) = topic_names (λ (t : FetchTopic). t.name) (λ (t : FetchTopic). t.parts) (λ (p : FetchPart). p.index) 0 topics
 names_are (Metadata topics) = refl
 names_are (Versions version) = refl
 

@@ -14,8 +14,8 @@ use Rattle.kwire.specs.declared.frame.WireFault.{WireFault}
 use Rattle.kwire.specs.declared.frame.WireFault.TheVariants.{BadRequest, UnknownApi, Unsupported, TooMany, Twice, NoMemory}
 use Rattle.kwire.specs.declared.api.Api.{Api}
 use Rattle.kwire.specs.declared.request.Request.{Request}
-use Rattle.kwire.specs.Apis.{version_of_api, ask_layout}
-use Rattle.kwire.specs.IsRequest.{api_of, version_of, ask_fields}
+use Rattle.kwire.specs.Apis.{ask_layout}
+use Rattle.kwire.specs.IsRequest.{api_of, version_of, ask_fields, AllFitVersion}
 use Rattle.kwire.specs.Refusal.{Mention, mentions_of, IsFirstRepeat}
 use Rattle.kwire.specs.Layouts.{Kind, INT8_OF, INT16, INT32, INT64, STRING, NULLABLE_STRING, RECORDS, ARRAY, NULLABLE_ARRAY, Layout, End, ◌⨾◌, Many, count_of, total, named_with}
 
@@ -100,31 +100,32 @@ ReadsItem spelled named new (Ok x) read = read ≡ Ok (spelled x, named, new)
 ReadsItem spelled named new (Err fault) read = IsFaultOf read fault
 
 -- what stands after a header was read, and nothing is left
-pub record IsReadBody (api : Api) (c : Cursor) (request : Request) : Type 0 where
+pub record IsReadBody (api : Api) (version : ℤ) (c : Cursor) (request : Request) : Type 0 where
   pub place : Cursor
-  pub read : fields_at (NULLABLE_STRING ⨾ ask_layout api) c ≡ Ok (NullableString request.client ∷ ask_fields request.ask, place)
+  pub read : fields_at (NULLABLE_STRING ⨾ ask_layout api version) c ≡ Ok (NullableString request.client ∷ ask_fields request.ask, place)
   pub over : rest_of place ≡ []
   pub asked : api_of request.ask ≡ api
-  pub version : version_of request.ask ≡ version_of_api api
+  pub version_is : version_of request.ask ≡ version
+  pub fitting : AllFitVersion request.ask
 
 -- bytes stand after what was read
-pub record IsReadShort (api : Api) (c : Cursor) (why : WireFault) : Type 0 where
+pub record IsReadShort (api : Api) (version : ℤ) (c : Cursor) (why : WireFault) : Type 0 where
   pub all : List Field
   pub place : Cursor
-  pub read : fields_at (NULLABLE_STRING ⨾ ask_layout api) c ≡ Ok (all, place)
+  pub read : fields_at (NULLABLE_STRING ⨾ ask_layout api version) c ≡ Ok (all, place)
   pub more : rest_of place ≢ []
   pub told : why ≡ BadRequest place.at
 
 -- a partition was named twice
-pub record IsReadTwice (api : Api) (correlation : ℤ) (c : Cursor) (why : WireFault) : Type 0 where
+pub record IsReadTwice (api : Api) (version correlation : ℤ) (c : Cursor) (why : WireFault) : Type 0 where
   pub request : Request
   pub same : request.correlation ≡ correlation
-  pub read : IsReadBody api c request
+  pub read : IsReadBody api version c request
   pub mention : Mention
   pub repeat : IsFirstRepeat (mentions_of request.ask) mention
   pub told : why ≡ Twice mention.entry mention.index
 
 -- why there is no request after a header
-abbrev pub IsNoBody : Api → ℤ → Cursor → WireFault → Type 0
-IsNoBody api correlation c why =
-    (fields_at (NULLABLE_STRING ⨾ ask_layout api) c ≡ Err why) ⊎ IsReadShort api c why ⊎ IsReadTwice api correlation c why
+abbrev pub IsNoBody : Api → ℤ → ℤ → Cursor → WireFault → Type 0
+IsNoBody api version correlation c why =
+    (fields_at (NULLABLE_STRING ⨾ ask_layout api version) c ≡ Err why) ⊎ IsReadShort api version c why ⊎ IsReadTwice api version correlation c why

@@ -1,6 +1,6 @@
 -- Which bodies are refused, and why: the first fault from the left. The header comes first, then the api and its version, then
 -- the fields, bytes after them, and a partition that is named twice.
-use Rattle.std.specs.Prelude.{ℕ, ◌+◌, ◌≡◌, ◌≢◌, ℤ, List, [], ◌∷◌, ◌++◌, length, map, AllPairs, Contains}
+use Rattle.std.specs.Prelude.{ℕ, ◌+◌, ◌≡◌, ◌≢◌, ℤ, true, false, List, [], ◌∷◌, ◌++◌, length, map, AllPairs, Contains}
 use Rattle.std.specs.List.{AllByRecursion}
 use Rattle.kbytes.specs.Field.{Field, fields}
 use Rattle.kbytes.specs.FitsField.{FitsField}
@@ -12,7 +12,7 @@ use Rattle.kwire.specs.declared.request.Ask.TheVariants.{Produce, Fetch, Metadat
 use Rattle.kwire.specs.declared.frame.WireFault.{WireFault}
 use Rattle.kwire.specs.declared.frame.WireFault.TheVariants.{BadRequest, UnknownApi, Unsupported, Twice}
 use Rattle.kwire.specs.Layouts.{AreOf, IsFirstFault}
-use Rattle.kwire.specs.Apis.{key_of_api, version_of_api, head_layout, request_layout}
+use Rattle.kwire.specs.Apis.{key_of_api, is_read_in, head_layout, request_layout}
 use Rattle.kwire.specs.IsRequest.{head, IsSpelledOut, Named}
 
 -- the body begins with a header: the api's key, the version and the correlation id
@@ -38,9 +38,9 @@ mentions_from each entry (x ∷ xs) = each entry x ++ mentions_from each (entry 
 
 -- the partitions that are named, in the order of reading
 abbrev pub mentions_of : Ask → List Mention
-mentions_of (Produce transactional acks timeout topics) =
+mentions_of (Produce version transactional acks timeout topics) =
     mentions_from (λ entry topic. map (λ part. record { entry = entry; topic = topic.name; index = part.index }) topic.parts) 0 topics
-mentions_of (Fetch replica max_wait min_bytes max_bytes isolation topics) =
+mentions_of (Fetch version replica max_wait min_bytes max_bytes isolation topics) =
     mentions_from (λ entry topic. map (λ part. record { entry = entry; topic = topic.name; index = part.index }) topic.parts) 0 topics
 mentions_of (Metadata topics) = []
 mentions_of (Versions version) = []
@@ -58,13 +58,13 @@ pub data IsRefused : List ℕ → WireFault → Type 0 where
   NoHead : {body : List ℕ} {why : WireFault} → IsFirstFault head_layout body why → IsRefused body why
   -- no api has this key
   NoApi : {body : List ℕ} {key version : ℤ} → HasHead body key version → ((api : Api) → key ≢ key_of_api api) → IsRefused body (UnknownApi key)
-  -- the api isn't read in this version
-  NoVersion : {body : List ℕ} {key version : ℤ} → HasHead body key version → (api : Api) → key ≡ key_of_api api → version ≢ version_of_api api → api ≢ VersionsApi
+  -- the api isn't read whole in this version
+  NoVersion : {body : List ℕ} {key version : ℤ} → HasHead body key version → (api : Api) → key ≡ key_of_api api → is_read_in api version ≡ false → api ≢ VersionsApi
       → IsRefused body (Unsupported key version)
   -- a field doesn't read or isn't allowed, or a count names too many
-  NoField : {body : List ℕ} {why : WireFault} → (api : Api) → HasHead body (key_of_api api) (version_of_api api) → IsFirstFault (request_layout api) body why → IsRefused body why
+  NoField : {body : List ℕ} {why : WireFault} → {version : ℤ} → (api : Api) → is_read_in api version ≡ true → HasHead body (key_of_api api) version → IsFirstFault (request_layout api version) body why → IsRefused body why
   -- bytes stand after the fields
-  MoreBytes : {body : List ℕ} → (api : Api) → HasHead body (key_of_api api) (version_of_api api) → (fs : List Field) → AreOf (request_layout api) fs
+  MoreBytes : {body : List ℕ} → {version : ℤ} → (api : Api) → is_read_in api version ≡ true → HasHead body (key_of_api api) version → (fs : List Field) → AreOf (request_layout api version) fs
       → (rest : List ℕ) → rest ≢ [] → body ≡ fields fs ++ rest → IsRefused body (BadRequest (length (fields fs)))
   -- a partition is named twice
   NamedTwice : {body : List ℕ} → (request : Request) → IsSpelledOut body request → (mention : Mention) → IsFirstRepeat (mentions_of request.ask) mention

@@ -3,7 +3,7 @@
 
 ghost use Rattle.std.specs.Prelude.{◌≡◌, ◌≢◌, IsNone, IfSome};
 ghost use Rattle.kwire.specs.declared.api.Api.{Api as AnApi};
-ghost use Rattle.kwire.specs.Apis.{key_of_api, version_of_api};
+ghost use Rattle.kwire.specs.Apis.{key_of_api, versions_of_api, is_read_in, has_log_start};
 ghost use Rattle.kwire.specs.IsRequest.{api_of as api_of_ask};
 
 use crate::request::Ask;
@@ -16,6 +16,17 @@ pub enum Api {
     Metadata,
     Versions,
 }
+
+/// The versions of an api that are read whole: these two, and those between them.
+#[derive(Clone, Copy, Debug, PartialEq, Eq)]
+pub struct VersionRange {
+    pub least: i16,
+    pub greatest: i16,
+}
+
+/// The first version in which a fetch, its reply and the reply to a produce tell where a log starts (Kafka protocol guide:
+/// Produce v5, Fetch v5).
+pub const LOG_START_VERSION: i16 = 5;
 
 /// The api with this key, and `None` exactly where there is none.
 pub fn api_of(key: i16) -> Option<Api>
@@ -31,16 +42,32 @@ pub fn api_of(key: i16) -> Option<Api>
     }
 }
 
-/// The one version of an api that is read in full.
-pub fn version_of(api: Api) -> i16
-    ensures { result ≡ version_of_api api }
+/// The versions of an api that are read whole.
+pub fn versions_of(api: Api) -> VersionRange
+    ensures { result ≡ versions_of_api api }
 {
-    match api {
-        Api::Produce => 3,
-        Api::Fetch => 4,
-        Api::Metadata => 1,
-        Api::Versions => 0,
-    }
+    let (least, greatest) = match api {
+        Api::Produce => (3, 5),
+        Api::Fetch => (4, 5),
+        Api::Metadata => (1, 1),
+        Api::Versions => (0, 0),
+    };
+    VersionRange { least, greatest }
+}
+
+/// Whether an api is read whole in this version.
+pub fn is_read_in(api: Api, version: i16) -> bool
+    ensures { result ≡ is_read_in api version }
+{
+    let versions = versions_of(api);
+    versions.least <= version && version <= versions.greatest
+}
+
+/// Whether this version of a produce or a fetch tells where a log starts.
+pub fn has_log_start(version: i16) -> bool
+    ensures { result ≡ has_log_start version }
+{
+    LOG_START_VERSION <= version
 }
 
 /// The api of a request.

@@ -1,17 +1,18 @@
-//! Reading a request from the body of a frame: the header here, then the fields of its api by `read_produce`, `read_fetch`
-//! or `read_metadata`.
+//! Reading a request from the body of a frame: the header by `head`, then the fields of its api by `read_produce`,
+//! `read_fetch` or `read_metadata`.
 
-ghost use Rattle.std.specs.Prelude.{◌≡◌, ◌≢◌, ◌≤◌, AllPairs, IfOk, IfErr};
-ghost use Rattle.kwire.specs.Apis.{version_of_api, head_layout, ask_layout};
-ghost use Rattle.kwire.specs.IsRequest.{IsRequest, api_of, version_of, head, ask_fields, named_of, topics_named};
+ghost use Rattle.std.specs.Prelude.{true, ◌≡◌, ◌≢◌, ◌≤◌, AllPairs, IfOk, IfErr};
+ghost use Rattle.kwire.specs.Apis.{is_read_in, ask_layout};
+ghost use Rattle.kwire.specs.IsRequest.{IsRequest, api_of, version_of, ask_fields, AllFitVersion, named_of, topics_named};
 ghost use Rattle.kwire.specs.Refusal.{IsRefused};
 ghost use Rattle.kwire.specs.Views.{ask_of};
 ghost use Rattle.kwire.specs.Reading.{Reads, fields_at, IsReadBody, IsNoBody};
 ghost use Rattle.kwire.specs.declared.frame.WireFault.TheVariants.{NoMemory as OutOfMemory};
 ghost use Rattle.kwire.specs.declared.request.TheConstants.{MOST_NAMED};
 
-use crate::api::{Api, api_of, version_of};
+use crate::api::{Api, api_of, is_read_in};
 use crate::frame::WireFault;
+use crate::head::{Head, read_head};
 use crate::read_fetch::read_fetch;
 use crate::read_metadata::read_metadata;
 use crate::read_produce::read_produce;
@@ -21,41 +22,28 @@ use crate::view::{AskView, RequestView};
 use kbytes::Reader;
 use std::alloc::Global;
 
-/// The first fields of a request's body.
-#[derive(Clone, Copy, Debug)]
-pub struct Head {
-    key: i16,
-    version: i16,
-    correlation: i32,
-}
-
+// The fields of an api's request, in the version that the header tells.
 #[tactic(auto, unfolding(crate::specs::Reading::layout_at))]
-fn read_head(reader: &mut Reader<'_>) -> Result<Head, WireFault>
-    ensures { Reads (λ found. head found.key found.version found.correlation) reader.new result (fields_at head_layout reader.old) }
-{
-    let key = reader.i16()?;
-    let version = reader.i16()?;
-    let correlation = reader.i32()?;
-    Ok(Head {
-        key,
-        version,
-        correlation,
-    })
-}
-
-// The fields of an api's request, in the version that is read in full.
-#[tactic(auto, unfolding(crate::specs::Reading::layout_at))]
-fn read_ask<'a>(alloc: Global, reader: &mut Reader<'a>, api: Api) -> Result<AskView<'a>, WireFault>
-    ensures exact { Reads (λ ask. ask_fields (ask_of ask)) reader.new result (fields_at (ask_layout api) reader.old) }
+fn read_ask<'a>(
+    alloc: Global,
+    reader: &mut Reader<'a>,
+    api: Api,
+    head: Head,
+) -> Result<AskView<'a>, WireFault>
+    requires { is_read_in api head.version ≡ true }
+    ensures exact { Reads (λ ask. ask_fields (ask_of ask)) reader.new result (fields_at (ask_layout api head.version) reader.old) }
     ensures asked { IfOk result (λ ask. api_of (ask_of ask) ≡ api) }
-    ensures version { IfOk result (λ ask. version_of (ask_of ask) ≡ version_of_api api) }
+    ensures version { IfOk result (λ ask. version_of (ask_of ask) ≡ head.version) }
+    ensures fitting { IfOk result (λ ask. AllFitVersion (ask_of ask)) }
     ensures few { IfOk result (λ ask. topics_named (ask_of ask) ≤ MOST_NAMED) }
 {
     match api {
-        Api::Produce => read_produce(alloc, reader),
-        Api::Fetch => read_fetch(alloc, reader),
-        Api::Metadata => read_metadata(alloc, reader),
-        Api::Versions => Ok(AskView::Versions { version: 0 }),
+        Api::Produce => read_produce(alloc, reader, head),
+        Api::Fetch => read_fetch(alloc, reader, head),
+        Api::Metadata => read_metadata(alloc, reader, head),
+        Api::Versions => Ok(AskView::Versions {
+            version: head.version,
+        }),
     }
 }
 
@@ -64,21 +52,22 @@ fn read_body<'a>(
     alloc: Global,
     mut reader: Reader<'a>,
     api: Api,
-    correlation: i32,
+    head: Head,
 ) -> Result<RequestView<'a>, WireFault>
-    ensures read { IfOk result (λ request. IsReadBody api reader.entry request) }
-    ensures correlation { IfOk result (λ request. request.correlation ≡ correlation) }
+    requires { is_read_in api head.version ≡ true }
+    ensures read { IfOk result (λ request. IsReadBody api head.version reader.entry request) }
+    ensures correlation { IfOk result (λ request. request.correlation ≡ head.correlation) }
     ensures once { IfOk result (λ request. AllPairs (λ a b. a ≢ b) (named_of request.ask)) }
-    ensures refused { IfErr result (λ why. why ≢ OutOfMemory → IsNoBody api correlation reader.entry why) }
+    ensures refused { IfErr result (λ why. why ≢ OutOfMemory → IsNoBody api head.version head.correlation reader.entry why) }
 {
     let client = reader.nullable_string()?;
-    let ask = read_ask(alloc, &mut reader, api)?;
+    let ask = read_ask(alloc, &mut reader, api, head)?;
     if !reader.rest().is_empty() {
         return Err(WireFault::BadRequest { at: reader.at() });
     }
     refuse_repeats(alloc, &ask)?;
     Ok(RequestView {
-        correlation,
+        correlation: head.correlation,
         client,
         ask,
     })
@@ -96,8 +85,8 @@ pub fn view_request<'a>(alloc: Global, body: &'a [u8]) -> Result<RequestView<'a>
     let Some(api) = api_of(head.key) else {
         return Err(WireFault::UnknownApi { key: head.key });
     };
-    if head.version == version_of(api) {
-        return read_body(alloc, reader, api, head.correlation);
+    if is_read_in(api, head.version) {
+        return read_body(alloc, reader, api, head);
     }
     match api {
         Api::Versions => Ok(RequestView {

@@ -12,7 +12,7 @@ pub const CORRUPT_MESSAGE: i16 = 2;
 /// There is no such topic, or no such partition of it.
 pub const UNKNOWN_TOPIC_OR_PARTITION: i16 = 3;
 
-/// The partition's log is full.
+/// The partition's log is full, in a produce before version 4, which doesn't know `KAFKA_STORAGE_ERROR`.
 pub const NOT_LEADER_OR_FOLLOWER: i16 = 6;
 
 /// The followers didn't have the batch in time.
@@ -32,6 +32,9 @@ pub const UNSUPPORTED_VERSION: i16 = 35;
 
 /// The request asks for something that the broker doesn't offer: a transaction.
 pub const INVALID_REQUEST: i16 = 42;
+
+/// The partition's log is full.
+pub const KAFKA_STORAGE_ERROR: i16 = 56;
 
 /// The batch is compressed.
 pub const UNSUPPORTED_COMPRESSION_TYPE: i16 = 76;

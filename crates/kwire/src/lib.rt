@@ -10,6 +10,7 @@ pub mod codes;
 mod config;
 mod frame;
 mod framing;
+mod head;
 mod inbox;
 mod owned;
 mod promises;

@@ -74,6 +74,7 @@ impl Borrowed for FetchPart {
         Ok(FetchPart {
             index: self.index,
             offset: self.offset,
+            log_start: self.log_start,
             most: self.most,
         })
     }
@@ -105,17 +106,20 @@ fn owned_ask(alloc: Global, ask: &AskView<'_>) -> Result<Ask, NoMemory>
 {
     match ask {
         AskView::Produce {
+            version,
             transactional,
             acks,
             timeout,
             topics,
         } => Ok(Ask::Produce {
+            version: *version,
             transactional: copied_or_null(alloc, *transactional)?,
             acks: *acks,
             timeout: *timeout,
             topics: owned_list(alloc, topics.as_slice())?,
         }),
         AskView::Fetch {
+            version,
             replica,
             max_wait,
             min_bytes,
@@ -123,6 +127,7 @@ fn owned_ask(alloc: Global, ask: &AskView<'_>) -> Result<Ask, NoMemory>
             isolation,
             topics,
         } => Ok(Ask::Fetch {
+            version: *version,
             replica: *replica,
             max_wait: *max_wait,
             min_bytes: *min_bytes,

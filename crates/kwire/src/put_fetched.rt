@@ -6,6 +6,7 @@ ghost use Rattle.kbytes.specs.Field.{field, fields, Array};
 ghost use Rattle.kwire.specs.Spelling.{aborted, fetched_part_fields, fetched_topic_fields};
 ghost use Rattle.kwire.specs.IsSpellable.{AreInRange};
 
+use crate::put_produced::put_start;
 use crate::reply::{FetchedPart, FetchedTopic};
 use kbytes::{Bytes, NoMemory, put_array, put_i16, put_i32, put_i64, put_records, put_string};
 
@@ -21,54 +22,80 @@ fn put_aborted(out: &mut Bytes, isolation: i8) -> Result<(), NoMemory>
 }
 
 // The last stable offset is the high watermark.
-fn put_part(out: &mut Bytes, isolation: i8, part: &FetchedPart) -> Result<(), NoMemory>
-    requires { AreInRange (fetched_part_fields isolation part.now) }
-    ensures { OnOk result (out.new ≡ out.old ++ fields (fetched_part_fields isolation part.now)) }
+fn put_part(
+    out: &mut Bytes,
+    version: i16,
+    isolation: i8,
+    part: &FetchedPart,
+) -> Result<(), NoMemory>
+    requires { AreInRange (fetched_part_fields version isolation part.now) }
+    ensures { OnOk result (out.new ≡ out.old ++ fields (fetched_part_fields version isolation part.now)) }
 {
     put_i32(out, part.index)?;
     put_i16(out, part.code)?;
     put_i64(out, part.high)?;
     put_i64(out, part.high)?;
+    put_start(out, version, part.start)?;
     put_aborted(out, isolation)?;
     put_records(out, Some(part.records.as_slice()))
 }
 
-fn put_parts(out: &mut Bytes, isolation: i8, parts: &[FetchedPart]) -> Result<(), NoMemory>
-    requires { AreInRange (flat_map (fetched_part_fields isolation) parts.now) }
-    ensures { OnOk result (out.new ≡ out.old ++ fields (flat_map (fetched_part_fields isolation) parts.now)) }
+fn put_parts(
+    out: &mut Bytes,
+    version: i16,
+    isolation: i8,
+    parts: &[FetchedPart],
+) -> Result<(), NoMemory>
+    requires { AreInRange (flat_map (fetched_part_fields version isolation) parts.now) }
+    ensures { OnOk result (out.new ≡ out.old ++ fields (flat_map (fetched_part_fields version isolation) parts.now)) }
 {
     for part in parts {
-        put_part(out, isolation, part)?;
+        put_part(out, version, isolation, part)?;
     }
     Ok(())
 }
 
-fn put_topic(out: &mut Bytes, isolation: i8, topic: &FetchedTopic) -> Result<(), NoMemory>
-    requires { AreInRange (fetched_topic_fields isolation topic.now) }
-    ensures { OnOk result (out.new ≡ out.old ++ fields (fetched_topic_fields isolation topic.now)) }
+fn put_topic(
+    out: &mut Bytes,
+    version: i16,
+    isolation: i8,
+    topic: &FetchedTopic,
+) -> Result<(), NoMemory>
+    requires { AreInRange (fetched_topic_fields version isolation topic.now) }
+    ensures { OnOk result (out.new ≡ out.old ++ fields (fetched_topic_fields version isolation topic.now)) }
 {
     put_string(out, topic.name.as_slice())?;
     put_array(out, Some(topic.parts.len() as u32))?;
-    put_parts(out, isolation, topic.parts.as_slice())
+    put_parts(out, version, isolation, topic.parts.as_slice())
 }
 
-fn put_topics(out: &mut Bytes, isolation: i8, topics: &[FetchedTopic]) -> Result<(), NoMemory>
-    requires { AreInRange (flat_map (fetched_topic_fields isolation) topics.now) }
+fn put_topics(
+    out: &mut Bytes,
+    version: i16,
+    isolation: i8,
+    topics: &[FetchedTopic],
+) -> Result<(), NoMemory>
+    requires { AreInRange (flat_map (fetched_topic_fields version isolation) topics.now) }
     ensures { OnOk result (out.new ≡ out.old
-        ++ fields (flat_map (fetched_topic_fields isolation) topics.now)) }
+        ++ fields (flat_map (fetched_topic_fields version isolation) topics.now)) }
 {
     for topic in topics {
-        put_topic(out, isolation, topic)?;
+        put_topic(out, version, isolation, topic)?;
     }
     Ok(())
 }
 
 /// The topics, after their count. The isolation level is 0 or 1.
-pub fn put_fetched(out: &mut Bytes, isolation: i8, topics: &[FetchedTopic]) -> Result<(), NoMemory>
-    requires { AreInRange (Array (Some (length topics.now)) ∷ flat_map (fetched_topic_fields isolation) topics.now) }
+pub fn put_fetched(
+    out: &mut Bytes,
+    version: i16,
+    isolation: i8,
+    topics: &[FetchedTopic],
+) -> Result<(), NoMemory>
+    requires { AreInRange (Array (Some (length topics.now)) ∷ flat_map (fetched_topic_fields version isolation) topics.now) }
     ensures { OnOk result (out.new ≡ out.old
-        ++ fields (Array (Some (length topics.now)) ∷ flat_map (fetched_topic_fields isolation) topics.now)) }
+        ++ fields (Array (Some (length topics.now)) ∷ flat_map (fetched_topic_fields version isolation) topics.now)) }
 {
     put_array(out, Some(topics.len() as u32))?;
-    put_topics(out, isolation, topics)
+    put_topics(out, version, isolation, topics)
 }

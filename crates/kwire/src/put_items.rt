@@ -1,6 +1,6 @@
 //! What all `put_` modules share: items that are written one after the other, and the frame around a body.
 
-ghost use Rattle.std.specs.Prelude.{◌≡◌, ◌<◌, ◌^◌, ◌++◌, List as Items, length, IfOk, OnOk};
+ghost use Rattle.std.specs.Prelude.{◌≡◌, ◌<◌, ◌^◌, ◌++◌, ℤ, List as Items, length, IfOk, OnOk};
 ghost use Rattle.std.specs.Option.{option_copied};
 ghost use Rattle.std.specs.List.{flat_map};
 ghost use Rattle.kbytes.specs.Field.{Field, fields};
@@ -10,22 +10,22 @@ ghost use Rattle.kwire.specs.IsSpellable.{AreInRange};
 use kbytes::{Bytes, NoMemory, put_i32};
 use std::alloc::Global;
 
-/// An item that is written as its fields, one after the other.
+/// An item that is written as its fields in a version, one after the other.
 pub trait Written {
-    ghost written: { Self → Items Field };
+    ghost written: { ℤ → Self → Items Field };
 
-    fn put(&self, out: &mut Bytes) -> Result<(), NoMemory>
-        requires { AreInRange (written self.now) }
-        ensures { OnOk result (out.new ≡ out.old ++ fields (written self.now)) };
+    fn put(&self, out: &mut Bytes, version: i16) -> Result<(), NoMemory>
+        requires { AreInRange (written version self.now) }
+        ensures { OnOk result (out.new ≡ out.old ++ fields (written version self.now)) };
 }
 
 /// Items, one after the other.
-pub fn put_items<T: Written>(out: &mut Bytes, items: &[T]) -> Result<(), NoMemory>
-    requires { AreInRange (flat_map T.written items.now) }
-    ensures { OnOk result (out.new ≡ out.old ++ fields (flat_map T.written items.now)) }
+pub fn put_items<T: Written>(out: &mut Bytes, version: i16, items: &[T]) -> Result<(), NoMemory>
+    requires { AreInRange (flat_map (T.written version) items.now) }
+    ensures { OnOk result (out.new ≡ out.old ++ fields (flat_map (T.written version) items.now)) }
 {
     for item in items {
-        item.put(out)?;
+        item.put(out, version)?;
     }
     Ok(())
 }

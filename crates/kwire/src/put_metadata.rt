@@ -7,7 +7,7 @@ ghost use Rattle.kwire.specs.declared.reply.Told.TheVariants.{Metadata, Versions
 ghost use Rattle.kwire.specs.Spelling.{replica_fields, partition_fields, topic_info_fields, broker_fields, api_fields, told_fields};
 ghost use Rattle.kwire.specs.IsSpellable.{AreInRange};
 
-use crate::api::{Api, key_of, version_of};
+use crate::api::{Api, key_of, versions_of};
 use crate::put_items::{Written, put_items};
 use crate::reply::TopicInfo;
 use kbytes::{
@@ -52,10 +52,10 @@ fn put_partitions(out: &mut Bytes, followers: u32, count: u32) -> Result<(), NoM
 }
 
 impl Written for TopicInfo {
-    ghost written = { topic_info_fields };
+    ghost written = { λ _. topic_info_fields };
 
     // No topic is internal.
-    fn put(&self, out: &mut Bytes) -> Result<(), NoMemory> {
+    fn put(&self, out: &mut Bytes, _version: i16) -> Result<(), NoMemory> {
         put_i16(out, self.code)?;
         put_string(out, self.name.as_slice())?;
         put_i8(out, 0)?;
@@ -83,16 +83,17 @@ pub fn put_metadata(out: &mut Bytes, port: u16, topics: &[TopicInfo]) -> Result<
     put_broker(out, port)?;
     put_i32(out, 0)?;
     put_array(out, Some(topics.len() as u32))?;
-    put_items(out, topics)
+    put_items(out, versions_of(Api::Metadata).greatest, topics)
 }
 
 // An api, with its lowest and its highest version.
 fn put_api(out: &mut Bytes, api: Api) -> Result<(), NoMemory>
     ensures { OnOk result (out.new ≡ out.old ++ fields (api_fields api)) }
 {
+    let versions = versions_of(api);
     put_i16(out, key_of(api))?;
-    put_i16(out, version_of(api))?;
-    put_i16(out, version_of(api))
+    put_i16(out, versions.least)?;
+    put_i16(out, versions.greatest)
 }
 
 /// The apis, after the code.

@@ -20,28 +20,37 @@ const HEAD_BYTES: usize = 16;
 // The bytes of a topic beside its name and partitions: the name's length and the count.
 const TOPIC_BYTES: usize = 6;
 
-// The bytes of a partition that a produce names.
-const PRODUCED_PART_BYTES: usize = 22;
+// The most bytes of a partition that a produce names: those of the last version.
+const PRODUCED_PART_BYTES: usize = 30;
 
-// The bytes of a partition that a fetch names, beside its records.
-const FETCHED_PART_BYTES: usize = 30;
+// The most bytes of a partition that a fetch names, beside its records.
+const FETCHED_PART_BYTES: usize = 38;
 
 // The topics, and after them the throttle time 0.
-fn put_produced_told(out: &mut Bytes, topics: &[ProducedTopic]) -> Result<(), NoMemory>
-    requires { AreInRange (told_fields (Produced topics.now)) }
-    ensures { OnOk result (out.new ≡ out.old ++ fields (told_fields (Produced topics.now))) }
+fn put_produced_told(
+    out: &mut Bytes,
+    version: i16,
+    topics: &[ProducedTopic],
+) -> Result<(), NoMemory>
+    requires { AreInRange (told_fields (Produced version topics.now)) }
+    ensures { OnOk result (out.new ≡ out.old ++ fields (told_fields (Produced version topics.now))) }
 {
-    put_produced(out, topics)?;
+    put_produced(out, version, topics)?;
     put_i32(out, 0)
 }
 
 // The throttle time 0, and after it the topics.
-fn put_fetched_told(out: &mut Bytes, isolation: i8, topics: &[FetchedTopic]) -> Result<(), NoMemory>
-    requires { AreInRange (told_fields (Fetched isolation topics.now)) }
-    ensures { OnOk result (out.new ≡ out.old ++ fields (told_fields (Fetched isolation topics.now))) }
+fn put_fetched_told(
+    out: &mut Bytes,
+    version: i16,
+    isolation: i8,
+    topics: &[FetchedTopic],
+) -> Result<(), NoMemory>
+    requires { AreInRange (told_fields (Fetched version isolation topics.now)) }
+    ensures { OnOk result (out.new ≡ out.old ++ fields (told_fields (Fetched version isolation topics.now))) }
 {
     put_i32(out, 0)?;
-    put_fetched(out, isolation, topics)
+    put_fetched(out, version, isolation, topics)
 }
 
 fn put_told(out: &mut Bytes, told: &Told) -> Result<(), NoMemory>
@@ -49,10 +58,12 @@ fn put_told(out: &mut Bytes, told: &Told) -> Result<(), NoMemory>
     ensures { OnOk result (out.new ≡ out.old ++ fields (told_fields told.now)) }
 {
     match told {
-        Told::Produced { topics } => put_produced_told(out, topics.as_slice()),
-        Told::Fetched { isolation, topics } => {
-            put_fetched_told(out, *isolation, topics.as_slice())
-        }
+        Told::Produced { version, topics } => put_produced_told(out, *version, topics.as_slice()),
+        Told::Fetched {
+            version,
+            isolation,
+            topics,
+        } => put_fetched_told(out, *version, *isolation, topics.as_slice()),
         Told::Metadata { port, topics } => put_metadata(out, *port, topics.as_slice()),
         Told::Versions { code } => put_versions(out, *code),
     }
@@ -92,7 +103,9 @@ fn fetched_room(topics: &[FetchedTopic]) -> usize {
 // The bytes of a frame that the reply needs, or none for a reply that is small or rare.
 fn room_of(told: &Told) -> usize {
     match told {
-        Told::Produced { topics } => produced_room(topics.as_slice()).saturating_add(HEAD_BYTES),
+        Told::Produced { topics, .. } => produced_room(topics.as_slice()).saturating_add(
+            HEAD_BYTES,
+        ),
         Told::Fetched { topics, .. } => fetched_room(topics.as_slice()).saturating_add(HEAD_BYTES),
         Told::Metadata { .. } | Told::Versions { .. } => 0,
     }

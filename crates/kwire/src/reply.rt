@@ -2,11 +2,14 @@
 
 use kbytes::{Bytes, List};
 
+/// What a produce is told of one partition. `start` is where its log starts, or -1 where nothing was appended; it is written
+/// in the versions that tell it.
 #[derive(Debug, Drop)]
 pub struct ProducedPart {
     pub index: i32,
     pub code: i16,
     pub base: i64,
+    pub start: i64,
 }
 
 #[derive(Debug, Drop)]
@@ -15,11 +18,14 @@ pub struct ProducedTopic {
     pub parts: List<ProducedPart>,
 }
 
+/// What a fetch is told of one partition. `start` is where its log starts, or -1 after an error; it is written in the versions
+/// that tell it.
 #[derive(Debug, Drop)]
 pub struct FetchedPart {
     pub index: i32,
     pub code: i16,
     pub high: i64,
+    pub start: i64,
     pub records: Bytes,
 }
 
@@ -37,13 +43,15 @@ pub struct TopicInfo {
     pub followers: u32,
 }
 
-/// The fields of a reply, by the kind of its request.
+/// The fields of a reply, by the kind of its request, and in the request's version.
 #[derive(Debug, Drop)]
 pub enum Told {
     Produced {
+        version: i16,
         topics: List<ProducedTopic>,
     },
     Fetched {
+        version: i16,
         isolation: i8,
         topics: List<FetchedTopic>,
     },

@@ -18,11 +18,13 @@ pub struct ProduceTopic {
     pub parts: List<ProducePart>,
 }
 
-/// What a fetch asks of one partition: the records from `offset` on, at most `most` bytes.
+/// What a fetch asks of one partition: the records from `offset` on, at most `most` bytes. `log_start` is where the asker's
+/// own log starts, which changes no answer; it is -1 where the version doesn't tell it.
 #[derive(Debug, Drop)]
 pub struct FetchPart {
     pub index: i32,
     pub offset: i64,
+    pub log_start: i64,
     pub most: i32,
 }
 
@@ -32,16 +34,19 @@ pub struct FetchTopic {
     pub parts: List<FetchPart>,
 }
 
-/// The fields of a request, by its kind. Times are in milliseconds.
+/// The fields of a request, by its kind. Times are in milliseconds. A produce and a fetch are in one of the versions that are
+/// read whole.
 #[derive(Debug, Drop)]
 pub enum Ask {
     Produce {
+        version: i16,
         transactional: Option<Bytes>,
         acks: i16,
         timeout: i32,
         topics: List<ProduceTopic>,
     },
     Fetch {
+        version: i16,
         replica: i32,
         max_wait: i32,
         min_bytes: i32,

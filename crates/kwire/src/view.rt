@@ -55,12 +55,14 @@ impl<'a> Model for FetchTopicView<'a> {
 #[derive(Debug, Drop)]
 pub enum AskView<'a> {
     Produce {
+        version: i16,
         transactional: Option<&'a [u8]>,
         acks: i16,
         timeout: i32,
         topics: List<ProduceTopicView<'a>>,
     },
     Fetch {
+        version: i16,
         replica: i32,
         max_wait: i32,
         min_bytes: i32,

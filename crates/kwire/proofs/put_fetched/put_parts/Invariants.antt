@@ -5,4 +5,4 @@ use Rattle.kwire.proofs.Spelled.{Put}
 use Rattle.kwire.proofs.put_fetched.put_parts.Given as goal
 
 abbrev pub invariant-loop-part : goal.invariant-loop-part
-invariant-loop-part l = Put l.fn.out l.out (flat_map (fetched_part_fields l.isolation) (take l.part-index l.parts))
+invariant-loop-part l = Put l.fn.out l.out (flat_map (fetched_part_fields l.version l.isolation) (take l.part-index l.parts))

@@ -1,13 +1,13 @@
 use Rattle.std.proofs.Common.{◌∙◌, ℕ, ℤ, Some, [], ◌∷◌, ◌++◌, length, sym, ap, rules}
-use Rattle.std.specs.Int.{w8, w32}
+use Rattle.std.specs.Int.{w8, w16, w32}
 use Rattle.std.specs.List.{flat_map}
-use mir.Val.{SFits}
+use mir.Val.{SFits, of_z, to_z}
 use Rattle.std.proofs.lemmas.Int.{to_z-of_z}
 use Rattle.kbytes.specs.Field.{field, fields, Int8, Int32, Array}
 use Rattle.kwire.specs.declared.request.Ask.{Ask}
 use Rattle.kwire.specs.IsRequest.{fetch_topic_fields, ask_fields}
 use Rattle.kwire.proofs.Spelled.{put_start, put_on, then_field, on_ok}
-use Rattle.kwire.proofs.put_request.AskWritten.put.Goals as goal
+use Rattle.kwire.proofs.put_request.put_ask.Goals as goal
 
 pub returns-in_ok-put_array-in-Fetch : goal.returns-in_ok-put_array-in-Fetch
 returns-in_ok-put_array-in-Fetch c =
@@ -38,6 +38,8 @@ returns-in_ok-put_array-in-Fetch c =
     let p5 = then_field old o4 o5 fs4 (Int8 ask.isolation) p4 (c.in_ok-put_i8-in-Fetch.ensures.ok ∙ ap (λ (z : ℤ). o4 ++ field (Int8 z)) (to_z-of_z w8 ask.isolation f5)) in
     let p6 = then_field old o5 o6 fs5 (Array (Some (length ask.topics))) p5 (c.in_ok-put_array-in-Fetch.ensures.ok ∙ ap (λ (n : ℕ). o5 ++ field (Array (Some n))) c.len-in-Fetch.ensures) in
     let topics = c.as_slice-in-Fetch.result.now in
+    let f0 : SFits w16 ask.version = search rules in
+    let level = to_z w16 (of_z w16 ask.version) in
     on_ok c.put_items-in-Fetch.result
-    (λ is. put_on old o6 o7 fs6 (flat_map fetch_topic_fields topics) p6 is ∙ ap (λ ts. old ++ fields (fs6 ++ flat_map fetch_topic_fields ts)) c.as_slice-in-Fetch.ensures ∙ ap (λ (a : Ask). old ++ fields (ask_fields a)) (sym ask.is))
+    (λ is. put_on old o6 o7 fs6 (flat_map (fetch_topic_fields level) topics) p6 is ∙ ap (λ (z : ℤ). old ++ fields (fs6 ++ flat_map (fetch_topic_fields z) topics)) (to_z-of_z w16 ask.version f0) ∙ ap (λ ts. old ++ fields (fs6 ++ flat_map (fetch_topic_fields ask.version) ts)) c.as_slice-in-Fetch.ensures ∙ ap (λ (a : Ask). old ++ fields (ask_fields a)) (sym ask.is))
     c.put_items-in-Fetch.ensures
