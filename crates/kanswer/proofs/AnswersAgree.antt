@@ -23,7 +23,7 @@ use Rattle.kanswer.specs.ToldParts.{code_at, parts_by, produced_part, produced_o
 produced_part_is : (acks : ℤ) (asked : ProducePart) (result : Accepted) (reading : Reading) (state : PartState) → HasNumbers result reading state → produced_part acks asked result reading ≡ produced_as acks asked.index result state
 produced_part_is acks asked (Refused code) reading state h = refl
 produced_part_is acks asked (Appended part base count) reading state h =
-    ap (λ (n : Numbers). let told : ProducedPart = record { index = asked.index; code = code_at acks (base + count) n.high; base = pos base } in told) h
+    ap (λ (n : Numbers). let told : ProducedPart = record { index = asked.index; code = code_at acks (base + count) n.high; base = pos base; start = pos 0 } in told) h
 produced_part_is acks asked (Seen part start) reading state h = refl
 
 produced_parts_are : (acks : ℤ) (parts : List ProducePart) (results : List Accepted) (readings : List Reading) (shown : List Shown) → ProduceReadings results readings shown
@@ -60,8 +60,8 @@ fetched_part_is : (replica : ℤ) (asked : FetchPart) (result : Accepted) (readi
 fetched_part_is replica asked (Refused code) reading state budget h = refl
 fetched_part_is replica asked (Appended part base count) reading state budget h = refl
 fetched_part_is replica asked (Seen part start) reading state budget h =
-    ap (λ (n : Numbers). let told : FetchedPart = record { index = asked.index; code = pos 0; high = pos n.high; records = reading.records } in told) h.0
-    ∙ ap (λ (bytes : List ℕ). let told : FetchedPart = record { index = asked.index; code = pos 0; high = pos (high_of state); records = bytes } in told) h.1
+    ap (λ (n : Numbers). let told : FetchedPart = record { index = asked.index; code = pos 0; high = pos n.high; start = pos 0; records = reading.records } in told) h.0
+    ∙ ap (λ (bytes : List ℕ). let told : FetchedPart = record { index = asked.index; code = pos 0; high = pos (high_of state); start = pos 0; records = bytes } in told) h.1
 
 fetched_parts_are : (replica : ℤ) (parts : List FetchPart) (results : List Accepted) (readings : List Reading) (shown : List Shown) (budget : Budget) → FetchReadings replica parts results readings shown budget
     → parts_by fetched_part parts results readings ≡ fetched_parts replica parts shown budget

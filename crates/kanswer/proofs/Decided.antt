@@ -13,35 +13,35 @@ use Rattle.kwire.specs.IsRequest.{IsRequest}
 use Rattle.kanswer.specs.Decisions.{Decision, Refuse, AskLog, Decides, ProduceDecides, BatchDecides, append_outcome, code_of, produce_parts, is_acks}
 use Rattle.kanswer.proofs.RequestBytes.{HasBytes, CarriesBytes, request_bytes}
 
-batch_decides : (part : ℕ) (bytes : List ℕ) → IsBytes bytes → (d : Decision) × BatchDecides part bytes d
-batch_decides part bytes fits =
+batch_decides : (version : ℤ) (part : ℕ) (bytes : List ℕ) → IsBytes bytes → (d : Decision) × BatchDecides version part bytes d
+batch_decides version part bytes fits =
     elim (batch_or_fault bytes fits) [
-      | inl batch ↦ (AskLog part (append_outcome part (length batch.0) bytes), inr (batch.0, batch.1, refl))
+      | inl batch ↦ (AskLog part (append_outcome version part (length batch.0) bytes), inr (batch.0, batch.1, refl))
       | inr fault ↦ (Refuse (code_of fault.0), inl (fault.0, fault.1, refl))
     ]
 
-acks_decide : (b : Bool) (part : ℕ) (bytes : List ℕ) → IsBytes bytes → (d : Decision) × MatchBool b (BatchDecides part bytes d) (d ≡ Refuse (pos 21))
-acks_decide true part bytes fits = batch_decides part bytes fits
-acks_decide false part bytes fits = (Refuse (pos 21), refl)
+acks_decide : (version : ℤ) (b : Bool) (part : ℕ) (bytes : List ℕ) → IsBytes bytes → (d : Decision) × MatchBool b (BatchDecides version part bytes d) (d ≡ Refuse (pos 21))
+acks_decide version true part bytes fits = batch_decides version part bytes fits
+acks_decide version false part bytes fits = (Refuse (pos 21), refl)
 
-part_decides : (o : Option ℕ) (b : Bool) (bytes : List ℕ) → IsBytes bytes → (d : Decision) × MatchOption o (d ≡ Refuse (pos 3)) (λ part. MatchBool b (BatchDecides part bytes d) (d ≡ Refuse (pos 21)))
-part_decides None b bytes fits = (Refuse (pos 3), refl)
-part_decides (Some part) b bytes fits = acks_decide b part bytes fits
+part_decides : (version : ℤ) (o : Option ℕ) (b : Bool) (bytes : List ℕ) → IsBytes bytes → (d : Decision) × MatchOption o (d ≡ Refuse (pos 3)) (λ part. MatchBool b (BatchDecides version part bytes d) (d ≡ Refuse (pos 21)))
+part_decides version None b bytes fits = (Refuse (pos 3), refl)
+part_decides version (Some part) b bytes fits = acks_decide version b part bytes fits
 
-produce_decides : (config : Configuration) (id : Option (List ℕ)) (acks : ℤ) (named : List ℕ × ProducePart) → HasBytes named → (d : Decision) × ProduceDecides config id acks named d
-produce_decides config (Some id) acks named fits = (Refuse (pos 42), refl)
-produce_decides config None acks named fits = part_decides (part_of config named.0 named.1.index) (is_acks acks) (unwrap_or named.1.records []) fits
+produce_decides : (version : ℤ) (config : Configuration) (id : Option (List ℕ)) (acks : ℤ) (named : List ℕ × ProducePart) → HasBytes named → (d : Decision) × ProduceDecides config version id acks named d
+produce_decides version config (Some id) acks named fits = (Refuse (pos 42), refl)
+produce_decides version config None acks named fits = part_decides version (part_of config named.0 named.1.index) (is_acks acks) (unwrap_or named.1.records []) fits
 
-all_decide : (config : Configuration) (id : Option (List ℕ)) (acks : ℤ) (named : List (List ℕ × ProducePart)) → AllByRecursion HasBytes named → (ds : List Decision) × AllZip (ProduceDecides config id acks) named ds
-all_decide config id acks [] all = ([], tt)
-all_decide config id acks (n ∷ named) all =
-    let here = produce_decides config id acks n all.0 in
-    let others = all_decide config id acks named all.1 in
+all_decide : (version : ℤ) (config : Configuration) (id : Option (List ℕ)) (acks : ℤ) (named : List (List ℕ × ProducePart)) → AllByRecursion HasBytes named → (ds : List Decision) × AllZip (ProduceDecides config version id acks) named ds
+all_decide version config id acks [] all = ([], tt)
+all_decide version config id acks (n ∷ named) all =
+    let here = produce_decides version config id acks n all.0 in
+    let others = all_decide version config id acks named all.1 in
     (here.0 ∷ others.0, (here.1, others.1))
 
 pub ask_decided : (config : Configuration) (ask : Ask) → CarriesBytes ask → (ds : List Decision) × Decides config ask ds
-ask_decided config (Produce id acks timeout topics) all = all_decide config id acks (produce_parts topics) all
-ask_decided config (Fetch replica max_wait min_bytes max_bytes isolation topics) all = (_, refl)
+ask_decided config (Produce version id acks timeout topics) all = all_decide version config id acks (produce_parts topics) all
+ask_decided config (Fetch version replica max_wait min_bytes max_bytes isolation topics) all = (_, refl)
 ask_decided config (Metadata topics) all = ([], refl)
 ask_decided config (Versions version) all = ([], refl)
 

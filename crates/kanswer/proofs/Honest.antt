@@ -12,7 +12,7 @@ use Rattle.kwire.specs.declared.request.Ask.TheVariants.{Produce, Fetch, Metadat
 use Rattle.kwire.specs.declared.request.FetchPart.{FetchPart}
 use Rattle.kwire.specs.declared.request.ProducePart.{ProducePart}
 use Rattle.kwire.specs.Configuration.{Configuration, followers_of, part_of}
-use Rattle.kanswer.specs.Decisions.{Entry, Put, Looked, Followed, Outcome, Decision, Refuse, Decides, BatchDecides, ProduceDecides, fetch_decision, fetch_outcome, in_range_outcome, offset_of, look, is_acks, produce_parts, fetch_parts}
+use Rattle.kanswer.specs.Decisions.{Entry, Put, Looked, Followed, Outcome, Decision, Refuse, Decides, BatchDecides, ProduceDecides, fetch_decision, fetch_outcome, in_range_outcome, offset_of, look, full_code, is_acks, produce_parts, fetch_parts}
 use Rattle.kanswer.specs.Deciding.{IsHonestAs, IsHonest, IsSound}
 
 pub sound : (part n : ℕ) (state : PartState) (result : Accepted) (entry : Entry) → part < n → IsHonestAs part state result entry → IsSound n result
@@ -26,30 +26,30 @@ either_honest : (part : ℕ) (state : PartState) (b : Bool) (x y : Outcome) → 
 either_honest part state true x y a c = a
 either_honest part state false x y a c = c
 
-batch_honest : (part : ℕ) (bytes : List ℕ) (decision : Decision) → BatchDecides part bytes decision → IsHonest decision
-batch_honest part bytes decision d =
+batch_honest : (version : ℤ) (part : ℕ) (bytes : List ℕ) (decision : Decision) → BatchDecides version part bytes decision → IsHonest decision
+batch_honest version part bytes decision d =
     elim d [
       | inl fault ↦ subst IsHonest (sym fault.2) tt
-      | inr batch ↦ subst IsHonest (sym batch.2) (λ state. either_honest part state (nat_lt 67108864 ((gauges_of state).bytes + length bytes)) (look (Refused (pos 6))) (record { result = Appended part state.log_end (length batch.0); entry = Put (length batch.0) bytes }) tt (refl, refl, omega (arith, batch.1.some_record)))
+      | inr batch ↦ subst IsHonest (sym batch.2) (λ state. either_honest part state (nat_lt 67108864 ((gauges_of state).bytes + length bytes)) (look (Refused (full_code version))) (record { result = Appended part state.log_end (length batch.0); entry = Put (length batch.0) bytes }) tt (refl, refl, omega (arith, batch.1.some_record)))
     ]
 
-acks_honest : (b : Bool) (part : ℕ) (bytes : List ℕ) (decision : Decision) → MatchBool b (BatchDecides part bytes decision) (decision ≡ Refuse (pos 21)) → IsHonest decision
-acks_honest true part bytes decision d = batch_honest part bytes decision d
-acks_honest false part bytes decision d = subst IsHonest (sym d) tt
+acks_honest : (version : ℤ) (b : Bool) (part : ℕ) (bytes : List ℕ) (decision : Decision) → MatchBool b (BatchDecides version part bytes decision) (decision ≡ Refuse (pos 21)) → IsHonest decision
+acks_honest version true part bytes decision d = batch_honest version part bytes decision d
+acks_honest version false part bytes decision d = subst IsHonest (sym d) tt
 
-part_honest : (o : Option ℕ) (b : Bool) (bytes : List ℕ) (decision : Decision) → MatchOption o (decision ≡ Refuse (pos 3)) (λ part. MatchBool b (BatchDecides part bytes decision) (decision ≡ Refuse (pos 21))) → IsHonest decision
-part_honest None b bytes decision d = subst IsHonest (sym d) tt
-part_honest (Some part) b bytes decision d = acks_honest b part bytes decision d
+part_honest : (version : ℤ) (o : Option ℕ) (b : Bool) (bytes : List ℕ) (decision : Decision) → MatchOption o (decision ≡ Refuse (pos 3)) (λ part. MatchBool b (BatchDecides version part bytes decision) (decision ≡ Refuse (pos 21))) → IsHonest decision
+part_honest version None b bytes decision d = subst IsHonest (sym d) tt
+part_honest version (Some part) b bytes decision d = acks_honest version b part bytes decision d
 
-produce_honest : (config : Configuration) (id : Option (List ℕ)) (acks : ℤ) (named : List ℕ × ProducePart) (decision : Decision) → ProduceDecides config id acks named decision → IsHonest decision
-produce_honest config (Some id) acks named decision d = subst IsHonest (sym d) tt
-produce_honest config None acks named decision d = part_honest (part_of config named.0 named.1.index) (is_acks acks) (unwrap_or named.1.records []) decision d
+produce_honest : (version : ℤ) (config : Configuration) (id : Option (List ℕ)) (acks : ℤ) (named : List ℕ × ProducePart) (decision : Decision) → ProduceDecides config version id acks named decision → IsHonest decision
+produce_honest version config (Some id) acks named decision d = subst IsHonest (sym d) tt
+produce_honest version config None acks named decision d = part_honest version (part_of config named.0 named.1.index) (is_acks acks) (unwrap_or named.1.records []) decision d
 
-produces_honest : (config : Configuration) (id : Option (List ℕ)) (acks : ℤ) (named : List (List ℕ × ProducePart)) (decisions : List Decision) → AllZip (ProduceDecides config id acks) named decisions → AllByRecursion IsHonest decisions
-produces_honest config id acks [] [] d = tt
-produces_honest config id acks [] (x ∷ decisions) d = absurd d
-produces_honest config id acks (a ∷ named) [] d = absurd d
-produces_honest config id acks (a ∷ named) (x ∷ decisions) d = (produce_honest config id acks a x d.0, produces_honest config id acks named decisions d.1)
+produces_honest : (version : ℤ) (config : Configuration) (id : Option (List ℕ)) (acks : ℤ) (named : List (List ℕ × ProducePart)) (decisions : List Decision) → AllZip (ProduceDecides config version id acks) named decisions → AllByRecursion IsHonest decisions
+produces_honest version config id acks [] [] d = tt
+produces_honest version config id acks [] (x ∷ decisions) d = absurd d
+produces_honest version config id acks (a ∷ named) [] d = absurd d
+produces_honest version config id acks (a ∷ named) (x ∷ decisions) d = (produce_honest version config id acks a x d.0, produces_honest version config id acks named decisions d.1)
 
 range_honest : (part : ℕ) (offset : ℤ) (entry : Entry) (state : PartState) → IsHonestAs part state (in_range_outcome part offset entry state).result (in_range_outcome part offset entry state).entry
 range_honest part (negsuc n) entry state = tt
@@ -70,7 +70,7 @@ fetches_honest config replica [] = tt
 fetches_honest config replica (a ∷ named) = (decision_honest config replica a (part_of config a.0 a.1.index), fetches_honest config replica named)
 
 pub decides_honest : (config : Configuration) (ask : Ask) (decisions : List Decision) → Decides config ask decisions → AllByRecursion IsHonest decisions
-decides_honest config (Produce transactional acks timeout topics) decisions d = produces_honest config transactional acks (produce_parts topics) decisions d
-decides_honest config (Fetch replica max_wait min_bytes max_bytes isolation topics) decisions d = subst (AllByRecursion IsHonest) (sym d) (fetches_honest config replica (fetch_parts topics))
+decides_honest config (Produce version transactional acks timeout topics) decisions d = produces_honest version config transactional acks (produce_parts topics) decisions d
+decides_honest config (Fetch version replica max_wait min_bytes max_bytes isolation topics) decisions d = subst (AllByRecursion IsHonest) (sym d) (fetches_honest config replica (fetch_parts topics))
 decides_honest config (Metadata topics) decisions d = subst (AllByRecursion IsHonest) (sym d) tt
 decides_honest config (Versions version) decisions d = subst (AllByRecursion IsHonest) (sym d) tt

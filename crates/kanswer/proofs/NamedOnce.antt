@@ -99,20 +99,20 @@ Asks config named (AskLog part outcome) = part_of config named.topic named.index
 abbrev named_as : List ℕ → ℤ → Named
 named_as topic index = record { topic = topic; index = index }
 
-batch_asks : (config : Configuration) (name : List ℕ) (index : ℤ) (part : ℕ) (bytes : List ℕ) (decision : Decision) → part_of config name index ≡ Some part → BatchDecides part bytes decision → Asks config (named_as name index) decision
-batch_asks config name index part bytes decision is d =
+batch_asks : (version : ℤ) (config : Configuration) (name : List ℕ) (index : ℤ) (part : ℕ) (bytes : List ℕ) (decision : Decision) → part_of config name index ≡ Some part → BatchDecides version part bytes decision → Asks config (named_as name index) decision
+batch_asks version config name index part bytes decision is d =
     elim d [
       | inl fault ↦ subst (Asks config (named_as name index)) (sym fault.2) tt
       | inr batch ↦ subst (Asks config (named_as name index)) (sym batch.2) is
     ]
 
-acks_asks : (config : Configuration) (name : List ℕ) (index : ℤ) (b : Bool) (part : ℕ) (bytes : List ℕ) (decision : Decision) → part_of config name index ≡ Some part → MatchBool b (BatchDecides part bytes decision) (decision ≡ Refuse (pos 21)) → Asks config (named_as name index) decision
-acks_asks config name index true part bytes decision is d = batch_asks config name index part bytes decision is d
-acks_asks config name index false part bytes decision is d = subst (Asks config (named_as name index)) (sym d) tt
+acks_asks : (version : ℤ) (config : Configuration) (name : List ℕ) (index : ℤ) (b : Bool) (part : ℕ) (bytes : List ℕ) (decision : Decision) → part_of config name index ≡ Some part → MatchBool b (BatchDecides version part bytes decision) (decision ≡ Refuse (pos 21)) → Asks config (named_as name index) decision
+acks_asks version config name index true part bytes decision is d = batch_asks version config name index part bytes decision is d
+acks_asks version config name index false part bytes decision is d = subst (Asks config (named_as name index)) (sym d) tt
 
-part_asks : (config : Configuration) (name : List ℕ) (index : ℤ) (o : Option ℕ) (b : Bool) (bytes : List ℕ) (decision : Decision) → part_of config name index ≡ o → MatchOption o (decision ≡ Refuse (pos 3)) (λ part. MatchBool b (BatchDecides part bytes decision) (decision ≡ Refuse (pos 21))) → Asks config (named_as name index) decision
-part_asks config name index None b bytes decision is d = subst (Asks config (named_as name index)) (sym d) tt
-part_asks config name index (Some part) b bytes decision is d = acks_asks config name index b part bytes decision is d
+part_asks : (version : ℤ) (config : Configuration) (name : List ℕ) (index : ℤ) (o : Option ℕ) (b : Bool) (bytes : List ℕ) (decision : Decision) → part_of config name index ≡ o → MatchOption o (decision ≡ Refuse (pos 3)) (λ part. MatchBool b (BatchDecides version part bytes decision) (decision ≡ Refuse (pos 21))) → Asks config (named_as name index) decision
+part_asks version config name index None b bytes decision is d = subst (Asks config (named_as name index)) (sym d) tt
+part_asks version config name index (Some part) b bytes decision is d = acks_asks version config name index b part bytes decision is d
 
 abbrev named_produce : List ℕ × ProducePart → Named
 named_produce named = named_as named.0 named.1.index
@@ -120,15 +120,15 @@ named_produce named = named_as named.0 named.1.index
 abbrev named_fetch : List ℕ × FetchPart → Named
 named_fetch named = named_as named.0 named.1.index
 
-produce_asks : (config : Configuration) (id : Option (List ℕ)) (acks : ℤ) (named : List ℕ × ProducePart) (decision : Decision) → ProduceDecides config id acks named decision → Asks config (named_produce named) decision
-produce_asks config (Some id) acks named decision d = subst (Asks config (named_produce named)) (sym d) tt
-produce_asks config None acks named decision d = part_asks config named.0 named.1.index (part_of config named.0 named.1.index) (is_acks acks) (unwrap_or named.1.records []) decision refl d
+produce_asks : (version : ℤ) (config : Configuration) (id : Option (List ℕ)) (acks : ℤ) (named : List ℕ × ProducePart) (decision : Decision) → ProduceDecides config version id acks named decision → Asks config (named_produce named) decision
+produce_asks version config (Some id) acks named decision d = subst (Asks config (named_produce named)) (sym d) tt
+produce_asks version config None acks named decision d = part_asks version config named.0 named.1.index (part_of config named.0 named.1.index) (is_acks acks) (unwrap_or named.1.records []) decision refl d
 
-produces_ask : (config : Configuration) (id : Option (List ℕ)) (acks : ℤ) (named : List (List ℕ × ProducePart)) (decisions : List Decision) → AllZip (ProduceDecides config id acks) named decisions → AllZip (Asks config) (map named_produce named) decisions
-produces_ask config id acks [] [] d = tt
-produces_ask config id acks [] (x ∷ decisions) d = absurd d
-produces_ask config id acks (a ∷ named) [] d = absurd d
-produces_ask config id acks (a ∷ named) (x ∷ decisions) d = (produce_asks config id acks a x d.0, produces_ask config id acks named decisions d.1)
+produces_ask : (version : ℤ) (config : Configuration) (id : Option (List ℕ)) (acks : ℤ) (named : List (List ℕ × ProducePart)) (decisions : List Decision) → AllZip (ProduceDecides config version id acks) named decisions → AllZip (Asks config) (map named_produce named) decisions
+produces_ask version config id acks [] [] d = tt
+produces_ask version config id acks [] (x ∷ decisions) d = absurd d
+produces_ask version config id acks (a ∷ named) [] d = absurd d
+produces_ask version config id acks (a ∷ named) (x ∷ decisions) d = (produce_asks version config id acks a x d.0, produces_ask version config id acks named decisions d.1)
 
 found_asks : (config : Configuration) (replica : ℤ) (named : List ℕ × FetchPart) (o : Option ℕ) → part_of config named.0 named.1.index ≡ o → Asks config (named_fetch named) (fetch_decision config replica named o)
 found_asks config replica named None is = tt
@@ -158,11 +158,11 @@ module _ {P : Type 0} (index : P → ℤ) where
         ∙ sym (map-append named_by here later)
 
 asks_named : (config : Configuration) (ask : Ask) (decisions : List Decision) → Decides config ask decisions → AllZip (Asks config) (named_of ask) decisions
-asks_named config (Produce transactional acks timeout topics) decisions d =
+asks_named config (Produce version transactional acks timeout topics) decisions d =
     subst (λ (ns : List Named). AllZip (Asks config) ns decisions) (sym (all_names (λ (part : ProducePart). part.index) (λ (t : ProduceTopic). t.name) (λ (t : ProduceTopic). t.parts) topics))
-    (produces_ask config transactional acks (produce_parts topics) decisions d)
-asks_named config (Fetch replica max_wait min_bytes max_bytes isolation topics) decisions d =
-    subst (λ (ds : List Decision). AllZip (Asks config) (named_of (Fetch replica max_wait min_bytes max_bytes isolation topics)) ds) (sym d)
+    (produces_ask version config transactional acks (produce_parts topics) decisions d)
+asks_named config (Fetch version replica max_wait min_bytes max_bytes isolation topics) decisions d =
+    subst (λ (ds : List Decision). AllZip (Asks config) (named_of (Fetch version replica max_wait min_bytes max_bytes isolation topics)) ds) (sym d)
     (subst (λ (ns : List Named). AllZip (Asks config) ns (map (λ a. fetch_decision config replica a (part_of config a.0 a.1.index)) (fetch_parts topics))) (sym (all_names (λ (part : FetchPart). part.index) (λ (t : FetchTopic). t.name) (λ (t : FetchTopic). t.parts) topics))
     (fetches_ask config replica (fetch_parts topics)))
 asks_named config (Metadata topics) decisions d = subst (AllZip (Asks config) []) (sym d) tt

@@ -1,7 +1,7 @@
 -- The needs of a request, one after the other beside what became of its partitions.
-use Rattle.std.proofs.Common.{◌≡◌, ◌≢◌, ℕ, zero, suc, ℤ, pos, negsuc, ◌+◌, ◌*◌, ◌/◌, ◌<◌, ◌≤◌, List, [], ◌∷◌, ◌++◌, length, map, get_or, All, AllPairs, Option, Some, None, unwrap_or, arith, refl, sym, ap, ◌∙◌, length-append}
+use Rattle.std.proofs.Common.{◌≡◌, ◌≢◌, ℕ, suc, ℤ, pos, negsuc, ◌+◌, ◌*◌, ◌/◌, ◌<◌, ◌≤◌, List, [], ◌∷◌, ◌++◌, length, map, get_or, All, AllPairs, Option, Some, None, unwrap_or, arith, sym, ap, ◌∙◌, length-append}
 use Rattle.std.specs.Prelude.{⊤}
-use Rattle.std.specs.List.{filter_map, zip, AllByRecursion, cons_option}
+use Rattle.std.specs.List.{filter_map, zip, AllByRecursion}
 use Rattle.std.proofs.lemmas.List.Elements.{All-from_recursion, recursion_from_All}
 use Rattle.std.proofs.lemmas.List.Kept.{AllPairs-cons}
 use Rattle.std.proofs.lemmas.Nat.{div-mul-add}
@@ -53,8 +53,8 @@ fetch_needs replica (asked ∷ parts) [] = tt
 fetch_needs replica (asked ∷ parts) (result ∷ results) = (of_fetch replica asked result, fetch_needs replica parts results)
 
 pub are_needs : (ask : Ask) (results : List Accepted) → AreNeeds (needs_by_part ask results) results
-are_needs (Produce transactional acks timeout topics) results = produce_needs results
-are_needs (Fetch replica max_wait min_bytes max_bytes isolation topics) results = fetch_needs replica (map (λ named. named.1) (fetch_parts topics)) results
+are_needs (Produce version transactional acks timeout topics) results = produce_needs results
+are_needs (Fetch version replica max_wait min_bytes max_bytes isolation topics) results = fetch_needs replica (map (λ named. named.1) (fetch_parts topics)) results
 are_needs (Metadata topics) results = tt
 are_needs (Versions version) results = tt
 

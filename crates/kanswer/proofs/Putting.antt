@@ -1,5 +1,5 @@
 -- A batch is put into a log, where there is room.
-use Rattle.std.proofs.Common.{◌≡◌, ℕ, ◌+◌, ◌≤◌, ◌<◌, Bool, true, false, cond, ltb, pos, List, [], length, Result, Ok, Err, sym, ap, ◌∙◌, arith, inl, inr}
+use Rattle.std.proofs.Common.{ℤ, ◌≡◌, ℕ, ◌+◌, ◌≤◌, ◌<◌, Bool, true, false, cond, ltb, List, [], length, Result, Ok, Err, sym, ap, ◌∙◌, arith, inl, inr}
 use Rattle.std.proofs.lemmas.Bool.{le-ltb, lt-ltb}
 use Rattle.std.proofs.lemmas.Bool.Decides.{leb_tells}
 use Rattle.std.specs.Prelude.{IfOk}
@@ -12,7 +12,7 @@ use Rattle.partlog.specs.Kept.{IsKept}
 use Rattle.partlog.specs.State.{PartState, state_of}
 use Rattle.partlog.proofs.Laws.{bytes_in-batches}
 use Rattle.kanswer.specs.declared.accepted.Accepted.TheVariants.{Refused, Appended}
-use Rattle.kanswer.specs.Decisions.{Put, Outcome, look, append_outcome}
+use Rattle.kanswer.specs.Decisions.{Put, Outcome, look, append_outcome, full_code}
 use Rattle.kanswer.specs.LogReadings.{IsCarriable}
 use Rattle.kanswer.specs.WithEntry.{entered}
 use Rattle.kanswer.specs.declared.entered.Entered.{Entered}
@@ -26,28 +26,28 @@ if_ok (Err e) p f = tt
 pub log_bytes : (h : History) → IsKept h.log h.events → (gauges_of (state_of h)).bytes ≡ length h.log
 log_bytes h kept = bytes_in-batches [] h.events h.log (omega (arith, kept.whole)) ∙ kept.whole
 
-pub has_room : (part count : ℕ) (batch : List ℕ) (h : History) → IsKept h.log h.events → length h.log + length batch ≤ 67108864
-    → append_outcome part count batch (state_of h) ≡ record { result = Appended part (state_of h).log_end count; entry = Put count batch }
-has_room part count batch h kept room =
+pub has_room : (version : ℤ) (part count : ℕ) (batch : List ℕ) (h : History) → IsKept h.log h.events → length h.log + length batch ≤ 67108864
+    → append_outcome version part count batch (state_of h) ≡ record { result = Appended part (state_of h).log_end count; entry = Put count batch }
+has_room version part count batch h kept room =
     let no : ltb 67108864 ((gauges_of (state_of h)).bytes + length batch) ≡ false = le-ltb 67108864 ((gauges_of (state_of h)).bytes + length batch) (omega (arith, room, log_bytes h kept)) in
-    ap (λ (b : Bool). cond b (look (Refused (pos 6))) (record { result = Appended part (state_of h).log_end count; entry = Put count batch })) no
+    ap (λ (b : Bool). cond b (look (Refused (full_code version))) (record { result = Appended part (state_of h).log_end count; entry = Put count batch })) no
 
-pub has_no_room : (part count : ℕ) (batch : List ℕ) (h : History) → IsKept h.log h.events → 67108864 < length h.log + length batch
-    → append_outcome part count batch (state_of h) ≡ look (Refused (pos 6))
-has_no_room part count batch h kept full =
+pub has_no_room : (version : ℤ) (part count : ℕ) (batch : List ℕ) (h : History) → IsKept h.log h.events → 67108864 < length h.log + length batch
+    → append_outcome version part count batch (state_of h) ≡ look (Refused (full_code version))
+has_no_room version part count batch h kept full =
     let yes : ltb 67108864 ((gauges_of (state_of h)).bytes + length batch) ≡ true = lt-ltb 67108864 ((gauges_of (state_of h)).bytes + length batch) (omega (arith, full, log_bytes h kept)) in
-    ap (λ (b : Bool). cond b (look (Refused (pos 6))) (record { result = Appended part (state_of h).log_end count; entry = Put count batch })) yes
+    ap (λ (b : Bool). cond b (look (Refused (full_code version))) (record { result = Appended part (state_of h).log_end count; entry = Put count batch })) yes
 
 pub not_above : (a b : ℕ) → (a < b → ⊥) → b ≤ a
 not_above a b never = elim (leb_tells b a) [ inl le ↦ le.1 | inr lt ↦ absurd (never lt.1) ]
 
 -- a batch was put
-pub put_entered : (by seq part base place count : ℕ) (h left : History) (batch : List ℕ) → IsKept h.log h.events → length h.log + length batch ≤ 67108864
+pub put_entered : (version : ℤ) (by seq part base place count : ℕ) (h left : History) (batch : List ℕ) → IsKept h.log h.events → length h.log + length batch ≤ 67108864
     → left ≡ appended h by seq batch → base ≡ log_end_of h.events → place ≡ length h.events → count ≡ count_of batch → IsCarriable (Appended part base count)
-    → HasEntered by seq (append_outcome part (count_of batch) batch) h left (record { became = Appended part base count; place = place })
-put_entered by seq part base place count h left batch kept room is_left is_base is_place is_count carriable =
-    let outcome = append_outcome part (count_of batch) batch in
-    let found : outcome (state_of h) ≡ record { result = Appended part (state_of h).log_end (count_of batch); entry = Put (count_of batch) batch } = has_room part (count_of batch) batch h kept room in
+    → HasEntered by seq (append_outcome version part (count_of batch) batch) h left (record { became = Appended part base count; place = place })
+put_entered version by seq part base place count h left batch kept room is_left is_base is_place is_count carriable =
+    let outcome = append_outcome version part (count_of batch) batch in
+    let found : outcome (state_of h) ≡ record { result = Appended part (state_of h).log_end (count_of batch); entry = Put (count_of batch) batch } = has_room version part (count_of batch) batch h kept room in
     record {
       history = is_left ∙ ap (λ (o : Outcome). entered h by seq o.entry) (sym found);
       became = ap (λ (b : ℕ). Appended part b count) is_base ∙ ap (λ (k : ℕ). Appended part (log_end_of h.events) k) is_count ∙ ap (λ (o : Outcome). o.result) (sym found);
@@ -56,8 +56,8 @@ put_entered by seq part base place count h left batch kept room is_left is_base 
     }
 
 -- the log was full
-pub full_entered : (by seq part : ℕ) (h after : History) (batch : List ℕ) (came : Entered) → IsKept h.log h.events → 67108864 < length h.log + length batch
-    → ((outcome : PartState → Outcome) → outcome (state_of h) ≡ look (Refused (pos 6)) → HasEntered by seq outcome h after came)
-    → HasEntered by seq (append_outcome part (count_of batch) batch) h after came
-full_entered by seq part h after batch came kept full then =
-    then (append_outcome part (count_of batch) batch) (has_no_room part (count_of batch) batch h kept full)
+pub full_entered : (version : ℤ) (by seq part : ℕ) (h after : History) (batch : List ℕ) (came : Entered) → IsKept h.log h.events → 67108864 < length h.log + length batch
+    → ((outcome : PartState → Outcome) → outcome (state_of h) ≡ look (Refused (full_code version)) → HasEntered by seq outcome h after came)
+    → HasEntered by seq (append_outcome version part (count_of batch) batch) h after came
+full_entered version by seq part h after batch came kept full then =
+    then (append_outcome version part (count_of batch) batch) (has_no_room version part (count_of batch) batch h kept full)

@@ -72,14 +72,14 @@ topics_bytes (topic ∷ topics) all =
 
 -- of each partition that is produced to
 abbrev pub CarriesBytes : Ask → Type 0
-CarriesBytes (Produce transactional acks timeout topics) = AllByRecursion HasBytes (produce_parts topics)
-CarriesBytes (Fetch replica max_wait min_bytes max_bytes isolation topics) = Unit {0}
+CarriesBytes (Produce version transactional acks timeout topics) = AllByRecursion HasBytes (produce_parts topics)
+CarriesBytes (Fetch version replica max_wait min_bytes max_bytes isolation topics) = Unit {0}
 CarriesBytes (Metadata topics) = Unit {0}
 CarriesBytes (Versions version) = Unit {0}
 
 ask_bytes : (ask : Ask) → AllByRecursion IsSpelledByBytes (ask_fields ask) → CarriesBytes ask
-ask_bytes (Produce transactional acks timeout topics) all = topics_bytes topics all.1.1.1.1
-ask_bytes (Fetch replica max_wait min_bytes max_bytes isolation topics) all = tt
+ask_bytes (Produce version transactional acks timeout topics) all = topics_bytes topics all.1.1.1.1
+ask_bytes (Fetch version replica max_wait min_bytes max_bytes isolation topics) all = tt
 ask_bytes (Metadata topics) all = tt
 ask_bytes (Versions version) all = tt
 

@@ -1,14 +1,14 @@
 -- A batch is put at the end of a log only where there is room for it, and it has fewer records than bytes.
-use Rattle.std.proofs.Common.{◌≡◌, ℕ, zero, suc, ℤ, pos, negsuc, ◌+◌, ◌<◌, ◌≤◌, Bool, true, false, cond, ◌&&◌, List, [], ◌∷◌, ◌++◌, length, map, Option, Some, None, MatchBool, inl, inr, refl, sym, ap, subst, ◌∙◌, arith, length-append, nat_le, nat_lt, ltb}
+use Rattle.std.proofs.Common.{◌≡◌, ℕ, suc, ℤ, pos, negsuc, ◌+◌, ◌<◌, ◌≤◌, Bool, true, false, cond, ◌&&◌, List, [], ◌∷◌, length, map, Option, Some, None, MatchBool, inl, inr, sym, ap, subst, arith, length-append, nat_le, nat_lt}
 use Rattle.std.specs.Prelude.{⊤, MatchOption, unwrap_or, slice_index}
 use Rattle.std.specs.List.{AllByRecursion, AllZip}
 use Rattle.std.proofs.lemmas.Bool.{cases_lt, lt-ltb, le-ltb}
 use Rattle.kbatch.specs.declared.record.Record.{Record}
 use Rattle.kbatch.specs.Batch.{IsBatch}
 use Rattle.kbatch.specs.Head.{head_bytes}
-use Rattle.kbatch.specs.Record.{body_bytes, record_bytes, records_from, sized}
+use Rattle.kbatch.specs.Record.{body_bytes, record_bytes, records_from}
 use Rattle.kbatch.specs.Stamp.{stamped}
-use Rattle.kbytes.specs.Field.{field, Int8, Varint}
+use Rattle.kbytes.specs.Field.{field, Varint}
 use Rattle.partlog.specs.State.{PartState as State}
 use Rattle.partlog.specs.Gauges.{gauges_of}
 use Rattle.partlog.specs.Start.{start_of}
@@ -18,7 +18,7 @@ use Rattle.kwire.specs.declared.request.Ask.TheVariants.{Produce, Fetch, Metadat
 use Rattle.kwire.specs.declared.request.FetchPart.{FetchPart}
 use Rattle.kwire.specs.declared.request.ProducePart.{ProducePart}
 use Rattle.kanswer.specs.declared.accepted.Accepted.TheVariants.{Refused, Appended, Seen}
-use Rattle.kanswer.specs.Decisions.{Entry, Put, Followed, Looked, Outcome, Decision, Refuse, AskLog, BatchDecides, Decides, ProduceDecides, append_outcome, code_of, fetch_decision, fetch_outcome, fetch_parts, in_range_outcome, is_acks, look, offset_of, produce_parts}
+use Rattle.kanswer.specs.Decisions.{Entry, Put, Followed, Looked, Outcome, Decision, Refuse, AskLog, BatchDecides, Decides, ProduceDecides, append_outcome, full_code, fetch_decision, fetch_outcome, fetch_parts, in_range_outcome, is_acks, look, offset_of, produce_parts}
 use Rattle.kanswer.proofs.Stamped.{batch_sized}
 
 -- ---- fewer records than bytes
@@ -48,37 +48,37 @@ abbrev pub PutsWithRoom : Decision → Type 0
 PutsWithRoom (Refuse code) = ⊤
 PutsWithRoom (AskLog part outcome) = (state : State) → HasRoom (outcome state).entry state
 
-abbrev if_full : Bool → ℕ → List ℕ → ℕ → State → Outcome
-if_full full part bytes count state = cond full (look (Refused (pos 6))) (record { result = Appended part state.log_end count; entry = Put count bytes })
+abbrev if_full : ℤ → Bool → ℕ → List ℕ → ℕ → State → Outcome
+if_full version full part bytes count state = cond full (look (Refused (full_code version))) (record { result = Appended part state.log_end count; entry = Put count bytes })
 
-appends_with_room : (part : ℕ) (bytes : List ℕ) (records : List Record) → IsBatch bytes records → (state : State) → HasRoom (append_outcome part (length records) bytes state).entry state
-appends_with_room part bytes records is state =
-    let Roomy : Bool → Type 0 = λ full. HasRoom (if_full full part bytes (length records) state).entry state in
+appends_with_room : (version : ℤ) (part : ℕ) (bytes : List ℕ) (records : List Record) → IsBatch bytes records → (state : State) → HasRoom (append_outcome version part (length records) bytes state).entry state
+appends_with_room version part bytes records is state =
+    let Roomy : Bool → Type 0 = λ full. HasRoom (if_full version full part bytes (length records) state).entry state in
     elim (cases_lt 67108864 ((gauges_of state).bytes + length bytes)) [
       | inl full ↦ subst Roomy (sym (lt-ltb 67108864 ((gauges_of state).bytes + length bytes) full)) tt
       | inr room ↦ subst Roomy (sym (le-ltb 67108864 ((gauges_of state).bytes + length bytes) room)) (batch_dense bytes records is, room, batch_sized bytes records is)
     ]
 
-batch_room : (part : ℕ) (bytes : List ℕ) (d : Decision) → BatchDecides part bytes d → PutsWithRoom d
-batch_room part bytes d (inl f) = subst PutsWithRoom (sym f.2) tt
-batch_room part bytes d (inr b) = subst PutsWithRoom (sym b.2) (appends_with_room part bytes b.0 b.1)
+batch_room : (version : ℤ) (part : ℕ) (bytes : List ℕ) (d : Decision) → BatchDecides version part bytes d → PutsWithRoom d
+batch_room version part bytes d (inl f) = subst PutsWithRoom (sym f.2) tt
+batch_room version part bytes d (inr b) = subst PutsWithRoom (sym b.2) (appends_with_room version part bytes b.0 b.1)
 
-acks_room : (known : Bool) (part : ℕ) (bytes : List ℕ) (d : Decision) → MatchBool known (BatchDecides part bytes d) (d ≡ Refuse (pos 21)) → PutsWithRoom d
-acks_room true part bytes d h = batch_room part bytes d h
-acks_room false part bytes d h = subst PutsWithRoom (sym h) tt
+acks_room : (version : ℤ) (known : Bool) (part : ℕ) (bytes : List ℕ) (d : Decision) → MatchBool known (BatchDecides version part bytes d) (d ≡ Refuse (pos 21)) → PutsWithRoom d
+acks_room version true part bytes d h = batch_room version part bytes d h
+acks_room version false part bytes d h = subst PutsWithRoom (sym h) tt
 
-part_room : (o : Option ℕ) (known : Bool) (bytes : List ℕ) (d : Decision) → MatchOption o (d ≡ Refuse (pos 3)) (λ part. MatchBool known (BatchDecides part bytes d) (d ≡ Refuse (pos 21))) → PutsWithRoom d
-part_room None known bytes d h = subst PutsWithRoom (sym h) tt
-part_room (Some part) known bytes d h = acks_room known part bytes d h
+part_room : (version : ℤ) (o : Option ℕ) (known : Bool) (bytes : List ℕ) (d : Decision) → MatchOption o (d ≡ Refuse (pos 3)) (λ part. MatchBool known (BatchDecides version part bytes d) (d ≡ Refuse (pos 21))) → PutsWithRoom d
+part_room version None known bytes d h = subst PutsWithRoom (sym h) tt
+part_room version (Some part) known bytes d h = acks_room version known part bytes d h
 
-produce_room : (config : Configuration) (id : Option (List ℕ)) (acks : ℤ) (named : List ℕ × ProducePart) (d : Decision) → ProduceDecides config id acks named d → PutsWithRoom d
-produce_room config (Some id) acks named d h = subst PutsWithRoom (sym h) tt
-produce_room config None acks named d h = part_room (part_of config named.0 named.1.index) (is_acks acks) (unwrap_or named.1.records []) d h
+produce_room : (version : ℤ) (config : Configuration) (id : Option (List ℕ)) (acks : ℤ) (named : List ℕ × ProducePart) (d : Decision) → ProduceDecides config version id acks named d → PutsWithRoom d
+produce_room version config (Some id) acks named d h = subst PutsWithRoom (sym h) tt
+produce_room version config None acks named d h = part_room version (part_of config named.0 named.1.index) (is_acks acks) (unwrap_or named.1.records []) d h
 
-all_produced : (config : Configuration) (id : Option (List ℕ)) (acks : ℤ) (named : List (List ℕ × ProducePart)) (ds : List Decision) → AllZip (ProduceDecides config id acks) named ds → AllByRecursion PutsWithRoom ds
-all_produced config id acks named [] h = tt
-all_produced config id acks [] (d ∷ ds) h = absurd h
-all_produced config id acks (n ∷ named) (d ∷ ds) h = (produce_room config id acks n d h.0, all_produced config id acks named ds h.1)
+all_produced : (version : ℤ) (config : Configuration) (id : Option (List ℕ)) (acks : ℤ) (named : List (List ℕ × ProducePart)) (ds : List Decision) → AllZip (ProduceDecides config version id acks) named ds → AllByRecursion PutsWithRoom ds
+all_produced version config id acks named [] h = tt
+all_produced version config id acks [] (d ∷ ds) h = absurd h
+all_produced version config id acks (n ∷ named) (d ∷ ds) h = (produce_room version config id acks n d h.0, all_produced version config id acks named ds h.1)
 
 -- a fetch puts nothing
 range_room : (part : ℕ) (offset : ℤ) (entry : Entry) (state : State) → ((s : State) → HasRoom entry s) → HasRoom (in_range_outcome part offset entry state).entry state
@@ -103,8 +103,8 @@ all_fetched config replica [] = tt
 all_fetched config replica (n ∷ named) = (fetch_room config replica n (part_of config n.0 n.1.index), all_fetched config replica named)
 
 pub decided_with_room : (config : Configuration) (ask : Ask) (decisions : List Decision) → Decides config ask decisions → AllByRecursion PutsWithRoom decisions
-decided_with_room config (Produce id acks timeout topics) ds h = all_produced config id acks (produce_parts topics) ds h
-decided_with_room config (Fetch replica max_wait min_bytes max_bytes isolation topics) ds h =
+decided_with_room config (Produce version id acks timeout topics) ds h = all_produced version config id acks (produce_parts topics) ds h
+decided_with_room config (Fetch version replica max_wait min_bytes max_bytes isolation topics) ds h =
     subst (AllByRecursion PutsWithRoom) (sym h) (all_fetched config replica (fetch_parts topics))
 decided_with_room config (Metadata topics) ds h = subst (AllByRecursion PutsWithRoom) (sym h) tt
 decided_with_room config (Versions version) ds h = subst (AllByRecursion PutsWithRoom) (sym h) tt

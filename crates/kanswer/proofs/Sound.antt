@@ -68,9 +68,9 @@ parts_count {P = P} name parts (t ∷ topics) =
     length-append here later ∙ omega (arith, count, rest, sum_by-cons (λ t. length (parts t)) t topics)
 
 pub decided_count : (config : Configuration) (ask : Ask) (decisions : List Decision) → Decides config ask decisions → length decisions ≡ named_count ask
-decided_count config (Produce transactional acks timeout topics) decisions d =
-    zip_length (ProduceDecides config transactional acks) (produce_parts topics) decisions d ∙ parts_count (λ t. t.name) (λ t. t.parts) topics
-decided_count config (Fetch replica max_wait min_bytes max_bytes isolation topics) decisions d =
+decided_count config (Produce version transactional acks timeout topics) decisions d =
+    zip_length (ProduceDecides config version transactional acks) (produce_parts topics) decisions d ∙ parts_count (λ t. t.name) (λ t. t.parts) topics
+decided_count config (Fetch version replica max_wait min_bytes max_bytes isolation topics) decisions d =
     ap length d ∙ length-map (fetch_parts topics) (λ a. fetch_decision config replica a (part_of config a.0 a.1.index)) ∙ parts_count (λ t. t.name) (λ t. t.parts) topics
 decided_count config (Metadata topics) decisions d = ap length d
 decided_count config (Versions version) decisions d = ap length d
@@ -95,8 +95,8 @@ names_count {P = P} name index parts (t ∷ topics) =
     length-append (map named_by (parts t)) later ∙ omega (arith, length-map (parts t) named_by, names_count name index parts topics, sum_by-cons (λ t. length (parts t)) t topics)
 
 named_length : (ask : Ask) → named_count ask ≡ length (named_of ask)
-named_length (Produce transactional acks timeout topics) = sym (names_count (λ (t : ProduceTopic). t.name) (λ (p : ProducePart). p.index) (λ (t : ProduceTopic). t.parts) topics)
-named_length (Fetch replica max_wait min_bytes max_bytes isolation topics) = sym (names_count (λ (t : FetchTopic). t.name) (λ (p : FetchPart). p.index) (λ (t : FetchTopic). t.parts) topics)
+named_length (Produce version transactional acks timeout topics) = sym (names_count (λ (t : ProduceTopic). t.name) (λ (p : ProducePart). p.index) (λ (t : ProduceTopic). t.parts) topics)
+named_length (Fetch version replica max_wait min_bytes max_bytes isolation topics) = sym (names_count (λ (t : FetchTopic). t.name) (λ (p : FetchPart). p.index) (λ (t : FetchTopic). t.parts) topics)
 named_length (Metadata topics) = refl
 named_length (Versions version) = refl
 

@@ -119,23 +119,23 @@ each_short (part ∷ parts) lt =
     let both = length-append part.records (records_of parts) in
     (omega arith, each_short parts (omega arith))
 
-fetched_fine : (topics : List FetchTopic) (results : List Accepted) (readings : List Reading) → sum_by (λ topic. length topic.parts) topics ≤ 64 → bytes_read readings < 2 ^ 31
-    → AllByRecursion FitsField (flat_map fetch_topic_fields topics) → AllByRecursion IsFetchedTopic (fetched_of topics results readings)
-fetched_fine [] results readings few short fits = tt
-fetched_fine (topic ∷ topics) results readings few short fits =
+fetched_fine : (version : ℤ) (topics : List FetchTopic) (results : List Accepted) (readings : List Reading) → sum_by (λ topic. length topic.parts) topics ≤ 64 → bytes_read readings < 2 ^ 31
+    → AllByRecursion FitsField (flat_map (fetch_topic_fields version) topics) → AllByRecursion IsFetchedTopic (fetched_of topics results readings)
+fetched_fine version [] results readings few short fits = tt
+fetched_fine version (topic ∷ topics) results readings few short fits =
     let n : ℕ = length topic.parts in
     let count = sum_by-cons (λ (t : FetchTopic). length t.parts) topic topics in
     let here = few_parts fetched_part topic.parts (take n results) (take n readings) in
     let bytes = parts_bytes topic.parts (take n results) (take n readings) in
     let read = sum_by-take-drop (λ (r : Reading). length r.records) readings n in
-    let rest = behind_fit (flat_map fetch_part_fields topic.parts) (flat_map fetch_topic_fields topics) fits.1.1 in
+    let rest = behind_fit (flat_map (fetch_part_fields version) topic.parts) (flat_map (fetch_topic_fields version) topics) fits.1.1 in
     let one : IsFetchedTopic (fetched_topic topic (take n results) (take n readings)) = record {
       name = fits.0;
       few = omega arith;
       parts = each_short (parts_by fetched_part topic.parts (take n results) (take n readings)) (omega arith);
     }
     in
-    (one, fetched_fine topics (drop n results) (drop n readings) (omega arith) (omega arith) rest)
+    (one, fetched_fine version topics (drop n results) (drop n readings) (omega arith) (omega arith) rest)
 
 -- ---- metadata
 
@@ -189,16 +189,16 @@ metadata_told config correlation (Some names) declared fits few =
 told_spellable : (config : Configuration) (correlation : ℤ) (ask : Ask) (accepted : List Accepted) (readings : List Reading) (shown : List Shown) → AreDeclared config.topics → AllByRecursion FitsField (ask_fields ask)
     → topics_named ask ≤ 64 → length (named_of ask) ≤ 64 → AreReadings ask accepted readings shown → bytes_read readings ≤ most_left (budget_of ask)
     → IsSpellable (record { correlation = correlation; told = told_to config ask shown })
-told_spellable config correlation (Produce transactional acks timeout topics) accepted readings shown declared fits few_topics few are room =
+told_spellable config correlation (Produce version transactional acks timeout topics) accepted readings shown declared fits few_topics few are room =
     let count = all_named (λ (t : ProduceTopic). t.parts) (λ (t : ProduceTopic) (p : ProducePart). record { topic = t.name; index = p.index }) topics in
     let size = produced_length acks topics shown in
-    produced_spellable correlation (produced_topics acks topics shown) (omega arith) (produced_fine acks topics shown (omega arith) fits.1.1.1.1)
-told_spellable config correlation (Fetch replica max_wait min_bytes max_bytes isolation topics) accepted readings shown declared fits few_topics few are room =
+    produced_spellable correlation version (produced_topics acks topics shown) (omega arith) (produced_fine acks topics shown (omega arith) fits.1.1.1.1)
+told_spellable config correlation (Fetch version replica max_wait min_bytes max_bytes isolation topics) accepted readings shown declared fits few_topics few are room =
     let count = all_named (λ (t : FetchTopic). t.parts) (λ (t : FetchTopic) (p : FetchPart). record { topic = t.name; index = p.index }) topics in
     let size = fetched_length topics accepted readings in
     let bytes = topics_bytes topics accepted readings in
-    subst (λ (told : List FetchedTopic). IsSpellable (record { correlation = correlation; told = Fetched isolation told })) (fetched_is replica topics accepted readings shown (first_budget max_bytes) are)
-    (fetched_spellable correlation isolation (fetched_of topics accepted readings) (omega arith) (fetched_fine topics accepted readings (omega arith) (omega arith) fits.1.1.1.1.1.1) (omega arith))
+    subst (λ (told : List FetchedTopic). IsSpellable (record { correlation = correlation; told = Fetched version isolation told })) (fetched_is replica topics accepted readings shown (first_budget max_bytes) are)
+    (fetched_spellable correlation version isolation (fetched_of topics accepted readings) (omega arith) (fetched_fine version topics accepted readings (omega arith) (omega arith) fits.1.1.1.1.1.1) (omega arith))
 told_spellable config correlation (Metadata topics) accepted readings shown declared fits few_topics few are room = metadata_told config correlation topics declared fits few_topics
 told_spellable config correlation (Versions version) accepted readings shown declared fits few_topics few are room = versions_spellable correlation _
 

@@ -1,8 +1,7 @@
 -- The values of an operation's gauges: one for each need, that of its partition's state.
-use Rattle.std.proofs.Common.{◌≡◌, ℕ, ◌+◌, ◌/◌, Bool, true, false, cond, ◌&&◌, nat_lt, ltb, List, [], ◌∷◌, length, map, Option, Some, None, arith, refl, sym, ap, ◌∙◌}
-use Rattle.std.specs.List.{filter_map, zip, cons_option, AllZip}
+use Rattle.std.proofs.Common.{◌≡◌, ℕ, ◌+◌, ◌/◌, List, [], ◌∷◌, map, Option, Some, None, arith, refl, sym, ap, ◌∙◌}
+use Rattle.std.specs.List.{filter_map, zip, cons_option}
 use Rattle.kwire.specs.declared.request.Ask.{Ask}
-use Rattle.kwire.specs.declared.request.Ask.TheVariants.{Produce, Fetch, Metadata, Versions}
 use Rattle.partlog.specs.State.{PartState as State}
 use Rattle.partlog.specs.Gauges.{numbers_of}
 use Rattle.partlog.specs.declared.numbers.Numbers.{Numbers}

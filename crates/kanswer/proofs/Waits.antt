@@ -1,6 +1,6 @@
 -- Whether a request waits, from how far its needs are reached.
-use Rattle.std.proofs.Common.{◌≡◌, ℕ, zero, suc, ◌+◌, ◌*◌, ◌<◌, ◌≤◌, ◌^◌, ℤ, negsuc, Bool, true, false, cond, ◌&&◌, not, List, [], ◌∷◌, ◌++◌, length, map, take, drop, get_or, count_by, sum_by, option_map, drop_of_length-le, inl, inr, nat_lt, ltb, Option, Some, None, arith, refl, sym, ap, ◌∙◌}
-use Rattle.std.specs.List.{filter_map, zip, cons_option, slice_get}
+use Rattle.std.proofs.Common.{◌≡◌, ℕ, zero, suc, ◌+◌, ◌<◌, ◌≤◌, ℤ, negsuc, Bool, true, false, cond, ◌&&◌, List, [], ◌∷◌, ◌++◌, length, map, drop, get_or, count_by, sum_by, option_map, drop_of_length-le, inl, inr, nat_lt, Option, Some, None, arith, refl, sym, ap, ◌∙◌}
+use Rattle.std.specs.List.{zip, cons_option, slice_get}
 use Rattle.std.specs.Ordering.{int_eq}
 use Rattle.std.proofs.Math.Seq.{drop-cons}
 use Rattle.std.proofs.lemmas.Bool.Decides.{leb_tells}
@@ -49,13 +49,13 @@ grouped false b c = refl
 
 pub delayed_is : (ask : Ask) (numbers : List Numbers) (shown : List Shown) → AreNumbers numbers shown
     → (may_wait ask (results_of shown) && nat_lt (reached_by (needs_by_part ask (results_of shown)) numbers) (least_of ask (needs_of ask (results_of shown)))) ≡ becomes_delayed ask shown
-delayed_is (Produce transactional acks timeout topics) numbers shown own =
-    let ask : Ask = Produce transactional acks timeout topics in
+delayed_is (Produce version transactional acks timeout topics) numbers shown own =
+    let ask : Ask = Produce version transactional acks timeout topics in
     let most : ℕ = length (needs_of ask (results_of shown)) in
     ap (λ (t : ℕ). int_eq acks (negsuc 0) && nat_lt t most) (sym (tally_reached ask numbers shown own))
     ∙ ap (λ (b : Bool). int_eq acks (negsuc 0) && b) (below_some _ most)
-delayed_is (Fetch replica max_wait min_bytes max_bytes isolation topics) numbers shown own =
-    let ask : Ask = Fetch replica max_wait min_bytes max_bytes isolation topics in
+delayed_is (Fetch version replica max_wait min_bytes max_bytes isolation topics) numbers shown own =
+    let ask : Ask = Fetch version replica max_wait min_bytes max_bytes isolation topics in
     ap (λ (t : ℕ). (nat_lt 0 (at_least_zero max_wait) && all_seen (results_of shown)) && nat_lt t (least_of ask (needs_of ask (results_of shown)))) (sym (tally_reached ask numbers shown own))
     ∙ grouped (nat_lt 0 (at_least_zero max_wait)) (all_seen (results_of shown)) (falls_short ask shown)
 delayed_is (Metadata topics) numbers shown own = refl

@@ -1,4 +1,4 @@
--- The reply to a request, from what became of each named partition and a state of it. The same function serves a request
+-- The reply to a request, in its version, from what became of each named partition and a state of it. The same function serves a request
 -- that is answered at once, one that was satisfied and one that expired.
 use Rattle.std.specs.Prelude.{ℕ, ◌+◌, ◌-◌, min, ℤ, pos, negsuc, Bool, true, false, ◌||◌, List, [], ◌∷◌, length, map, take, drop, filter, nat_lt, nat_le, if◌then◌else◌, Option, Some, None}
 use Rattle.std.specs.List.{find, flat_map, slice_get}
@@ -25,6 +25,7 @@ use Rattle.kwire.specs.declared.reply.ProducedTopic.{ProducedTopic}
 use Rattle.kwire.specs.declared.reply.FetchedPart.{FetchedPart}
 use Rattle.kwire.specs.declared.reply.FetchedTopic.{FetchedTopic}
 use Rattle.kwire.specs.declared.reply.TopicInfo.{TopicInfo}
+use Rattle.kanswer.specs.declared.accepted.TheConstants.{LOG_START}
 use Rattle.kanswer.specs.declared.accepted.Accepted.{Accepted}
 use Rattle.kanswer.specs.declared.accepted.Accepted.TheVariants.{Refused, Appended, Seen}
 use Rattle.kanswer.specs.declared.accepted.Budget.{Budget}
@@ -36,12 +37,12 @@ abbrev pub produced_code : ℤ → ℕ → State → ℤ
 produced_code acks after state =
     if int_eq acks (negsuc 0) then (if nat_le after (high_of state) then NONE else REQUEST_TIMED_OUT) else NONE
 
--- a refused partition has the base offset -1
+-- a refused partition has the base offset -1 and the log start -1
 abbrev pub produced_as : ℤ → ℤ → Accepted → State → ProducedPart
-produced_as acks index (Refused code) state = record { index = index; code = code; base = negsuc 0 }
+produced_as acks index (Refused code) state = record { index = index; code = code; base = negsuc 0; start = negsuc 0 }
 produced_as acks index (Appended part base count) state =
-    record { index = index; code = produced_code acks (base + count) state; base = pos base }
-produced_as acks index (Seen part start) state = record { index = index; code = NONE; base = negsuc 0 }
+    record { index = index; code = produced_code acks (base + count) state; base = pos base; start = LOG_START }
+produced_as acks index (Seen part start) state = record { index = index; code = NONE; base = negsuc 0; start = negsuc 0 }
 
 abbrev pub produced_parts : ℤ → List ProducePart → List Shown → List ProducedPart
 produced_parts acks [] shown = []
@@ -74,8 +75,8 @@ read_if replica (Some asked) start state budget = read_of replica asked start st
 
 -- those of the partition that a request names at this place, counted from 0 over all topics; only a fetch reads any
 abbrev pub read_at : Ask → ℕ → ℕ → State → Budget → List Stored
-read_at (ask.Produce transactional acks timeout topics) at start state budget = []
-read_at (ask.Fetch replica max_wait min_bytes max_bytes isolation topics) at start state budget =
+read_at (ask.Produce version transactional acks timeout topics) at start state budget = []
+read_at (ask.Fetch version replica max_wait min_bytes max_bytes isolation topics) at start state budget =
     read_if replica (slice_get (asked_parts topics) at) start state budget
 read_at (ask.Metadata topics) at start state budget = []
 read_at (ask.Versions version) at start state budget = []
@@ -90,12 +91,14 @@ batches_as replica asked (Refused code) state budget = []
 batches_as replica asked (Appended part base count) state budget = []
 batches_as replica asked (Seen part start) state budget = read_of replica asked start state budget
 
--- a partition with an error has the high watermark -1
+-- a partition with an error has the high watermark -1 and the log start -1
 abbrev pub fetched_as : FetchPart → Accepted → State → List Stored → FetchedPart
-fetched_as asked (Refused code) state batches = record { index = asked.index; code = code; high = negsuc 0; records = [] }
-fetched_as asked (Appended part base count) state batches = record { index = asked.index; code = NONE; high = negsuc 0; records = [] }
+fetched_as asked (Refused code) state batches =
+    record { index = asked.index; code = code; high = negsuc 0; start = negsuc 0; records = [] }
+fetched_as asked (Appended part base count) state batches =
+    record { index = asked.index; code = NONE; high = negsuc 0; start = negsuc 0; records = [] }
 fetched_as asked (Seen part start) state batches =
-    record { index = asked.index; code = NONE; high = pos (high_of state); records = joined batches }
+    record { index = asked.index; code = NONE; high = pos (high_of state); start = LOG_START; records = joined batches }
 
 abbrev pub fetched_parts : ℤ → List FetchPart → List Shown → Budget → List FetchedPart
 fetched_parts replica [] shown budget = []
@@ -134,9 +137,9 @@ infos_of topics None = map (λ topic. info_as topic.name (Some topic)) topics
 infos_of topics (Some names) = map (info_of topics) names
 
 abbrev pub told_to : Configuration → Ask → List Shown → Told
-told_to config (ask.Produce transactional acks timeout topics) shown = told.Produced (produced_topics acks topics shown)
-told_to config (ask.Fetch replica max_wait min_bytes max_bytes isolation topics) shown =
-    told.Fetched isolation (fetched_topics replica topics shown (first_budget max_bytes))
+told_to config (ask.Produce version transactional acks timeout topics) shown = told.Produced version (produced_topics acks topics shown)
+told_to config (ask.Fetch version replica max_wait min_bytes max_bytes isolation topics) shown =
+    told.Fetched version isolation (fetched_topics replica topics shown (first_budget max_bytes))
 told_to config (ask.Metadata topics) shown = told.Metadata config.port (infos_of config.topics topics)
 told_to config (ask.Versions version) shown = told.Versions (if int_eq version (pos 0) then NONE else UNSUPPORTED_VERSION)
 

@@ -1,5 +1,5 @@
 -- Accepting a request: what becomes of each named partition, from the state that is found, and the entry that it leaves.
-use Rattle.std.specs.Prelude.{ℕ, ◌+◌, ◌≡◌, ◌⊎◌, ℤ, pos, negsuc, Bool, ◌&&◌, ◌||◌, List, [], length, map, nat_lt, nat_le, if◌then◌else◌, Option, Some, None, unwrap_or, MatchOption, MatchBool, slice_index}
+use Rattle.std.specs.Prelude.{ℕ, ◌+◌, ◌≡◌, ◌⊎◌, ℤ, pos, negsuc, int_le, Bool, ◌&&◌, ◌||◌, List, [], length, map, nat_lt, nat_le, if◌then◌else◌, Option, Some, None, unwrap_or, MatchOption, MatchBool, slice_index}
 use Rattle.std.specs.List.{flat_map, AllZip}
 use Rattle.std.specs.Ordering.{int_eq}
 use Rattle.partlog.specs.declared.part_log.TheConstants.{MOST_LOG_BYTES}
@@ -11,7 +11,7 @@ use Rattle.kbatch.specs.declared.fault.BatchFault.TheVariants.{TooLarge, Short, 
 use Rattle.kbatch.specs.declared.record.Record.{Record}
 use Rattle.kbatch.specs.Batch.{IsBatch}
 use Rattle.kbatch.specs.Fault.{IsFirstFault}
-use Rattle.kwire.specs.declared.codes.TheConstants.{NONE, OFFSET_OUT_OF_RANGE, CORRUPT_MESSAGE, UNKNOWN_TOPIC_OR_PARTITION, NOT_LEADER_OR_FOLLOWER, REPLICA_NOT_AVAILABLE, MESSAGE_TOO_LARGE, INVALID_REQUIRED_ACKS, INVALID_REQUEST, UNSUPPORTED_COMPRESSION_TYPE, INVALID_RECORD}
+use Rattle.kwire.specs.declared.codes.TheConstants.{NONE, OFFSET_OUT_OF_RANGE, CORRUPT_MESSAGE, UNKNOWN_TOPIC_OR_PARTITION, NOT_LEADER_OR_FOLLOWER, KAFKA_STORAGE_ERROR, REPLICA_NOT_AVAILABLE, MESSAGE_TOO_LARGE, INVALID_REQUIRED_ACKS, INVALID_REQUEST, UNSUPPORTED_COMPRESSION_TYPE, INVALID_RECORD}
 use Rattle.kwire.specs.Configuration.{Configuration, followers_of, part_of}
 use Rattle.kwire.specs.declared.request.Ask.{Ask}
 use Rattle.kwire.specs.declared.request.Ask.TheVariants.{Produce, Fetch, Metadata, Versions}
@@ -19,6 +19,7 @@ use Rattle.kwire.specs.declared.request.ProducePart.{ProducePart}
 use Rattle.kwire.specs.declared.request.ProduceTopic.{ProduceTopic}
 use Rattle.kwire.specs.declared.request.FetchPart.{FetchPart}
 use Rattle.kwire.specs.declared.request.FetchTopic.{FetchTopic}
+use Rattle.kanswer.specs.declared.terms.TheConstants.{STORAGE_ERROR_VERSION}
 use Rattle.kanswer.specs.declared.accepted.Accepted.{Accepted}
 use Rattle.kanswer.specs.declared.accepted.Accepted.TheVariants.{Refused, Appended, Seen}
 
@@ -53,26 +54,30 @@ code_of NoMemory = NONE
 abbrev pub look : Accepted → Outcome
 look result = record { result = result; entry = Looked }
 
+-- a full log, in this version of a produce
+abbrev pub full_code : ℤ → ℤ
+full_code version = if int_le STORAGE_ERROR_VERSION version then KAFKA_STORAGE_ERROR else NOT_LEADER_OR_FOLLOWER
+
 -- a batch is put at the end, where the log can keep it
-abbrev pub append_outcome : ℕ → ℕ → List ℕ → State → Outcome
-append_outcome part count batch state =
-    if nat_lt MOST_LOG_BYTES ((gauges_of state).bytes + length batch) then look (Refused NOT_LEADER_OR_FOLLOWER)
+abbrev pub append_outcome : ℤ → ℕ → ℕ → List ℕ → State → Outcome
+append_outcome version part count batch state =
+    if nat_lt MOST_LOG_BYTES ((gauges_of state).bytes + length batch) then look (Refused (full_code version))
     else record { result = Appended part state.log_end count; entry = Put count batch }
 
 abbrev pub is_acks : ℤ → Bool
 is_acks acks = int_eq acks (negsuc 0) || int_eq acks (pos 0) || int_eq acks (pos 1)
 
-abbrev pub BatchDecides : ℕ → List ℕ → Decision → Type 0
-BatchDecides part bytes decision =
+abbrev pub BatchDecides : ℤ → ℕ → List ℕ → Decision → Type 0
+BatchDecides version part bytes decision =
     ((fault : BatchFault) × IsFirstFault bytes fault × (decision ≡ Refuse (code_of fault)))
-    ⊎ ((records : List Record) × IsBatch bytes records × (decision ≡ AskLog part (append_outcome part (length records) bytes)))
+    ⊎ ((records : List Record) × IsBatch bytes records × (decision ≡ AskLog part (append_outcome version part (length records) bytes)))
 
 -- the first cause that applies decides: a transactional id, no such partition, unknown acks, a fault of the batch
-abbrev pub ProduceDecides : Configuration → Option (List ℕ) → ℤ → List ℕ × ProducePart → Decision → Type 0
-ProduceDecides config (Some id) acks named decision = decision ≡ Refuse INVALID_REQUEST
-ProduceDecides config None acks named decision =
+abbrev pub ProduceDecides : Configuration → ℤ → Option (List ℕ) → ℤ → List ℕ × ProducePart → Decision → Type 0
+ProduceDecides config version (Some id) acks named decision = decision ≡ Refuse INVALID_REQUEST
+ProduceDecides config version None acks named decision =
     MatchOption (part_of config named.0 named.1.index) (decision ≡ Refuse UNKNOWN_TOPIC_OR_PARTITION) (λ part.
-    MatchBool (is_acks acks) (BatchDecides part (unwrap_or named.1.records []) decision) (decision ≡ Refuse INVALID_REQUIRED_ACKS))
+    MatchBool (is_acks acks) (BatchDecides version part (unwrap_or named.1.records []) decision) (decision ≡ Refuse INVALID_REQUIRED_ACKS))
 
 abbrev pub in_range_outcome : ℕ → ℤ → Entry → State → Outcome
 in_range_outcome part (negsuc n) entry state = look (Refused OFFSET_OUT_OF_RANGE)
@@ -109,9 +114,9 @@ fetch_decisions config replica named = map (λ one. fetch_decision config replic
 
 -- one decision for each named partition
 abbrev pub Decides : Configuration → Ask → List Decision → Type 0
-Decides config (Produce transactional acks timeout topics) decisions =
-    AllZip (ProduceDecides config transactional acks) (produce_parts topics) decisions
-Decides config (Fetch replica max_wait min_bytes max_bytes isolation topics) decisions =
+Decides config (Produce version transactional acks timeout topics) decisions =
+    AllZip (ProduceDecides config version transactional acks) (produce_parts topics) decisions
+Decides config (Fetch version replica max_wait min_bytes max_bytes isolation topics) decisions =
     decisions ≡ fetch_decisions config replica (fetch_parts topics)
 Decides config (Metadata topics) decisions = decisions ≡ []
 Decides config (Versions version) decisions = decisions ≡ []

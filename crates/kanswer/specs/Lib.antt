@@ -4,6 +4,8 @@
 pub mod Decisions
 -- on what terms a produce is asked
 pub mod OnTerms
+-- a batch that a produce sent, and what becomes of it
+pub mod Sent
 -- decisions that ask logs which are there, each once
 pub mod Deciding
 -- a history with the entry of a call

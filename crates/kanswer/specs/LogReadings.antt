@@ -15,15 +15,15 @@ use Rattle.kanswer.specs.Answer.{first_budget, asked_parts, batches_as, budget_a
 
 -- what a reply may take of its first partition
 abbrev pub budget_of : Ask → Budget
-budget_of (Produce transactional acks timeout topics) = record { left = 0; any = false }
-budget_of (Fetch replica max_wait min_bytes max_bytes isolation topics) = first_budget max_bytes
+budget_of (Produce version transactional acks timeout topics) = record { left = 0; any = false }
+budget_of (Fetch version replica max_wait min_bytes max_bytes isolation topics) = first_budget max_bytes
 budget_of (Metadata topics) = record { left = 0; any = false }
 budget_of (Versions version) = record { left = 0; any = false }
 
 -- how many partitions are named
 abbrev pub named_count : Ask → ℕ
-named_count (Produce transactional acks timeout topics) = sum_by (λ topic. length topic.parts) topics
-named_count (Fetch replica max_wait min_bytes max_bytes isolation topics) = sum_by (λ topic. length topic.parts) topics
+named_count (Produce version transactional acks timeout topics) = sum_by (λ topic. length topic.parts) topics
+named_count (Fetch version replica max_wait min_bytes max_bytes isolation topics) = sum_by (λ topic. length topic.parts) topics
 named_count (Metadata topics) = 0
 named_count (Versions version) = 0
 
@@ -55,8 +55,8 @@ FetchReadings replica (asked ∷ parts) (result ∷ results) (reading ∷ readin
 FetchReadings replica _ _ _ _ budget = ⊥
 
 abbrev pub AreReadings : Ask → List Accepted → List Reading → List Shown → Type 0
-AreReadings (Produce transactional acks timeout topics) results readings shown = ProduceReadings results readings shown
-AreReadings (Fetch replica max_wait min_bytes max_bytes isolation topics) results readings shown =
+AreReadings (Produce version transactional acks timeout topics) results readings shown = ProduceReadings results readings shown
+AreReadings (Fetch version replica max_wait min_bytes max_bytes isolation topics) results readings shown =
     FetchReadings replica (asked_parts topics) results readings shown (first_budget max_bytes)
 AreReadings (Metadata topics) results readings shown = shown ≡ []
 AreReadings (Versions version) results readings shown = shown ≡ []

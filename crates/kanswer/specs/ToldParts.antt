@@ -13,22 +13,27 @@ use Rattle.kwire.specs.declared.reply.FetchedTopic.{FetchedTopic}
 use Rattle.kanswer.specs.declared.accepted.Accepted.{Accepted}
 use Rattle.kanswer.specs.declared.accepted.Accepted.TheVariants.{Refused, Appended, Seen}
 use Rattle.kanswer.specs.declared.accepted.Reading.{Reading}
+use Rattle.kanswer.specs.declared.accepted.TheConstants.{LOG_START}
 
 -- with acks -1 a batch that every follower has, or else the time ran out
 abbrev pub code_at : ℤ → ℕ → ℕ → ℤ
 code_at acks after high = if int_eq acks (negsuc 0) then (if nat_le after high then NONE else REQUEST_TIMED_OUT) else NONE
 
 abbrev pub produced_part : ℤ → ProducePart → Accepted → Reading → ProducedPart
-produced_part acks asked (Refused code) reading = record { index = asked.index; code = code; base = negsuc 0 }
+produced_part acks asked (Refused code) reading =
+    record { index = asked.index; code = code; base = negsuc 0; start = negsuc 0 }
 produced_part acks asked (Appended part base count) reading =
-    record { index = asked.index; code = code_at acks (base + count) reading.numbers.high; base = pos base }
-produced_part acks asked (Seen part start) reading = record { index = asked.index; code = NONE; base = negsuc 0 }
+    record { index = asked.index; code = code_at acks (base + count) reading.numbers.high; base = pos base; start = LOG_START }
+produced_part acks asked (Seen part start) reading =
+    record { index = asked.index; code = NONE; base = negsuc 0; start = negsuc 0 }
 
 abbrev pub fetched_part : FetchPart → Accepted → Reading → FetchedPart
-fetched_part asked (Refused code) reading = record { index = asked.index; code = code; high = negsuc 0; records = [] }
-fetched_part asked (Appended part base count) reading = record { index = asked.index; code = NONE; high = negsuc 0; records = [] }
+fetched_part asked (Refused code) reading =
+    record { index = asked.index; code = code; high = negsuc 0; start = negsuc 0; records = [] }
+fetched_part asked (Appended part base count) reading =
+    record { index = asked.index; code = NONE; high = negsuc 0; start = negsuc 0; records = [] }
 fetched_part asked (Seen part start) reading =
-    record { index = asked.index; code = NONE; high = pos reading.numbers.high; records = reading.records }
+    record { index = asked.index; code = NONE; high = pos reading.numbers.high; start = LOG_START; records = reading.records }
 
 -- one partition after the other
 abbrev pub parts_by : {A B : Type 0} → (A → Accepted → Reading → B) → List A → List Accepted → List Reading → List B

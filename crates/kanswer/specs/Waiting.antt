@@ -47,8 +47,8 @@ fetch_need replica (asked, Seen part start) =
 
 -- for each named partition its need, if any
 abbrev pub needs_by_part : Ask → List Accepted → List (Option Need)
-needs_by_part (Produce transactional acks timeout topics) results = map produce_need results
-needs_by_part (Fetch replica max_wait min_bytes max_bytes isolation topics) results =
+needs_by_part (Produce version transactional acks timeout topics) results = map produce_need results
+needs_by_part (Fetch version replica max_wait min_bytes max_bytes isolation topics) results =
     map (fetch_need replica) (zip (map (λ named. named.1) (fetch_parts topics)) results)
 needs_by_part (Metadata topics) results = []
 needs_by_part (Versions version) results = []
@@ -77,15 +77,15 @@ values_of ask shown = filter_map value_of (zip (needs_by_part ask (results_of sh
 
 -- the least tally at which the request is satisfied
 abbrev pub least_of : Ask → List Need → ℕ
-least_of (Produce transactional acks timeout topics) needs = length needs
-least_of (Fetch replica max_wait min_bytes max_bytes isolation topics) needs = min (at_least_zero min_bytes) (reply_limit max_bytes)
+least_of (Produce version transactional acks timeout topics) needs = length needs
+least_of (Fetch version replica max_wait min_bytes max_bytes isolation topics) needs = min (at_least_zero min_bytes) (reply_limit max_bytes)
 least_of (Metadata topics) needs = 0
 least_of (Versions version) needs = 0
 
 -- how long it may wait, in milliseconds
 abbrev pub wait_of : Ask → ℕ
-wait_of (Produce transactional acks timeout topics) = at_least_zero timeout
-wait_of (Fetch replica max_wait min_bytes max_bytes isolation topics) = at_least_zero max_wait
+wait_of (Produce version transactional acks timeout topics) = at_least_zero timeout
+wait_of (Fetch version replica max_wait min_bytes max_bytes isolation topics) = at_least_zero max_wait
 wait_of (Metadata topics) = 0
 wait_of (Versions version) = 0
 
@@ -113,18 +113,18 @@ falls_short ask shown =
 
 -- the request becomes an operation
 abbrev pub becomes_delayed : Ask → List Shown → Bool
-becomes_delayed (Produce transactional acks timeout topics) shown =
-    int_eq acks (negsuc 0) && (nat_lt 0 (length (needs_of (Produce transactional acks timeout topics) (results_of shown)))
-    && falls_short (Produce transactional acks timeout topics) shown)
-becomes_delayed (Fetch replica max_wait min_bytes max_bytes isolation topics) shown =
+becomes_delayed (Produce version transactional acks timeout topics) shown =
+    int_eq acks (negsuc 0) && (nat_lt 0 (length (needs_of (Produce version transactional acks timeout topics) (results_of shown)))
+    && falls_short (Produce version transactional acks timeout topics) shown)
+becomes_delayed (Fetch version replica max_wait min_bytes max_bytes isolation topics) shown =
     nat_lt 0 (at_least_zero max_wait) && (all_seen (results_of shown)
-    && falls_short (Fetch replica max_wait min_bytes max_bytes isolation topics) shown)
+    && falls_short (Fetch version replica max_wait min_bytes max_bytes isolation topics) shown)
 becomes_delayed (Metadata topics) shown = false
 becomes_delayed (Versions version) shown = false
 
 -- it asks for no reply
 abbrev pub is_quiet : Ask → Bool
-is_quiet (Produce transactional acks timeout topics) = int_eq acks (pos 0)
-is_quiet (Fetch replica max_wait min_bytes max_bytes isolation topics) = false
+is_quiet (Produce version transactional acks timeout topics) = int_eq acks (pos 0)
+is_quiet (Fetch version replica max_wait min_bytes max_bytes isolation topics) = false
 is_quiet (Metadata topics) = false
 is_quiet (Versions version) = false

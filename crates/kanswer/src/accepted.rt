@@ -32,6 +32,9 @@ pub struct Budget {
     pub any: bool,
 }
 
+/// Where each log starts: no batch is ever removed from its front.
+pub const LOG_START: i64 = 0;
+
 /// The most bytes of records in a reply, whatever the request asks for.
 pub const MOST_REPLY_BYTES: u64 = 52_428_800;
 

@@ -3,19 +3,20 @@ ghost use Rattle.std.specs.Prelude.{◌≡◌, [], negsuc, length, sum_by, All, 
 ghost use Rattle.kanswer.specs.LogReadings.{HasCarriable};
 ghost use Rattle.kanswer.specs.ToldParts.{parts_by, fetched_part, fetched_topic, fetched_of};
 
-use crate::accepted::{Accepted, Reading};
+use crate::accepted::{Accepted, LOG_START, Reading};
 use kbytes::{Bytes, List, NoMemory, copied};
 use kwire::{FetchPart, FetchTopicView, FetchedPart, FetchedTopic, codes};
 use std::alloc::Global;
 
-// A partition with an error has the high watermark -1 and no records.
+// A partition with an error has the high watermark -1, the log start -1 and no records.
 fn without_records(alloc: Global, index: i32, code: i16) -> FetchedPart
-    ensures { result ≡ record { index = index; code = code; high = negsuc 0; records = [] } }
+    ensures { result ≡ record { index = index; code = code; high = negsuc 0; start = negsuc 0; records = [] } }
 {
     FetchedPart {
         index,
         code,
         high: -1,
+        start: -1,
         records: Bytes::new(alloc),
     }
 }
@@ -37,6 +38,7 @@ fn fetched_part(
             index,
             code: codes::NONE,
             high: reading.numbers.high as i64,
+            start: LOG_START,
             records: copied(alloc, reading.records.as_slice())?,
         }),
     }

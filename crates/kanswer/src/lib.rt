@@ -26,7 +26,7 @@ mod reply;
 mod terms;
 mod waiting;
 
-pub use accepted::{Accepted, Budget, MOST_REPLY_BYTES, Reading};
+pub use accepted::{Accepted, Budget, LOG_START, MOST_REPLY_BYTES, Reading};
 pub use batch::enter_batch;
 pub use code::code_of;
 pub use entered::Entered;
@@ -39,5 +39,5 @@ pub use promises::requests_are_decided;
 pub use put::decide_put;
 pub use replies::answer;
 pub use reply::reply_frame;
-pub use terms::Terms;
+pub use terms::{STORAGE_ERROR_VERSION, SentBatch, Terms};
 pub use waiting::{is_quiet, needs_op, op_of};

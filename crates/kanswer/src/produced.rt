@@ -3,7 +3,7 @@ ghost use Rattle.std.specs.Prelude.{◌≡◌, negsuc, length, sum_by, All, IfOk
 ghost use Rattle.kanswer.specs.LogReadings.{IsCarriable};
 ghost use Rattle.kanswer.specs.ToldParts.{code_at, parts_by, produced_part, produced_topic, produced_of};
 
-use crate::accepted::{Accepted, Reading};
+use crate::accepted::{Accepted, LOG_START, Reading};
 use kbytes::{List, NoMemory, copied};
 use kwire::{ProducePartView, ProduceTopicView, ProducedPart, ProducedTopic, codes};
 use std::alloc::Global;
@@ -19,14 +19,15 @@ fn code_at(acks: i16, after: u64, high: u64) -> i16
     }
 }
 
-// A partition to which nothing was appended has the base offset -1.
+// A partition to which nothing was appended has the base offset -1 and the log start -1.
 fn without_base(index: i32, code: i16) -> ProducedPart
-    ensures { result ≡ record { index = index; code = code; base = negsuc 0 } }
+    ensures { result ≡ record { index = index; code = code; base = negsuc 0; start = negsuc 0 } }
 {
     ProducedPart {
         index,
         code,
         base: -1,
+        start: -1,
     }
 }
 
@@ -46,6 +47,7 @@ fn produced_part(
             index,
             code: code_at(acks, base + u64::from(count), reading.numbers.high),
             base: base as i64,
+            start: LOG_START,
         },
         Accepted::Seen { .. } => without_base(index, 0),
     }

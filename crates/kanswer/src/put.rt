@@ -1,13 +1,13 @@
 //! Deciding a partition of a produce before its log is asked, so without any lock.
 ghost use Rattle.std.specs.Prelude.{◌≡◌, ◌<◌, [], IfErr, IfOk, unwrap_or};
-ghost use Rattle.kbatch.specs.Kept.{count_of};
-ghost use Rattle.kanswer.specs.Decisions.{AskLog, ProduceDecides, Refuse, append_outcome};
+ghost use Rattle.kanswer.specs.Decisions.{AskLog, ProduceDecides, Refuse};
+ghost use Rattle.kanswer.specs.Sent.{sent_outcome};
 ghost use Rattle.kwire.specs.Configuration.{partitions_of};
 ghost use Rattle.kanswer.specs.OnTerms.{OnTerms};
 
 use crate::code_of;
-use crate::terms::Terms;
-use kbatch::{BatchView, view_batch};
+use crate::terms::{SentBatch, Terms};
+use kbatch::view_batch;
 use kwire::{Config, ProducePartView, codes};
 
 fn records_of<'a>(part: &ProducePartView<'a>) -> &'a [u8]
@@ -26,11 +26,11 @@ pub fn decide_put<'a>(
     terms: Terms,
     topic: &[u8],
     part: &ProducePartView<'a>,
-) -> Result<(u32, BatchView<'a>), i16>
-    ensures put { IfOk result (λ put. OnTerms terms (λ id. ProduceDecides config.now id terms.acks (topic.now, part.now)
-        (AskLog put.0 (append_outcome put.0 (count_of put.1) put.1)))) }
+) -> Result<(u32, SentBatch<'a>), i16>
+    ensures put { IfOk result (λ put. OnTerms terms (λ id. ProduceDecides config.now terms.version id terms.acks (topic.now, part.now)
+        (AskLog put.0 (sent_outcome put.0 put.1)))) }
     ensures within { IfOk result (λ put. put.0 < partitions_of config.now.topics) }
-    ensures refused { IfErr result (λ code. OnTerms terms (λ id. ProduceDecides config.now id terms.acks (topic.now, part.now) (Refuse code))) }
+    ensures refused { IfErr result (λ code. OnTerms terms (λ id. ProduceDecides config.now terms.version id terms.acks (topic.now, part.now) (Refuse code))) }
 {
     if terms.is_transactional {
         return Err(codes::INVALID_REQUEST);
@@ -42,7 +42,13 @@ pub fn decide_put<'a>(
         return Err(codes::INVALID_REQUIRED_ACKS);
     }
     match view_batch(records_of(part)) {
-        Ok(batch) => Ok((number, batch)),
+        Ok(batch) => Ok((
+            number,
+            SentBatch {
+                version: terms.version,
+                batch,
+            },
+        )),
         Err(fault) => Err(code_of(&fault)),
     }
 }

@@ -29,14 +29,22 @@ fn told_to(
         → told ≡ told_to config.now (ask_of ask.now) shown) }
 {
     match ask {
-        AskView::Produce { acks, topics, .. } => Ok(Told::Produced {
+        AskView::Produce {
+            version,
+            acks,
+            topics,
+            ..
+        } => Ok(Told::Produced {
+            version: *version,
             topics: produced_topics(alloc, *acks, topics.as_slice(), accepted, readings)?,
         }),
         AskView::Fetch {
+            version,
             isolation,
             topics,
             ..
         } => Ok(Told::Fetched {
+            version: *version,
             isolation: *isolation,
             topics: fetched_topics(alloc, topics.as_slice(), accepted, readings)?,
         }),

@@ -1,9 +1,16 @@
 ghost use Rattle.std.specs.Prelude.{◌≡◌};
-ghost use Rattle.kanswer.specs.Decisions.{is_acks};
+ghost use Rattle.kanswer.specs.Decisions.{full_code, is_acks};
 
-/// The terms of a produce: whether it has a transactional id, and its acks.
+use kbatch::BatchView;
+use kwire::codes;
+
+/// The first version of a produce that knows `KAFKA_STORAGE_ERROR` (Kafka protocol guide: Produce v4).
+pub const STORAGE_ERROR_VERSION: i16 = 4;
+
+/// The terms of a produce: its version, whether it has a transactional id, and its acks.
 #[derive(Clone, Copy, Debug, PartialEq, Eq)]
 pub struct Terms {
+    pub version: i16,
     pub is_transactional: bool,
     pub acks: i16,
 }
@@ -14,5 +21,25 @@ impl Terms {
         ensures { result ≡ is_acks self.now.acks }
     {
         self.acks == -1 || self.acks == 0 || self.acks == 1
+    }
+}
+
+/// A batch for a partition, as a produce in this version sent it.
+#[derive(Debug, Drop)]
+pub struct SentBatch<'a> {
+    pub version: i16,
+    pub batch: BatchView<'a>,
+}
+
+impl SentBatch<'_> {
+    /// The code for a log that is full.
+    pub fn full_code(&self) -> i16
+        ensures { result ≡ full_code self.now.version }
+    {
+        if STORAGE_ERROR_VERSION <= self.version {
+            codes::KAFKA_STORAGE_ERROR
+        } else {
+            codes::NOT_LEADER_OR_FOLLOWER
+        }
     }
 }

@@ -1,4 +1,4 @@
-use Rattle.std.proofs.Common.{◌≡◌, ℕ, ℤ, pos, ◌<◌, List, Option, Some, None, get_or, length, option_copied, arith, sym, ap, subst, ◌∙◌, rules}
+use Rattle.std.proofs.Common.{◌≡◌, ℤ, pos, List, Some, None, get_or, option_copied, arith, sym, ap, subst, ◌∙◌, rules}
 use Rattle.std.specs.List.{slice_get}
 use Rattle.std.specs.Int.{w32}
 use Rattle.std.proofs.lemmas.Int.{to_z-of_z}

@@ -5,7 +5,7 @@ use Rattle.kanswer.proofs.AskedParts.{found_here, found_later}
 use Rattle.kanswer.proofs.one_part.asked_at.Goals as goal
 
 abbrev none : FetchPart
-none = record { index = pos 0; offset = pos 0; most = pos 0 }
+none = record { index = pos 0; offset = pos 0; log_start = pos 0; most = pos 0 }
 
 pub returns-then-left-parts : goal.returns-then-left-parts
 returns-then-left-parts c =

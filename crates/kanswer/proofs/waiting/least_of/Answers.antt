@@ -1,4 +1,4 @@
-use Rattle.std.proofs.Common.{◌≡◌, ◌<◌, ◌^◌, ℕ, length, arith, sym, ap, subst, ◌∙◌}
+use Rattle.std.proofs.Common.{◌≡◌, ◌<◌, arith, sym, subst, ◌∙◌}
 use Rattle.kwire.specs.declared.view.AskView.{AskView}
 use Rattle.kwire.specs.Views.{ask_of}
 use Rattle.kanswer.specs.Results.{AreResults}

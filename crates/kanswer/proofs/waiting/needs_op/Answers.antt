@@ -4,9 +4,8 @@ use Rattle.kwire.specs.declared.request.Request.{Request}
 use Rattle.kwire.specs.Views.{ask_of}
 use Rattle.kanswer.specs.declared.accepted.Accepted.{Accepted}
 use Rattle.kanswer.specs.MayWait.{may_wait}
-use Rattle.kanswer.specs.Numbered.{AreNumbers}
 use Rattle.kanswer.specs.Reached.{reached_by}
-use Rattle.kanswer.specs.Waiting.{becomes_delayed, least_of, needs_by_part, needs_of, results_of}
+use Rattle.kanswer.specs.Waiting.{becomes_delayed, least_of, needs_by_part, needs_of}
 use Rattle.kanswer.proofs.Waits.{delayed_is}
 use Rattle.kanswer.proofs.waiting.needs_op.Goals as goal
 

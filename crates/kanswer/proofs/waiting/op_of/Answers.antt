@@ -1,12 +1,11 @@
-use Rattle.std.proofs.Common.{◌≡◌, ℕ, ◌+◌, ◌≤◌, List, [], ◌∷◌, ◌++◌, Option, Some, None, length, drop, arith, sym, ap, subst, ◌∙◌, append_assoc, append-nil}
-use Rattle.std.specs.List.{slice_get}
+use Rattle.std.proofs.Common.{◌≡◌, ℕ, ◌+◌, ◌≤◌, List, [], ◌∷◌, ◌++◌, Some, None, length, drop, arith, sym, ap, subst, ◌∙◌, append_assoc, append-nil}
 use Rattle.kwire.specs.declared.request.Ask.{Ask}
 use Rattle.kwire.specs.declared.request.Request.{Request}
 use Rattle.kwire.specs.Views.{ask_of}
 use Rattle.opcond.specs.Operation.{Operation}
 use Rattle.opcond.specs.declared.need.Need.{Need}
 use Rattle.kanswer.specs.Results.{AreResults}
-use Rattle.kanswer.specs.Waiting.{least_of, needs_by_part, needs_of, operation_of, wait_of}
+use Rattle.kanswer.specs.Waiting.{least_of, needs_by_part, needs_of, operation_of}
 use Rattle.kanswer.proofs.Needs.{AreApart, apart_before, few_before, few_needs, needs_apart, needs_within, present}
 use Rattle.kanswer.proofs.Waits.{present_end, present_on}
 use Rattle.kanswer.proofs.waiting.op_of.Goals as goal

@@ -1,9 +1,6 @@
-use Rattle.std.proofs.Common.{◌≡◌, ◌+◌, ◌<◌, ◌≤◌, ◌*◌, List, [], Option, length, drop, arith, sym, ap, ◌∙◌}
-use Rattle.std.proofs.Common.{drop_of_length-le}
+use Rattle.std.proofs.Common.{arith}
 use Rattle.partlog.specs.declared.numbers.Numbers.{Numbers}
 use Rattle.kwire.specs.Views.{ask_of}
-use Rattle.opcond.specs.declared.need.Need.{Need}
-use Rattle.kanswer.specs.Reached.{reached_at, reached_by}
 use Rattle.kanswer.specs.Waiting.{needs_by_part}
 use Rattle.kanswer.proofs.Waits.{reached_on, reached_end}
 use Rattle.kanswer.proofs.waiting.reached.Goals as goal
