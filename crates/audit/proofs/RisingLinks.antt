@@ -1,7 +1,6 @@
 -- Links that are sorted by their numbers, no two of which are the same, rise.
 use Rattle.std.proofs.Common.{◌≡◌, ◌≢◌, ◌<◌, ◌≤◌, ℕ, List, length, get_or, map, AllPairs, IsPermutation, Bor, sym, ap, ◌∙◌, arith, rules, subst, [], ◌∷◌, None}
 use Rattle.std.specs.Prelude.{◌==◌}
-use Rattle.std.specs.List.{IsDistinct}
 use Rattle.std.specs.List.Sorted.{IsNonDecreasingBy}
 use Rattle.std.proofs.lemmas.Bool.Decides.{Decides-eqb}
 use Rattle.std.proofs.lemmas.List.{get_or-map, length-map}

@@ -219,7 +219,7 @@ records_of [] = []
 records_of (topic ∷ topics) = records_in topic.parts
 
 records_told : Told → List ℕ
-records_told (told.Fetched isolation topics) = records_of topics
+records_told (told.Fetched version isolation topics) = records_of topics
 records_told other = []
 
 other_reply : reply_of 1 (9 ∷ []) ≡ reply_of 0 [] → ⊥

@@ -1,5 +1,5 @@
 -- What the worked accounts print.
-use Rattle.std.proofs.Common.{◌≡◌, ◌<◌, ℕ, zero, suc, List, [], ◌∷◌, Some, None, AllPairs, IsPermutation, arith, refl}
+use Rattle.std.proofs.Common.{◌≡◌, ◌<◌, ℕ, zero, suc, List, [], ◌∷◌, Some, None, AllPairs, arith, refl}
 use Rattle.std.specs.Prelude.{codes}
 use Rattle.std.specs.Fmt.{digits}
 use Rattle.audit.specs.declared.account.SessionEnd.TheVariants.{Closed, NoMemory, Truncated}

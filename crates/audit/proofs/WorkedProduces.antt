@@ -29,7 +29,7 @@ abbrev put : ℕ → ℕ → Step
 put base place = record { result = Appended 0 base 1; point = Some (at 0 place) }
 
 abbrev asked : List ℕ → Decision
-asked batch = AskLog 0 (append_outcome 0 1 batch)
+asked batch = AskLog 0 (append_outcome (pos 3) 0 1 batch)
 
 module _ (plain batch : List ℕ) (one : Record) (is_batch : IsBatch batch (one ∷ [])) where
   abbrev account : Account
@@ -46,7 +46,7 @@ module _ (plain batch : List ℕ) (one : Record) (is_batch : IsBatch batch (one 
 
   -- ---- the first append
 
-  first_room : append_outcome 0 1 batch (before_point account (at 0 0)) ≡ record { result = Appended 0 0 1; entry = Put 1 batch }
+  first_room : append_outcome (pos 3) 0 1 batch (before_point account (at 0 0)) ≡ record { result = Appended 0 0 1; entry = Put 1 batch }
   first_room = rw (le-ltb 67108864 (0 + length batch) (omega (arith, small))) refl
 
   first_bytes : take (length batch) (take (0 + length batch) log) ≡ stamped 0 batch
@@ -57,7 +57,7 @@ module _ (plain batch : List ℕ) (one : Record) (is_batch : IsBatch batch (one 
   first_entry : IsEntry account (at 0 0) (Put 1 batch)
   first_entry = ap (λ (bytes : List ℕ). record { base = 0; count = 1; bytes = bytes } ∷ []) first_bytes
 
-  first_step : AsksLog account 0 (append_outcome 0 1 batch) (put 0 0)
+  first_step : AsksLog account 0 (append_outcome (pos 3) 0 1 batch) (put 0 0)
   first_step = record {
     point = at 0 0;
     left = refl;
@@ -68,7 +68,7 @@ module _ (plain batch : List ℕ) (one : Record) (is_batch : IsBatch batch (one 
 
   -- ---- the second
 
-  second_room : append_outcome 0 1 batch (before_point account (at 0 1)) ≡ record { result = Appended 0 1 1; entry = Put 1 batch }
+  second_room : append_outcome (pos 3) 0 1 batch (before_point account (at 0 1)) ≡ record { result = Appended 0 1 1; entry = Put 1 batch }
   second_room =
       let bytes = 0 + length (take (length batch) (take (0 + length batch) log)) in
       let long : bytes ≤ length batch = omega (arith, ap length first_bytes, sized 0) in
@@ -90,7 +90,7 @@ module _ (plain batch : List ℕ) (one : Record) (is_batch : IsBatch batch (one 
       ap (λ (bytes : List ℕ). record { base = 0; count = 1; bytes = bytes } ∷ record { base = 1; count = 1; bytes = take (length batch) (drop (length batch) (take (0 + length batch + length batch) log)) } ∷ []) second_front
       ∙ ap (λ (bytes : List ℕ). record { base = 0; count = 1; bytes = take (length batch) (take (0 + length batch) log) } ∷ record { base = 1; count = 1; bytes = bytes } ∷ []) second_bytes
 
-  second_step : AsksLog account 0 (append_outcome 0 1 batch) (put 1 1)
+  second_step : AsksLog account 0 (append_outcome (pos 3) 0 1 batch) (put 1 1)
   second_step = record {
     point = at 0 1;
     left = refl;

@@ -21,34 +21,34 @@ pair a b ne (suc i) j d lt within = absurd (omega (arith, lt, within))
 pub one_body : IsRequest (fields (request_fields fetch_one)) fetch_one
 unfolding followed_by times
 one_body = inl (record {
-  whole = record { spelled = refl; version = refl; laid_out = record { named = 1; lead = (((_, refl), record { sfits = omega arith }), (((_, refl), record { sfits = omega arith }), (((_, refl), record { sfits = omega arith }), (((_, refl), tt), (((_, refl), record { sfits = omega arith }), (((_, refl), record { sfits = omega arith }), (((_, refl), record { sfits = omega arith }), (((_, refl), record { sfits = omega arith }), (((_, refl, (0, omega arith, refl)), record { sfits = omega arith }), (((_, refl), omega arith, omega arith), (((_, refl), omega arith), (((_, refl), omega arith, omega arith), (((_, refl), record { sfits = omega arith }), (((_, refl), record { sfits = omega arith }), (((_, refl), record { sfits = omega arith }), (refl, refl)))))))))))))))) } };
+  whole = record { spelled = refl; version = refl; laid_out = record { named = 1; lead = (((_, refl), record { sfits = omega arith }), (((_, refl), record { sfits = omega arith }), (((_, refl), record { sfits = omega arith }), (((_, refl), tt), (((_, refl), record { sfits = omega arith }), (((_, refl), record { sfits = omega arith }), (((_, refl), record { sfits = omega arith }), (((_, refl), record { sfits = omega arith }), (((_, refl, (0, omega arith, refl)), record { sfits = omega arith }), (((_, refl), omega arith, omega arith), (((_, refl), omega arith), (((_, refl), omega arith, omega arith), (((_, refl), record { sfits = omega arith }), (((_, refl), record { sfits = omega arith }), (((_, refl), record { sfits = omega arith }), (refl, refl)))))))))))))))) }; fitting = ((λ untold. refl, tt), tt) };
   once = alone (record { topic = 116 ∷ []; index = pos 0 });
 })
 
 pub now_body : IsRequest (fields (request_fields fetch_now)) fetch_now
 unfolding followed_by times
 now_body = inl (record {
-  whole = record { spelled = refl; version = refl; laid_out = record { named = 1; lead = (((_, refl), record { sfits = omega arith }), (((_, refl), record { sfits = omega arith }), (((_, refl), record { sfits = omega arith }), (((_, refl), tt), (((_, refl), record { sfits = omega arith }), (((_, refl), record { sfits = omega arith }), (((_, refl), record { sfits = omega arith }), (((_, refl), record { sfits = omega arith }), (((_, refl, (0, omega arith, refl)), record { sfits = omega arith }), (((_, refl), omega arith, omega arith), (((_, refl), omega arith), (((_, refl), omega arith, omega arith), (((_, refl), record { sfits = omega arith }), (((_, refl), record { sfits = omega arith }), (((_, refl), record { sfits = omega arith }), (refl, refl)))))))))))))))) } };
+  whole = record { spelled = refl; version = refl; laid_out = record { named = 1; lead = (((_, refl), record { sfits = omega arith }), (((_, refl), record { sfits = omega arith }), (((_, refl), record { sfits = omega arith }), (((_, refl), tt), (((_, refl), record { sfits = omega arith }), (((_, refl), record { sfits = omega arith }), (((_, refl), record { sfits = omega arith }), (((_, refl), record { sfits = omega arith }), (((_, refl, (0, omega arith, refl)), record { sfits = omega arith }), (((_, refl), omega arith, omega arith), (((_, refl), omega arith), (((_, refl), omega arith, omega arith), (((_, refl), record { sfits = omega arith }), (((_, refl), record { sfits = omega arith }), (((_, refl), record { sfits = omega arith }), (refl, refl)))))))))))))))) }; fitting = ((λ untold. refl, tt), tt) };
   once = alone (record { topic = 116 ∷ []; index = pos 0 });
 })
 
 pub both_body : IsRequest (fields (request_fields fetch_both)) fetch_both
 unfolding followed_by times
 both_body = inl (record {
-  whole = record { spelled = refl; version = refl; laid_out = record { named = 2; lead = (((_, refl), record { sfits = omega arith }), (((_, refl), record { sfits = omega arith }), (((_, refl), record { sfits = omega arith }), (((_, refl), tt), (((_, refl), record { sfits = omega arith }), (((_, refl), record { sfits = omega arith }), (((_, refl), record { sfits = omega arith }), (((_, refl), record { sfits = omega arith }), (((_, refl, (0, omega arith, refl)), record { sfits = omega arith }), (((_, refl), omega arith, omega arith), (((_, refl), omega arith), (((_, refl), omega arith, omega arith), (((_, refl), record { sfits = omega arith }), (((_, refl), record { sfits = omega arith }), (((_, refl), record { sfits = omega arith }), (((_, refl), record { sfits = omega arith }), (((_, refl), record { sfits = omega arith }), (((_, refl), record { sfits = omega arith }), (refl, refl))))))))))))))))))) } };
+  whole = record { spelled = refl; version = refl; laid_out = record { named = 2; lead = (((_, refl), record { sfits = omega arith }), (((_, refl), record { sfits = omega arith }), (((_, refl), record { sfits = omega arith }), (((_, refl), tt), (((_, refl), record { sfits = omega arith }), (((_, refl), record { sfits = omega arith }), (((_, refl), record { sfits = omega arith }), (((_, refl), record { sfits = omega arith }), (((_, refl, (0, omega arith, refl)), record { sfits = omega arith }), (((_, refl), omega arith, omega arith), (((_, refl), omega arith), (((_, refl), omega arith, omega arith), (((_, refl), record { sfits = omega arith }), (((_, refl), record { sfits = omega arith }), (((_, refl), record { sfits = omega arith }), (((_, refl), record { sfits = omega arith }), (((_, refl), record { sfits = omega arith }), (((_, refl), record { sfits = omega arith }), (refl, refl))))))))))))))))))) }; fitting = ((λ untold. refl, (λ untold. refl, tt)), tt) };
   once = pair (record { topic = 116 ∷ []; index = pos 0 }) (record { topic = 116 ∷ []; index = pos 1 }) (other_parts (116 ∷ []));
 })
 
 pub leader_body : (batch : List ℕ) → length batch < 2 ^ 31 → IsRequest (fields (request_fields (produce_of (pos 1) batch))) (produce_of (pos 1) batch)
 unfolding followed_by times
 leader_body batch small = inl (record {
-  whole = record { spelled = refl; version = refl; laid_out = record { named = 1; lead = (((_, refl), record { sfits = omega arith }), (((_, refl), record { sfits = omega arith }), (((_, refl), record { sfits = omega arith }), (((_, refl), tt), (((_, refl), tt), (((_, refl), record { sfits = omega arith }), (((_, refl), record { sfits = omega arith }), (((_, refl), omega arith, omega arith), (((_, refl), omega arith), (((_, refl), omega arith, omega arith), (((_, refl), record { sfits = omega arith }), (((_, refl), small), (refl, refl))))))))))))) } };
+  whole = record { spelled = refl; version = refl; laid_out = record { named = 1; lead = (((_, refl), record { sfits = omega arith }), (((_, refl), record { sfits = omega arith }), (((_, refl), record { sfits = omega arith }), (((_, refl), tt), (((_, refl), tt), (((_, refl), record { sfits = omega arith }), (((_, refl), record { sfits = omega arith }), (((_, refl), omega arith, omega arith), (((_, refl), omega arith), (((_, refl), omega arith, omega arith), (((_, refl), record { sfits = omega arith }), (((_, refl), small), (refl, refl))))))))))))) }; fitting = tt };
   once = alone (record { topic = 116 ∷ []; index = pos 0 });
 })
 
 pub all_body : (batch : List ℕ) → length batch < 2 ^ 31 → IsRequest (fields (request_fields (produce_of (negsuc 0) batch))) (produce_of (negsuc 0) batch)
 unfolding followed_by times
 all_body batch small = inl (record {
-  whole = record { spelled = refl; version = refl; laid_out = record { named = 1; lead = (((_, refl), record { sfits = omega arith }), (((_, refl), record { sfits = omega arith }), (((_, refl), record { sfits = omega arith }), (((_, refl), tt), (((_, refl), tt), (((_, refl), record { sfits = omega arith }), (((_, refl), record { sfits = omega arith }), (((_, refl), omega arith, omega arith), (((_, refl), omega arith), (((_, refl), omega arith, omega arith), (((_, refl), record { sfits = omega arith }), (((_, refl), small), (refl, refl))))))))))))) } };
+  whole = record { spelled = refl; version = refl; laid_out = record { named = 1; lead = (((_, refl), record { sfits = omega arith }), (((_, refl), record { sfits = omega arith }), (((_, refl), record { sfits = omega arith }), (((_, refl), tt), (((_, refl), tt), (((_, refl), record { sfits = omega arith }), (((_, refl), record { sfits = omega arith }), (((_, refl), omega arith, omega arith), (((_, refl), omega arith), (((_, refl), omega arith, omega arith), (((_, refl), record { sfits = omega arith }), (((_, refl), small), (refl, refl))))))))))))) }; fitting = tt };
   once = alone (record { topic = 116 ∷ []; index = pos 0 });
 })

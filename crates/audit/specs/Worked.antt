@@ -30,14 +30,14 @@ abbrev pub two_parts : Configuration
 two_parts = record { port = 9092; topics = record { name = codes "t"; partitions = 2; followers = 0 } ∷ [] }
 
 abbrev pub from_start : ℕ → FetchPart
-from_start index = record { index = pos index; offset = pos 0; most = pos 1000 }
+from_start index = record { index = pos index; offset = pos 0; log_start = negsuc 0; most = pos 1000 }
 
 -- a consumer's fetch of these partitions, which waits so many milliseconds for one byte
 abbrev pub fetch_of : ℕ → List FetchPart → Request
 fetch_of wait parts = record {
   correlation = pos 7;
   client = None;
-  ask = Fetch (negsuc 0) (pos wait) (pos 1) (pos 1000) (pos 0) (record { name = codes "t"; parts = parts } ∷ []);
+  ask = Fetch (pos 4) (negsuc 0) (pos wait) (pos 1) (pos 1000) (pos 0) (record { name = codes "t"; parts = parts } ∷ []);
 }
 
 abbrev pub fetch_one : Request
@@ -126,7 +126,7 @@ read_call now place = record { frame = now; accept = at 0 place ∷ []; finish =
 abbrev pub reply_of : ℕ → List ℕ → Reply
 reply_of high records = record {
   correlation = pos 7;
-  told = Fetched (pos 0) (record { name = codes "t"; parts = record { index = pos 0; code = pos 0; high = pos high; records = records } ∷ [] } ∷ []);
+  told = Fetched (pos 4) (pos 0) (record { name = codes "t"; parts = record { index = pos 0; code = pos 0; high = pos high; start = pos 0; records = records } ∷ [] } ∷ []);
 }
 
 -- one topic with one partition, which has a follower
@@ -138,7 +138,7 @@ abbrev pub produce_of : ℤ → List ℕ → Request
 produce_of acks batch = record {
   correlation = pos 7;
   client = None;
-  ask = Produce None acks (pos 100) (record { name = codes "t"; parts = record { index = pos 0; records = Some batch } ∷ [] } ∷ []);
+  ask = Produce (pos 3) None acks (pos 100) (record { name = codes "t"; parts = record { index = pos 0; records = Some batch } ∷ [] } ∷ []);
 }
 
 -- it asked for the leader alone, and was put at this place
@@ -153,7 +153,7 @@ replicated_call all place = record { frame = all; accept = at 0 0 ∷ at clock_p
 abbrev pub produced_reply : ℕ → Reply
 produced_reply base = record {
   correlation = pos 7;
-  told = Produced (record { name = codes "t"; parts = record { index = pos 0; code = pos 0; base = pos base } ∷ [] } ∷ []);
+  told = Produced (pos 3) (record { name = codes "t"; parts = record { index = pos 0; code = pos 0; base = pos base; start = pos 0 } ∷ [] } ∷ []);
 }
 
 abbrev pub produce_transcript : List ℕ → ℕ → Transcript

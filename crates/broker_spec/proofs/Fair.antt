@@ -19,7 +19,7 @@ use Rattle.kwire.specs.declared.request.ProducePart.{ProducePart}
 use Rattle.kwire.specs.declared.request.FetchPart.{FetchPart}
 use Rattle.kanswer.specs.declared.accepted.Accepted.TheVariants.{Refused, Appended, Seen}
 use Rattle.kwire.specs.Configuration.{Configuration, partitions_of, followers_of, part_from, part_of}
-use Rattle.kanswer.specs.Decisions.{Entry, Put, Followed, Looked, Decision, Refuse, Decides, ProduceDecides, BatchDecides, append_outcome, fetch_decision, fetch_outcome, in_range_outcome, offset_of, look, code_of, produce_parts, fetch_parts, is_acks}
+use Rattle.kanswer.specs.Decisions.{Entry, Put, Followed, Looked, Decision, Refuse, Decides, ProduceDecides, BatchDecides, append_outcome, full_code, fetch_decision, fetch_outcome, in_range_outcome, offset_of, look, code_of, produce_parts, fetch_parts, is_acks}
 use Rattle.kanswer.proofs.Laws.{batch_sized}
 use Rattle.kbytes.proofs.Laws.{some_is}
 use Rattle.broker_spec.proofs.Cases.{either_way}
@@ -55,9 +55,9 @@ followers_size (topic ∷ topics) =
 pub parts_size : (topics : List Topic) (parts : List History) → map (λ (h : History). h.followers) parts ≡ followers_of topics → length parts ≡ partitions_of topics
 parts_size topics parts e = sym (length-map parts (λ (h : History). h.followers)) ∙ ap length e ∙ followers_size topics
 
-append_fair : (n part count : ℕ) (batch : List ℕ) → part < n → ((base : ℕ) → length (stamped base batch) ≡ length batch) → (state : PartState) → IsFairOutcome n (append_outcome part count batch state)
-append_fair n part count batch within sized state =
-    either_way (IsFairOutcome n) (nat_lt 67108864 ((gauges_of state).bytes + length batch)) (look (Refused (pos 6))) (record { result = Appended part state.log_end count; entry = Put count batch }) (tt, tt) (sized, within)
+append_fair : (version : ℤ) (n part count : ℕ) (batch : List ℕ) → part < n → ((base : ℕ) → length (stamped base batch) ≡ length batch) → (state : PartState) → IsFairOutcome n (append_outcome version part count batch state)
+append_fair version n part count batch within sized state =
+    either_way (IsFairOutcome n) (nat_lt 67108864 ((gauges_of state).bytes + length batch)) (look (Refused (full_code version))) (record { result = Appended part state.log_end count; entry = Put count batch }) (tt, tt) (sized, within)
 
 fair_refusal : (n : ℕ) (decision : Decision) (code : ℤ) → decision ≡ Refuse code → IsFair n decision
 fair_refusal n decision code e = subst (IsFair n) (sym e) tt
@@ -78,34 +78,34 @@ fetch_fair config replica named None n within = tt
 fetch_fair config replica named (Some part) n within =
     (within part refl, outcome_fair n (slice_index (followers_of config.topics) part) replica named.1 part (within part refl))
 
-batch_fair : (part n : ℕ) (bytes : List ℕ) (decision : Decision) → part < n → BatchDecides part bytes decision → IsFair n decision
-batch_fair part n bytes decision within d =
+batch_fair : (version : ℤ) (part n : ℕ) (bytes : List ℕ) (decision : Decision) → part < n → BatchDecides version part bytes decision → IsFair n decision
+batch_fair version part n bytes decision within d =
     elim d [
       | inl fault ↦ fair_refusal n decision (code_of fault.0) fault.2
-      | inr batch ↦ subst (IsFair n) (sym batch.2) (within, append_fair n part (length batch.0) bytes within (batch_sized bytes batch.0 batch.1))
+      | inr batch ↦ subst (IsFair n) (sym batch.2) (within, append_fair version n part (length batch.0) bytes within (batch_sized bytes batch.0 batch.1))
     ]
 
-acks_fair : (b : Bool) (part n : ℕ) (bytes : List ℕ) (decision : Decision) → part < n → MatchBool b (BatchDecides part bytes decision) (decision ≡ Refuse (pos 21)) → IsFair n decision
-acks_fair true part n bytes decision within d = batch_fair part n bytes decision within d
-acks_fair false part n bytes decision within d = fair_refusal n decision (pos 21) d
+acks_fair : (version : ℤ) (b : Bool) (part n : ℕ) (bytes : List ℕ) (decision : Decision) → part < n → MatchBool b (BatchDecides version part bytes decision) (decision ≡ Refuse (pos 21)) → IsFair n decision
+acks_fair version true part n bytes decision within d = batch_fair version part n bytes decision within d
+acks_fair version false part n bytes decision within d = fair_refusal n decision (pos 21) d
 
-part_fair : (o : Option ℕ) (b : Bool) (n : ℕ) (bytes : List ℕ) (decision : Decision) → ((part : ℕ) → o ≡ Some part → part < n)
-    → MatchOption o (decision ≡ Refuse (pos 3)) (λ part. MatchBool b (BatchDecides part bytes decision) (decision ≡ Refuse (pos 21))) → IsFair n decision
-part_fair None b n bytes decision within d = fair_refusal n decision (pos 3) d
-part_fair (Some part) b n bytes decision within d = acks_fair b part n bytes decision (within part refl) d
+part_fair : (version : ℤ) (o : Option ℕ) (b : Bool) (n : ℕ) (bytes : List ℕ) (decision : Decision) → ((part : ℕ) → o ≡ Some part → part < n)
+    → MatchOption o (decision ≡ Refuse (pos 3)) (λ part. MatchBool b (BatchDecides version part bytes decision) (decision ≡ Refuse (pos 21))) → IsFair n decision
+part_fair version None b n bytes decision within d = fair_refusal n decision (pos 3) d
+part_fair version (Some part) b n bytes decision within d = acks_fair version b part n bytes decision (within part refl) d
 
-pub produce_fair : (config : Configuration) (transactional : Option (List ℕ)) (acks : ℤ) (named : List ℕ × ProducePart) (decision : Decision) (n : ℕ)
-    → ((part : ℕ) → part_of config named.0 named.1.index ≡ Some part → part < n) → ProduceDecides config transactional acks named decision → IsFair n decision
-produce_fair config (Some id) acks named decision n within d = fair_refusal n decision (pos 42) d
-produce_fair config None acks named decision n within d = part_fair (part_of config named.0 named.1.index) (is_acks acks) n (unwrap_or named.1.records []) decision within d
+pub produce_fair : (version : ℤ) (config : Configuration) (transactional : Option (List ℕ)) (acks : ℤ) (named : List ℕ × ProducePart) (decision : Decision) (n : ℕ)
+    → ((part : ℕ) → part_of config named.0 named.1.index ≡ Some part → part < n) → ProduceDecides config version transactional acks named decision → IsFair n decision
+produce_fair version config (Some id) acks named decision n within d = fair_refusal n decision (pos 42) d
+produce_fair version config None acks named decision n within d = part_fair version (part_of config named.0 named.1.index) (is_acks acks) n (unwrap_or named.1.records []) decision within d
 
-all_zip_fair : (config : Configuration) (transactional : Option (List ℕ)) (acks : ℤ) (named : List (List ℕ × ProducePart)) (decisions : List Decision) (n : ℕ)
-    → ((name : List ℕ) (index : ℤ) (part : ℕ) → part_of config name index ≡ Some part → part < n) → AllZip (ProduceDecides config transactional acks) named decisions → AllByRecursion (IsFair n) decisions
-all_zip_fair config transactional acks [] [] n within d = tt
-all_zip_fair config transactional acks [] (x ∷ decisions) n within d = absurd d
-all_zip_fair config transactional acks (a ∷ named) [] n within d = absurd d
-all_zip_fair config transactional acks (a ∷ named) (x ∷ decisions) n within d =
-    (produce_fair config transactional acks a x n (within a.0 a.1.index) d.0, all_zip_fair config transactional acks named decisions n within d.1)
+all_zip_fair : (version : ℤ) (config : Configuration) (transactional : Option (List ℕ)) (acks : ℤ) (named : List (List ℕ × ProducePart)) (decisions : List Decision) (n : ℕ)
+    → ((name : List ℕ) (index : ℤ) (part : ℕ) → part_of config name index ≡ Some part → part < n) → AllZip (ProduceDecides config version transactional acks) named decisions → AllByRecursion (IsFair n) decisions
+all_zip_fair version config transactional acks [] [] n within d = tt
+all_zip_fair version config transactional acks [] (x ∷ decisions) n within d = absurd d
+all_zip_fair version config transactional acks (a ∷ named) [] n within d = absurd d
+all_zip_fair version config transactional acks (a ∷ named) (x ∷ decisions) n within d =
+    (produce_fair version config transactional acks a x n (within a.0 a.1.index) d.0, all_zip_fair version config transactional acks named decisions n within d.1)
 
 all_fetch_fair : (config : Configuration) (replica : ℤ) (named : List (List ℕ × FetchPart)) (n : ℕ) → ((name : List ℕ) (index : ℤ) (part : ℕ) → part_of config name index ≡ Some part → part < n)
     → AllByRecursion (IsFair n) (map (λ a. fetch_decision config replica a (part_of config a.0 a.1.index)) named)
@@ -114,9 +114,9 @@ all_fetch_fair config replica (a ∷ named) n within = (fetch_fair config replic
 
 -- what is decided of a request is fair where there is a history for each partition
 pub decides_fair : (config : Configuration) (ask : Ask) (decisions : List Decision) → Decides config ask decisions → AllByRecursion (IsFair (partitions_of config.topics)) decisions
-decides_fair config (Produce transactional acks timeout topics) decisions d =
-    all_zip_fair config transactional acks (produce_parts topics) decisions (partitions_of config.topics) (λ name index part e. omega (arith, part_within 0 config.topics name index part e)) d
-decides_fair config (Fetch replica max_wait min_bytes max_bytes isolation topics) decisions d =
+decides_fair config (Produce version transactional acks timeout topics) decisions d =
+    all_zip_fair version config transactional acks (produce_parts topics) decisions (partitions_of config.topics) (λ name index part e. omega (arith, part_within 0 config.topics name index part e)) d
+decides_fair config (Fetch version replica max_wait min_bytes max_bytes isolation topics) decisions d =
     subst (AllByRecursion (IsFair (partitions_of config.topics))) (sym d)
     (all_fetch_fair config replica (fetch_parts topics) (partitions_of config.topics) (λ name index part e. omega (arith, part_within 0 config.topics name index part e)))
 decides_fair config (Metadata topics) decisions d = subst (AllByRecursion (IsFair (partitions_of config.topics))) (sym d) tt

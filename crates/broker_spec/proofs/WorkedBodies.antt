@@ -17,14 +17,14 @@ alone a i j d lt within = absurd (omega (arith, lt, within))
 pub follow_body : IsRequest (body_of follow) follow
 unfolding followed_by times
 follow_body = inl (record {
-  whole = record { spelled = refl; version = refl; laid_out = record { named = 1; lead = (((_, refl), record { sfits = omega arith }), (((_, refl), record { sfits = omega arith }), (((_, refl), record { sfits = omega arith }), (((_, refl), tt), (((_, refl), record { sfits = omega arith }), (((_, refl), record { sfits = omega arith }), (((_, refl), record { sfits = omega arith }), (((_, refl), record { sfits = omega arith }), (((_, refl, (0, omega arith, refl)), record { sfits = omega arith }), (((_, refl), omega arith, omega arith), (((_, refl), omega arith), (((_, refl), omega arith, omega arith), (((_, refl), record { sfits = omega arith }), (((_, refl), record { sfits = omega arith }), (((_, refl), record { sfits = omega arith }), (refl, refl)))))))))))))))) } };
+  whole = record { spelled = refl; version = refl; laid_out = record { named = 1; lead = (((_, refl), record { sfits = omega arith }), (((_, refl), record { sfits = omega arith }), (((_, refl), record { sfits = omega arith }), (((_, refl), tt), (((_, refl), record { sfits = omega arith }), (((_, refl), record { sfits = omega arith }), (((_, refl), record { sfits = omega arith }), (((_, refl), record { sfits = omega arith }), (((_, refl, (0, omega arith, refl)), record { sfits = omega arith }), (((_, refl), omega arith, omega arith), (((_, refl), omega arith), (((_, refl), omega arith, omega arith), (((_, refl), record { sfits = omega arith }), (((_, refl), record { sfits = omega arith }), (((_, refl), record { sfits = omega arith }), (refl, refl)))))))))))))))) }; fitting = ((λ untold. refl, tt), tt) };
   once = alone (record { topic = 116 ∷ []; index = pos 0 });
 })
 
 pub poll_body : IsRequest (body_of poll) poll
 unfolding followed_by times
 poll_body = inl (record {
-  whole = record { spelled = refl; version = refl; laid_out = record { named = 1; lead = (((_, refl), record { sfits = omega arith }), (((_, refl), record { sfits = omega arith }), (((_, refl), record { sfits = omega arith }), (((_, refl), tt), (((_, refl), record { sfits = omega arith }), (((_, refl), record { sfits = omega arith }), (((_, refl), record { sfits = omega arith }), (((_, refl), record { sfits = omega arith }), (((_, refl, (0, omega arith, refl)), record { sfits = omega arith }), (((_, refl), omega arith, omega arith), (((_, refl), omega arith), (((_, refl), omega arith, omega arith), (((_, refl), record { sfits = omega arith }), (((_, refl), record { sfits = omega arith }), (((_, refl), record { sfits = omega arith }), (refl, refl)))))))))))))))) } };
+  whole = record { spelled = refl; version = refl; laid_out = record { named = 1; lead = (((_, refl), record { sfits = omega arith }), (((_, refl), record { sfits = omega arith }), (((_, refl), record { sfits = omega arith }), (((_, refl), tt), (((_, refl), record { sfits = omega arith }), (((_, refl), record { sfits = omega arith }), (((_, refl), record { sfits = omega arith }), (((_, refl), record { sfits = omega arith }), (((_, refl, (0, omega arith, refl)), record { sfits = omega arith }), (((_, refl), omega arith, omega arith), (((_, refl), omega arith), (((_, refl), omega arith, omega arith), (((_, refl), record { sfits = omega arith }), (((_, refl), record { sfits = omega arith }), (((_, refl), record { sfits = omega arith }), (refl, refl)))))))))))))))) }; fitting = ((λ untold. refl, tt), tt) };
   once = alone (record { topic = 116 ∷ []; index = pos 0 });
 })
 
@@ -34,7 +34,7 @@ small = omega arith
 pub produce_body : IsRequest (body_of produce) produce
 unfolding followed_by times
 produce_body = inl (record {
-  whole = record { spelled = refl; version = refl; laid_out = record { named = 1; lead = (((_, refl), record { sfits = omega arith }), (((_, refl), record { sfits = omega arith }), (((_, refl), record { sfits = omega arith }), (((_, refl), tt), (((_, refl), tt), (((_, refl), record { sfits = omega arith }), (((_, refl), record { sfits = omega arith }), (((_, refl), omega arith, omega arith), (((_, refl), omega arith), (((_, refl), omega arith, omega arith), (((_, refl), record { sfits = omega arith }), (((_, refl), small), (refl, refl))))))))))))) } };
+  whole = record { spelled = refl; version = refl; laid_out = record { named = 1; lead = (((_, refl), record { sfits = omega arith }), (((_, refl), record { sfits = omega arith }), (((_, refl), record { sfits = omega arith }), (((_, refl), tt), (((_, refl), tt), (((_, refl), record { sfits = omega arith }), (((_, refl), record { sfits = omega arith }), (((_, refl), omega arith, omega arith), (((_, refl), omega arith), (((_, refl), omega arith, omega arith), (((_, refl), record { sfits = omega arith }), (((_, refl), small), (refl, refl))))))))))))) }; fitting = tt };
   once = alone (record { topic = 116 ∷ []; index = pos 0 });
 })
 

@@ -25,8 +25,8 @@ abbrev pub fetch_by : ℤ → ℕ → Request
 fetch_by replica wait = record {
   correlation = pos 7;
   client = None;
-  ask = Fetch replica (pos wait) (pos 1) (pos 1000) (pos 0)
-      (record { name = codes "t"; parts = record { index = pos 0; offset = pos 1; most = pos 1000 } ∷ [] } ∷ []);
+  ask = Fetch (pos 4) replica (pos wait) (pos 1) (pos 1000) (pos 0)
+      (record { name = codes "t"; parts = record { index = pos 0; offset = pos 1; log_start = negsuc 0; most = pos 1000 } ∷ [] } ∷ []);
 }
 
 -- the produce, the follower's fetch, and a consumer's that waits

@@ -124,8 +124,8 @@ module _ (parts : List History) where
       ∙ ap (λ (ts : List FetchedTopic). let told : List FetchedTopic = record { name = t.name; parts = fetched_parts replica t.parts first b } ∷ ts in told) rest
 
 told_alike : (config : Configuration) (parts : List History) (ask : Ask) (shown : List Shown) → AllByRecursion (ShowsLog parts) shown → told_to config ask shown ≡ told_to config ask (shown_in_logs parts (results_of shown))
-told_alike config parts (Produce transactional acks timeout topics) shown h = ap Produced (produced_topics_alike parts acks topics shown h)
-told_alike config parts (Fetch replica max_wait min_bytes max_bytes isolation topics) shown h = ap (Fetched isolation) (fetched_topics_alike parts replica topics shown (first_budget max_bytes) h)
+told_alike config parts (Produce version transactional acks timeout topics) shown h = ap (Produced version) (produced_topics_alike parts acks topics shown h)
+told_alike config parts (Fetch version replica max_wait min_bytes max_bytes isolation topics) shown h = ap (Fetched version isolation) (fetched_topics_alike parts replica topics shown (first_budget max_bytes) h)
 told_alike config parts (Metadata topics) shown h = refl
 told_alike config parts (Versions version) shown h = refl
 

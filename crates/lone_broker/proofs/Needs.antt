@@ -63,8 +63,8 @@ fetch_gauges n replica (a ∷ asked) (r ∷ results) has =
     one_more n (fetch_need replica (a, r)) (filter_map (λ need. need) (map (fetch_need replica) (zip asked results))) (fetch_gauge n replica a r has.0) (fetch_gauges n replica asked results has.1)
 
 pub have_gauges : (n : ℕ) (ask : Ask) (results : List Accepted) → AllByRecursion (HasLog n) results → AllByRecursion (HasGauge n) (needs_of ask results)
-have_gauges n (Produce transactional acks timeout topics) results has = produce_gauges n results has
-have_gauges n (Fetch replica max_wait min_bytes max_bytes isolation topics) results has = fetch_gauges n replica (map (λ named. named.1) (fetch_parts topics)) results has
+have_gauges n (Produce version transactional acks timeout topics) results has = produce_gauges n results has
+have_gauges n (Fetch version replica max_wait min_bytes max_bytes isolation topics) results has = fetch_gauges n replica (map (λ named. named.1) (fetch_parts topics)) results has
 have_gauges n (Metadata topics) results has = tt
 have_gauges n (Versions version) results has = tt
 

@@ -21,7 +21,7 @@ pub produced_none : (config : Configuration) (terms : Terms) (by seq : ℕ) (top
     → HasProduced config terms by seq topics parts parts came came
 produced_none config terms by seq topics parts came none = record {
   decisions = [];
-  decided = λ id e. subst (λ (ns : List (List ℕ × ProducePart)). AllZip (ProduceDecides config id terms.acks) ns []) (sym none) tt;
+  decided = λ id e. subst (λ (ns : List (List ℕ × ProducePart)). AllZip (ProduceDecides config terms.version id terms.acks) ns []) (sym none) tt;
   carried = carried_none by seq parts came;
 }
 
@@ -30,13 +30,13 @@ pub produced_on : (config : Configuration) (terms : Terms) (by seq : ℕ) (ts us
     → HasProduced config terms by seq ts p0 p1 c0 c1 → HasProduced config terms by seq us p1 p2 c1 c2 → HasProduced config terms by seq vs p0 p2 c0 c2
 produced_on config terms by seq ts us vs p0 p1 p2 c0 c1 c2 same a b = record {
   decisions = a.decisions ++ b.decisions;
-  decided = λ id e. subst (λ (ns : List (List ℕ × ProducePart)). AllZip (ProduceDecides config id terms.acks) ns (a.decisions ++ b.decisions)) (sym same)
-      (all_zip_append (ProduceDecides config id terms.acks) (produce_parts ts) (produce_parts us) a.decisions b.decisions (a.decided id e) (b.decided id e));
+  decided = λ id e. subst (λ (ns : List (List ℕ × ProducePart)). AllZip (ProduceDecides config terms.version id terms.acks) ns (a.decisions ++ b.decisions)) (sym same)
+      (all_zip_append (ProduceDecides config terms.version id terms.acks) (produce_parts ts) (produce_parts us) a.decisions b.decisions (a.decided id e) (b.decided id e));
   carried = carried_on by seq a.decisions b.decisions p0 p1 p2 c0 c1 c2 a.carried b.carried;
 }
 
 pub produced_one : (config : Configuration) (terms : Terms) (by seq : ℕ) (name : List ℕ) (part : ProducePart) (decision : Decision) (p0 p1 : List History) (c0 c1 : Came)
-    → OnTerms terms (λ id. ProduceDecides config id terms.acks (name, part) decision) → IsCarried by seq (decision ∷ []) p0 p1 c0 c1
+    → OnTerms terms (λ id. ProduceDecides config terms.version id terms.acks (name, part) decision) → IsCarried by seq (decision ∷ []) p0 p1 c0 c1
     → HasProduced config terms by seq (record { name = name; parts = part ∷ [] } ∷ []) p0 p1 c0 c1
 produced_one config terms by seq name part decision p0 p1 c0 c1 decided carried = record { decisions = decision ∷ []; decided = λ id e. (decided id e, tt); carried = carried }
 

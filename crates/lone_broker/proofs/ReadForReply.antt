@@ -118,22 +118,22 @@ flat_length (t ∷ topics) =
 -- ---- the whole request
 
 -- so many partitions as became something
-fetch_count : (ask : Ask) (replica max_wait min_bytes max_bytes isolation : ℤ) (topics : List FetchTopic) (accepted : List Accepted) → ask ≡ Fetch replica max_wait min_bytes max_bytes isolation topics
+fetch_count : (ask : Ask) (version replica max_wait min_bytes max_bytes isolation : ℤ) (topics : List FetchTopic) (accepted : List Accepted) → ask ≡ Fetch version replica max_wait min_bytes max_bytes isolation topics
     → length accepted ≡ named_count ask → length accepted ≡ length (flat_map (λ topic. topic.parts) topics)
-fetch_count ask replica max_wait min_bytes max_bytes isolation topics accepted is size = size ∙ ap named_count is ∙ sym (flat_length topics)
+fetch_count ask version replica max_wait min_bytes max_bytes isolation topics accepted is size = size ∙ ap named_count is ∙ sym (flat_length topics)
 
-pub fetch_size : (parts : List History) (ask : Ask) (r replica max_wait min_bytes max_bytes isolation : ℤ) (topics items : List FetchTopic) (accepted : List Accepted) (b : Budget) (readings : List Reading) → ask ≡ Fetch replica max_wait min_bytes max_bytes isolation topics
+pub fetch_size : (parts : List History) (ask : Ask) (version r replica max_wait min_bytes max_bytes isolation : ℤ) (topics items : List FetchTopic) (accepted : List Accepted) (b : Budget) (readings : List Reading) → ask ≡ Fetch version replica max_wait min_bytes max_bytes isolation topics
     → items ≡ topics → length accepted ≡ named_count ask → readings ≡ readings_now parts r (flat_map (λ topic. topic.parts) items) accepted b → length readings ≡ length accepted
-fetch_size parts ask r replica max_wait min_bytes max_bytes isolation topics items accepted b readings is same size e =
-    let count = fetch_count ask replica max_wait min_bytes max_bytes isolation topics accepted is size in
+fetch_size parts ask version r replica max_wait min_bytes max_bytes isolation topics items accepted b readings is same size e =
+    let count = fetch_count ask version replica max_wait min_bytes max_bytes isolation topics accepted is size in
     ap (λ (rs : List Reading). length rs) e
     ∙ readings-length parts r (flat_map (λ topic. topic.parts) items) accepted b (count ∙ ap (λ (ts : List FetchTopic). length (flat_map (λ topic. topic.parts) ts)) (sym same))
 
-pub fetch_read : (parts : List History) (ask : Ask) (r replica max_wait min_bytes max_bytes isolation : ℤ) (topics items : List FetchTopic) (accepted : List Accepted) (b : Budget) (readings : List Reading) → ask ≡ Fetch replica max_wait min_bytes max_bytes isolation topics
+pub fetch_read : (parts : List History) (ask : Ask) (version r replica max_wait min_bytes max_bytes isolation : ℤ) (topics items : List FetchTopic) (accepted : List Accepted) (b : Budget) (readings : List Reading) → ask ≡ Fetch version replica max_wait min_bytes max_bytes isolation topics
     → r ≡ replica → items ≡ topics → b ≡ budget_of ask → length accepted ≡ named_count ask → readings ≡ readings_now parts r (flat_map (λ topic. topic.parts) items) accepted b
     → AreReadings ask accepted readings (shown_in_logs parts accepted)
-fetch_read parts ask r replica max_wait min_bytes max_bytes isolation topics items accepted b readings is who same eb size e =
-    let count = fetch_count ask replica max_wait min_bytes max_bytes isolation topics accepted is size in
+fetch_read parts ask version r replica max_wait min_bytes max_bytes isolation topics items accepted b readings is who same eb size e =
+    let count = fetch_count ask version replica max_wait min_bytes max_bytes isolation topics accepted is size in
     let all : readings ≡ readings_now parts replica (flat_map (λ topic. topic.parts) topics) accepted (first_budget max_bytes) =
     e
     ∙ ap (λ (z : ℤ). readings_now parts z (flat_map (λ topic. topic.parts) items) accepted b) who
@@ -164,8 +164,8 @@ numbers_bytes parts (x ∷ accepted) =
     omega (arith, sum_by-cons (λ (reading : Reading). length reading.records) (numbers_now parts x) (map (numbers_now parts) accepted), no_records parts x, numbers_bytes parts accepted)
 
 abbrev pub IsNoFetch : Ask → Type 0
-IsNoFetch (Produce transactional acks timeout topics) = ⊤
-IsNoFetch (Fetch replica max_wait min_bytes max_bytes isolation topics) = ⊥
+IsNoFetch (Produce version transactional acks timeout topics) = ⊤
+IsNoFetch (Fetch version replica max_wait min_bytes max_bytes isolation topics) = ⊥
 IsNoFetch (Metadata topics) = ⊤
 IsNoFetch (Versions version) = ⊤
 
@@ -175,9 +175,9 @@ none_shown parts (x ∷ accepted) e = absurd (omega (arith, e))
 
 pub numbers_read_are : (parts : List History) (ask : Ask) (accepted : List Accepted) (readings : List Reading) → IsNoFetch ask → length accepted ≡ named_count ask → readings ≡ map (numbers_now parts) accepted
     → AreReadings ask accepted readings (shown_in_logs parts accepted)
-numbers_read_are parts (Produce transactional acks timeout topics) accepted readings other size e =
+numbers_read_are parts (Produce version transactional acks timeout topics) accepted readings other size e =
     subst (λ (rs : List Reading). ProduceReadings accepted rs (shown_in_logs parts accepted)) (sym e) (numbers_are parts accepted)
-numbers_read_are parts (Fetch replica max_wait min_bytes max_bytes isolation topics) accepted readings other size e = absurd other
+numbers_read_are parts (Fetch version replica max_wait min_bytes max_bytes isolation topics) accepted readings other size e = absurd other
 numbers_read_are parts (Metadata topics) accepted readings other size e = none_shown parts accepted size
 numbers_read_are parts (Versions version) accepted readings other size e = none_shown parts accepted size
 

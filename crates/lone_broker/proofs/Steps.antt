@@ -148,8 +148,8 @@ and_true true b e = e
 and_true false b e = absurd cc
 
 delayed_short : (ask : Ask) (shown : List Shown) → becomes_delayed ask shown ≡ true → falls_short ask shown ≡ true
-delayed_short (Produce transactional acks timeout topics) shown e = and_true _ _ (and_true _ _ e)
-delayed_short (Fetch replica max_wait min_bytes max_bytes isolation topics) shown e = and_true _ _ (and_true _ _ e)
+delayed_short (Produce version transactional acks timeout topics) shown e = and_true _ _ (and_true _ _ e)
+delayed_short (Fetch version replica max_wait min_bytes max_bytes isolation topics) shown e = and_true _ _ (and_true _ _ e)
 delayed_short (Metadata topics) shown e = absurd cc
 delayed_short (Versions version) shown e = absurd cc
 
@@ -160,8 +160,8 @@ few_ms (pos n) fits = fits.sfits
 few_ms (negsuc n) fits = omega arith
 
 ask_near : (ask : Ask) → AllByRecursion FitsField (ask_fields ask) → wait_of ask < 2 ^ 31
-ask_near (Produce transactional acks timeout topics) fits = few_ms timeout fits.1.1.0
-ask_near (Fetch replica max_wait min_bytes max_bytes isolation topics) fits = few_ms max_wait fits.1.0
+ask_near (Produce version transactional acks timeout topics) fits = few_ms timeout fits.1.1.0
+ask_near (Fetch version replica max_wait min_bytes max_bytes isolation topics) fits = few_ms max_wait fits.1.0
 ask_near (Metadata topics) fits = omega arith
 ask_near (Versions version) fits = omega arith
 

@@ -35,5 +35,5 @@ pub record IsCarried (by seq : ℕ) (decisions : List Decision) (before after : 
 -- the partitions that these topics name were decided and carried out
 pub record HasProduced (config : Configuration) (terms : Terms) (by seq : ℕ) (topics : List ProduceTopic) (before after : List History) (came later : Came) : Type 0 where
   pub decisions : List Decision
-  pub decided : OnTerms terms (λ id. AllZip (ProduceDecides config id terms.acks) (produce_parts topics) decisions)
+  pub decided : OnTerms terms (λ id. AllZip (ProduceDecides config terms.version id terms.acks) (produce_parts topics) decisions)
   pub carried : IsCarried by seq decisions before after came later

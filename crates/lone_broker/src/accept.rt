@@ -2,15 +2,14 @@
 //! the results and the points of the entries.
 
 ghost use Rattle.std.specs.Prelude.{◌≡◌, ◌∷◌, [], List as Items, length, map, OnOk};
-ghost use Rattle.kbatch.specs.Kept.{count_of};
 ghost use Rattle.kwire.specs.Configuration.{followers_of, partitions_of, part_of};
-ghost use Rattle.kanswer.specs.Decisions.{Decision, append_outcome, ProduceDecides, fetch_outcome, fetch_decision, fetch_decisions, fetch_parts, Decides};
+ghost use Rattle.kanswer.specs.Decisions.{Decision, ProduceDecides, fetch_outcome, fetch_decision, fetch_decisions, fetch_parts, Decides};
 ghost use Rattle.kanswer.specs.OnTerms.{OnTerms};
+ghost use Rattle.kanswer.specs.Sent.{sent_outcome};
 ghost use Rattle.lone_broker.specs.Carried.{IsEntered, IsCarried, HasProduced};
 
 use crate::came::Came;
-use kanswer::{Accepted, Terms, decide_put, enter_batch, enter_fetch};
-use kbatch::BatchView;
+use kanswer::{Accepted, SentBatch, Terms, decide_put, enter_batch, enter_fetch};
 use kbytes::NoMemory;
 use kwire::{
     AskView, Config, FetchPart, FetchTopicView, ProducePartView, ProduceTopicView, RequestView,
@@ -24,12 +23,12 @@ fn put(
     log: &mut PartLog,
     who: Who,
     part: u32,
-    batch: &BatchView<'_>,
+    sent: &SentBatch<'_>,
     came: &mut Came,
 ) -> Result<(), NoMemory>
-    ensures { OnOk result (IsEntered who.by who.seq part (append_outcome part (count_of batch.now) batch.now) log.old log.new came.old came.new) }
+    ensures { OnOk result (IsEntered who.by who.seq part (sent_outcome part sent.now) log.old log.new came.old came.new) }
 {
-    let entered = enter_batch(log, who, part, batch)?;
+    let entered = enter_batch(log, who, part, sent)?;
     came.note_at(entered.became, part, entered.place)
 }
 
@@ -67,13 +66,13 @@ fn produce_one(
 ) -> Result<(), NoMemory>
     requires { length parts.old ≡ partitions_of call.now.config.now.topics }
     ensures { OnOk result ((decision : Decision)
-        × OnTerms call.now.terms (λ id. ProduceDecides call.now.config.now id call.now.terms.acks (topic.now, part.now) decision)
+        × OnTerms call.now.terms (λ id. ProduceDecides call.now.config.now call.now.terms.version id call.now.terms.acks (topic.now, part.now) decision)
         × IsCarried call.now.who.by call.now.who.seq (decision ∷ []) parts.old parts.new came.old came.new) }
 {
     match decide_put(call.config, call.terms, topic, part) {
-        Ok((number, batch)) => {
+        Ok((number, sent)) => {
             let log = &mut parts[number as usize];
-            put(log, call.who, number, &batch, came)
+            put(log, call.who, number, &sent, came)
         }
         Err(code) => came.note(Accepted::Refused { code }),
     }
@@ -203,12 +202,14 @@ pub fn accept(
 {
     match &request.ask {
         AskView::Produce {
+            version,
             transactional,
             acks,
             topics,
             ..
         } => {
             let terms = Terms {
+                version: *version,
                 is_transactional: transactional.is_some(),
                 acks: *acks,
             };

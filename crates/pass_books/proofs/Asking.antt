@@ -36,13 +36,13 @@ none_seen account (step ∷ steps) none seen = by_result step.result (operation_
     by_result (Seen part start) parts rest e seen_all = absurd cc
 
 by_ask : (account : Account) (ask : Ask) (steps : List Step) → operation_parts steps ≡ [] → becomes_delayed ask (shown_as_accepted account steps) ≡ true → ⊥
-by_ask account (Produce transactional acks timeout topics) steps none delayed =
-    let needs = needs_of (Produce transactional acks timeout topics) (results_of (shown_as_accepted account steps)) in
-    let short = falls_short (Produce transactional acks timeout topics) (shown_as_accepted account steps) in
+by_ask account (Produce version transactional acks timeout topics) steps none delayed =
+    let needs = needs_of (Produce version transactional acks timeout topics) (results_of (shown_as_accepted account steps)) in
+    let short = falls_short (Produce version transactional acks timeout topics) (shown_as_accepted account steps) in
     let some : nat_lt 0 (length needs) ≡ true = (both (nat_lt 0 (length needs)) short (both (int_eq acks (negsuc 0)) (nat_lt 0 (length needs) && short) delayed).1).0 in
     let never : false ≡ true = sym (ap (λ (ns : List Need). nat_lt 0 (length ns)) (needs_none account steps none)) ∙ some in
     absurd cc
-by_ask account (Fetch replica max_wait min_bytes max_bytes isolation topics) steps none delayed = none_seen account steps none (both _ _ (both _ _ delayed).1).0
+by_ask account (Fetch version replica max_wait min_bytes max_bytes isolation topics) steps none delayed = none_seen account steps none (both _ _ (both _ _ delayed).1).0
 by_ask account (Metadata topics) steps none delayed = absurd cc
 by_ask account (Versions version) steps none delayed = absurd cc
 

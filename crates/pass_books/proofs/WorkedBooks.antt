@@ -1,5 +1,5 @@
 -- The worked books: each comes of the moves of its pass, and the two go together.
-use Rattle.std.proofs.Common.{◌≡◌, ◌≢◌, ℕ, zero, suc, ◌≤◌, ◌<◌, pos, Bool, true, false, cond, eqb, List, [], ◌∷◌, length, map, Option, Some, None, unwrap_or, refl, sym, ap, subst, arith, inl, inr}
+use Rattle.std.proofs.Common.{negsuc, ◌≡◌, ◌≢◌, ℕ, zero, suc, ◌≤◌, ◌<◌, pos, Bool, true, false, cond, eqb, List, [], ◌∷◌, length, map, Option, Some, None, unwrap_or, refl, sym, ap, subst, arith, inl, inr}
 use Rattle.std.proofs.lemmas.Bool.{ne_eqb}
 use Rattle.std.proofs.lemmas.Option.{slice_get_within}
 use Rattle.std.specs.Prelude.{slice_get, count_by}
@@ -62,7 +62,7 @@ small = omega arith
 
 module _ (all : List ℕ) (one : Record) (is_batch : IsBatch batch (one ∷ [])) (is_request : IsRequest all produce) where
   abbrev asked : Decision
-  asked = AskLog 0 (append_outcome 0 1 batch)
+  asked = AskLog 0 (append_outcome (pos 3) 0 1 batch)
 
   abbrev transcript : Transcript
   transcript = record { number = 7; first = 0; calls = []; end = None }
@@ -130,7 +130,7 @@ module _ (all : List ℕ) (one : Record) (is_batch : IsBatch batch (one ∷ []))
 
 module _ (frame : List ℕ) (is_request : IsRequest frame follow) where
   abbrev fetch : Decision
-  fetch = AskLog 0 (fetch_outcome 1 (pos 1) (record { index = pos 0; offset = pos 1; most = pos 1000 }) 0)
+  fetch = AskLog 0 (fetch_outcome 1 (pos 1) (record { index = pos 0; offset = pos 1; log_start = negsuc 0; most = pos 1000 }) 0)
 
   abbrev fetching : Underway
   fetching = begun_amid (record (opening_book followed 1) { parts = one_put [] ∷ [] }) [] (record { number = 9; first = 0; calls = []; end = None }) frame

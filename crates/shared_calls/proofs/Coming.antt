@@ -145,15 +145,15 @@ none_produced config seq terms a id some (d ∷ next) decided = absurd decided
 module _ (config : Configuration) (seq : ℕ) (terms : Terms) (xs : List (List ℕ × ProducePart)) (a b : Stand) (first : OnProduce config terms xs (λ next. HasProduced config seq next a b)) where
   pub on_produced : (ys : List (List ℕ × ProducePart)) (c : Stand) → OnProduce config terms ys (λ next. HasProduced config seq next b c) → OnProduce config terms (xs ++ ys) (λ next. HasProduced config seq next a c)
   on_produced ys c then id some next decided =
-      let cut = zip_split (ProduceDecides config id terms.acks) xs ys next decided in
+      let cut = zip_split (ProduceDecides config terms.version id terms.acks) xs ys next decided in
       subst (λ (ds : List Decision). HasProduced config seq ds a c) (sym cut.both)
       (produced_on config seq cut.first cut.then a b c (first id some cut.first cut.firsts) (then id some cut.then cut.thens))
 
   pub on_stopped : (ys zs : List (List ℕ × ProducePart)) (pass : LogPassView) (points : List Point) → OnProduce config terms ys (λ next. IsStopped config seq next b pass points)
       → OnProduce config terms (xs ++ (ys ++ zs)) (λ next. IsStopped config seq next a pass points)
   on_stopped ys zs pass points then id some next decided =
-      let cut = zip_split (ProduceDecides config id terms.acks) xs (ys ++ zs) next decided in
-      let more = zip_split (ProduceDecides config id terms.acks) ys zs cut.then cut.thens in
+      let cut = zip_split (ProduceDecides config terms.version id terms.acks) xs (ys ++ zs) next decided in
+      let more = zip_split (ProduceDecides config terms.version id terms.acks) ys zs cut.then cut.thens in
       let here = stopped_before config seq more.first more.then b.pass b.points pass points (then id some more.first more.firsts) in
       let come = first id some cut.first cut.firsts in
       subst (λ (ds : List Decision). IsStopped config seq ds a pass points) (sym cut.both)

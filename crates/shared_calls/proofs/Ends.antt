@@ -27,8 +27,8 @@ use Rattle.shared_calls.proofs.Wins.{finished, stopped_won}
 
 -- it asks for no batches
 abbrev pub IsNoFetch : Ask → Type 0
-IsNoFetch (Produce transactional acks timeout topics) = ⊤
-IsNoFetch (Fetch replica max_wait min_bytes max_bytes isolation topics) = ⊥
+IsNoFetch (Produce version transactional acks timeout topics) = ⊤
+IsNoFetch (Fetch version replica max_wait min_bytes max_bytes isolation topics) = ⊥
 IsNoFetch (Metadata topics) = ⊤
 IsNoFetch (Versions version) = ⊤
 
@@ -39,7 +39,7 @@ module _ (seq : ℕ) (request : Request) (accepted : List Accepted) (op : Operat
 
   -- ---- a fetch
 
-  module _ (z replica max_wait min_bytes max_bytes isolation : ℤ) (topics items : List FetchTopic) (ask_is : request.ask ≡ Fetch replica max_wait min_bytes max_bytes isolation topics) (same : z ≡ replica) (items_are : items ≡ topics) where
+  module _ (version z replica max_wait min_bytes max_bytes isolation : ℤ) (topics items : List FetchTopic) (ask_is : request.ask ≡ Fetch version replica max_wait min_bytes max_bytes isolation topics) (same : z ≡ replica) (items_are : items ≡ topics) where
     gauges_are : fetched_gauge z ≡ gauge_for request.ask
     gauges_are = ap fetched_gauge same ∙ ap gauge_for (sym ask_is)
 
@@ -62,8 +62,8 @@ module _ (seq : ℕ) (request : Request) (accepted : List Accepted) (op : Operat
   -- ---- any other
 
   no_fetch_gauge : (ask : Ask) → IsNoFetch ask → high_gauge ≡ gauge_for ask
-  no_fetch_gauge (Produce transactional acks timeout topics) other = refl
-  no_fetch_gauge (Fetch replica max_wait min_bytes max_bytes isolation topics) other = absurd other
+  no_fetch_gauge (Produce version transactional acks timeout topics) other = refl
+  no_fetch_gauge (Fetch version replica max_wait min_bytes max_bytes isolation topics) other = absurd other
   no_fetch_gauge (Metadata topics) other = refl
   no_fetch_gauge (Versions version) other = refl
 
@@ -72,8 +72,8 @@ module _ (seq : ℕ) (request : Request) (accepted : List Accepted) (op : Operat
   none_named (x ∷ xs) size = absurd (omega (arith, size))
 
   read_for : (ask : Ask) (states : List State) (readings : List Reading) → IsNoFetch ask → length accepted ≡ named_count ask → ProduceReadings accepted readings (seen_as accepted states) → AreReadings ask accepted readings (seen_as accepted states)
-  read_for (Produce transactional acks timeout topics) states readings other size read = read
-  read_for (Fetch replica max_wait min_bytes max_bytes isolation topics) states readings other size read = absurd other
+  read_for (Produce version transactional acks timeout topics) states readings other size read = read
+  read_for (Fetch version replica max_wait min_bytes max_bytes isolation topics) states readings other size read = absurd other
   read_for (Metadata topics) states readings other size read = ap (λ (xs : List Accepted). seen_as xs states) (none_named accepted size)
   read_for (Versions version) states readings other size read = ap (λ (xs : List Accepted). seen_as xs states) (none_named accepted size)
 

@@ -40,8 +40,8 @@ module _ (n : ℕ) where
   fetch_gauges replica (a ∷ asked) (Seen part start ∷ results) below = (fetch_within replica part below.0, fetch_gauges replica asked results below.1)
 
   by_ask : (ask : Ask) (results : List Accepted) → AllBelow n (parts_asked results) → AllByRecursion IsGauge (needs_of ask results)
-  by_ask (Produce transactional acks timeout topics) results below = produce_gauges results below
-  by_ask (Fetch replica max_wait min_bytes max_bytes isolation topics) results below = fetch_gauges replica (map (λ named. named.1) (fetch_parts topics)) results below
+  by_ask (Produce version transactional acks timeout topics) results below = produce_gauges results below
+  by_ask (Fetch version replica max_wait min_bytes max_bytes isolation topics) results below = fetch_gauges replica (map (λ named. named.1) (fetch_parts topics)) results below
   by_ask (Metadata topics) results below = tt
   by_ask (Versions version) results below = tt
 

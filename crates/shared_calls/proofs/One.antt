@@ -140,23 +140,23 @@ refusal_stopped config seq code pass points = stopped_behind config seq (Refuse 
 
 -- ---- one partition of a produce
 
-decided_alone : (config : Configuration) (id : Option (List ℕ)) (acks : ℤ) (named : List ℕ × ProducePart) (d : Decision) (next : List Decision) → ProduceDecides config id acks named d
-    → AllZip (ProduceDecides config id acks) (named ∷ []) next → d ∷ [] ≡ next
-decided_alone config id acks named d next one all = decided_once config (Produce id acks (pos 0) (record { name = named.0; parts = named.1 ∷ [] } ∷ [])) (d ∷ []) next (one, tt) all
+decided_alone : (version : ℤ) (config : Configuration) (id : Option (List ℕ)) (acks : ℤ) (named : List ℕ × ProducePart) (d : Decision) (next : List Decision) → ProduceDecides config version id acks named d
+    → AllZip (ProduceDecides config version id acks) (named ∷ []) next → d ∷ [] ≡ next
+decided_alone version config id acks named d next one all = decided_once config (Produce version id acks (pos 0) (record { name = named.0; parts = named.1 ∷ [] } ∷ [])) (d ∷ []) next (one, tt) all
 
-pub whatever_one : (config : Configuration) (terms : Terms) (named : List ℕ × ProducePart) (d : Decision) (P : List Decision → Type 0) → OnTerms terms (λ id. ProduceDecides config id terms.acks named d) → P (d ∷ [])
+pub whatever_one : (config : Configuration) (terms : Terms) (named : List ℕ × ProducePart) (d : Decision) (P : List Decision → Type 0) → OnTerms terms (λ id. ProduceDecides config terms.version id terms.acks named d) → P (d ∷ [])
     → OnProduce config terms (named ∷ []) P
-whatever_one config terms named d P decides holds id some next decided = subst P (decided_alone config id terms.acks named d next (decides id some) decided) holds
+whatever_one config terms named d P decides holds id some next decided = subst P (decided_alone terms.version config id terms.acks named d next (decides id some) decided) holds
 
 pub refused_produced : (config : Configuration) (seq : ℕ) (terms : Terms) (named : List ℕ × ProducePart) (code : ℤ) (pass : LogPassView) (points : List Point) (came later : CameView) (reading : Reading)
-    → OnTerms terms (λ id. ProduceDecides config id terms.acks named (Refuse code)) → later ≡ one_more came (Refused code) reading
+    → OnTerms terms (λ id. ProduceDecides config terms.version id terms.acks named (Refuse code)) → later ≡ one_more came (Refused code) reading
     → OnProduce config terms (named ∷ []) (λ next. HasProduced config seq next (stand pass points came) (stand pass points later))
 refused_produced config seq terms named code pass points came later reading decides is =
     whatever_one config terms named (Refuse code) (λ next. HasProduced config seq next (stand pass points came) (stand pass points later)) decides
     (produced_one config seq (Refuse code) (stand pass points came) (stand pass points later) (noted_refused code) reading (refused_carried config seq code pass points) is refl tt tt)
 
 pub refused_stopped : (config : Configuration) (seq : ℕ) (terms : Terms) (named : List ℕ × ProducePart) (code : ℤ) (pass : LogPassView) (points : List Point) (came : CameView)
-    → OnTerms terms (λ id. ProduceDecides config id terms.acks named (Refuse code)) → OnProduce config terms (named ∷ []) (λ next. IsStopped config seq next (stand pass points came) pass points)
+    → OnTerms terms (λ id. ProduceDecides config terms.version id terms.acks named (Refuse code)) → OnProduce config terms (named ∷ []) (λ next. IsStopped config seq next (stand pass points came) pass points)
 refused_stopped config seq terms named code pass points came decides =
     whatever_one config terms named (Refuse code) (λ next. IsStopped config seq next (stand pass points came) pass points) decides
     (stopped_behind config seq (Refuse code ∷ []) pass points pass points (noted_refused code ∷ []) (refused_carried config seq code pass points))

@@ -86,8 +86,8 @@ fresh_rises ask accepted states values size h =
   where
     by_ask : (a : Ask) → AreFresh (IsFresh (gauge_for a) (needs_of a accepted) values) (parts_asked accepted) states
         → tally (needs_of a accepted) values ≤ tally (needs_of a accepted) (shown_values (needs_by_part a accepted) (seen_as accepted states))
-    by_ask (Produce transactional acks timeout topics) k = produce_rises accepted states values size k
-    by_ask (Fetch replica max_wait min_bytes max_bytes isolation topics) k = fetch_rises replica (map (λ named. named.1) (fetch_parts topics)) accepted states values size k
+    by_ask (Produce version transactional acks timeout topics) k = produce_rises accepted states values size k
+    by_ask (Fetch version replica max_wait min_bytes max_bytes isolation topics) k = fetch_rises replica (map (λ named. named.1) (fetch_parts topics)) accepted states values size k
     by_ask (Metadata topics) k = omega arith
     by_ask (Versions version) k = omega arith
 

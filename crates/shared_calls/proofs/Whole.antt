@@ -30,12 +30,13 @@ abbrev pub nothing_came : CameView
 nothing_came = record { accepted = []; numbers = []; readings = [] }
 
 -- what holds of whatever is decided of a produce holds of what is decided of this request
-pub decided_produce : (config : Configuration) (ask : Ask) (decisions : List Decision) (id : Option (List ℕ)) (acks timeout : ℤ) (topics items : List ProduceTopic) (terms : Terms) (P : List Decision → Type 0) → ask ≡ Produce id acks timeout topics
-    → is_some id ≡ terms.is_transactional → terms.acks ≡ acks → items ≡ topics → OnProduce config terms (produce_parts items) P → Decides config ask decisions → P decisions
-decided_produce config ask decisions id acks timeout topics items terms P is some same all holds decided =
+pub decided_produce : (config : Configuration) (ask : Ask) (decisions : List Decision) (version : ℤ) (id : Option (List ℕ)) (acks timeout : ℤ) (topics items : List ProduceTopic) (terms : Terms) (P : List Decision → Type 0) → ask ≡ Produce version id acks timeout topics
+    → is_some id ≡ terms.is_transactional → terms.version ≡ version → terms.acks ≡ acks → items ≡ topics → OnProduce config terms (produce_parts items) P → Decides config ask decisions → P decisions
+decided_produce config ask decisions version id acks timeout topics items terms P is some in_version same all holds decided =
     holds id some decisions
-    (subst (λ (ts : List ProduceTopic). AllZip (ProduceDecides config id terms.acks) (produce_parts ts) decisions) (sym all)
-    (subst (λ (z : ℤ). AllZip (ProduceDecides config id z) (produce_parts topics) decisions) (sym same) (subst (λ (a : Ask). Decides config a decisions) is decided)))
+    (subst (λ (ts : List ProduceTopic). AllZip (ProduceDecides config terms.version id terms.acks) (produce_parts ts) decisions) (sym all)
+    (subst (λ (v : ℤ). AllZip (ProduceDecides config v id terms.acks) (produce_parts topics) decisions) (sym in_version)
+    (subst (λ (z : ℤ). AllZip (ProduceDecides config version id z) (produce_parts topics) decisions) (sym same) (subst (λ (a : Ask). Decides config a decisions) is decided))))
 
 module _ (config : Configuration) (seq : ℕ) (request : Request) (decisions : List Decision) (old : LogPassView) (before : List Point) (new : LogPassView) (after : List Point) (start came : CameView) (none : start ≡ nothing_came) where
   from_nothing : {X : Type 0} (f : CameView → List X) (xs ys : List X) → f nothing_came ≡ [] → xs ≡ f start ++ ys → xs ≡ ys
@@ -54,9 +55,9 @@ module _ (config : Configuration) (seq : ℕ) (request : Request) (decisions : L
     come_accepted : AreReadings request.ask came.accepted came.readings (shown_of noted) → WasAccepted config seq request decisions old before new after came
     come_accepted read = record { noted = noted; carried = come.carried; results = sym accepted_is; numbers = come_numbers; readings = read }
 
-  pub produce_accepted : (id : Option (List ℕ)) (acks timeout : ℤ) (topics : List ProduceTopic) → request.ask ≡ Produce id acks timeout topics → HasProduced config seq decisions (stand old before start) (stand new after came)
+  pub produce_accepted : (version : ℤ) (id : Option (List ℕ)) (acks timeout : ℤ) (topics : List ProduceTopic) → request.ask ≡ Produce version id acks timeout topics → HasProduced config seq decisions (stand old before start) (stand new after came)
       → WasAccepted config seq request decisions old before new after came
-  produce_accepted id acks timeout topics ask p =
+  produce_accepted version id acks timeout topics ask p =
       let shown = shown_of p.noted in
       let readings : came.readings ≡ p.readings = from_nothing (λ (c : CameView). c.readings) came.readings p.readings refl p.readings_are in
       come_accepted p.noted p.come
@@ -64,9 +65,9 @@ module _ (config : Configuration) (seq : ℕ) (request : Request) (decisions : L
       (subst (λ (rs : List Accepted). ProduceReadings rs came.readings shown) (sym (accepted_is p.noted p.come))
       (subst (λ (rs : List Reading). ProduceReadings (results_of shown) rs shown) (sym readings) p.read)))
 
-  pub fetch_accepted : (replica max_wait min_bytes max_bytes isolation : ℤ) (topics : List FetchTopic) (left behind : Budget) → request.ask ≡ Fetch replica max_wait min_bytes max_bytes isolation topics → left ≡ budget_of request.ask
+  pub fetch_accepted : (version replica max_wait min_bytes max_bytes isolation : ℤ) (topics : List FetchTopic) (left behind : Budget) → request.ask ≡ Fetch version replica max_wait min_bytes max_bytes isolation topics → left ≡ budget_of request.ask
       → HasFetched config seq decisions replica (asked_parts topics) (stand old before start) left (stand new after came) behind → WasAccepted config seq request decisions old before new after came
-  fetch_accepted replica max_wait min_bytes max_bytes isolation topics left behind ask first p =
+  fetch_accepted version replica max_wait min_bytes max_bytes isolation topics left behind ask first p =
       let shown = shown_of p.noted in
       let readings : came.readings ≡ p.readings = from_nothing (λ (c : CameView). c.readings) came.readings p.readings refl p.readings_are in
       let budget : left ≡ first_budget max_bytes = first ∙ ap budget_of ask in
@@ -89,19 +90,19 @@ none_results decisions came none empty =
     subst (λ (c : CameView). AllZip IsResultOf decisions c.accepted) (sym none) (subst (λ (ds : List Decision). AllZip IsResultOf ds []) (sym empty) tt)
 
 abbrev pub NamesNothing : Ask → Type 0
-NamesNothing (Produce transactional acks timeout topics) = ⊥
-NamesNothing (Fetch replica max_wait min_bytes max_bytes isolation topics) = ⊥
+NamesNothing (Produce version transactional acks timeout topics) = ⊥
+NamesNothing (Fetch version replica max_wait min_bytes max_bytes isolation topics) = ⊥
 NamesNothing (Metadata topics) = ⊤
 NamesNothing (Versions version) = ⊤
 
 pub nothing_decided : (config : Configuration) (ask : Ask) (decisions : List Decision) → NamesNothing ask → Decides config ask decisions → decisions ≡ []
-nothing_decided config (Produce transactional acks timeout topics) decisions none decided = absurd none
-nothing_decided config (Fetch replica max_wait min_bytes max_bytes isolation topics) decisions none decided = absurd none
+nothing_decided config (Produce version transactional acks timeout topics) decisions none decided = absurd none
+nothing_decided config (Fetch version replica max_wait min_bytes max_bytes isolation topics) decisions none decided = absurd none
 nothing_decided config (Metadata topics) decisions none decided = decided
 nothing_decided config (Versions version) decisions none decided = decided
 
 pub nothing_read : (ask : Ask) → NamesNothing ask → AreReadings ask [] [] []
-nothing_read (Produce transactional acks timeout topics) none = absurd none
-nothing_read (Fetch replica max_wait min_bytes max_bytes isolation topics) none = absurd none
+nothing_read (Produce version transactional acks timeout topics) none = absurd none
+nothing_read (Fetch version replica max_wait min_bytes max_bytes isolation topics) none = absurd none
 nothing_read (Metadata topics) none = refl
 nothing_read (Versions version) none = refl

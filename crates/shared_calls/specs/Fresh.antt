@@ -9,8 +9,8 @@ use Rattle.partlog.specs.State.{PartState as State}
 
 -- the gauge of a partition that a request needs
 abbrev pub gauge_for : Ask → ℕ → ℕ
-gauge_for (Produce transactional acks timeout topics) = high_gauge
-gauge_for (Fetch replica max_wait min_bytes max_bytes isolation topics) = fetched_gauge replica
+gauge_for (Produce version transactional acks timeout topics) = high_gauge
+gauge_for (Fetch version replica max_wait min_bytes max_bytes isolation topics) = fetched_gauge replica
 gauge_for (Metadata topics) = high_gauge
 gauge_for (Versions version) = high_gauge
 

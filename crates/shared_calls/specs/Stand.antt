@@ -91,4 +91,4 @@ fetch_named topic = map (λ part. (topic.name, part)) topic.parts
 -- whatever is decided of these partitions of a produce on these terms
 abbrev pub OnProduce : Configuration → Terms → List (List ℕ × ProducePart) → (List Decision → Type 0) → Type 0
 OnProduce config terms named P =
-    OnTerms terms (λ id. (next : List Decision) → AllZip (ProduceDecides config id terms.acks) named next → P next)
+    OnTerms terms (λ id. (next : List Decision) → AllZip (ProduceDecides config terms.version id terms.acks) named next → P next)

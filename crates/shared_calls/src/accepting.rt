@@ -55,12 +55,14 @@ fn carry_out(
 {
     match &request.ask {
         AskView::Produce {
+            version,
             transactional,
             acks,
             topics,
             ..
         } => {
             let terms = Terms {
+                version: *version,
                 is_transactional: transactional.is_some(),
                 acks: *acks,
             };

@@ -1,7 +1,7 @@
 //! A produce is accepted, for `accepting`: each partition that it names is decided, and gets its batch in a turn where its log is asked.
 ghost use Rattle.std.specs.Prelude.{◌≡◌, ◌<◌, [], ◌∷◌, OnErr, OnOk, length};
-ghost use Rattle.kbatch.specs.Kept.{count_of};
-ghost use Rattle.kanswer.specs.Decisions.{AskLog, append_outcome, produce_parts};
+ghost use Rattle.kanswer.specs.Decisions.{AskLog, produce_parts};
+ghost use Rattle.kanswer.specs.Sent.{sent_outcome};
 ghost use Rattle.kwire.specs.Configuration.{followers_of};
 ghost use Rattle.kanswer.specs.BytesRead.{bytes_read};
 ghost use Rattle.shared_logs.specs.Shared.{followers_in};
@@ -10,8 +10,7 @@ ghost use Rattle.shared_calls.specs.Stand.{HasProduced, IsEven, IsStopped, OnPro
 use crate::came::Came;
 use crate::named::Named;
 use audit::Point;
-use kanswer::{Accepted, Reading, Terms, decide_put, read_nothing};
-use kbatch::BatchView;
+use kanswer::{Accepted, Reading, SentBatch, Terms, decide_put, read_nothing};
 use kbytes::{Bytes, List, NoMemory};
 use kwire::{Config, ProducePartView, ProduceTopicView};
 use shared_logs::LogPass;
@@ -32,20 +31,20 @@ fn put_one(
     pass: &mut LogPass,
     points: &mut List<Point>,
     number: u32,
-    batch: &BatchView<'_>,
+    sent: &SentBatch<'_>,
     came: &mut Came,
 ) -> Result<(), NoMemory>
     requires made { pass.old.made ≡ call.now.by.now.logs.now }
     requires there { number < length call.now.by.now.logs.now.parts }
     ensures made { pass.new.made ≡ call.now.by.now.logs.now }
-    ensures come { OnOk result (HasProduced call.now.config.now call.now.by.now.seq (AskLog number (append_outcome number (count_of batch.now) batch.now) ∷ [])
+    ensures come { OnOk result (HasProduced call.now.config.now call.now.by.now.seq (AskLog number (sent_outcome number sent.now) ∷ [])
         (stand pass.old points.old came.old) (stand pass.new points.new came.new)) }
     ensures even { OnOk result (IsEven came.old → IsEven came.new) }
     ensures room { OnOk result (bytes_read came.new.readings ≡ bytes_read came.old.readings) }
-    ensures stopped { OnErr result (IsStopped call.now.config.now call.now.by.now.seq (AskLog number (append_outcome number (count_of batch.now) batch.now) ∷ [])
+    ensures stopped { OnErr result (IsStopped call.now.config.now call.now.by.now.seq (AskLog number (sent_outcome number sent.now) ∷ [])
         (stand pass.old points.old came.old) pass.new points.new) }
 {
-    let put = put(call.by, pass, points, number, batch)?;
+    let put = put(call.by, pass, points, number, sent)?;
     let reading = Reading {
         numbers: put.numbers,
         records: Bytes::new(call.by.logs.alloc()),
@@ -76,7 +75,7 @@ fn produce_one(
             Accepted::Refused { code },
             read_nothing(call.by.logs.alloc()),
         ),
-        Ok((number, batch)) => put_one(call, pass, points, number, &batch, came),
+        Ok((number, sent)) => put_one(call, pass, points, number, &sent, came),
     }
 }
 

@@ -1,8 +1,8 @@
 //! What a turn does at a partition's desk, for `part_turns`: it leaves an entry, and hands on what the call gets of that.
 ghost use Rattle.std.specs.Prelude.{◌≡◌, ◌≤◌, ◌/◌, IfOk, OnErr, OnOk, length};
-ghost use Rattle.kbatch.specs.Kept.{count_of};
 ghost use Rattle.kanswer.specs.declared.accepted.Accepted.TheVariants.{Seen};
-ghost use Rattle.kanswer.specs.Decisions.{append_outcome, fetch_outcome};
+ghost use Rattle.kanswer.specs.Decisions.{fetch_outcome};
+ghost use Rattle.kanswer.specs.Sent.{sent_outcome};
 ghost use Rattle.partlog.specs.declared.part_log.TheConstants.{MOST_LOG_BYTES};
 ghost use Rattle.partlog.specs.Gauges.{numbers_of};
 ghost use Rattle.partlog.specs.Kept.{IsKept};
@@ -21,8 +21,7 @@ use crate::PartDesk;
 use crate::turns::{Fetched, Looked, Put, Read};
 use crate::visit::Visit;
 use crate::wanted::{Rest, Wanted};
-use kanswer::{Accepted, Budget, read_asked};
-use kbatch::BatchView;
+use kanswer::{Accepted, Budget, SentBatch, read_asked};
 use kbytes::{Bytes, NoMemory};
 use kwire::FetchPart;
 use partlog::{PartLog, Who};
@@ -56,11 +55,11 @@ pub(crate) fn put_at(
     visit: &Visit<'_, '_, impl Wait>,
     desk: &mut PartDesk,
     pass: &mut RoomPass,
-    batch: &BatchView<'_>,
+    sent: &SentBatch<'_>,
 ) -> Result<Put, NoMemory>
     requires pass { IsOfRoom visit.now.room.now pass.old }
     requires desk { IsSourceOf visit.now.room.now desk.old.sources.high }
-    ensures entered { IfOk result (λ put. HasEntered visit.now.who.by visit.now.who.seq (append_outcome desk.old.part (count_of batch.now) batch.now)
+    ensures entered { IfOk result (λ put. HasEntered visit.now.who.by visit.now.who.seq (sent_outcome desk.old.part sent.now)
         desk.old.history desk.new.history put.entered) }
     ensures numbers { IfOk result (λ put. put.numbers ≡ numbers_of (state_of desk.new.history)) }
     ensures refused { OnErr result (desk.new ≡ desk.old) }
@@ -71,7 +70,7 @@ pub(crate) fn put_at(
     ensures went { GoesOn pass.old.seat pass.new.seat }
     ensures kept { KeepsOperation (caller_now pass.old.seat) (caller_now pass.new.seat) }
 {
-    let entered = desk.put(visit, pass, batch);
+    let entered = desk.put(visit, pass, sent);
     let numbers = desk.log().numbers();
     Ok(Put {
         entered: entered?,

@@ -1,7 +1,7 @@
 //! What is behind a partition's lock: `desk_calls` enters batches, fetches and looks here, in a turn, and the gauges rise with the log.
 ghost use Rattle.std.specs.Prelude.{◌≡◌, [], IfOk, OnOk, OnErr, length};
-ghost use Rattle.kbatch.specs.Kept.{count_of};
-ghost use Rattle.kanswer.specs.Decisions.{append_outcome, fetch_outcome};
+ghost use Rattle.kanswer.specs.Decisions.{fetch_outcome};
+ghost use Rattle.kanswer.specs.Sent.{sent_outcome};
 ghost use Rattle.partlog.specs.Gauges.{numbers_of};
 ghost use Rattle.partlog.specs.Looked.{looked};
 ghost use Rattle.partlog.specs.State.{state_of};
@@ -17,8 +17,7 @@ ghost use Rattle.shared_logs.specs.Keeps.{AreAt, AreOfPart, AreStill, PartKeeps}
 use crate::sources::PartSources;
 use crate::visit::Visit;
 use crate::wanted::Wanted;
-use kanswer::{Entered, enter_batch, enter_fetch};
-use kbatch::BatchView;
+use kanswer::{Entered, SentBatch, enter_batch, enter_fetch};
 use kbytes::NoMemory;
 use partlog::{Numbers, PartLog, Who, numbers_never_fall};
 use purgatory::RoomPass;
@@ -73,16 +72,16 @@ impl PartDesk {
 
     /// Puts a batch at the end of the log for the call that visits, where there is room, and raises the gauges that rose. The pass
     /// of the room then owes their scans, which `settle` pays once the turn is over. Where there is no room, the log is looked at and
-    /// the partition is refused with code 6. If memory runs out, all is as it was.
+    /// the partition is refused for a full log. If memory runs out, all is as it was.
     pub fn put(
         &mut self,
         visit: &Visit<'_, '_, impl Wait>,
         pass: &mut RoomPass,
-        batch: &BatchView<'_>,
+        sent: &SentBatch<'_>,
     ) -> Result<Entered, NoMemory>
         requires pass { IsOfRoom visit.now.room.now pass.old }
         requires desk { IsSourceOf visit.now.room.now self.old.sources.high }
-        ensures entered { IfOk result (λ entered. HasEntered visit.now.who.by visit.now.who.seq (append_outcome self.old.part (count_of batch.now) batch.now) self.old.history self.new.history entered) }
+        ensures entered { IfOk result (λ entered. HasEntered visit.now.who.by visit.now.who.seq (sent_outcome self.old.part sent.now) self.old.history self.new.history entered) }
         ensures refused { OnErr result ((self.new ≡ self.old) × (pass.new ≡ pass.old)) }
         ensures still { AreStill (numbers_of (state_of self.old.history)) (numbers_of (state_of self.new.history)) self.old.sources self.new.sources }
         ensures untouched { numbers_of (state_of self.new.history) ≡ numbers_of (state_of self.old.history) → pass.new ≡ pass.old }
@@ -94,7 +93,7 @@ impl PartDesk {
     {
         numbers_never_fall();
         let before = self.log.numbers();
-        let entered = enter_batch(&mut self.log, visit.who, self.part, batch)?;
+        let entered = enter_batch(&mut self.log, visit.who, self.part, sent)?;
         let after = self.log.numbers();
         self.sources.tell(visit, pass, &before, &after);
         Ok(entered)

@@ -1,8 +1,8 @@
 //! One turn of a partition's lock, for `turns`: by the lock and a pass's key of it, it says what the pass knew before and knows after.
 ghost use Rattle.std.specs.Prelude.{◌≡◌, ◌/◌, ◌≤◌, IfOk, OnErr, OnOk, slice_index};
-ghost use Rattle.kbatch.specs.Kept.{count_of};
 ghost use Rattle.kanswer.specs.declared.accepted.Accepted.TheVariants.{Seen};
-ghost use Rattle.kanswer.specs.Decisions.{append_outcome, fetch_outcome};
+ghost use Rattle.kanswer.specs.Decisions.{fetch_outcome};
+ghost use Rattle.kanswer.specs.Sent.{sent_outcome};
 ghost use Rattle.kanswer.specs.Waiting.{gauge_value};
 ghost use Rattle.partlog.specs.declared.part_log.TheConstants.{MOST_LOG_BYTES};
 ghost use Rattle.partlog.specs.State.{state_of};
@@ -24,8 +24,7 @@ use crate::desk_calls::{fetch_at, look_at, put_at, read_at};
 use crate::turns::{Fetched, Looked, Put, Read};
 use crate::visit::Visit;
 use crate::wanted::{AtLeast, Rest, Wanted};
-use kanswer::{Budget, value_of_gauge};
-use kbatch::BatchView;
+use kanswer::{Budget, SentBatch, value_of_gauge};
 use kbytes::NoMemory;
 use partlog::Who;
 use purgatory::RoomPass;
@@ -83,7 +82,7 @@ pub(crate) fn put_into(
     key: &mut TurnPass<PartDesk>,
     pass: &mut RoomPass,
     part: u32,
-    batch: &BatchView<'_>,
+    sent: &SentBatch<'_>,
 ) -> Result<Put, NoMemory>
     requires room { IsOfRoom visit.now.room.now pass.old }
     requires key { OpensPart visit.now.room.now.table part visit.now.who.by lock.now key.old }
@@ -91,11 +90,11 @@ pub(crate) fn put_into(
     ensures went { GoesOn pass.old.seat pass.new.seat }
     ensures kept { KeepsOperation (caller_now pass.old.seat) (caller_now pass.new.seat) }
     ensures key { OpensPart visit.now.room.now.table part visit.now.who.by lock.now key.new }
-    ensures asked { IfOk result (λ put. AskedPart visit.now.who.seq (append_outcome part (count_of batch.now) batch.now) (known key.old) (known key.new) put.entered put.numbers) }
+    ensures asked { IfOk result (λ put. AskedPart visit.now.who.seq (sent_outcome part sent.now) (known key.old) (known key.new) put.entered put.numbers) }
     ensures refused { OnErr result (SawPart (known key.old) (known key.new)) }
 {
     let mut turn = part_turn(visit.rt, lock, key);
-    let put = put_at(visit, turn.value_mut(), pass, batch);
+    let put = put_at(visit, turn.value_mut(), pass, sent);
     lock.end(key, turn);
     put
 }

@@ -1,9 +1,9 @@
 //! `SharedLogs`' calls on one partition, by its number. Each finds the lock and the pass's key; `part_turns` takes the turn, and
 //! `desk_calls` acts in it.
 ghost use Rattle.std.specs.Prelude.{◌≡◌, ◌<◌, ◌≤◌, ◌/◌, IfOk, OnErr, OnOk, length, slice_index};
-ghost use Rattle.kbatch.specs.Kept.{count_of};
 ghost use Rattle.kanswer.specs.declared.accepted.Accepted.TheVariants.{Seen};
-ghost use Rattle.kanswer.specs.Decisions.{append_outcome, fetch_outcome};
+ghost use Rattle.kanswer.specs.Decisions.{fetch_outcome};
+ghost use Rattle.kanswer.specs.Sent.{sent_outcome};
 ghost use Rattle.partlog.specs.declared.part_log.TheConstants.{MOST_LOG_BYTES};
 ghost use Rattle.partlog.specs.State.{state_of};
 ghost use Rattle.broker_spec.specs.Board.{history_at};
@@ -17,8 +17,7 @@ use crate::part_turns::{fetch_from, look_into, put_into, read_from};
 use crate::pass::LogPass;
 use crate::visit::Visit;
 use crate::wanted::{AtLeast, Rest, Wanted};
-use kanswer::{Budget, Entered};
-use kbatch::BatchView;
+use kanswer::{Budget, Entered, SentBatch};
 use kbytes::{Bytes, NoMemory};
 use partlog::{Numbers, Who};
 use std::sync::Wait;
@@ -62,14 +61,14 @@ impl SharedLogs {
         pass: &mut LogPass,
         part: u32,
         who: Who,
-        batch: &BatchView<'_>,
+        sent: &SentBatch<'_>,
     ) -> Result<Put, NoMemory>
         requires made { pass.old.made ≡ self.now }
         requires there { part < length self.now.parts }
         requires who { who.by ≡ pass.old.number }
         ensures made { pass.new.made ≡ self.now }
         ensures seen { HasSeen pass.new }
-        ensures asked { IfOk result (λ put. HasAsked part who.seq (append_outcome part (count_of batch.now) batch.now) pass.old pass.new put.entered put.numbers) }
+        ensures asked { IfOk result (λ put. HasAsked part who.seq (sent_outcome part sent.now) pass.old pass.new put.entered put.numbers) }
         ensures refused { OnErr result (HasCaughtUp pass.old pass.new) }
     {
         let at = part as usize;
@@ -85,7 +84,7 @@ impl SharedLogs {
             &mut pass.parts[at],
             &mut pass.room,
             part,
-            batch,
+            sent,
         )
     }
 

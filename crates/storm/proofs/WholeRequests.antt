@@ -1,5 +1,5 @@
 -- Requests of a load can be sent: their fields are those of their api's layout, and they are short.
-use Rattle.std.proofs.Common.{◌≡◌, ℕ, ◌<◌, ◌≤◌, ◌^◌, ℤ, pos, List, [], ◌∷◌, length, codes, Some, None, Result, Ok, Err, IfOk, OnOk, refl, sym, subst, arith, FitsSigned}
+use Rattle.std.proofs.Common.{◌≡◌, ℕ, ◌<◌, ◌≤◌, ◌^◌, ℤ, pos, negsuc, List, [], ◌∷◌, length, codes, Some, None, Result, Ok, Err, IfOk, OnOk, refl, sym, subst, arith, FitsSigned}
 use Rattle.std.specs.Int.{w16, w32}
 use Rattle.std.proofs.lemmas.List.{length-append}
 use Rattle.kbytes.specs.declared.no_memory.NoMemory.{NoMemory}
@@ -9,7 +9,7 @@ use Rattle.kwire.specs.declared.request.Ask.{Ask}
 use Rattle.kwire.specs.declared.request.Ask.TheVariants.{Produce, Fetch}
 use Rattle.kwire.specs.Layouts.{times, followed_by}
 use Rattle.storm.specs.declared.asking.Wish.{Wish}
-use Rattle.storm.specs.declared.asking.TheConstants.{MOST_FETCHED, MOST_OF_PARTITION}
+use Rattle.storm.specs.declared.asking.TheConstants.{PRODUCE_VERSION, FETCH_VERSION, MOST_FETCHED, MOST_OF_PARTITION}
 use Rattle.storm.specs.declared.load.TheConstants.{MOST_REQUESTS}
 use Rattle.storm.specs.Places.{partition_of}
 use Rattle.storm.specs.Requests.{record_of, produce_of, fetch_of}
@@ -18,14 +18,14 @@ use Rattle.storm.specs.Sendable.{IsSendable}
 -- a produce with any bytes as its batch
 abbrev pub produce_with : List ℕ → ℕ → ℤ → ℕ → Ask
 produce_with bytes p acks timeout =
-    Produce None acks (pos timeout) (record { name = codes "storm"; parts = record { index = pos p; records = Some bytes } ∷ [] } ∷ [])
+    Produce PRODUCE_VERSION None acks (pos timeout) (record { name = codes "storm"; parts = record { index = pos p; records = Some bytes } ∷ [] } ∷ [])
 
 -- a fetch with any numbers
 abbrev pub fetch_with : ℕ → ℤ → ℕ → ℕ → ℕ → Ask
 fetch_with p replica wait least offset =
-    Fetch replica (pos wait) (pos least) MOST_FETCHED (pos 0) (record {
+    Fetch FETCH_VERSION replica (pos wait) (pos least) MOST_FETCHED (pos 0) (record {
       name = codes "storm";
-      parts = record { index = pos p; offset = pos offset; most = MOST_OF_PARTITION } ∷ [];
+      parts = record { index = pos p; offset = pos offset; log_start = negsuc 0; most = MOST_OF_PARTITION } ∷ [];
     } ∷ [])
 
 small : (n : ℕ) → n < 2 ^ 31 → FitsSigned w32 (pos n)
@@ -50,6 +50,7 @@ any_produce bytes i p acks timeout few index acked timed most = record {
             ▸ ((None, refl), tt) ▸ ((acks, refl), acked) ▸ ((pos timeout, refl), small timeout timed) ▸ ((1, refl), omega arith, omega arith)
             ▸ ((codes "storm", refl), omega arith) ▸ ((1, refl), omega arith, omega arith) ▸ ((pos p, refl), small p index) ▸ ((Some bytes, refl), omega (arith, most)) ▸ (refl, refl);
       };
+      fitting = tt;
     };
     once = λ i j d lt within. absurd (omega (arith, lt, within));
   };
@@ -72,6 +73,7 @@ any_fetch i p replica wait least offset few index fits waits leasts from = recor
             ▸ ((codes "storm", refl), omega arith) ▸ ((1, refl), omega arith, omega arith) ▸ ((pos p, refl), small p index) ▸ ((pos offset, refl), record { sfits = omega arith })
             ▸ ((MOST_OF_PARTITION, refl), record { sfits = omega arith }) ▸ (refl, refl);
       };
+      fitting = ((λ untold. refl, tt), tt);
     };
     once = λ i j d lt within. absurd (omega (arith, lt, within));
   };

@@ -7,7 +7,7 @@ use Rattle.kwire.specs.declared.request.Ask.{Ask}
 use Rattle.kwire.specs.declared.request.Ask.TheVariants.{Produce, Fetch}
 use Rattle.kwire.specs.declared.request.Request.{Request}
 use Rattle.storm.specs.declared.asking.Wish.{Wish}
-use Rattle.storm.specs.declared.asking.TheConstants.{DIGITS, PROMPT_TIMEOUT, LONGEST_WAIT, MOST_AWAITED, MOST_FETCHED, MOST_OF_PARTITION}
+use Rattle.storm.specs.declared.asking.TheConstants.{DIGITS, PRODUCE_VERSION, FETCH_VERSION, PROMPT_TIMEOUT, LONGEST_WAIT, MOST_AWAITED, MOST_FETCHED, MOST_OF_PARTITION}
 use Rattle.storm.specs.declared.kind.Kind.{Kind}
 use Rattle.storm.specs.declared.kind.Kind.TheVariants.{AwaitedProduce, FollowerFetch, PromptProduce, ConsumerFetch}
 use Rattle.storm.specs.Generator.{draw}
@@ -23,7 +23,7 @@ record_of i = record { attributes = pos 0; time = pos 0; key = None; value = Som
 -- one record for one partition
 abbrev pub produce_of : ℕ → ℤ → ℕ → Ask
 produce_of i acks timeout =
-    Produce None acks (pos timeout) (record {
+    Produce PRODUCE_VERSION None acks (pos timeout) (record {
       name = codes "storm";
       parts = record { index = pos (partition_of i); records = Some (written (record_of i ∷ [])) } ∷ [];
     } ∷ [])
@@ -31,9 +31,9 @@ produce_of i acks timeout =
 -- a fetch of one partition
 abbrev pub fetch_of : ℕ → Wish → Ask
 fetch_of i wish =
-    Fetch wish.replica (pos wish.wait) (pos wish.least) MOST_FETCHED (pos 0) (record {
+    Fetch FETCH_VERSION wish.replica (pos wish.wait) (pos wish.least) MOST_FETCHED (pos 0) (record {
       name = codes "storm";
-      parts = record { index = pos (partition_of i); offset = pos wish.offset; most = MOST_OF_PARTITION } ∷ [];
+      parts = record { index = pos (partition_of i); offset = pos wish.offset; log_start = negsuc 0; most = MOST_OF_PARTITION } ∷ [];
     } ∷ [])
 
 -- the follower fetches from the offset at which the block's partitions end

@@ -7,9 +7,9 @@ use Rattle.storm.specs.declared.load.TheConstants.{MOST_STEP}
 
 -- the milliseconds that it asks to wait for at most: a produce for all followers, or a fetch; others are answered at once
 abbrev pub wait_of : Ask → Option ℤ
-wait_of (Produce transactional (negsuc acks) timeout topics) = Some timeout
-wait_of (Produce transactional (pos acks) timeout topics) = None
-wait_of (Fetch replica wait least most isolation topics) = Some wait
+wait_of (Produce version transactional (negsuc acks) timeout topics) = Some timeout
+wait_of (Produce version transactional (pos acks) timeout topics) = None
+wait_of (Fetch version replica wait least most isolation topics) = Some wait
 wait_of (Metadata topics) = None
 wait_of (Versions version) = None
 

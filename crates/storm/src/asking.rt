@@ -23,6 +23,12 @@ pub const PARTITIONS: u32 = 8;
 /// The number of digits of a record's value.
 pub const DIGITS: usize = 16;
 
+/// The version of each produce.
+pub const PRODUCE_VERSION: i16 = 3;
+
+/// The version of each fetch.
+pub const FETCH_VERSION: i16 = 4;
+
 /// The timeout of a produce that is answered at once, in milliseconds.
 pub const PROMPT_TIMEOUT: u32 = 1_000;
 
@@ -116,6 +122,7 @@ fn produce(alloc: Global, i: u32, acks: i16, timeout: u32) -> Result<Ask, NoMemo
         parts,
     })?;
     Ok(Ask::Produce {
+        version: PRODUCE_VERSION,
         transactional: None,
         acks,
         timeout: timeout as i32,
@@ -133,6 +140,7 @@ fn fetch(alloc: Global, i: u32, wish: Wish) -> Result<Ask, NoMemory>
     let part = FetchPart {
         index: partition_of(i),
         offset: i64::from(wish.offset),
+        log_start: -1,
         most: MOST_OF_PARTITION,
     };
     let mut parts = List::new(alloc);
@@ -143,6 +151,7 @@ fn fetch(alloc: Global, i: u32, wish: Wish) -> Result<Ask, NoMemory>
         parts,
     })?;
     Ok(Ask::Fetch {
+        version: FETCH_VERSION,
         replica: wish.replica,
         max_wait: wish.wait as i32,
         min_bytes: wish.least as i32,

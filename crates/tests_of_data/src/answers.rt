@@ -4,8 +4,8 @@ ghost use Rattle.kanswer.specs.LogReadings.{named_count};
 
 use crate::samples::{LONG_FRONT, ONE};
 use kanswer::{
-    Accepted, Budget, Entered, Terms, answer, decide_put, enter_batch, enter_fetch, is_quiet,
-    needs_op, op_of, read_asked, read_nothing, read_numbers, read_part, value_of_gauge,
+    Accepted, Budget, Entered, SentBatch, Terms, answer, decide_put, enter_batch, enter_fetch,
+    is_quiet, needs_op, op_of, read_asked, read_nothing, read_numbers, read_part, value_of_gauge,
 };
 use kbatch::view_batch;
 use kbytes::{List, NoMemory};
@@ -25,6 +25,7 @@ fn one_batch_at_least(rt: HostRuntime) {
     let asked = FetchPart {
         index: 0,
         offset: 0,
+        log_start: -1,
         most: 1,
     };
     let mut budget = Budget {
@@ -57,6 +58,7 @@ fn a_produce<'a>(alloc: Global) -> Result<RequestView<'a>, NoMemory>
         correlation: 9,
         client: None,
         ask: AskView::Produce {
+            version: 3,
             transactional: None,
             acks: -1,
             timeout: 1000,
@@ -105,16 +107,18 @@ fn the_numbers_of_a_produce(rt: HostRuntime) {
 #[test]
 fn a_batch_is_put_and_fetched(rt: HostRuntime) {
     let batch = view_batch(&ONE).expect(&rt, "a batch");
+    let sent = SentBatch { version: 3, batch };
     let mut log = PartLog::new(rt.alloc(), 1).expect(&rt, "memory");
     let became = Accepted::Appended {
         part: 5,
         base: 0,
         count: 1,
     };
-    assert!(rt; enter_batch(&mut log, WHO, 5, &batch) == Ok(Entered { became, place: 0 }));
+    assert!(rt; enter_batch(&mut log, WHO, 5, &sent) == Ok(Entered { became, place: 0 }));
     let asked = FetchPart {
         index: 0,
         offset: 1,
+        log_start: -1,
         most: 100,
     };
     let became = Accepted::Seen { part: 5, start: 69 };
@@ -154,8 +158,9 @@ fn is_filled(log: &mut PartLog, bytes: &[u8]) -> bool {
 }
 
 // What becomes of a partition of `t`.
-fn put_one(config: &Config, index: i32, log: &mut PartLog) -> Option<Accepted> {
+fn put_one(config: &Config, version: i16, index: i32, log: &mut PartLog) -> Option<Accepted> {
     let terms = Terms {
+        version,
         is_transactional: false,
         acks: 1,
     };
@@ -164,12 +169,17 @@ fn put_one(config: &Config, index: i32, log: &mut PartLog) -> Option<Accepted> {
         records: Some(&ONE),
     };
     match decide_put(config, terms, b"t", &part) {
-        Ok((number, batch)) => Some(enter_batch(log, WHO, number, &batch).ok()?.became),
+        Ok((number, sent)) => Some(enter_batch(log, WHO, number, &sent).ok()?.became),
         Err(_) => None,
     }
 }
 
-const REFUSED: Accepted = Accepted::Refused { code: 6 };
+// What a produce before version 4 is told of a full log, and one from then on.
+const REFUSED: [(i16, Accepted); 3] = [
+    (3, Accepted::Refused { code: 6 }),
+    (4, Accepted::Refused { code: 56 }),
+    (5, Accepted::Refused { code: 56 }),
+];
 
 const APPENDED: Accepted = Accepted::Appended {
     part: 1,
@@ -185,14 +195,16 @@ fn a_full_partition_is_refused_and_another_takes_its_batch(rt: HostRuntime) {
     let mut full = PartLog::new(rt.alloc(), 1).expect(&rt, "memory");
     let mut empty = PartLog::new(rt.alloc(), 1).expect(&rt, "memory");
     assert!(rt; is_filled(&mut full, bytes.as_slice()));
-    assert!(rt; put_one(&config, 0, &mut full) == Some(REFUSED));
-    assert!(rt; put_one(&config, 1, &mut empty) == Some(APPENDED));
+    for (version, refused) in REFUSED {
+        assert!(rt; put_one(&config, version, 0, &mut full) == Some(refused));
+    }
+    assert!(rt; put_one(&config, 3, 1, &mut empty) == Some(APPENDED));
     assert!(rt; full.numbers().end == 64 && full.numbers().bytes == 67_108_864);
     assert!(rt; empty.log() == ONE.as_slice());
 }
 
 // The partitions 0 and 1 of the topic `t`, with acks 1.
-fn a_produce_of_two<'a>(alloc: Global) -> Result<RequestView<'a>, NoMemory>
+fn a_produce_of_two<'a>(alloc: Global, version: i16) -> Result<RequestView<'a>, NoMemory>
     ensures { IfOk result (λ request. named_count request.ask ≡ 2) }
 {
     let mut parts = List::new(alloc);
@@ -210,6 +222,7 @@ fn a_produce_of_two<'a>(alloc: Global) -> Result<RequestView<'a>, NoMemory>
         correlation: 9,
         client: None,
         ask: AskView::Produce {
+            version,
             transactional: None,
             acks: 1,
             timeout: 1000,
@@ -218,30 +231,33 @@ fn a_produce_of_two<'a>(alloc: Global) -> Result<RequestView<'a>, NoMemory>
     })
 }
 
-fn is_refused_and_put(told: &Told) -> bool {
-    let Told::Produced { topics } = told else {
+fn is_refused_and_put(told: &Told, asked: i16, code: i16) -> bool {
+    let Told::Produced { version, topics } = told else {
         return false;
     };
     let [topic] = topics.as_slice() else {
         return false;
     };
-    matches!(
-        topic.parts.as_slice(),
-        [full, empty]
-            if full.code == 6 && full.base == -1 && empty.code == 0 && empty.base == 0
-    )
+    let [full, empty] = topic.parts.as_slice() else {
+        return false;
+    };
+    let is_refused = full.code == code && full.base == -1 && full.start == -1;
+    *version == asked && is_refused && empty.code == 0 && empty.base == 0 && empty.start == 0
 }
 
 #[test]
 fn the_reply_where_one_of_two_partitions_is_full(rt: HostRuntime) {
     let config = Config::new(rt.alloc(), 9092);
-    let request = a_produce_of_two(rt.alloc()).expect(&rt, "memory");
     let log = PartLog::new(rt.alloc(), 1).expect(&rt, "memory");
     let readings = [read_nothing(rt.alloc()), read_numbers(rt.alloc(), &log)];
-    assert!(rt;
-        matches!(
-            answer(rt.alloc(), &config, &request, &[REFUSED, APPENDED], &readings),
-            Ok(reply) if reply.correlation == 9 && is_refused_and_put(&reply.told)
-        )
-    );
+    for (version, code) in [(3, 6), (4, 56), (5, 56)] {
+        let request = a_produce_of_two(rt.alloc(), version).expect(&rt, "memory");
+        let became = [Accepted::Refused { code }, APPENDED];
+        assert!(rt;
+            matches!(
+                answer(rt.alloc(), &config, &request, &became, &readings),
+                Ok(reply) if reply.correlation == 9 && is_refused_and_put(&reply.told, version, code)
+            )
+        );
+    }
 }

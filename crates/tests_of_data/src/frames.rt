@@ -19,11 +19,18 @@ const FETCH: [u8; 55] = [
     0, 0, 0, 1, 0, 1, 116, 0, 0, 0, 1, 0, 0, 0, 0, 0, 0, 0, 0, 0, 0, 0, 0, 0, 16, 0, 0,
 ];
 
+// The same in version 5, with where the asker's log starts.
+const FETCH_5: [u8; 63] = [
+    0, 1, 0, 5, 0, 0, 0, 2, 0, 1, 99, 255, 255, 255, 255, 0, 0, 0, 100, 0, 0, 0, 1, 3, 32, 0, 0, 0,
+    0, 0, 0, 1, 0, 1, 116, 0, 0, 0, 1, 0, 0, 0, 0, 0, 0, 0, 0, 0, 0, 0, 0, 0, 0, 0, 0, 0, 0, 0, 7,
+    0, 16, 0, 0,
+];
+
 const METADATA: [u8; 15] = [0, 3, 0, 1, 0, 0, 0, 7, 0, 1, 99, 255, 255, 255, 255];
 
 const VERSIONS: [u8; 11] = [0, 18, 0, 0, 0, 0, 0, 5, 0, 1, 99];
 
-const BODIES: [&[u8]; 4] = [&PRODUCE, &FETCH, &METADATA, &VERSIONS];
+const BODIES: [&[u8]; 5] = [&PRODUCE, &FETCH, &FETCH_5, &METADATA, &VERSIONS];
 
 // The frame of the request that a body is. `None` for a request for versions in another version, which can't be written.
 fn written_again(alloc: Global, body: &[u8]) -> Result<Option<Bytes>, WireFault> {
@@ -81,8 +88,20 @@ const REFUSED: &[(&[u8], WireFault)] = &[
     (&[0, 18, 0, 0, 0, 0, 0], WireFault::BadRequest { at: 4 }),
     (&[0, 2, 0, 0, 0, 0, 0, 5], WireFault::UnknownApi { key: 2 }),
     (
-        &[0, 1, 0, 5, 0, 0, 0, 5],
-        WireFault::Unsupported { key: 1, version: 5 },
+        &[0, 1, 0, 6, 0, 0, 0, 5],
+        WireFault::Unsupported { key: 1, version: 6 },
+    ),
+    (
+        &[0, 1, 0, 3, 0, 0, 0, 5],
+        WireFault::Unsupported { key: 1, version: 3 },
+    ),
+    (
+        &[0, 0, 0, 2, 0, 0, 0, 5],
+        WireFault::Unsupported { key: 0, version: 2 },
+    ),
+    (
+        &[0, 0, 0, 6, 0, 0, 0, 5],
+        WireFault::Unsupported { key: 0, version: 6 },
     ),
     (
         &[0, 18, 0, 0, 0, 0, 0, 5, 255, 255, 7],
@@ -143,7 +162,7 @@ fn a_reply_of_versions(rt: HostRuntime) {
         told: Told::Versions { code: 35 },
     };
     let wanted = [
-        0, 0, 0, 34, 0, 0, 0, 5, 0, 35, 0, 0, 0, 4, 0, 0, 0, 3, 0, 3, 0, 1, 0, 4, 0, 4, 0, 3, 0, 1,
+        0, 0, 0, 34, 0, 0, 0, 5, 0, 35, 0, 0, 0, 4, 0, 0, 0, 3, 0, 5, 0, 1, 0, 4, 0, 5, 0, 3, 0, 1,
         0, 1, 0, 18, 0, 0, 0, 0,
     ];
     assert!(rt;

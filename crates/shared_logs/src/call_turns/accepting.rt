@@ -1,7 +1,7 @@
 //! The turns in which a request is accepted: one for each partition whose log it asks.
 ghost use Rattle.std.specs.Prelude.{◌≡◌, ◌<◌, ◌≤◌, [], ◌∷◌, ◌++◌, IfOk, OnErr, length, slice_index};
-ghost use Rattle.kbatch.specs.Kept.{count_of};
-ghost use Rattle.kanswer.specs.Decisions.{append_outcome, fetch_outcome};
+ghost use Rattle.kanswer.specs.Decisions.{fetch_outcome};
+ghost use Rattle.kanswer.specs.Sent.{sent_outcome};
 ghost use Rattle.partlog.specs.declared.part_log.TheConstants.{MOST_LOG_BYTES};
 ghost use Rattle.partlog.specs.State.{state_of};
 ghost use Rattle.broker_spec.specs.Board.{history_at};
@@ -14,8 +14,7 @@ use super::caller::Caller;
 use super::points::{fill_in, put_down, take_back};
 use crate::{Fetched, LogPass, Put, Wanted};
 use audit::Point;
-use kanswer::Budget;
-use kbatch::BatchView;
+use kanswer::{Budget, SentBatch};
 use kbytes::{List, NoMemory};
 use partlog::Who;
 use std::sync::Wait;
@@ -26,13 +25,13 @@ pub fn put(
     pass: &mut LogPass,
     points: &mut List<Point>,
     part: u32,
-    batch: &BatchView<'_>,
+    sent: &SentBatch<'_>,
 ) -> Result<Put, NoMemory>
     requires made { pass.old.made ≡ by.now.logs.now }
     requires there { part < length by.now.logs.now.parts }
     ensures made { pass.new.made ≡ by.now.logs.now }
     ensures seen { HasSeen pass.old × HasSeen pass.new }
-    ensures asked { IfOk result (λ put. HasAsked part by.now.seq (append_outcome part (count_of batch.now) batch.now) pass.old pass.new put.entered put.numbers) }
+    ensures asked { IfOk result (λ put. HasAsked part by.now.seq (sent_outcome part sent.now) pass.old pass.new put.entered put.numbers) }
     ensures points { IfOk result (λ put. points.new ≡ points.old ++ record { part = part; place = put.entered.place } ∷ []) }
     ensures refused { OnErr result (HasCaughtUp pass.old pass.new) }
     ensures none { OnErr result (points.new ≡ points.old) }
@@ -42,7 +41,7 @@ pub fn put(
         seq: by.seq,
     };
     put_down(points, part)?;
-    match by.logs.put(by.rt, pass, part, who, batch) {
+    match by.logs.put(by.rt, pass, part, who, sent) {
         Ok(put) => {
             fill_in(points, put.entered.place);
             Ok(put)

@@ -17,7 +17,7 @@ loop-part-preserved c =
     let config = call.config.now in
     let topic = c.args.topic.now in
     let i = c.loop-part.part-index in
-    let none : FetchPart = record { index = pos 0; offset = pos 0; most = pos 0 } in
+    let none : FetchPart = record { index = pos 0; offset = pos 0; log_start = pos 0; most = pos 0 } in
     let part : FetchPart = get_or c.as_slice-part-items.result.now i none in
     let within : i < length topic.parts = omega (arith, c.loop-part-test.true, ap length items) in
     let is : part ≡ get_or topic.parts i part = ap (λ (xs : List FetchPart). get_or xs i none) items ∙ get_or_default topic.parts i none part within in

@@ -2,9 +2,9 @@ use Rattle.std.proofs.Common.{◌<◌, ℤ, [], ◌∷◌, ◌++◌, length, get
 use Rattle.std.proofs.lemmas.Int.{to_z-of_z}
 use Rattle.std.specs.Int.{w16}
 use mir.Val.{SFits}
-use Rattle.kbatch.specs.Kept.{count_of}
 use Rattle.kanswer.specs.declared.accepted.Accepted.TheVariants.{Refused}
-use Rattle.kanswer.specs.Decisions.{AskLog, Refuse, append_outcome}
+use Rattle.kanswer.specs.Decisions.{AskLog, Refuse}
+use Rattle.kanswer.specs.Sent.{sent_outcome}
 use Rattle.std.proofs.lemmas.List.{get_or_default}
 use Rattle.audit.proofs.Laws.{on_ok}
 use Rattle.lone_broker.proofs.DecisionSteps.{refusal_carried, entered_carried}
@@ -15,8 +15,7 @@ returns-in-Ok c =
     let call = c.args.call.now in
     let parts = c.args.parts.now in
     let number = c.in-Ok.number in
-    let batch = c.in-Ok.batch in
-    let outcome = append_outcome number (count_of batch) batch in
+    let outcome = sent_outcome number c.in-Ok.sent in
     let within : number < length parts = omega (arith, c.in-Ok.ensures.within, c.requires) in
     let h = get_or parts number c.index-parts-number.result in
     on_ok c.put.result c.put.ensures (λ e. (

@@ -12,19 +12,19 @@ pub returns-in-Fetch-clause-read : goal.returns-in-Fetch-clause-read
 returns-in-Fetch-clause-read c =
     let a = c.in-Fetch in
     let fits : SFits w32 a.replica = search rules in
-    let ask : c.args.request.now.ask ≡ Fetch a.replica a.max_wait a.min_bytes a.max_bytes a.isolation a.topics = sym (ap (λ (r : Request). r.ask) c.request.view_is) ∙ ap ask_of a.is in
-    if_ok_then c.read_fetch.result c.read_fetch.ensures.read (λ readings e. fetch_read c.args.parts.now c.args.request.now.ask (to_z w32 (of_z w32 a.replica)) a.replica a.max_wait a.min_bytes a.max_bytes a.isolation a.topics c.as_slice.result.now c.args.accepted.now c.of-budget.result readings ask (to_z-of_z w32 a.replica fits) c.as_slice.ensures c.of-budget.ensures c.requires.size e)
+    let ask : c.args.request.now.ask ≡ Fetch a.version a.replica a.max_wait a.min_bytes a.max_bytes a.isolation a.topics = sym (ap (λ (r : Request). r.ask) c.request.view_is) ∙ ap ask_of a.is in
+    if_ok_then c.read_fetch.result c.read_fetch.ensures.read (λ readings e. fetch_read c.args.parts.now c.args.request.now.ask a.version (to_z w32 (of_z w32 a.replica)) a.replica a.max_wait a.min_bytes a.max_bytes a.isolation a.topics c.as_slice.result.now c.args.accepted.now c.of-budget.result readings ask (to_z-of_z w32 a.replica fits) c.as_slice.ensures c.of-budget.ensures c.requires.size e)
 
 pub returns-in-Fetch-clause-size : goal.returns-in-Fetch-clause-size
 returns-in-Fetch-clause-size c =
     let a = c.in-Fetch in
-    let ask : c.args.request.now.ask ≡ Fetch a.replica a.max_wait a.min_bytes a.max_bytes a.isolation a.topics = sym (ap (λ (r : Request). r.ask) c.request.view_is) ∙ ap ask_of a.is in
-    if_ok_then c.read_fetch.result c.read_fetch.ensures.read (λ readings e. fetch_size c.args.parts.now c.args.request.now.ask (to_z w32 (of_z w32 a.replica)) a.replica a.max_wait a.min_bytes a.max_bytes a.isolation a.topics c.as_slice.result.now c.args.accepted.now c.of-budget.result readings ask c.as_slice.ensures c.requires.size e)
+    let ask : c.args.request.now.ask ≡ Fetch a.version a.replica a.max_wait a.min_bytes a.max_bytes a.isolation a.topics = sym (ap (λ (r : Request). r.ask) c.request.view_is) ∙ ap ask_of a.is in
+    if_ok_then c.read_fetch.result c.read_fetch.ensures.read (λ readings e. fetch_size c.args.parts.now c.args.request.now.ask a.version (to_z w32 (of_z w32 a.replica)) a.replica a.max_wait a.min_bytes a.max_bytes a.isolation a.topics c.as_slice.result.now c.args.accepted.now c.of-budget.result readings ask c.as_slice.ensures c.requires.size e)
 
 pub returns-in-Produce-clause-read : goal.returns-in-Produce-clause-read
 returns-in-Produce-clause-read c =
     let seen : IsNoFetch (ask_of c.request.inside.ask) = elim c.in-Produce.is [
-      | inl p ↦ subst IsNoFetch (sym (ap ask_of p.4)) tt
+      | inl p ↦ subst IsNoFetch (sym (ap ask_of p.5)) tt
       | inr o ↦ elim o [
         | inl m ↦ subst IsNoFetch (sym (ap ask_of m.1)) tt
         | inr v ↦ subst IsNoFetch (sym (ap ask_of v.1)) tt

@@ -24,10 +24,10 @@ returns-in-Fetch-clause-finished g c =
     let new = c.read_each.new in
     let f = c.in-Fetch in
     let fits : SFits w32 f.replica = search rules in
-    let ask : request.ask ≡ Fetch f.replica f.max_wait f.min_bytes f.max_bytes f.isolation f.topics = sym (ap (λ (r : Request). r.ask) c.request.view_is) ∙ ap ask_of f.is in
+    let ask : request.ask ≡ Fetch f.version f.replica f.max_wait f.min_bytes f.max_bytes f.isolation f.topics = sym (ap (λ (r : Request). r.ask) c.request.view_is) ∙ ap ask_of f.is in
     if_ok_then c.read_each.result c.read_each.ensures.read (λ readings read.
     finished_fetch call.by.now.seq request call.accepted.now call.op.now call.how c.in_ok-values.values c.needs.result.now c.args.pass.now m.pass new.pass m.points new.points c.needs.ensures.items won
-    (to_z w32 (of_z w32 f.replica)) f.replica f.max_wait f.min_bytes f.max_bytes f.isolation f.topics c.as_slice-topics.result.now ask (to_z-of_z w32 f.replica fits) c.as_slice-topics.ensures
+    f.version (to_z w32 (of_z w32 f.replica)) f.replica f.max_wait f.min_bytes f.max_bytes f.isolation f.topics c.as_slice-topics.result.now ask (to_z-of_z w32 f.replica fits) c.as_slice-topics.ensures
     c.of-budget.result read.0 readings c.of-budget.ensures read.1)
 
 pub returns-in-Fetch-clause-stopped : goal.returns-in-Fetch-clause-stopped
@@ -39,10 +39,10 @@ returns-in-Fetch-clause-stopped g c =
     let new = c.read_each.new in
     let f = c.in-Fetch in
     let fits : SFits w32 f.replica = search rules in
-    let ask : request.ask ≡ Fetch f.replica f.max_wait f.min_bytes f.max_bytes f.isolation f.topics = sym (ap (λ (r : Request). r.ask) c.request.view_is) ∙ ap ask_of f.is in
+    let ask : request.ask ≡ Fetch f.version f.replica f.max_wait f.min_bytes f.max_bytes f.isolation f.topics = sym (ap (λ (r : Request). r.ask) c.request.view_is) ∙ ap ask_of f.is in
     on_err_then c.read_each.result c.read_each.ensures.stopped
     (stopped_fetch call.by.now.seq request call.accepted.now call.op.now call.how c.in_ok-values.values c.needs.result.now c.args.pass.now m.pass new.pass m.points new.points c.needs.ensures.items won
-    (to_z w32 (of_z w32 f.replica)) f.replica f.max_wait f.min_bytes f.max_bytes f.isolation f.topics c.as_slice-topics.result.now ask (to_z-of_z w32 f.replica fits) c.as_slice-topics.ensures)
+    f.version (to_z w32 (of_z w32 f.replica)) f.replica f.max_wait f.min_bytes f.max_bytes f.isolation f.topics c.as_slice-topics.result.now ask (to_z-of_z w32 f.replica fits) c.as_slice-topics.ensures)
 
 pub returns-in-Produce-clause-finished : goal.returns-in-Produce-clause-finished
 returns-in-Produce-clause-finished g c =
@@ -52,7 +52,7 @@ returns-in-Produce-clause-finished g c =
     let m = c.win.new in
     let new = c.look_at_each.new in
     let seen : IsNoFetch (ask_of c.request.inside.ask) = elim c.in-Produce.is [
-      | inl p ↦ subst IsNoFetch (sym (ap ask_of p.4)) tt
+      | inl p ↦ subst IsNoFetch (sym (ap ask_of p.5)) tt
       | inr o ↦ elim o [
         | inl m ↦ subst IsNoFetch (sym (ap ask_of m.1)) tt
         | inr v ↦ subst IsNoFetch (sym (ap ask_of v.1)) tt
@@ -71,7 +71,7 @@ returns-in-Produce-clause-stopped g c =
     let m = c.win.new in
     let new = c.look_at_each.new in
     let seen : IsNoFetch (ask_of c.request.inside.ask) = elim c.in-Produce.is [
-      | inl p ↦ subst IsNoFetch (sym (ap ask_of p.4)) tt
+      | inl p ↦ subst IsNoFetch (sym (ap ask_of p.5)) tt
       | inr o ↦ elim o [
         | inl m ↦ subst IsNoFetch (sym (ap ask_of m.1)) tt
         | inr v ↦ subst IsNoFetch (sym (ap ask_of v.1)) tt

@@ -23,7 +23,7 @@ returns-in_err-fetch_one-clause-stopped g c =
     let r = c.args.call.now.replica in
     let items : c.as_slice-part-items.result.now ≡ c.args.topic.now.parts = c.as_slice-part-items.ensures ∙ ap (λ (t : FetchTopic). t.parts) c.topic.view_is in
     let i = c.loop-part.part-index in
-    let none : FetchPart = record { index = pos 0; offset = pos 0; most = pos 0 } in
+    let none : FetchPart = record { index = pos 0; offset = pos 0; log_start = pos 0; most = pos 0 } in
     let part : FetchPart = get_or c.as_slice-part-items.result.now i none in
     let there : i < length c.args.topic.now.parts = omega (arith, c.loop-part-test.true, ap length items) in
     let is : part ≡ get_or c.args.topic.now.parts i part = ap (λ (xs : List FetchPart). get_or xs i none) items ∙ same_item c.args.topic.now.parts i none part there in
@@ -40,7 +40,7 @@ loop-part-preserved g c =
     let r = c.args.call.now.replica in
     let items : c.as_slice-part-items.result.now ≡ c.args.topic.now.parts = c.as_slice-part-items.ensures ∙ ap (λ (t : FetchTopic). t.parts) c.topic.view_is in
     let i = c.loop-part.part-index in
-    let none : FetchPart = record { index = pos 0; offset = pos 0; most = pos 0 } in
+    let none : FetchPart = record { index = pos 0; offset = pos 0; log_start = pos 0; most = pos 0 } in
     let part : FetchPart = get_or c.as_slice-part-items.result.now i none in
     let there : i < length c.args.topic.now.parts = omega (arith, c.loop-part-test.true, ap length items) in
     let is : part ≡ get_or c.args.topic.now.parts i part = ap (λ (xs : List FetchPart). get_or xs i none) items ∙ same_item c.args.topic.now.parts i none part there in

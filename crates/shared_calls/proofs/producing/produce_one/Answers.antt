@@ -3,8 +3,8 @@ use Rattle.std.proofs.lemmas.Int.{to_z-of_z}
 use Rattle.std.specs.Int.{w16}
 use mir.Val.{SFits}
 use Rattle.kanswer.specs.declared.accepted.Accepted.TheVariants.{Refused}
-use Rattle.kbatch.specs.Kept.{count_of}
-use Rattle.kanswer.specs.Decisions.{AskLog, append_outcome}
+use Rattle.kanswer.specs.Decisions.{AskLog}
+use Rattle.kanswer.specs.Sent.{sent_outcome}
 use Rattle.shared_calls.specs.Stand.{HasProduced, IsStopped, stand}
 use Rattle.shared_calls.proofs.One.{on_err, on_err_then, on_ok, one_more, refused_produced, refused_stopped, whatever_one}
 use Rattle.shared_calls.proofs.Turning.{logs_size}
@@ -26,15 +26,15 @@ returns-in-Err-clause-stopped g c =
 pub returns-in-Ok-clause-come : goal.returns-in-Ok-clause-come
 returns-in-Ok-clause-come g c =
     let number = c.in-Ok.number in
-    let batch = c.in-Ok.batch in
+    let sent = c.in-Ok.sent in
     on_ok c.put_one.result c.put_one.ensures.come (λ p.
-    whatever_one c.args.call.now.config.now c.args.call.now.terms (c.args.named.now.topic.now, c.args.named.now.part.now) (AskLog number (append_outcome number (count_of batch) batch))
+    whatever_one c.args.call.now.config.now c.args.call.now.terms (c.args.named.now.topic.now, c.args.named.now.part.now) (AskLog number (sent_outcome number sent))
     (λ next. HasProduced c.args.call.now.config.now c.args.call.now.by.now.seq next (stand c.args.pass.now c.args.points.now c.args.came.now) (stand c.put_one.new.pass c.put_one.new.points c.put_one.new.came)) c.in-Ok.ensures.put p)
 
 pub returns-in-Ok-clause-stopped : goal.returns-in-Ok-clause-stopped
 returns-in-Ok-clause-stopped g c =
     let number = c.in-Ok.number in
-    let batch = c.in-Ok.batch in
+    let sent = c.in-Ok.sent in
     on_err_then c.put_one.result c.put_one.ensures.stopped (λ p.
-    whatever_one c.args.call.now.config.now c.args.call.now.terms (c.args.named.now.topic.now, c.args.named.now.part.now) (AskLog number (append_outcome number (count_of batch) batch))
+    whatever_one c.args.call.now.config.now c.args.call.now.terms (c.args.named.now.topic.now, c.args.named.now.part.now) (AskLog number (sent_outcome number sent))
     (λ next. IsStopped c.args.call.now.config.now c.args.call.now.by.now.seq next (stand c.args.pass.now c.args.points.now c.args.came.now) c.put_one.new.pass c.put_one.new.points) c.in-Ok.ensures.put p)

@@ -85,7 +85,7 @@ loop-at-preserved g c =
     let more = l.invariant.read.0 in
     let pushed : c.push.new.self ≡ l.readings ++ reading ∷ [] = c.in_ok-push.ensures.ok in
     let x : Accepted = get_or xs i (Refused (pos 0)) in
-    let none : FetchPart = record { index = pos 0; offset = pos 0; most = pos 0 } in
+    let none : FetchPart = record { index = pos 0; offset = pos 0; log_start = pos 0; most = pos 0 } in
     let m : FetchPart = get_or ps i none in
     let both = read_on call.by.now.seq fresh replica a l.pass new.pass p l.points new.points (take i xs) (x ∷ []) more (reading ∷ []) (take i ps) (m ∷ []) c.args.budget.now l.budget new.budget l.invariant.read.2 c.in_ok-reading.ensures.read in
     let results = subst (λ (ys : List Accepted). WereRead call.by.now.seq fresh replica (take i ps ++ m ∷ []) a p ys c.args.budget.now new.pass new.points new.budget (more ++ reading ∷ [])) (sym (take_more xs i (Refused (pos 0)) lt)) both in

@@ -1,9 +1,8 @@
 use Rattle.std.proofs.Common.{◌≡◌, ℕ, ◌∙◌, subst, sym}
 use Rattle.std.specs.Prelude.{slice_index}
-use Rattle.kbatch.specs.Kept.{count_of}
 use Rattle.partlog.specs.Gauges.{numbers_of}
 use Rattle.partlog.specs.State.{state_of}
-use Rattle.kanswer.specs.Decisions.{append_outcome}
+use Rattle.kanswer.specs.Sent.{sent_outcome}
 use Rattle.kanswer.specs.Entered.{HasEntered}
 use Rattle.turn_lock.specs.Locks.{known, lock_name}
 use Rattle.shared_logs.specs.Desks.{part_name}
@@ -26,14 +25,14 @@ returns-clause-asked g c =
     let began : BeganPart before key name c.part_turn-turn.result.ticket found =
     subst (BeganPart before key name c.part_turn-turn.result.ticket) (sym c.value_mut.ensures.value) (record { found_is = t.found; begun_is = t.begun; named = t.name; keeps = t.keeps }) in
     let turn = part_turned before key (known c.end.new.pass) name c.args.visit.now.who.by c.part_turn-turn.result.ticket found left began c.end.ensures.seen k.number_is k.of_lock.1 d.added d.name d.whole in
-    let batch = c.args.batch.now in
+    let sent = c.args.sent.now in
     let part = part_is found c.args.visit.now.room.now.table (slice_index name 0) c.args.part (began.named ∙ k.name) in
     if_ok_both c.put_at-put.result d.entered d.numbers
-    (λ (put : Put) (e : HasEntered who.by who.seq (append_outcome found.part (count_of batch) batch) found.history left.history put.entered) (n : put.numbers ≡ numbers_of (state_of left.history)). record {
+    (λ (put : Put) (e : HasEntered who.by who.seq (sent_outcome found.part sent) found.history left.history put.entered) (n : put.numbers ≡ numbers_of (state_of left.history)). record {
       found = found;
       left = left;
       turn = turn;
-      entry = subst (λ (by : ℕ). HasEntered by who.seq (append_outcome c.args.part (count_of batch) batch) found.history left.history put.entered) (sym k.number_is)
-          (subst (λ (p : ℕ). HasEntered who.by who.seq (append_outcome p (count_of batch) batch) found.history left.history put.entered) part e);
+      entry = subst (λ (by : ℕ). HasEntered by who.seq (sent_outcome c.args.part sent) found.history left.history put.entered) (sym k.number_is)
+          (subst (λ (p : ℕ). HasEntered who.by who.seq (sent_outcome p sent) found.history left.history put.entered) part e);
       numbers_are = n;
     })

@@ -1,6 +1,5 @@
 use Rattle.std.proofs.Common.{ℕ, ap, set, subst, sym, ◌∙◌}
-use Rattle.kbatch.specs.Kept.{count_of}
-use Rattle.kanswer.specs.Decisions.{append_outcome}
+use Rattle.kanswer.specs.Sent.{sent_outcome}
 use Rattle.shared_logs.specs.Asked.{HasAsked}
 use Rattle.shared_logs.specs.Coming.{HasCaughtUp}
 use Rattle.shared_logs.specs.Locked.{pass_view}
@@ -89,7 +88,7 @@ returns-clause-asked g c =
     let new = c.put_into.new.key in
     let step = part_step p.number p.room p.parts.items p.clock p.moment p.ticked c.pass.invariant s.room s.parts.items s.clock made part lock old less c.index.ensures c.index_mut.ensures.value room new e.room e.went e.kept e.key.of_lock e.key.ready in
     let after = pass_view p.number room (set p.parts.items part new) p.clock in
-    let outcome = append_outcome part (count_of c.args.batch.now) c.args.batch.now in
+    let outcome = sent_outcome part c.args.sent.now in
     if_ok r e.asked
     (λ x a. subst (λ (v : LogPassView). HasAsked part c.args.who.seq outcome v after x.entered x.numbers) c.pass.view_is
     (part_asked p.number p.room room p.parts.items p.clock p.moment p.ticked part old new step a.found a.left a.turn c.args.who.seq outcome x.entered x.numbers a.entry a.numbers_are))
