@@ -83,20 +83,22 @@ def batch(*values):
     return batches.batch([batches.record(offset, value) for offset, value in enumerate(values)])
 
 
-def produce(correlation, topic, records, partition=0, acks=1, timeout=1000):
-    return wire.produce_request(correlation, [(topic, [(partition, records)])], acks=acks, timeout=timeout)
+def produce(correlation, topic, records, partition=0, acks=1, timeout=1000, version=wire.PRODUCE[0]):
+    return wire.produce_request(correlation, [(topic, [(partition, records)])], acks=acks, timeout=timeout, version=version)
 
 
-def produced(correlation, topic, base, partition=0, code=0):
-    return wire.produced(correlation, [(topic, [(partition, code, base)])])
+def produced(correlation, topic, base, partition=0, code=0, version=wire.PRODUCE[0]):
+    start = wire.NO_LOG_START if base < 0 else 0
+    return wire.produced(correlation, [(topic, [(partition, code, base, start)])], version)
 
 
-def fetch(correlation, topic, offset, partition=0, replica=-1, wait=0):
-    return wire.fetch_request(correlation, [(topic, [(partition, offset, 1_048_576)])], replica=replica, wait=wait)
+def fetch(correlation, topic, offset, partition=0, replica=-1, wait=0, version=wire.FETCH[0], start=wire.NO_LOG_START):
+    part = partition, offset, 1_048_576, start
+    return wire.fetch_request(correlation, [(topic, [part])], replica=replica, wait=wait, version=version)
 
 
-def fetched(correlation, topic, high, records=b"", partition=0):
-    return wire.fetched(correlation, 0, [(topic, [(partition, 0, high, records)])])
+def fetched(correlation, topic, high, records=b"", partition=0, version=wire.FETCH[0]):
+    return wire.fetched(correlation, 0, [(topic, [(partition, 0, high, 0, records)])], version)
 
 
 def high_and_records(reply):

@@ -9,7 +9,7 @@ from clients.served import Serving, expect, expect_same, soon
 from model.broker import batches, wire
 from model.traces import mutated
 
-MOST_32, MOST_64 = 2**31 - 1, 2**63 - 1
+MOST_16, MOST_32, MOST_64 = 2**15 - 1, 2**31 - 1, 2**63 - 1
 # The offset at which a batch has its last offset delta, and that at which it has its count.
 LAST, COUNT = 23, 57
 BATCH = frames.batch(b"a")
@@ -28,12 +28,13 @@ def with_longer_length(batch):
     return mutated.mended(batch[:batches.HEADER] + bytes([batch[batches.HEADER] | 0x80, 0]) + batch[batches.HEADER + 1:])
 
 
-def asked(offset, most=1_048_576, least=1):
-    return wire.fetch_request(2, [(b"t", [(0, offset, most)])], wait=60_000, least=least)
+def asked(offset, most=1_048_576, least=1, version=wire.FETCH[0], start=wire.NO_LOG_START):
+    return wire.fetch_request(2, [(b"t", [(0, offset, most, start)])], wait=60_000, least=least, version=version)
 
 
-def told(code):
-    return wire.fetched(2, 0, [(b"t", [(0, code, -1 if code else 0, b"")])])
+def told(code, version=wire.FETCH[0]):
+    place = -1 if code else 0
+    return wire.fetched(2, 0, [(b"t", [(0, code, place, place, b"")])], version)
 
 
 def refused(code, partition=0):
@@ -48,7 +49,11 @@ EDGES = [
     (frames.produce(1, b"t", with_longer_length(BATCH)), refused(87), "calls 1 replies 1 closed"),
     (asked(MOST_64) + asked(-MOST_64 - 1), told(1) + told(1), "calls 2 replies 2 closed"),
     (asked(0, most=-5, least=-1), told(0), "calls 1 replies 1 closed"),
+    (asked(0, least=0, version=5, start=MOST_64) + asked(0, least=0, version=5, start=-MOST_64 - 1), 2 * told(0, 5), "calls 2 replies 2 closed"),
+    (asked(MOST_64, version=5) + asked(-1, version=5, start=0), 2 * told(1, 5), "calls 2 replies 2 closed"),
     (frames.produce(1, b"t", BATCH, partition=-1), refused(3, -1), "calls 1 replies 1 closed"),
+    (frames.produce(1, b"t", BATCH, version=MOST_16), b"", f"calls 0 replies 0 refused unsupported 0 {MOST_16}"),
+    (frames.produce(1, b"t", BATCH, version=-MOST_16 - 1), b"", f"calls 0 replies 0 refused unsupported 0 {-MOST_16 - 1}"),
     (struct.pack(">i", MOST_32), b"", f"calls 0 replies 0 too-long {MOST_32}"),
     (struct.pack(">i", -MOST_32 - 1), b"", f"calls 0 replies 0 too-long {-MOST_32 - 1}"),
 ]
@@ -84,10 +89,10 @@ def at_their_edges(program):
     return f"{len(EDGES)} edges answered within {longest:.1f} ms, and a fetch that waits for 2,147,483,647 ms"
 
 
-# A frame of each api, in the form that the program takes, and one in another version.
+# A frame of each api, in each version that the program takes, and one in another.
 WHOLE = [
-    frames.produce(1, b"t", BATCH),
-    frames.fetch(2, b"t", 0),
+    *(frames.produce(1, b"t", BATCH, version=version) for version in wire.PRODUCE),
+    *(frames.fetch(2, b"t", 0, version=version) for version in wire.FETCH),
     wire.metadata_request(7, None),
     wire.versions_request(4),
     wire.versions_request(5, version=3, rest=bytes.fromhex("00026b023100")),

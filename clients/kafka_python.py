@@ -11,6 +11,9 @@ from clients.served import PATIENCE, Failed, Serving, expect, expect_same
 
 SCRIPT = pathlib.Path(__file__).with_name("python_client.py")
 COUNT = 5
+# The releases of which the broker is told to be. They send Produce in the versions 3, 4 and 5, and all of them Fetch in version 4. Where
+# the log starts only version 5 tells.
+RELEASES = {"0.11.0": None, "1.0.0": None, "1.1.0": 0}
 
 
 @functools.lru_cache(maxsize=None)
@@ -45,17 +48,22 @@ def ran(*words):
 
 
 def produces_and_consumes(program):
-    """A producer with acks 1, and then one with acks all, is told the offsets 0 to 4 and 5 to 9. A consumer that is assigned the
-    partition and seeks to offset 3 gets the records from there on, with key, value and headers, and no more."""
-    with Serving(program, ["orders 2 0"], connections=16) as serving:
-        for first, acks in ((0, 1), (COUNT, "all")):
-            offsets = ran("produce", serving.address, acks, "orders", 1, first, COUNT)
-            expect_same(offsets, [str(offset) for offset in range(first, first + COUNT)], f"the offsets told with acks {acks}")
-        found = ran("consume", serving.address, "orders", 1, 3, 2 * COUNT - 3)
-        serving.ends(0, 2 * COUNT)
-    wanted = [f"{n} b'key {n}' b'value {n}' [('number', b'{n}')]" for n in range(3, 2 * COUNT)]
+    """For each release a producer with acks 1, and then one with acks all, is told the offsets that come next, and where the log starts
+    where it sends version 5. A consumer that is assigned the partition and seeks to offset 3 gets the records from there on, with key,
+    value and headers, and no more."""
+    with Serving(program, ["orders 2 0"], connections=32) as serving:
+        first = 0
+        for release, start in RELEASES.items():
+            for acks in (1, "all"):
+                told = ran("produce", release, serving.address, acks, "orders", 1, first, COUNT)
+                wanted = [f"{offset} {start}" for offset in range(first, first + COUNT)]
+                expect_same(told, wanted, f"what a producer of {release} is told with acks {acks}")
+                first += COUNT
+        found = ran("consume", release, serving.address, "orders", 1, 3, first - 3)
+        serving.ends(0, first)
+    wanted = [f"{n} b'key {n}' b'value {n}' [('number', b'{n}')]" for n in range(3, first)]
     expect_same(found, wanted, "what is consumed")
-    return f"{2 * COUNT} records produced, {len(found)} consumed"
+    return f"{first} records produced as of {', '.join(RELEASES)}, {len(found)} consumed"
 
 
 CHECKS = {"kafka-python": produces_and_consumes}

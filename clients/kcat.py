@@ -11,6 +11,7 @@ import time
 from clients import frames
 from clients.frames import Link
 from clients.served import PATIENCE, Failed, Serving, expect, expect_same, soon, until
+from model.broker import wire
 
 # Without the user's own settings.
 ENVIRONMENT = {name: value for name, value in os.environ.items() if name not in ("HOME", "KCAT_CONFIG")}
@@ -136,6 +137,23 @@ def consumes_from(program):
     return f"from offsets 0, 3, 9 and 10{over(links)}"
 
 
+def chooses_the_newest(program):
+    """Of the versions that are offered `kcat` sends the newest, of Produce and of Fetch, and it gets what it sent."""
+    with Serving(program, ["orders 1 0"], connections=12) as serving:
+        with Running(serving, "-P", *place("orders", 0), "-d", "protocol", text="book\n") as producer:
+            producer.ends()
+            said = producer.says("Sent ProduceRequest")
+        with Running(serving, "-C", "-q", "-u", *place("orders", 0), "-o", "0", "-c", "1", "-d", "protocol", *SHORT_POLLS) as consumer:
+            consumer.ends()
+            consumer.prints("book\n")
+            said += consumer.says("Sent FetchRequest")
+        links = serving.ends(1)
+    sent = {name: {int(version) for version in re.findall(rf"Sent {name}Request \(v(\d+)", said)} for name in ("Produce", "Fetch")}
+    wanted = {"Produce": {wire.PRODUCE[-1]}, "Fetch": {wire.FETCH[-1]}}
+    expect(sent == wanted, f"kcat should send the versions {wanted}, and sends {sent}")
+    return f"Produce in version {wire.PRODUCE[-1]}, Fetch in version {wire.FETCH[-1]}{over(links)}"
+
+
 def wakes_two(program):
     """Two consumers wait in long polls of 20 s. A producer's record reaches both long before these end, within 3 s of its start."""
     consumer = ["-C", "-q", "-u", *place("orders", 0), "-o", "0", "-c", "1", "-f", "%o %s\n", "-d", "protocol", *LONG_POLLS]
@@ -209,6 +227,7 @@ CHECKS = {
     "kcat-acks-0": functools.partial(produces, acks="0"),
     "kcat-acks-all": functools.partial(produces, acks="all"),
     "kcat-offsets": consumes_from,
+    "kcat-versions": chooses_the_newest,
     "kcat-long-polls": wakes_two,
     "kcat-follower": waits_for_follower,
     "kcat-no-follower": has_no_follower,

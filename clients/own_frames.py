@@ -7,7 +7,7 @@ import time
 from clients import frames
 from clients.frames import Link
 from clients.served import PATIENCE, Serving, expect, expect_same, soon, text_of
-from model.broker import batches, wire
+from model.broker import batches, broker, wire
 
 BOOK = frames.batch(b"book")
 STORED = batches.stamped(BOOK, 0)
@@ -41,6 +41,51 @@ def times_out(program):
             soon(sent, "the produce is answered")
         serving.ends((1, 0), ways=["closed"])
     return f"code 7 after {took:.1f} ms, for a timeout of 400 ms"
+
+
+def speaks_each_version(program):
+    """A produce and a fetch in each version that is taken are answered in that version; version 5 tells where the log starts, which is
+    nowhere of a partition that isn't there. A version just below these, or just above, ends the link."""
+    pairs = [(0, frames.produce, wire.PRODUCE), (1, frames.fetch, wire.FETCH)]
+    wrong = [(key, make, version) for key, make, taken in pairs for version in (taken[0] - 1, taken[-1] + 1)]
+    stored = b"".join(batches.stamped(BOOK, offset) for offset in range(len(wire.PRODUCE)))
+    with Serving(program, ["orders 1 0"], connections=1 + len(wrong)) as serving:
+        with Link(serving.port) as link:
+            for offset, version in enumerate(wire.PRODUCE):
+                link.asks(frames.produce(1, b"orders", BOOK, version=version), frames.produced(1, b"orders", offset, version=version))
+                link.asks(frames.produce(2, b"orders", BOOK, 1, version=version), frames.produced(2, b"orders", -1, 1, 3, version))
+            for version in wire.FETCH:
+                link.asks(frames.fetch(3, b"orders", 0, version=version, start=0), frames.fetched(3, b"orders", 3, stored, version=version))
+            link.has_to_end()
+        for _, make, version in wrong:
+            with Link(serving.port) as link:
+                link.send(make(1, b"orders", 0 if make is frames.fetch else BOOK, version=version))
+                link.has_to_end()
+        served = serving.end()
+    calls = 2 * len(wire.PRODUCE) + len(wire.FETCH)
+    wanted = [f"link 0 calls {calls} replies {calls} closed"]
+    wanted += [f"link {number} calls 0 replies 0 refused unsupported {key} {version}" for number, (key, _, version) in enumerate(wrong, 1)]
+    expect_same(served.lines[:len(wanted)], wanted, "what is printed")
+    return f"{calls} requests in {len(wire.PRODUCE) + len(wire.FETCH)} versions, {len(wrong)} refused in others"
+
+
+def fills_a_log(program):
+    """A log that is full takes no more: in version 3 the partition has code 6, from version 4 on it has 56. The other partition of the
+    same request takes its batch."""
+    large = frames.batch(bytes(1_048_504))
+    count, left = divmod(broker.LOG_LIMIT, len(large))
+    expect(left == 0, f"batches of {len(large)} bytes should fill a log")
+    with Serving(program, ["orders 2 0"], connections=2) as serving, Link(serving.port) as link:
+        began = time.monotonic()
+        for offset in range(count):
+            link.asks(frames.produce(offset, b"orders", large), frames.produced(offset, b"orders", offset))
+        took = time.monotonic() - began
+        for offset, (version, code) in enumerate([(3, 6), (4, 56), (5, 56)]):
+            asked = wire.produce_request(1, [(b"orders", [(0, BOOK), (1, BOOK)])], version=version)
+            link.asks(asked, wire.produced(1, [(b"orders", [(0, code, -1, -1), (1, 0, offset, 0)])], version))
+        link.has_to_end()
+        serving.ends(count, 3)
+    return f"full with {count} batches of {len(large)} bytes after {took:.1f} s, and then codes 6, 56 and 56"
 
 
 def second_on_the_port(program):
@@ -135,6 +180,8 @@ def prints_all(program):
 CHECKS = {
     "frames-follower": waits_for_follower,
     "frames-timeout": times_out,
+    "frames-versions": speaks_each_version,
+    "frames-full": fills_a_log,
     "frames-print": prints_all,
     "frames-port": second_on_the_port,
 }

@@ -7,6 +7,8 @@ from model.broker import batches, wire
 PORT = 9092
 LOG_LIMIT = 67_108_864
 REPLY_LIMIT = 52_428_800
+# The codes of a full log: NOT_LEADER_OR_FOLLOWER, and from this version of Produce on KAFKA_STORAGE_ERROR.
+FULL, WITH_STORAGE_ERROR = (6, 56), 4
 
 
 @dataclass
@@ -111,8 +113,8 @@ class Broker:
 
     # ---- accepting
 
-    def append(self, fields, topic, index, data):
-        number, data = self.number_of(topic, index), data or b""
+    def append(self, request, topic, index, data):
+        number, data, fields = self.number_of(topic, index), data or b"", request.fields
         if fields["transactional"] is not None:
             return Part(topic, index, 42)
         if number is None:
@@ -124,13 +126,13 @@ class Broker:
             return Part(topic, index, code)
         partition = self.partitions[number]
         if partition.bytes + len(data) > LOG_LIMIT:
-            return Part(topic, index, 6)
+            return Part(topic, index, FULL[request.version >= WITH_STORAGE_ERROR])
         base, count = partition.log_end, batches.count_of(data)
         partition.batches.append((base, count, batches.stamped(data, base)))
         return Part(topic, index, 0, number, base, count)
 
-    def look(self, fields, topic, index, offset, most):
-        number, replica = self.number_of(topic, index), fields["replica"]
+    def look(self, request, topic, index, offset, most, _):
+        number, replica = self.number_of(topic, index), request.fields["replica"]
         if number is None:
             return Part(topic, index, 3)
         partition = self.partitions[number]
@@ -167,11 +169,12 @@ class Broker:
         by_topic = iter(parts)
         told = [(name, [next(by_topic) for _ in named]) for name, named in request.fields.get("topics", [])]
         if request.key == 0:
-            return wire.produced(request.correlation, [(name, [self.told_produced(request, part) for part in named]) for name, named in told])
+            topics = [(name, [self.told_produced(request, part) for part in named]) for name, named in told]
+            return wire.produced(request.correlation, topics, request.version)
         if request.key == 1:
             budget = Budget(limit_of(request.fields))
             topics = [(name, [self.told_fetched(request, part, budget) for part in named]) for name, named in told]
-            return wire.fetched(request.correlation, request.fields["isolation"], topics)
+            return wire.fetched(request.correlation, request.fields["isolation"], topics, request.version)
         if request.key == 3:
             return wire.metadata(request.correlation, self.port, self.described(request.fields["names"]))
         return wire.versions(request.correlation, 0 if request.version == 0 else 35)
@@ -180,16 +183,16 @@ class Broker:
         code = part.code
         if code == 0 and request.fields["acks"] == -1 and self.partitions[part.number].high < part.base + part.count:
             code = 7
-        return part.index, code, part.base
+        return part.index, code, part.base, log_start_of(part)
 
     def told_fetched(self, request, part, budget):
         if part.code != 0:
-            return part.index, part.code, -1, b""
+            return part.index, part.code, -1, log_start_of(part), b""
         partition = self.partitions[part.number]
         upto = partition.visible if request.fields["replica"] < 0 else partition.bytes
         data = partition.take(part.start, upto, min(part.most, budget.left), not budget.has_taken)
         budget.take(len(data))
-        return part.index, 0, partition.high, data
+        return part.index, 0, partition.high, log_start_of(part), data
 
     def described(self, names):
         if names is None:
@@ -233,7 +236,7 @@ class Broker:
     def handle(self, number, request):
         fields = request.fields
         take = self.append if request.key == 0 else self.look
-        parts = [take(fields, name, *part) for name, named in fields.get("topics", []) for part in named]
+        parts = [take(request, name, *part) for name, named in fields.get("topics", []) for part in named]
         if self.must_wait(request, parts):
             wait = fields["timeout"] if request.key == 0 else fields["wait"]
             self.waiting.append(Waiting(number, request, parts, self.moment + max(0, wait)))
@@ -275,6 +278,11 @@ class Broker:
                 is_parked = any(waiting.session == number for waiting in self.waiting)
                 self.out.append(b"session %d calls %d replies %d parked %d\n" % (number, session.calls, session.replies, is_parked))
         self.out.append(b"done\n")
+
+
+def log_start_of(part):
+    """Nothing is taken off a log, so one that was asked starts at 0."""
+    return 0 if part.code == 0 else wire.NO_LOG_START
 
 
 def limit_of(fields):

@@ -5,7 +5,12 @@ from dataclasses import dataclass
 
 MOST_FRAME = 8_388_608
 MOST_NAMED = 64
-VERSIONS = {0: 3, 1: 4, 3: 1, 18: 0}
+# The versions of each api that are taken, by its key.
+VERSIONS = {0: range(3, 6), 1: range(4, 6), 3: range(1, 2), 18: range(0, 1)}
+PRODUCE, FETCH = VERSIONS[0], VERSIONS[1]
+# The version of both from which on a reply tells where a log starts, and a fetch too. Where that isn't known it is told as -1.
+WITH_LOG_START = 5
+NO_LOG_START = -1
 
 
 class Refused(Exception):
@@ -21,8 +26,8 @@ class Request:
     key: int
     version: int
     correlation: int
-    # of a produce: the transactional id, acks, timeout, topics; of a fetch: replica, wait, min, max, isolation, topics;
-    # of metadata: names or None
+    # of a produce: the transactional id, acks, timeout, topics of (index, records); of a fetch: replica, wait, min, max, isolation,
+    # topics of (index, offset, most bytes, log start); of metadata: names or None
     fields: dict
 
 
@@ -104,7 +109,7 @@ def _topics(reader, part):
     return topics
 
 
-def _produce(reader):
+def _produce(reader, _):
     fields = {
         "transactional": reader.nullable_string(),
         "acks": reader.number(">h"),
@@ -114,17 +119,23 @@ def _produce(reader):
     return fields
 
 
-def _fetch(reader):
+def _fetch_part(reader, version):
+    index, offset = reader.number(">i"), reader.number(">q")
+    start = reader.number(">q") if version >= WITH_LOG_START else NO_LOG_START
+    return index, offset, reader.number(">i"), start
+
+
+def _fetch(reader, version):
     fields = {name: reader.number(">i") for name in ("replica", "wait", "min", "max")}
     at = reader.at
     fields["isolation"] = reader.number(">b")
     if fields["isolation"] not in (0, 1):
         raise Refused(f"bad-request {at}")
-    fields["topics"] = _topics(reader, lambda: (reader.number(">i"), reader.number(">q"), reader.number(">i")))
+    fields["topics"] = _topics(reader, lambda: _fetch_part(reader, version))
     return fields
 
 
-def _metadata(reader):
+def _metadata(reader, _):
     count = reader.count(0, nullable=True)
     return {"names": None if count is None else [reader.string() for _ in range(count)]}
 
@@ -136,10 +147,10 @@ def read_request(body):
         raise Refused(f"unknown-api {key}")
     if key == 18 and version != 0:
         return Request(key, version, correlation, {})
-    if version != VERSIONS[key]:
+    if version not in VERSIONS[key]:
         raise Refused(f"unsupported {key} {version}")
     reader.nullable_string()
-    fields = {0: _produce, 1: _fetch, 3: _metadata, 18: lambda _: {}}[key](reader)
+    fields = {0: _produce, 1: _fetch, 3: _metadata, 18: lambda *_: {}}[key](reader, version)
     if reader.at != len(body):
         raise Refused(f"bad-request {reader.at}")
     seen = set()
@@ -174,19 +185,28 @@ def _reply(correlation, body):
     return frame(struct.pack(">i", correlation) + body)
 
 
-def produced(correlation, topics):
-    """Topics of (index, code, base offset)."""
-    told = [string(name) + array([struct.pack(">ihqq", *part, -1) for part in parts]) for name, parts in topics]
+def _log_start(version, start):
+    return struct.pack(">q", start) if version >= WITH_LOG_START else b""
+
+
+def _produced_part(version, index, code, base, start):
+    return struct.pack(">ihqq", index, code, base, -1) + _log_start(version, start)
+
+
+def produced(correlation, topics, version=PRODUCE[0]):
+    """Topics of (index, code, base offset, log start)."""
+    told = [string(name) + array([_produced_part(version, *part) for part in parts]) for name, parts in topics]
     return _reply(correlation, array(told) + struct.pack(">i", 0))
 
 
-def fetched(correlation, isolation, topics):
-    """Topics of (index, code, high watermark, batches)."""
+def _fetched_part(version, aborted, index, code, high, start, data):
+    return struct.pack(">ihqq", index, code, high, high) + _log_start(version, start) + aborted + records(data)
+
+
+def fetched(correlation, isolation, topics, version=FETCH[0]):
+    """Topics of (index, code, high watermark, log start, batches)."""
     aborted = struct.pack(">i", -1 if isolation == 0 else 0)
-    told = [
-        string(name) + array([struct.pack(">ihqq", index, code, high, high) + aborted + records(data) for index, code, high, data in parts])
-        for name, parts in topics
-    ]
+    told = [string(name) + array([_fetched_part(version, aborted, *part) for part in parts]) for name, parts in topics]
     return _reply(correlation, struct.pack(">i", 0) + array(told))
 
 
@@ -202,7 +222,7 @@ def metadata(correlation, port, topics):
 
 
 def versions(correlation, code):
-    table = [struct.pack(">hhh", key, version, version) for key, version in VERSIONS.items()]
+    table = [struct.pack(">hhh", key, taken[0], taken[-1]) for key, taken in VERSIONS.items()]
     return _reply(correlation, struct.pack(">h", code) + array(table))
 
 
@@ -213,15 +233,19 @@ def header(key, version, correlation, client=b"c"):
     return struct.pack(">hhi", key, version, correlation) + string(client)
 
 
-def produce_request(correlation, topics, acks=1, timeout=1000, transactional=None, version=3, client=b"c"):
+def produce_request(correlation, topics, acks=1, timeout=1000, transactional=None, version=PRODUCE[0], client=b"c"):
     """Topics of (index, bytes or None)."""
     told = [string(name) + array([struct.pack(">i", index) + records(data) for index, data in parts]) for name, parts in topics]
     return frame(header(0, version, correlation, client) + string(transactional) + struct.pack(">hi", acks, timeout) + array(told))
 
 
-def fetch_request(correlation, topics, replica=-1, wait=100, least=1, most=52_428_800, isolation=0, version=4, client=b"c"):
-    """Topics of (index, offset, most bytes)."""
-    told = [string(name) + array([struct.pack(">iqi", *part) for part in parts]) for name, parts in topics]
+def _asked_part(version, index, offset, most, start=NO_LOG_START):
+    return struct.pack(">iq", index, offset) + _log_start(version, start) + struct.pack(">i", most)
+
+
+def fetch_request(correlation, topics, replica=-1, wait=100, least=1, most=52_428_800, isolation=0, version=FETCH[0], client=b"c"):
+    """Topics of (index, offset, most bytes), or with the log start behind these, which version 5 tells."""
+    told = [string(name) + array([_asked_part(version, *part) for part in parts]) for name, parts in topics]
     return frame(header(1, version, correlation, client) + struct.pack(">iiiib", replica, wait, least, most, isolation) + array(told))
 
 

@@ -17,6 +17,8 @@ from model.traces import generate
 
 PORT = broker.PORT
 KINDS = ["waiting", "waiting", "mixed", "plain"]
+# No trace is long enough to fill a log; so in each fifth one a log takes no more than so many bytes.
+MOST_LOG_BYTES, FEW_LOG_BYTES = broker.LOG_LIMIT, 200
 
 
 class Wrong(Exception):
@@ -138,6 +140,11 @@ def table(counted):
         print(f"{kind:64} {wanted:>7} {counts['lawful']:7} {counts['run']:6} {counts['text']:6} {counts['same']:6}")
 
 
+def let_logs_take(most):
+    """The most bytes of a log, in the broker and in the definitions."""
+    broker.LOG_LIMIT = parts.MOST_LOG_BYTES = most
+
+
 def main():
     options = argparse.ArgumentParser(description=__doc__)
     options.add_argument("count", nargs="?", type=int, default=100, metavar="COUNT", help="traces")
@@ -154,11 +161,13 @@ def main():
     for seed in range(chosen.first, chosen.first + chosen.count):
         kind = KINDS[seed % len(KINDS)]
         text = generate.made(kind, seed)
+        let_logs_take(FEW_LOG_BYTES if seed % 5 == 4 else MOST_LOG_BYTES)
         try:
             check_trace(text, chosen.each or None, random.Random(seed), counted)
         except Wrong as wrong:
             print(f"the trace {kind} {seed}: {wrong}")
             return 1
+        let_logs_take(MOST_LOG_BYTES)
     calls = counted.pop("calls")
     if chosen.table:
         table(counted)

@@ -22,12 +22,12 @@ def kept_of(data):
     return data[8:12] + data[16:]
 
 
-def told_by(reply, layout):
-    """What a reply tells of each partition, in order."""
+def told_by(reply, request):
+    """What the reply to a produce or to a fetch tells of each partition, in order."""
     reader = wire.Reader(reply[8:])
-    if layout == "fetched":
+    if request.key == 1:
         reader.number(">i")
-    return [_part(reader, layout) for _ in range(reader.number(">i")) for _ in range(_named(reader))]
+    return [_part(reader, request) for _ in range(reader.number(">i")) for _ in range(_named(reader))]
 
 
 def _named(reader):
@@ -35,13 +35,13 @@ def _named(reader):
     return reader.number(">i")
 
 
-def _part(reader, layout):
+def _part(reader, request):
     """The code, and the base offset or the high watermark."""
-    _, code, place = reader.number(">i"), reader.number(">h"), reader.number(">q")
-    if layout == "produced":
+    _, code, place, _ = reader.number(">i"), reader.number(">h"), reader.number(">q"), reader.number(">q")
+    if request.version >= wire.WITH_LOG_START:
         reader.number(">q")
-    else:
-        _ = reader.number(">q"), reader.number(">i"), reader.records()
+    if request.key == 1:
+        _ = reader.number(">i"), reader.records()
     return code, place
 
 
@@ -79,14 +79,14 @@ class Seen:
     def _produce(self, request, reply, floors):
         fresh = broker.Broker(self.topics, self.port)
         named = [(name, *part) for name, parts in request.fields["topics"] for part in parts]
-        parts = [fresh.append(request.fields, *each) for each in named]
-        told = [(part.code, -1) for part in parts] if reply is None else told_by(reply, "produced")
+        parts = [fresh.append(request, *each) for each in named]
+        told = [(part.code, -1) for part in parts] if reply is None else told_by(reply, request)
         need(len(told) == len(parts), "a produce's reply names other partitions")
         for part, each, (_, base) in zip(parts, named, told):
             if part.code == 0:
                 self._appended(part, each[2], None if reply is None else base, floors)
         if reply is not None:
-            answer = wire.produced(request.correlation, self._grouped(request, parts))
+            answer = wire.produced(request.correlation, self._grouped(request, parts), request.version)
             need(reply == answer, f"a produce's reply should be {answer.hex()}")
 
     def _appended(self, part, data, base, floors):
@@ -103,11 +103,14 @@ class Seen:
     @staticmethod
     def _grouped(request, parts):
         left = iter(parts)
-        return [(name, [(index, part.code, part.base) for (index, _), part in zip(named, left)]) for name, named in request.fields["topics"]]
+        return [
+            (name, [(index, part.code, part.base, broker.log_start_of(part)) for (index, _), part in zip(named, left)])
+            for name, named in request.fields["topics"]
+        ]
 
     def _fetch(self, request, reply, floors):
         named = [(name, *part) for name, parts in request.fields["topics"] for part in parts]
-        told, ends = told_by(reply, "fetched"), list(floors)
+        told, ends = told_by(reply, request), list(floors)
         need(len(told) == len(named), "a fetch's reply names other partitions")
         for (name, index, *_), (code, high) in zip(named, told):
             number = broker.Broker(self.topics, self.port).number_of(name, index)
@@ -116,7 +119,7 @@ class Seen:
                 need(high == 0 or high in [base + count for base, count, _ in self.logs[number]], f"no batch ends at {high}")
                 ends[number] = high
         shown = self.broker_at(ends)
-        answer = shown.answer(request, [shown.look(request.fields, *each) for each in named])
+        answer = shown.answer(request, [shown.look(request, *each) for each in named])
         need(reply == answer, f"a fetch's reply should be {answer.hex()}")
         floors[:] = ends
 
@@ -133,7 +136,7 @@ class Seen:
         for request in rude:
             for name, parts in request.fields.get("topics", []) if request.key == 0 else []:
                 for part in parts:
-                    became = broker.Broker(self.topics, self.port).append(request.fields, name, *part)
+                    became = broker.Broker(self.topics, self.port).append(request, name, *part)
                     if became.code == 0:
                         sent[became.number][kept_of(part[1])] += 1
         return sent

@@ -59,7 +59,7 @@ class SlowReading:
         return [(self.broker.number_of(name, part[0]), (name, *part)) for name, parts in request.fields.get("topics", []) for part in parts]
 
     def does(self, some_broker, request, named):
-        return (some_broker.append if request.key == 0 else some_broker.look)(request.fields, *named)
+        return (some_broker.append if request.key == 0 else some_broker.look)(request, *named)
 
     def is_accepting(self, number, place, event):
         """Whether an entry is one of its call's acceptance, or of its completion. It is one point of the call, no more."""
@@ -131,7 +131,7 @@ class SlowReading:
             entered = self.became[owner].get(number)
             part = entered or self.does(broker.Broker(self.account.config.topics), request, named)
             # What is refused by the topics, or by the batch itself, leaves no entry.
-            asks = number is not None and (request.key == 1 or part.code in (0, 6))
+            asks = number is not None and (request.key == 1 or part.code in (0, *broker.FULL))
             need(asks == (entered is not None), f"partition {named[1]} of a topic {'left no entry' if asks else 'left an entry'}")
             parts.append(part)
             asked += [number] * asks

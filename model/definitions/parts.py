@@ -343,9 +343,13 @@ def look(result):
     return Outcome(result, Looked())
 
 
-def append_outcome(part, count, batch, state):
+def full_code(version):
+    return 56 if 4 <= version else 6
+
+
+def append_outcome(version, part, count, batch, state):
     if MOST_LOG_BYTES < gauges_of(state).bytes + len(batch):
-        return look(Refused(6))
+        return look(Refused(full_code(version)))
     return Outcome(Appended(part, state.log_end, count), Put(count, batch))
 
 
@@ -356,14 +360,14 @@ def is_acks(acks):
 first_fault = lru_cache(maxsize=4096)(records.fault_code)
 
 
-def BatchDecides(part, data):
+def BatchDecides(version, part, data):
     code = first_fault(data)
     if code is not None:
         return Refuse(code)
-    return AskLog(part, lambda state: append_outcome(part, records.count_of(data), data, state))
+    return AskLog(part, lambda state: append_outcome(version, part, records.count_of(data), data, state))
 
 
-def ProduceDecides(config, transactional, acks, named):
+def ProduceDecides(config, version, transactional, acks, named):
     name, asked = named
     if transactional is not None:
         return Refuse(42)
@@ -372,7 +376,7 @@ def ProduceDecides(config, transactional, acks, named):
         return Refuse(3)
     if not is_acks(acks):
         return Refuse(21)
-    return BatchDecides(part, b"" if asked.records is None else asked.records)
+    return BatchDecides(version, part, b"" if asked.records is None else asked.records)
 
 
 def in_range_outcome(part, offset, entry, state):
@@ -413,7 +417,7 @@ def fetch_parts(topics):
 def Decides(config, ask):
     """The one list of decisions."""
     if isinstance(ask, Produce):
-        return tuple(ProduceDecides(config, ask.transactional, ask.acks, named) for named in produce_parts(ask.topics))
+        return tuple(ProduceDecides(config, ask.version, ask.transactional, ask.acks, named) for named in produce_parts(ask.topics))
     if isinstance(ask, Fetch):
         return tuple(fetch_decision(config, ask.replica, named, part_of(config, named[0], named[1].index))
                      for named in fetch_parts(ask.topics))
@@ -542,16 +546,19 @@ class Reply:
     told: tuple
 
 
+LOG_START = 0
+
+
 def produced_code(acks, after, state):
     return (0 if after <= high_of(state) else 7) if acks == -1 else 0
 
 
 def produced_as(acks, index, result, state):
     if isinstance(result, Refused):
-        return index, result.code, -1
+        return index, result.code, -1, -1
     if isinstance(result, Appended):
-        return index, produced_code(acks, result.base + result.count, state), result.base
-    return index, 0, -1
+        return index, produced_code(acks, result.base + result.count, state), result.base, LOG_START
+    return index, 0, -1, -1
 
 
 def produced_parts(acks, parts, shown):
@@ -596,10 +603,10 @@ def batches_as(replica, asked, result, state, budget):
 
 def fetched_as(asked, result, state, batches):
     if isinstance(result, Refused):
-        return asked.index, result.code, -1, b""
+        return asked.index, result.code, -1, -1, b""
     if isinstance(result, Appended):
-        return asked.index, 0, -1, b""
-    return asked.index, 0, high_of(state), joined(batches)
+        return asked.index, 0, -1, -1, b""
+    return asked.index, 0, high_of(state), LOG_START, joined(batches)
 
 
 def fetched_parts(replica, parts, shown, budget):
@@ -645,9 +652,9 @@ def infos_of(topics, names):
 
 def told_to(config, ask, shown):
     if isinstance(ask, Produce):
-        return wire.produced, produced_topics(ask.acks, ask.topics, shown)
+        return wire.produced, produced_topics(ask.acks, ask.topics, shown), ask.version
     if isinstance(ask, Fetch):
-        return wire.fetched, ask.isolation, fetched_topics(ask.replica, ask.topics, shown, first_budget(ask.max_bytes))
+        return wire.fetched, ask.isolation, fetched_topics(ask.replica, ask.topics, shown, first_budget(ask.max_bytes)), ask.version
     if isinstance(ask, Metadata):
         return wire.metadata, config.port, infos_of(config.topics, ask.topics)
     return wire.versions, 0 if ask.version == 0 else 35

@@ -66,6 +66,7 @@ class ProducePart:
 class FetchPart:
     index: int
     offset: int
+    log_start: int
     most: int
 
 
@@ -78,6 +79,7 @@ class AskedTopic:
 
 @record
 class Produce:
+    version: int
     transactional: Any
     acks: int
     timeout: int
@@ -86,6 +88,7 @@ class Produce:
 
 @record
 class Fetch:
+    version: int
     replica: int
     max_wait: int
     min_bytes: int
@@ -110,14 +113,18 @@ class Request:
     ask: Any
 
 
+def fetch_part(index, offset, most, log_start):
+    return FetchPart(index, offset, log_start, most)
+
+
 def ask_in(read):
     fields = read.fields
     if read.key == 0:
         topics = tuple(AskedTopic(name, tuple(ProducePart(*part) for part in parts)) for name, parts in fields["topics"])
-        return Produce(fields["transactional"], fields["acks"], fields["timeout"], topics)
+        return Produce(read.version, fields["transactional"], fields["acks"], fields["timeout"], topics)
     if read.key == 1:
-        topics = tuple(AskedTopic(name, tuple(FetchPart(*part) for part in parts)) for name, parts in fields["topics"])
-        return Fetch(fields["replica"], fields["wait"], fields["min"], fields["max"], fields["isolation"], topics)
+        topics = tuple(AskedTopic(name, tuple(fetch_part(*part) for part in parts)) for name, parts in fields["topics"])
+        return Fetch(read.version, fields["replica"], fields["wait"], fields["min"], fields["max"], fields["isolation"], topics)
     if read.key == 3:
         return Metadata(None if fields["names"] is None else tuple(fields["names"]))
     return Versions(read.version)

@@ -17,13 +17,15 @@ class Crowd:
     def produce(self, name, indices):
         random_ = self.random
         parts = [(index, waiting.small_batch(random_)) for index in indices]
-        return wire.produce_request(self.correlation, [(name, parts)], acks=random_.choice([-1, -1, 1, 0]), timeout=random_.choice(WAITS))
+        return wire.produce_request(self.correlation, [(name, parts)], acks=random_.choice([-1, -1, 1, 0]), timeout=random_.choice(WAITS),
+                                    version=random_.choice(wire.PRODUCE))
 
     def fetch(self, name, indices, replica):
         random_ = self.random
         parts = [(index, random_.choice([0, 0, 1, 1, 2, 3, 4, 5, 8]), 1 << 20) for index in indices]
         return wire.fetch_request(self.correlation, [(name, parts)], replica=replica, wait=random_.choice(WAITS),
-                                  least=random_.choice([1, 1, 70, 140, 300]), most=random_.choice([1 << 20, 1 << 20, 140]))
+                                  least=random_.choice([1, 1, 70, 140, 300]), most=random_.choice([1 << 20, 1 << 20, 140]),
+                                  version=random_.choice(wire.FETCH))
 
     def request(self):
         random_ = self.random

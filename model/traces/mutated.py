@@ -126,9 +126,18 @@ def with_body(random_, frame):
     return wire.frame(body) if random_.random() < 0.7 else frame[:4] + body
 
 
+def with_version(random_, frame):
+    """Another version stands in the frame's header, mostly one that is near."""
+    version = struct.pack(">h", random_.randint(-1, 7)) if random_.random() < 0.9 else edge(random_, 2)
+    return frame[:6] + version + frame[8:]
+
+
 def with_size(random_, frame):
     size = random_.choice([edge(random_, 4), struct.pack(">i", len(frame) - 4 + random_.choice([-4, -1, 1, 4]))])
     return size + frame[4:]
+
+
+OF_A_FRAME = [with_batch, with_batch, with_batch, with_body, with_body, with_body, with_size, with_version]
 
 
 def of_frames(random_, frames):
@@ -156,7 +165,7 @@ def stream(random_, data):
             data = b"".join(of_frames(random_, frames)) + rest
         else:
             place = random_.randrange(len(frames))
-            frames[place] = random_.choice([with_batch, with_batch, with_body, with_body, with_size])(random_, frames[place])
+            frames[place] = random_.choice(OF_A_FRAME)(random_, frames[place])
             data = b"".join(frames) + rest
     return data
 

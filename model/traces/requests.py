@@ -6,6 +6,8 @@ from model.broker import batches, wire
 
 NAMES = [b"t", b"u", b"orders", b"a.b_c-9"]
 UNKNOWN = b"nowhere"
+# Where a fetch may say that its log starts.
+STARTS = [-1, -1, 0, 3, -2, 2**63 - 1, -2**63]
 
 
 def topics(random_, with_followers):
@@ -56,6 +58,16 @@ def named(random_, declared, part):
     return told
 
 
+def no_version(random_, taken):
+    """One that isn't taken, mostly just below those that are, or just above."""
+    return random_.choice([taken[0] - 1, taken[-1] + 1, taken[0] - 1, taken[-1] + 1, -1, 2**15 - 1])
+
+
+def in_version(frame, version):
+    """The frame with another version in its header, whatever its layout."""
+    return frame[:6] + struct.pack(">h", version) + frame[8:]
+
+
 def produce(random_, declared, waits):
     return wire.produce_request(
         random_.randrange(100),
@@ -63,18 +75,21 @@ def produce(random_, declared, waits):
         acks=random_.choice([-1, -1, 1, 0, 2] if waits else [-1, 0, 1, 1, 2]),
         timeout=random_.choice([-1, 0, 1, 10, 1000]),
         transactional=b"x" if random_.random() < 0.05 else None,
+        version=random_.choice(wire.PRODUCE),
     )
 
 
 def fetch(random_, declared, waits):
     return wire.fetch_request(
         random_.randrange(100),
-        named(random_, declared, lambda: (random_.choice([0, 0, 1, 2, 3, 5, -1, 1000]), random_.choice([0, -1, 60, 69, 100, 200, 1 << 20]))),
+        named(random_, declared, lambda: (
+            random_.choice([0, 0, 1, 2, 3, 5, -1, 1000]), random_.choice([0, -1, 60, 69, 100, 200, 1 << 20]), random_.choice(STARTS))),
         replica=random_.choice([-1, -1, 1, 2, 0, 9] if waits else [-1, -1, -2, 0, 1]),
         wait=random_.choice([0, 1, 10, 100, 1000] if waits else [0, 0, -1]),
         least=random_.choice([0, 1, 1, 70, 200, -5]),
         most=random_.choice([0, -1, 69, 150, 1 << 20, 1 << 30]),
         isolation=random_.choice([0, 1]),
+        version=random_.choice(wire.FETCH),
     )
 
 
@@ -88,8 +103,10 @@ def other(random_, declared):
         wire.versions_request(5, version=random_.choice([1, 3, -1]), rest=b"\2k\2"),
         wire.frame(wire.header(random_.choice([2, 4, 19, -1]), 0, 1)),
         wire.produce_request(6, [(b"t", [(index, b"")]), (b"t", [(index, b"")])]),
-        wire.fetch_request(7, [(b"t", [(part, 0, 1) for part in range(random_.choice([64, 65]))])], version=random_.choice([4, 4, 3]), wait=0),
-        wire.fetch_request(8, [], isolation=random_.choice([0, 2, -1]), wait=0),
+        wire.fetch_request(7, [(b"t", [(part, 0, 1) for part in range(random_.choice([64, 65]))])], version=random_.choice(wire.FETCH), wait=0),
+        wire.fetch_request(8, [], isolation=random_.choice([0, 2, -1]), version=random_.choice(wire.FETCH), wait=0),
+        in_version(produce(random_, declared, waits=False), no_version(random_, wire.PRODUCE)),
+        in_version(fetch(random_, declared, waits=False), random_.choice([*wire.FETCH, no_version(random_, wire.FETCH)])),
         wire.frame(b""),
     ])
 

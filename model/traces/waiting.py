@@ -92,7 +92,7 @@ class Maker:
         parts = [(key, (small_batch(random_) if random_.random() < 0.9 else requests.some_batch(random_),)) for key in self.parts()]
         return wire.produce_request(
             self.correlation, self.topics(parts), acks=random_.choice([-1, -1, -1, -1, 1, 1, 1, 0, 2]), timeout=self.wait(),
-            transactional=b"x" if random_.random() < 0.02 else None)
+            transactional=b"x" if random_.random() < 0.02 else None, version=random_.choice(wire.PRODUCE))
 
     def least(self, parts, replica):
         """A least sum that is met now, or that a batch or two more would just meet, or just miss."""
@@ -100,7 +100,7 @@ class Maker:
         gauge = "visible" if replica < 0 else "bytes"
         have = sum(min(max(0, most), max(0, getattr(self.broker.partitions[self.broker.number_of(*key)], gauge)
                                          - self.broker.partitions[self.broker.number_of(*key)].start_of(offset)))
-                   for key, (offset, most) in parts)
+                   for key, (offset, most, _) in parts)
         return have + random_.choice([0, 1, 1, 1, 1, 69, 69, 70, 68, 138, 139, 85, 207]) if random_.random() < 0.8 else 1
 
     def fetch(self, replica):
@@ -111,10 +111,12 @@ class Maker:
             position = partition.positions.get(replica, 0)
             offset = random_.choice([partition.log_end] * 4 + [partition.high, position, 0, max(0, partition.log_end - 1),
                                                               partition.log_end + (random_.random() < 0.1)])
-            parts.append((key, (offset, random_.choice([1 << 20, 1 << 20, 1 << 20, 69, 70, 68, 10, 0, 138]))))
+            most = random_.choice([1 << 20, 1 << 20, 1 << 20, 69, 70, 68, 10, 0, 138])
+            parts.append((key, (offset, most, random_.choice(requests.STARTS))))
         return wire.fetch_request(
             self.correlation, self.topics(parts), replica=replica, wait=self.wait(), least=self.least(parts, replica),
-            most=random_.choice([1 << 20, 1 << 20, 1 << 30, 69, 68, 138, 0]), isolation=random_.choice([0, 0, 1]))
+            most=random_.choice([1 << 20, 1 << 20, 1 << 30, 69, 68, 138, 0]), isolation=random_.choice([0, 0, 1]),
+            version=random_.choice(wire.FETCH))
 
     def request(self):
         random_ = self.random
@@ -152,12 +154,14 @@ class Maker:
         back = self.random.choice([0, 0, 0, 1, 1, 2, self.random.randint(0, partition.log_end)])
         offset = max(0, partition.log_end - back)
         return wire.fetch_request(
-            self.correlation, [(name, [(index, offset, 1 << 20)])], replica=replica, wait=self.random.choice([0, 1, 100, 500]))
+            self.correlation, [(name, [(index, offset, 1 << 20)])], replica=replica, wait=self.random.choice([0, 1, 100, 500]),
+            version=self.random.choice(wire.FETCH))
 
     def add_to(self, name, index):
         """A batch is produced that waits for nobody."""
         self.correlation += 1
-        return wire.produce_request(self.correlation, [(name, [(index, small_batch(self.random))])], acks=self.random.choice([1, 1, 0, -1]))
+        return wire.produce_request(self.correlation, [(name, [(index, small_batch(self.random))])], acks=self.random.choice([1, 1, 0, -1]),
+                                    version=self.random.choice(wire.PRODUCE))
 
     def meet(self):
         """What a request that waits needs, or another partition: a follower's fetch, or a produce."""

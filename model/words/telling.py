@@ -10,7 +10,7 @@ from model.words import words
 CODES = {
     1: "offset out of range", 2: "corrupt message", 3: "unknown topic or partition", 6: "not leader or follower", 7: "request timed out",
     9: "replica not available", 10: "message too large", 21: "invalid required acks", 35: "unsupported version", 42: "invalid request",
-    76: "unsupported compression type", 87: "invalid record",
+    56: "storage error", 76: "unsupported compression type", 87: "invalid record",
 }
 APIS = {0: "Produce", 1: "Fetch", 3: "Metadata", 18: "ApiVersions"}
 
@@ -35,10 +35,10 @@ def records_words(data, high):
 
 
 class Reply:
-    """A reply's frame, read from the left."""
+    """The frame of a reply in a version, read from the left."""
 
-    def __init__(self, frame):
-        self.data, self.at = frame, 8
+    def __init__(self, frame, version):
+        self.data, self.version, self.at = frame, version, 8
 
     def number(self, form):
         size = struct.calcsize(form)
@@ -60,16 +60,21 @@ class Reply:
             return [words.place_words(name, index) + ": " + told for index, told in self.several(part)]
         return [told for topic in self.several(topic) for told in topic]
 
+    def log_start(self):
+        start = self.number(">q") if self.version >= wire.WITH_LOG_START else wire.NO_LOG_START
+        return "" if start == wire.NO_LOG_START else f", log start {start}"
+
     def produced(self):
         index, code, base, _ = (self.number(form) for form in (">i", ">h", ">q", ">q"))
         told = f"error {code}, {CODES[code]}" if code else f"written at offset {base}"
-        return index, told + (f", though written at offset {base}" if code and base >= 0 else "")
+        return index, told + (f", though written at offset {base}" if code and base >= 0 else "") + self.log_start()
 
     def fetched(self):
         index, code, high, _ = (self.number(form) for form in (">i", ">h", ">q", ">q"))
+        start = self.log_start()
         self.several(lambda: (self.number(">q"), self.number(">q")))
         data = self.bytes(">i")
-        return index, f"error {code}, {CODES[code]}" if code else f"{records_words(data, high)}, high watermark {high}"
+        return index, f"error {code}, {CODES[code]}" if code else f"{records_words(data, high)}, high watermark {high}{start}"
 
     def described(self):
         self.several(lambda: (self.number(">i"), self.bytes(">h"), self.number(">i"), self.bytes(">h")))
@@ -93,7 +98,7 @@ class Reply:
 
 
 def reply_words(request, frame):
-    reply = Reply(frame)
+    reply = Reply(frame, request.version)
     if request.key == 0:
         told = reply.topics(reply.produced)
     elif request.key == 1:

@@ -11,12 +11,13 @@
 Lines that are blank, begin with a space or begin with # are for the reader alone. A request is one of
 
     produces BATCH to TOPIC/INDEX and BATCH to TOPIC/INDEX ..
-    fetches TOPIC/INDEX from offset N and TOPIC/INDEX from offset N up to N bytes ..
+    fetches TOPIC/INDEX from offset N and TOPIC/INDEX from offset N with log start N up to N bytes ..
     asks for all topics | asks for no topic | asks for topic NAME and NAME ..
     asks for versions | asks for versions in version N with HEX
 
 A batch is the values of its records, as "a" "b", where "k"*500 is k 500 times and null is null; or `bytes HEX`, or `nothing` for
-null. What isn't said is what stands in brackets. After a request, each behind a comma and in any order:
+null. The log start of a fetch is told from version 5 on, and is -1 where it isn't said. What isn't said is what stands in brackets.
+After a request, each behind a comma and in any order:
 
     waits at most N ms for all replicas | waits for the leader | waits for nobody | has acks N     [a produce waits for the leader]
     has a timeout of N ms                                             [1000, where a produce waits for others than all replicas]
@@ -24,6 +25,7 @@ null. What isn't said is what stands in brackets. After a request, each behind a
     as follower N | as replica N                                      [-1, a consumer]
     takes at most N bytes                                             [52428800; of one partition 1048576]
     reads committed                                                   [reads uncommitted]
+    in version N                                                      [3 of a produce, 4 of a fetch]
     as transaction "X" | as client "X" | as no client                 [no transaction, client "c"]
     numbered N                                                        [the place of the request in the trace, from 1]
 
@@ -174,7 +176,7 @@ def _produce(words, told):
         elif words.has("as", "transaction"):
             told["transactional"] = words.value()
         else:
-            _any_clause(words, told)
+            _versioned_clause(words, told)
     return wire.produce_request(told.pop("numbered"), _gathered(parts), **told)
 
 
@@ -186,11 +188,13 @@ def _fetch(words, told):
             continue
         name, index = words.place()
         words.need("from", "offset")
-        offset, most = words.number(), MOST_OF_PART
+        offset, most, start = words.number(), MOST_OF_PART, wire.NO_LOG_START
+        if words.has("with", "log", "start"):
+            start = words.number()
         if words.has("up", "to"):
             most = words.number()
             words.need("byte|bytes")
-        parts.append((name, (index, offset, most)))
+        parts.append((name, (index, offset, most, start)))
         words.has("and")
     told.setdefault("wait", 0)
     while words.has(","):
@@ -208,13 +212,20 @@ def _fetch(words, told):
             words.take()
             _replica(words, told)
         else:
-            _any_clause(words, told)
+            _versioned_clause(words, told)
     return wire.fetch_request(told.pop("numbered"), _gathered(parts), **told)
 
 
 def _replica(words, told):
     words.need("follower|replica")
     told["replica"] = words.number()
+
+
+def _versioned_clause(words, told):
+    if words.has("in", "version"):
+        told["version"] = words.number()
+    else:
+        _any_clause(words, told)
 
 
 def _any_clause(words, told):
@@ -377,10 +388,15 @@ def _produce_words(request):
     return f"produces {told}".rstrip(), clauses
 
 
+def _log_start_words(start):
+    return "" if start == wire.NO_LOG_START else f" with log start {start}"
+
+
 def _fetch_words(request):
     fields = request.fields
-    told = " and ".join(f"{place_words(name, index)} from offset {offset}" + ("" if most == MOST_OF_PART else f" up to {counted(most, 'byte')}")
-                        for name, index, offset, most in parts_of(request))
+    told = " and ".join(f"{place_words(name, index)} from offset {offset}" + _log_start_words(start)
+                        + ("" if most == MOST_OF_PART else f" up to {counted(most, 'byte')}")
+                        for name, index, offset, most, start in parts_of(request))
     replica = fields["replica"]
     if replica != -1:
         told += f" as follower {replica}" if replica >= 0 else f" as replica {replica}"
@@ -429,6 +445,8 @@ def short_words(request):
 def request_words(request, body, number):
     """A request in words, as the request of this number in its trace."""
     told, clauses = {0: _produce_words, 1: _fetch_words}.get(request.key, lambda request: _ask_words(request, body))(request)
+    if request.key in (0, 1) and request.version != wire.VERSIONS[request.key][0]:
+        clauses.append(f"in version {request.version}")
     (length,) = struct.unpack(">h", body[8:10]) if len(body) >= 10 else (-1,)
     client = None if length < 0 else body[10:10 + length]
     if client != b"c":

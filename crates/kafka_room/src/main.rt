@@ -56,10 +56,11 @@ numbers without sign or leading zeros. It has at most 67108864 bytes.
   clock T         the moment is T ms, 0 to 10^15. It never goes back
   end             the trace ends
 
-The bytes of a session are frames, which lines may cut anywhere: Produce v3,
-Fetch v4, Metadata v1 and ApiVersions v0. A produce with acks -1 waits until
-all followers have fetched past it, a fetch until there are its least bytes,
-and each no longer than its own time. The session's next frame waits with it.
+The bytes of a session are frames, which lines may cut anywhere: Produce v3 to
+v5, Fetch v4 and v5, Metadata v1 and ApiVersions v0. A produce with acks -1
+waits until all followers have fetched past it, a fetch until there are its
+least bytes, and each no longer than its own time. The session's next frame
+waits with it.
 
 Printed after each line:
   reply S HEX     a reply of session S, the whole frame
