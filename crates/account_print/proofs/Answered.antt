@@ -54,9 +54,9 @@ module _ {T P X : Type 0} (parts : T → List P) (named : T → P → X) where
       omega (arith, length-append (map (named t) (parts t)) (flat_map (λ (u : T). map (named u) (parts u)) topics), length-map (parts t) (named t), sum_by-cons (λ (u : T). length (parts u)) t topics, named_long topics)
 
 decided_long : (config : Configuration) (ask : Ask) (ds : List Decision) → Decides config ask ds → length ds ≡ named_count ask
-decided_long config (Produce transactional acks timeout topics) ds h =
-    zip_long (ProduceDecides config transactional acks) (produce_parts topics) ds h ∙ named_long (λ (t : ProduceTopic). t.parts) (λ (t : ProduceTopic) (p : ProducePart). (t.name, p)) topics
-decided_long config (Fetch replica max_wait min_bytes max_bytes isolation topics) ds h =
+decided_long config (Produce version transactional acks timeout topics) ds h =
+    zip_long (ProduceDecides config version transactional acks) (produce_parts topics) ds h ∙ named_long (λ (t : ProduceTopic). t.parts) (λ (t : ProduceTopic) (p : ProducePart). (t.name, p)) topics
+decided_long config (Fetch version replica max_wait min_bytes max_bytes isolation topics) ds h =
     ap length h ∙ length-map (fetch_parts topics) (λ (n : List ℕ × FetchPart). fetch_decision config replica n (part_of config n.0 n.1.index))
     ∙ named_long (λ (t : FetchTopic). t.parts) (λ (t : FetchTopic) (p : FetchPart). (t.name, p)) topics
 decided_long config (Metadata topics) ds h = ap length h

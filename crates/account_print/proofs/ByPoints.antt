@@ -1,6 +1,6 @@
 -- The steps of decisions, told one after the other by their points.
-use Rattle.std.proofs.Common.{◌≡◌, ℕ, zero, suc, ℤ, Bool, ◌+◌, ◌<◌, ◌≤◌, get_or, List, [], ◌∷◌, ◌++◌, length, map, drop, Option, Some, None, refl, sym, ap, subst, ◌∙◌, arith, append-nil, append_assoc, length-append, option_map}
-use Rattle.std.specs.Prelude.{slice_get, is_some}
+use Rattle.std.proofs.Common.{◌≡◌, ℕ, zero, suc, ℤ, ◌+◌, ◌<◌, ◌≤◌, get_or, List, [], ◌∷◌, ◌++◌, length, map, drop, Option, Some, None, refl, sym, ap, subst, ◌∙◌, arith, append-nil, append_assoc, length-append, option_map}
+use Rattle.std.specs.Prelude.{slice_get}
 use Rattle.std.specs.List.{AllZip, cons_option}
 use Rattle.std.proofs.lemmas.List.{drop-drop, map-append}
 use Rattle.std.proofs.lemmas.List.Elements.{filter_map-append}
@@ -14,6 +14,8 @@ use Rattle.kwire.specs.declared.request.FetchPart.{FetchPart}
 use Rattle.kwire.specs.declared.request.FetchTopic.{FetchTopic}
 use Rattle.kwire.specs.Configuration.{Configuration, part_of}
 use Rattle.kanswer.specs.declared.accepted.Accepted.{Accepted}
+use Rattle.kanswer.specs.declared.terms.Terms.{Terms}
+use Rattle.kanswer.specs.OnTerms.{OnTerms}
 use Rattle.kanswer.specs.declared.accepted.Accepted.TheVariants.{Refused}
 use Rattle.kanswer.specs.Decisions.{Outcome, Decision, Refuse, AskLog, ProduceDecides, produce_parts, fetch_decision, fetch_parts, fetch_decisions}
 use Rattle.audit.specs.declared.account.Account.{Account}
@@ -185,11 +187,11 @@ fetched_on config replica pasts points ts us vs a b c same f g =
 
 -- ---- produces
 
-pub produced_none : (config : Configuration) (transactional : Bool) (acks : ℤ) (pasts : List History) (points : List Point) (topics : List ProduceTopic) (sofar : SoFar) → produce_parts topics ≡ []
-    → RetellsProduce config transactional acks pasts points topics sofar sofar
-produced_none config transactional acks pasts points topics sofar none = record {
+pub produced_none : (config : Configuration) (terms : Terms) (pasts : List History) (points : List Point) (topics : List ProduceTopic) (sofar : SoFar) → produce_parts topics ≡ []
+    → RetellsProduce config terms pasts points topics sofar sofar
+produced_none config terms pasts points topics sofar none = record {
   decisions = [];
-  decided = λ id e. subst (λ (ns : List (List ℕ × ProducePart)). AllZip (ProduceDecides config id acks) ns []) (sym none) tt;
+  decided = λ id e. subst (λ (ns : List (List ℕ × ProducePart)). AllZip (ProduceDecides config terms.version id terms.acks) ns []) (sym none) tt;
   retold = none_retells pasts points sofar;
 }
 
@@ -199,16 +201,16 @@ all_zip_append P [] ys (z ∷ zs) ws h k = absurd h
 all_zip_append P (x ∷ xs) ys [] ws h k = absurd h
 all_zip_append P (x ∷ xs) ys (z ∷ zs) ws h k = (h.0, all_zip_append P xs ys zs ws h.1 k)
 
-pub produced_on : (config : Configuration) (transactional : Bool) (acks : ℤ) (pasts : List History) (points : List Point) (ts us vs : List ProduceTopic) (a b c : SoFar) → produce_parts vs ≡ produce_parts ts ++ produce_parts us
-    → RetellsProduce config transactional acks pasts points ts a b → RetellsProduce config transactional acks pasts points us b c → RetellsProduce config transactional acks pasts points vs a c
-produced_on config transactional acks pasts points ts us vs a b c same f g = record {
+pub produced_on : (config : Configuration) (terms : Terms) (pasts : List History) (points : List Point) (ts us vs : List ProduceTopic) (a b c : SoFar) → produce_parts vs ≡ produce_parts ts ++ produce_parts us
+    → RetellsProduce config terms pasts points ts a b → RetellsProduce config terms pasts points us b c → RetellsProduce config terms pasts points vs a c
+produced_on config terms pasts points ts us vs a b c same f g = record {
   decisions = f.decisions ++ g.decisions;
-  decided = λ id e. subst (λ (ns : List (List ℕ × ProducePart)). AllZip (ProduceDecides config id acks) ns (f.decisions ++ g.decisions)) (sym same)
-      (all_zip_append (ProduceDecides config id acks) (produce_parts ts) (produce_parts us) f.decisions g.decisions (f.decided id e) (g.decided id e));
+  decided = λ id e. subst (λ (ns : List (List ℕ × ProducePart)). AllZip (ProduceDecides config terms.version id terms.acks) ns (f.decisions ++ g.decisions)) (sym same)
+      (all_zip_append (ProduceDecides config terms.version id terms.acks) (produce_parts ts) (produce_parts us) f.decisions g.decisions (f.decided id e) (g.decided id e));
   retold = both_retell pasts points f.decisions g.decisions a b c f.retold g.retold;
 }
 
-pub produced_one : (config : Configuration) (transactional : Bool) (acks : ℤ) (pasts : List History) (points : List Point) (name : List ℕ) (part : ProducePart) (decision : Decision) (a b : SoFar)
-    → ((id : Option (List ℕ)) → is_some id ≡ transactional → ProduceDecides config id acks (name, part) decision) → Retells pasts points (decision ∷ []) a b
-    → RetellsProduce config transactional acks pasts points (record { name = name; parts = part ∷ [] } ∷ []) a b
-produced_one config transactional acks pasts points name part decision a b decided retold = record { decisions = decision ∷ []; decided = λ id e. (decided id e, tt); retold = retold }
+pub produced_one : (config : Configuration) (terms : Terms) (pasts : List History) (points : List Point) (name : List ℕ) (part : ProducePart) (decision : Decision) (a b : SoFar)
+    → OnTerms terms (λ id. ProduceDecides config terms.version id terms.acks (name, part) decision) → Retells pasts points (decision ∷ []) a b
+    → RetellsProduce config terms pasts points (record { name = name; parts = part ∷ [] } ∷ []) a b
+produced_one config terms pasts points name part decision a b decided retold = record { decisions = decision ∷ []; decided = λ id e. (decided id e, tt); retold = retold }

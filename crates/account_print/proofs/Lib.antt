@@ -2,6 +2,8 @@
 pub mod Sound
 -- each entry of a lawful account can be put into a log again
 pub mod LawfulParts
+-- the partition of a name and an index
+mod PartLogs
 -- an entry of a history, put after those before it
 pub mod Entries
 -- the numbers before each entry, and what was readable there

@@ -213,20 +213,20 @@ asked_long [] = refl
 asked_long (t ∷ topics) =
     omega (arith, length-append t.parts (asked_parts topics), asked_long topics, sum_by-cons (λ (u : FetchTopic). length u.parts) t topics)
 
-pub asks_long : (ask : Ask) (replica max_wait min_bytes max_bytes isolation : ℤ) (topics : List FetchTopic) (asks : List FetchPart) (n : ℕ) → ask ≡ Fetch replica max_wait min_bytes max_bytes isolation topics → asks ≡ asked_parts topics → n ≡ named_count ask → n ≡ length asks
-asks_long ask replica max_wait min_bytes max_bytes isolation topics asks n is same count =
+pub asks_long : (ask : Ask) (version replica max_wait min_bytes max_bytes isolation : ℤ) (topics : List FetchTopic) (asks : List FetchPart) (n : ℕ) → ask ≡ Fetch version replica max_wait min_bytes max_bytes isolation topics → asks ≡ asked_parts topics → n ≡ named_count ask → n ≡ length asks
+asks_long ask version replica max_wait min_bytes max_bytes isolation topics asks n is same count =
     count ∙ ap named_count is ∙ sym (asked_long topics) ∙ sym (ap length same)
 
-pub fetch_are : (ask : Ask) (r replica max_wait min_bytes max_bytes isolation : ℤ) (topics : List FetchTopic) (asks : List FetchPart) (accepted : List Accepted) (readings : List Reading) (shown : List Shown) (b : Budget)
-    → ask ≡ Fetch replica max_wait min_bytes max_bytes isolation topics → r ≡ replica → asks ≡ asked_parts topics → b ≡ budget_of ask → FetchReadings r asks accepted readings shown b → AreReadings ask accepted readings shown
-fetch_are ask r replica max_wait min_bytes max_bytes isolation topics asks accepted readings shown b is who same left are =
+pub fetch_are : (ask : Ask) (version r replica max_wait min_bytes max_bytes isolation : ℤ) (topics : List FetchTopic) (asks : List FetchPart) (accepted : List Accepted) (readings : List Reading) (shown : List Shown) (b : Budget)
+    → ask ≡ Fetch version replica max_wait min_bytes max_bytes isolation topics → r ≡ replica → asks ≡ asked_parts topics → b ≡ budget_of ask → FetchReadings r asks accepted readings shown b → AreReadings ask accepted readings shown
+fetch_are ask version r replica max_wait min_bytes max_bytes isolation topics asks accepted readings shown b is who same left are =
     subst (λ (a : Ask). AreReadings a accepted readings shown) (sym is)
     (subst (λ (n : Budget). FetchReadings replica (asked_parts topics) accepted readings shown n) (left ∙ ap budget_of is)
     (subst (λ (l : List FetchPart). FetchReadings replica l accepted readings shown b) same (subst (λ (z : ℤ). FetchReadings z asks accepted readings shown b) who are)))
 
 abbrev pub IsNoFetch : Ask → Type 0
-IsNoFetch (Produce transactional acks timeout topics) = Unit {0}
-IsNoFetch (Fetch replica max_wait min_bytes max_bytes isolation topics) = ⊥
+IsNoFetch (Produce version transactional acks timeout topics) = Unit {0}
+IsNoFetch (Fetch version replica max_wait min_bytes max_bytes isolation topics) = ⊥
 IsNoFetch (Metadata topics) = Unit {0}
 IsNoFetch (Versions version) = Unit {0}
 
@@ -237,7 +237,7 @@ none_long (x ∷ xs) e = absurd (omega (arith, e))
 pub other_are : (pasts : List History) (ask : Ask) (accepted : List Accepted) (places : List ℕ) (readings : List Reading) → IsNoFetch ask → length accepted ≡ named_count ask
     → ((shown : List Shown) → AreShown pasts accepted places shown → ProduceReadings accepted readings shown)
     → (shown : List Shown) → AreShown pasts accepted places shown → AreReadings ask accepted readings shown
-other_are pasts (Produce transactional acks timeout topics) accepted places readings is count read shown are = read shown are
-other_are pasts (Fetch replica max_wait min_bytes max_bytes isolation topics) accepted places readings is count read shown are = absurd is
+other_are pasts (Produce version transactional acks timeout topics) accepted places readings is count read shown are = read shown are
+other_are pasts (Fetch version replica max_wait min_bytes max_bytes isolation topics) accepted places readings is count read shown are = absurd is
 other_are pasts (Metadata topics) accepted places readings is count read shown are = none_long shown (shown_long pasts accepted places shown are ∙ count)
 other_are pasts (Versions version) accepted places readings is count read shown are = none_long shown (shown_long pasts accepted places shown are ∙ count)

@@ -17,7 +17,7 @@ use Rattle.kwire.specs.declared.request.FetchPart.{FetchPart}
 use Rattle.kwire.specs.declared.request.ProducePart.{ProducePart}
 use Rattle.kanswer.specs.declared.accepted.Accepted.{Accepted}
 use Rattle.kanswer.specs.declared.accepted.Accepted.TheVariants.{Refused, Appended, Seen}
-use Rattle.kanswer.specs.Decisions.{Entry, Put, Followed, Looked, Outcome, Decision, Refuse, AskLog, BatchDecides, Decides, ProduceDecides, append_outcome, fetch_decision, fetch_outcome, fetch_parts, in_range_outcome, is_acks, look, offset_of, produce_parts}
+use Rattle.kanswer.specs.Decisions.{Entry, Put, Followed, Looked, Outcome, Decision, Refuse, AskLog, BatchDecides, Decides, ProduceDecides, append_outcome, full_code, fetch_decision, fetch_outcome, fetch_parts, in_range_outcome, is_acks, look, offset_of, produce_parts}
 
 abbrev pub IsSoundEntry : ℕ → Entry → State → Type 0
 IsSoundEntry followers (Put count batch) state =
@@ -44,37 +44,37 @@ looks_sound followers part code state = record { entry = tt; own = tt }
 
 -- ---- produces
 
-abbrev if_full : Bool → ℕ → List ℕ → ℕ → State → Outcome
-if_full full part bytes count state = cond full (look (Refused (pos 6))) (record { result = Appended part state.log_end count; entry = Put count bytes })
+abbrev if_full : ℤ → Bool → ℕ → List ℕ → ℕ → State → Outcome
+if_full version full part bytes count state = cond full (look (Refused (full_code version))) (record { result = Appended part state.log_end count; entry = Put count bytes })
 
-append_sound : (followers part : ℕ) (bytes : List ℕ) (records : List Record) → IsBatch bytes records → (state : State) → IsSoundOutcome followers part (append_outcome part (length records) bytes state) state
-append_sound followers part bytes records is state =
-    let Sound : Bool → Type 0 = λ full. IsSoundOutcome followers part (if_full full part bytes (length records) state) state in
+append_sound : (version : ℤ) (followers part : ℕ) (bytes : List ℕ) (records : List Record) → IsBatch bytes records → (state : State) → IsSoundOutcome followers part (append_outcome version part (length records) bytes state) state
+append_sound version followers part bytes records is state =
+    let Sound : Bool → Type 0 = λ full. IsSoundOutcome followers part (if_full version full part bytes (length records) state) state in
     elim (cases_lt 67108864 ((gauges_of state).bytes + length bytes)) [
-      | inl full ↦ subst Sound (sym (lt-ltb 67108864 ((gauges_of state).bytes + length bytes) full)) (looks_sound followers part (pos 6) state)
+      | inl full ↦ subst Sound (sym (lt-ltb 67108864 ((gauges_of state).bytes + length bytes) full)) (looks_sound followers part (full_code version) state)
       | inr room ↦ subst Sound (sym (le-ltb 67108864 ((gauges_of state).bytes + length bytes) room)) (record { entry = (records, is, refl, room); own = refl })
     ]
 
-batch_sound : (config : Configuration) (part : ℕ) (bytes : List ℕ) (d : Decision) → BatchDecides part bytes d → IsSound config d
-batch_sound config part bytes d (inl f) = subst (IsSound config) (sym f.2) tt
-batch_sound config part bytes d (inr b) = subst (IsSound config) (sym b.2) (append_sound (slice_index (followers_of config.topics) part) part bytes b.0 b.1)
+batch_sound : (version : ℤ) (config : Configuration) (part : ℕ) (bytes : List ℕ) (d : Decision) → BatchDecides version part bytes d → IsSound config d
+batch_sound version config part bytes d (inl f) = subst (IsSound config) (sym f.2) tt
+batch_sound version config part bytes d (inr b) = subst (IsSound config) (sym b.2) (append_sound version (slice_index (followers_of config.topics) part) part bytes b.0 b.1)
 
-acks_sound : (config : Configuration) (known : Bool) (part : ℕ) (bytes : List ℕ) (d : Decision) → MatchBool known (BatchDecides part bytes d) (d ≡ Refuse (pos 21)) → IsSound config d
-acks_sound config true part bytes d h = batch_sound config part bytes d h
-acks_sound config false part bytes d h = subst (IsSound config) (sym h) tt
+acks_sound : (version : ℤ) (config : Configuration) (known : Bool) (part : ℕ) (bytes : List ℕ) (d : Decision) → MatchBool known (BatchDecides version part bytes d) (d ≡ Refuse (pos 21)) → IsSound config d
+acks_sound version config true part bytes d h = batch_sound version config part bytes d h
+acks_sound version config false part bytes d h = subst (IsSound config) (sym h) tt
 
-part_sound : (config : Configuration) (o : Option ℕ) (known : Bool) (bytes : List ℕ) (d : Decision) → MatchOption o (d ≡ Refuse (pos 3)) (λ part. MatchBool known (BatchDecides part bytes d) (d ≡ Refuse (pos 21))) → IsSound config d
-part_sound config None known bytes d h = subst (IsSound config) (sym h) tt
-part_sound config (Some part) known bytes d h = acks_sound config known part bytes d h
+part_sound : (version : ℤ) (config : Configuration) (o : Option ℕ) (known : Bool) (bytes : List ℕ) (d : Decision) → MatchOption o (d ≡ Refuse (pos 3)) (λ part. MatchBool known (BatchDecides version part bytes d) (d ≡ Refuse (pos 21))) → IsSound config d
+part_sound version config None known bytes d h = subst (IsSound config) (sym h) tt
+part_sound version config (Some part) known bytes d h = acks_sound version config known part bytes d h
 
-produce_sound : (config : Configuration) (id : Option (List ℕ)) (acks : ℤ) (named : List ℕ × ProducePart) (d : Decision) → ProduceDecides config id acks named d → IsSound config d
-produce_sound config (Some id) acks named d h = subst (IsSound config) (sym h) tt
-produce_sound config None acks named d h = part_sound config (part_of config named.0 named.1.index) (is_acks acks) (unwrap_or named.1.records []) d h
+produce_sound : (version : ℤ) (config : Configuration) (id : Option (List ℕ)) (acks : ℤ) (named : List ℕ × ProducePart) (d : Decision) → ProduceDecides config version id acks named d → IsSound config d
+produce_sound version config (Some id) acks named d h = subst (IsSound config) (sym h) tt
+produce_sound version config None acks named d h = part_sound version config (part_of config named.0 named.1.index) (is_acks acks) (unwrap_or named.1.records []) d h
 
-all_produced : (config : Configuration) (id : Option (List ℕ)) (acks : ℤ) (named : List (List ℕ × ProducePart)) (ds : List Decision) → AllZip (ProduceDecides config id acks) named ds → AllByRecursion (IsSound config) ds
-all_produced config id acks named [] h = tt
-all_produced config id acks [] (d ∷ ds) h = absurd h
-all_produced config id acks (n ∷ named) (d ∷ ds) h = (produce_sound config id acks n d h.0, all_produced config id acks named ds h.1)
+all_produced : (version : ℤ) (config : Configuration) (id : Option (List ℕ)) (acks : ℤ) (named : List (List ℕ × ProducePart)) (ds : List Decision) → AllZip (ProduceDecides config version id acks) named ds → AllByRecursion (IsSound config) ds
+all_produced version config id acks named [] h = tt
+all_produced version config id acks [] (d ∷ ds) h = absurd h
+all_produced version config id acks (n ∷ named) (d ∷ ds) h = (produce_sound version config id acks n d h.0, all_produced version config id acks named ds h.1)
 
 -- ---- fetches
 
@@ -112,8 +112,8 @@ all_fetched config replica [] = tt
 all_fetched config replica (n ∷ named) = (fetch_sound config replica n (part_of config n.0 n.1.index), all_fetched config replica named)
 
 pub decided_soundly : (config : Configuration) (ask : Ask) (decisions : List Decision) → Decides config ask decisions → AllByRecursion (IsSound config) decisions
-decided_soundly config (Produce id acks timeout topics) ds h = all_produced config id acks (produce_parts topics) ds h
-decided_soundly config (Fetch replica max_wait min_bytes max_bytes isolation topics) ds h =
+decided_soundly config (Produce version id acks timeout topics) ds h = all_produced version config id acks (produce_parts topics) ds h
+decided_soundly config (Fetch version replica max_wait min_bytes max_bytes isolation topics) ds h =
     subst (AllByRecursion (IsSound config)) (sym h) (all_fetched config replica (fetch_parts topics))
 decided_soundly config (Metadata topics) ds h = subst (AllByRecursion (IsSound config)) (sym h) tt
 decided_soundly config (Versions version) ds h = subst (AllByRecursion (IsSound config)) (sym h) tt

@@ -1,10 +1,12 @@
 -- What became of the partitions that a call names, computed again.
-use Rattle.std.specs.Prelude.{ℕ, ℤ, ◌+◌, ◌≡◌, Bool, List, ◌++◌, length, map, drop, Option, Some, None, is_some}
+use Rattle.std.specs.Prelude.{ℕ, ◌+◌, ◌≡◌, List, ◌++◌, length, map, drop, Option, Some, None}
 use Rattle.std.specs.List.{AllZip}
 use Rattle.partlog.specs.History.{History}
 use Rattle.kwire.specs.declared.request.ProduceTopic.{ProduceTopic}
 use Rattle.kwire.specs.Configuration.{Configuration}
 use Rattle.kanswer.specs.declared.accepted.Accepted.{Accepted}
+use Rattle.kanswer.specs.declared.terms.Terms.{Terms}
+use Rattle.kanswer.specs.OnTerms.{OnTerms}
 use Rattle.kanswer.specs.Decisions.{Decision, ProduceDecides, produce_parts}
 use Rattle.audit.specs.declared.account.Account.{Account}
 use Rattle.audit.specs.declared.account.Point.{Point}
@@ -33,7 +35,7 @@ pub record Retells (pasts : List History) (points : List Point) (decisions : Lis
       → drop before.taken points ≡ step_points steps ++ rest → IsRetold steps before after
 
 -- the partitions that these topics of a produce name were computed, for each transactional id that it may have
-pub record RetellsProduce (config : Configuration) (transactional : Bool) (acks : ℤ) (pasts : List History) (points : List Point) (topics : List ProduceTopic) (before after : SoFar) : Type 0 where
+pub record RetellsProduce (config : Configuration) (terms : Terms) (pasts : List History) (points : List Point) (topics : List ProduceTopic) (before after : SoFar) : Type 0 where
   pub decisions : List Decision
-  pub decided : (id : Option (List ℕ)) → is_some id ≡ transactional → AllZip (ProduceDecides config id acks) (produce_parts topics) decisions
+  pub decided : OnTerms terms (λ id. AllZip (ProduceDecides config terms.version id terms.acks) (produce_parts topics) decisions)
   pub retold : Retells pasts points decisions before after

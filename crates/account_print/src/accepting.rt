@@ -2,7 +2,6 @@
 //! entries and the pasts of the partitions.
 
 ghost use Rattle.std.specs.Prelude.{◌≡◌, ◌≤◌, ◌<◌, ◌∷◌, [], List as Items, length, map, is_some, OnOk, IfSome, IfNone, ℕ, pos, true, false, IsTrue, ◌⊎◌};
-ghost use Rattle.kbatch.specs.Kept.{count_of};
 ghost use Rattle.partlog.specs.declared.part_log.TheConstants.{MOST_LOG_BYTES};
 ghost use Rattle.partlog.specs.Follower.{IsFollower};
 ghost use Rattle.partlog.specs.Gauges.{numbers_of};
@@ -10,14 +9,14 @@ ghost use Rattle.partlog.specs.State.{PartState, state_before};
 ghost use Rattle.kwire.specs.Configuration.{partitions_of, part_of};
 ghost use Rattle.kanswer.specs.LogReadings.{IsCarriable};
 ghost use Rattle.kanswer.specs.Waiting.{is_consumer};
-ghost use Rattle.kanswer.specs.Decisions.{AskLog, Decision, Decides, append_outcome, fetch_decision, fetch_decisions, fetch_outcome, fetch_parts};
+ghost use Rattle.kanswer.specs.Decisions.{AskLog, Decision, Decides, fetch_decision, fetch_decisions, fetch_outcome, fetch_parts};
+ghost use Rattle.kanswer.specs.Sent.{sent_outcome};
 ghost use Rattle.account_print.specs.Retells.{Retells, RetellsProduce};
 
-use crate::past::Past;
+use crate::past::{Past, PastEntry};
 use crate::retold::Retold;
 use audit::Point;
-use kanswer::{Accepted, Terms, decide_put};
-use kbatch::BatchView;
+use kanswer::{Accepted, SentBatch, Terms, decide_put};
 use kbytes::NoMemory;
 use kwire::{
     AskView, Config, FetchPart, FetchTopicView, ProducePartView, ProduceTopicView, RequestView,
@@ -33,23 +32,22 @@ pub struct Scene<'a> {
     pub points: &'a [Point],
 }
 
-// What became of a batch of `count` records and `len` bytes at a log with these numbers.
-fn put(part: u32, before: &Numbers, count: u32, len: usize) -> Accepted
+// What became of a batch at a log with these numbers.
+fn put(part: u32, before: &Numbers, sent: &SentBatch<'_>) -> Accepted
     requires bytes { before.now.bytes ≤ MOST_LOG_BYTES }
     requires end { before.now.end ≤ MOST_LOG_BYTES }
-    ensures outcome { (batch : Items ℕ) (state : PartState) → length batch ≡ len → before.now ≡ numbers_of state
-        → result ≡ (append_outcome part count batch state).result }
+    ensures outcome { (state : PartState) → before.now ≡ numbers_of state → result ≡ (sent_outcome part sent.now state).result }
     ensures carried { IsCarriable result }
 {
-    if len > MOST_LOG_BYTES - before.bytes as usize {
+    if sent.batch.bytes().len() > MOST_LOG_BYTES - before.bytes as usize {
         return Accepted::Refused {
-            code: codes::NOT_LEADER_OR_FOLLOWER,
+            code: sent.full_code(),
         };
     }
     Accepted::Appended {
         part,
         base: before.end,
-        count,
+        count: sent.batch.count(),
     }
 }
 
@@ -57,18 +55,18 @@ fn put(part: u32, before: &Numbers, count: u32, len: usize) -> Accepted
 fn retell_put(
     scene: &Scene<'_>,
     part: u32,
-    batch: &BatchView<'_>,
+    sent: &SentBatch<'_>,
     retold: &mut Retold,
 ) -> Result<(), NoMemory>
     requires { part < length scene.now.pasts.now }
-    ensures { OnOk result (Retells scene.now.pasts.now scene.now.points.now (AskLog part (append_outcome part (count_of batch.now) batch.now) ∷ [])
+    ensures { OnOk result (Retells scene.now.pasts.now scene.now.points.now (AskLog part (sent_outcome part sent.now) ∷ [])
         retold.old retold.new) }
 {
     let Some(point) = scene.points.get(retold.taken()) else {
         return Ok(());
     };
     let before = scene.pasts[part as usize].before(point.place);
-    let became = put(part, &before, batch.count(), batch.bytes().len());
+    let became = put(part, &before, sent);
     retold.ask(became, point.place)
 }
 
@@ -81,11 +79,11 @@ fn retell_produce_part(
     retold: &mut Retold,
 ) -> Result<(), NoMemory>
     requires { length scene.now.pasts.now ≡ partitions_of scene.now.config.now.topics }
-    ensures { OnOk result (RetellsProduce scene.now.config.now terms.is_transactional terms.acks scene.now.pasts.now scene.now.points.now
+    ensures { OnOk result (RetellsProduce scene.now.config.now terms scene.now.pasts.now scene.now.points.now
         (record { name = topic.now; parts = part.now ∷ [] } ∷ []) retold.old retold.new) }
 {
     match decide_put(scene.config, terms, topic, part) {
-        Ok((number, batch)) => retell_put(scene, number, &batch, retold),
+        Ok((number, sent)) => retell_put(scene, number, &sent, retold),
         Err(code) => retold.refuse(code),
     }
 }
@@ -98,7 +96,7 @@ fn retell_produce_topic(
     retold: &mut Retold,
 ) -> Result<(), NoMemory>
     requires { length scene.now.pasts.now ≡ partitions_of scene.now.config.now.topics }
-    ensures { OnOk result (RetellsProduce scene.now.config.now terms.is_transactional terms.acks scene.now.pasts.now scene.now.points.now
+    ensures { OnOk result (RetellsProduce scene.now.config.now terms scene.now.pasts.now scene.now.points.now
         (topic.now ∷ []) retold.old retold.new) }
 {
     for part in topic.parts.as_slice() {
@@ -114,7 +112,7 @@ fn retell_produce(
     retold: &mut Retold,
 ) -> Result<(), NoMemory>
     requires { length scene.now.pasts.now ≡ partitions_of scene.now.config.now.topics }
-    ensures { OnOk result (RetellsProduce scene.now.config.now terms.is_transactional terms.acks scene.now.pasts.now scene.now.points.now
+    ensures { OnOk result (RetellsProduce scene.now.config.now terms scene.now.pasts.now scene.now.points.now
         topics.now retold.old retold.new) }
 {
     for topic in topics {
@@ -143,16 +141,15 @@ fn is_known(replica: i32, followers: u32) -> bool
     replica < 0 || (replica > 0 && replica as u32 <= followers)
 }
 
-// What became of a fetch from a partition before the entry at a place.
+// What became of a fetch from a partition before an entry.
 fn seen(
-    past: &Past,
-    place: u64,
+    entry: &PastEntry<'_>,
     followers: u32,
     replica: i32,
     part: u32,
     asked: &FetchPart,
 ) -> Accepted
-    ensures outcome { result ≡ (fetch_outcome followers replica asked.now part (state_before past.now place)).result }
+    ensures outcome { result ≡ (fetch_outcome followers replica asked.now part (state_before entry.now.past.now entry.now.place)).result }
     ensures carried { IsCarriable result }
 {
     if !is_known(replica, followers) {
@@ -160,6 +157,7 @@ fn seen(
             code: codes::REPLICA_NOT_AVAILABLE,
         };
     }
+    let PastEntry { past, place } = *entry;
     let Some(offset) = offset_within(asked, past.before(place).end) else {
         return Accepted::Refused {
             code: codes::OFFSET_OUT_OF_RANGE,
@@ -190,9 +188,12 @@ fn retell_fetch_part(
     let Some(point) = scene.points.get(retold.taken()) else {
         return Ok(());
     };
-    let past = &scene.pasts[part as usize];
+    let entry = PastEntry {
+        past: &scene.pasts[part as usize],
+        place: point.place,
+    };
     let followers = scene.config.followers_of(part);
-    let became = seen(past, point.place, followers, replica, part, asked);
+    let became = seen(&entry, followers, replica, part, asked);
     retold.ask(became, point.place)
 }
 
@@ -242,12 +243,14 @@ pub fn retell(
 {
     match &request.ask {
         AskView::Produce {
+            version,
             transactional,
             acks,
             topics,
             ..
         } => {
             let terms = Terms {
+                version: *version,
                 is_transactional: transactional.is_some(),
                 acks: *acks,
             };

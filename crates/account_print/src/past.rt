@@ -15,6 +15,7 @@ ghost use Rattle.account_print.specs.Playable.{IsPlayable};
 
 use crate::playing::play;
 use audit::{Account, PartAccount};
+use kanswer::Budget;
 use kbytes::{List, NoMemory};
 use kwire::MOST_PARTITIONS;
 use partlog::{Numbers, PartLog, numbers_never_fall, visible_is_readable};
@@ -38,6 +39,13 @@ impl Model for Past {
     ghost view = { λ p. p.log };
 
     ghost invariant = { λ p. p.numbers ≡ numbers_upto p.log (length p.log.events + 1) };
+}
+
+/// An entry of a partition's history, by its place.
+#[derive(Clone, Copy, Debug)]
+pub(crate) struct PastEntry<'a> {
+    pub(crate) past: &'a Past,
+    pub(crate) place: u64,
 }
 
 // The place in the log's bytes up to which this replica may read.
@@ -108,15 +116,15 @@ impl Past {
     }
 
     /// The bytes that this replica could read just after the entry at a place, from `start` in the log's bytes on: whole batches, as
-    /// many from the first on as fit into `limit` bytes, and the first one whatever its length unless the reply holds `any` batch
-    /// already. It takes no memory.
-    pub fn readable_at(&self, place: u64, replica: i32, start: u64, limit: u64, any: bool) -> &[u8]
+    /// many from the first on as fit into the budget, and the first one whatever its length unless the reply holds a batch already. It
+    /// takes no memory.
+    pub fn readable_at(&self, place: u64, replica: i32, start: u64, budget: Budget) -> &[u8]
         ensures { let state = state_at self.now place in
-            result.now ≡ joined (taken limit any (filter (is_readable replica state) (batches_past start state.batches))) }
+            result.now ≡ joined (taken budget.left budget.any (filter (is_readable replica state) (batches_past start state.batches))) }
     {
         visible_is_readable();
         let upto = upto(replica, &self.at(place));
-        self.log.read(start, upto, limit, !any)
+        self.log.read(start, upto, budget.left, !budget.any)
     }
 }
 

@@ -11,7 +11,7 @@ ghost use Rattle.kanswer.specs.LogReadings.{AreReadings, FetchReadings, HasCarri
 ghost use Rattle.kanswer.specs.BytesRead.{bytes_read, most_left};
 ghost use Rattle.account_print.specs.WasShown.{AreShown, HasPast, IsShownAt};
 
-use crate::past::Past;
+use crate::past::{Past, PastEntry};
 use kanswer::{Accepted, Budget, Reading, read_nothing};
 use kbytes::{Bytes, List, NoMemory, copied};
 use kwire::{AskView, FetchPart, FetchTopicView, RequestView};
@@ -42,26 +42,29 @@ struct Reader<'a> {
     replica: i32,
 }
 
-// What is read of a partition, as it was just after the entry at a place.
+// What is read of a partition, as it was just after an entry.
 fn read_at(
     reader: &Reader<'_>,
-    past: &Past,
-    place: u64,
+    entry: &PastEntry<'_>,
     asked: &FetchPart,
     start: u64,
     budget: &mut Budget,
 ) -> Result<Reading, NoMemory>
-    ensures numbers { IfOk result (λ reading. reading.numbers ≡ numbers_of (state_at past.now place)) }
+    ensures numbers { IfOk result (λ reading. reading.numbers ≡ numbers_of (state_at entry.now.past.now entry.now.place)) }
     ensures records { IfOk result (λ reading. reading.records
-        ≡ joined (read_of reader.now.replica asked.now start (state_at past.now place) budget.old)) }
+        ≡ joined (read_of reader.now.replica asked.now start (state_at entry.now.past.now entry.now.place) budget.old)) }
     ensures offset { IfOk result HasCarriable }
     ensures lowered { OnOk result (budget.new
-        ≡ budget_after (read_of reader.now.replica asked.now start (state_at past.now place) budget.old) budget.old) }
+        ≡ budget_after (read_of reader.now.replica asked.now start (state_at entry.now.past.now entry.now.place) budget.old) budget.old) }
     ensures room { IfOk result (λ reading. length reading.records + most_left budget.new ≤ most_left budget.old) }
 {
+    let PastEntry { past, place } = *entry;
     let numbers = past.at(place);
-    let limit = limit_of(asked, budget.left);
-    let readable = past.readable_at(place, reader.replica, start, limit, budget.any);
+    let share = Budget {
+        left: limit_of(asked, budget.left),
+        any: budget.any,
+    };
+    let readable = past.readable_at(place, reader.replica, start, share);
     let records = copied(reader.alloc, readable)?;
     *budget = lowered(*budget, records.len() as u64);
     Ok(Reading { numbers, records })
@@ -87,7 +90,8 @@ fn read_seen(
         Accepted::Refused { .. } | Accepted::Appended { .. } => Ok(read_nothing(reader.alloc)),
         Accepted::Seen { part, start } => {
             let past = &reader.pasts[part as usize];
-            read_at(reader, past, place, asked, start, budget)
+            let entry = PastEntry { past, place };
+            read_at(reader, &entry, asked, start, budget)
         }
     }
 }

@@ -15,7 +15,7 @@ use Rattle.follower.proofs.Fronts.{read_same}
 
 -- ---- one field stands at the front
 
-same_integer : (w : Width) → IsWide w → (y z : ℤ) (a b : List ℕ) → FitsSigned w y → FitsSigned w z → integer w y ++ a ≡ integer w z ++ b → y ≡ z
+pub same_integer : (w : Width) → IsWide w → (y z : ℤ) (a b : List ℕ) → FitsSigned w y → FitsSigned w z → integer w y ++ a ≡ integer w z ++ b → y ≡ z
 same_integer w wide y z a b one two same =
     let start : Cursor = record { bytes = integer w y ++ a; at = 0 } in
     read_same (integer_at w start) y z _ _ (integer_reads w wide y start a one refl) (integer_reads w wide z start b two same)
@@ -149,15 +149,16 @@ module _ (asked : Asked) where
         | shorter more ↦ absurd (v.wrong more.0 more.1 more.2 more.3 more.4)
       ]
 
-  told_once : (told other : FetchedPart) → told.index ≡ other.index → reply_fields asked told ≡ reply_fields asked other → told ≡ other
-  told_once told other index same =
+  told_once : (told other : FetchedPart) → told.index ≡ other.index → told.start ≡ other.start → reply_fields asked told ≡ reply_fields asked other → told ≡ other
+  told_once told other index start same =
       let code : told.code ≡ other.code = cc in
       let high : told.high ≡ other.high = cc in
       let records : told.records ≡ other.records = cc in
-      ap (λ (i : ℤ). record { index = i; code = told.code; high = told.high; records = told.records }) index
-      ∙ ap (λ (i : ℤ). record { index = other.index; code = i; high = told.high; records = told.records }) code
-      ∙ ap (λ (i : ℤ). record { index = other.index; code = other.code; high = i; records = told.records }) high
-      ∙ ap (λ (bytes : List ℕ). record { index = other.index; code = other.code; high = other.high; records = bytes }) records
+      ap (λ (i : ℤ). record { index = i; code = told.code; high = told.high; start = told.start; records = told.records }) index
+      ∙ ap (λ (i : ℤ). record { index = other.index; code = i; high = told.high; start = told.start; records = told.records }) code
+      ∙ ap (λ (i : ℤ). record { index = other.index; code = other.code; high = i; start = told.start; records = told.records }) high
+      ∙ ap (λ (i : ℤ). record { index = other.index; code = other.code; high = other.high; start = i; records = told.records }) start
+      ∙ ap (λ (bytes : List ℕ). record { index = other.index; code = other.code; high = other.high; start = other.start; records = bytes }) records
 
   -- and tells one thing
   pub one_told : (body : List ℕ) (told other : FetchedPart) → IsReplyBody asked body told → IsReplyBody asked body other → told ≡ other
@@ -166,7 +167,7 @@ module _ (asked : Asked) where
       let others = reply_fields asked other in
       let same : fields all ++ [] ≡ fields others ++ [] = append-nil (fields all) ∙ sym one.spelled ∙ two.spelled ∙ sym (append-nil (fields others)) in
       elim (compare [] all others [] [] (agree_all told one.index one.fits) (agree_all other two.index two.fits) same) [
-        | alike e d ↦ told_once told other (one.index ∙ sym two.index) e
+        | alike e d ↦ told_once told other (one.index ∙ sym two.index) (one.start ∙ sym two.start) e
         | longer more ↦ absurd more.4
         | shorter more ↦ absurd more.4
       ]

@@ -1,8 +1,6 @@
 -- What flowed over a link, over one call and over two.
-use Rattle.std.proofs.Common.{◌≡◌, ℕ, ◌+◌, ◌≤◌, List, [], ◌++◌, take, drop, Option, sym, ap, subst, ◌∙◌, arith, append-nil}
+use Rattle.std.proofs.Common.{◌≡◌, ◌≤◌, List, [], ◌++◌, Option, ℕ, sym, subst, arith, append-nil}
 use Rattle.std.proofs.KnownBytes.{Appends-nil, Appends-trans, Appends-kept, Consumes-nil, Consumes-trans, Consumes-kept}
-use Rattle.std.proofs.Math.Seq.{take-add}
-use Rattle.std.proofs.lemmas.List.{take-take}
 use Rattle.std.specs.Io.KnownBytes.{Appends, Consumes, Keeps}
 use Rattle.follower.specs.Flows.{HasFlowed, LinkView}
 
@@ -34,21 +32,6 @@ flowed_in came more went a b c f g = subst (λ (x : List ℕ). HasFlowed (came +
 
 pub wrote : (a b : LinkView) (bytes : List ℕ) → b.taken ≡ a.taken → b.left ≡ a.left → Appends a.written b.written bytes → a.faults ≤ b.faults → HasFlowed [] bytes a b
 wrote a b bytes taken left written later = record { taken = same_appends a.taken b.taken taken; left = same_consumes a.left b.left left; written = written; later = later }
-
--- the next piece stands behind those before it
-pub wrote_on : (a b c : LinkView) (part : List ℕ) (done n k : ℕ) → n ≤ k → HasFlowed [] (take done part) a b → HasFlowed [] (take n (take k (drop done part))) b c
-    → HasFlowed [] (take (done + n) part) a c
-wrote_on a b c part done n k le first second =
-    let joined : take (done + n) part ≡ take done part ++ take n (take k (drop done part)) =
-    take-add done n part ∙ ap (λ (xs : List ℕ). take done part ++ xs) (sym (take-take n k (drop done part) le)) in
-    subst (λ (bytes : List ℕ). HasFlowed [] bytes a c) (sym joined) (flowed_on [] [] (take done part) (take n (take k (drop done part))) a b c first second)
-
--- the same of what a sink got
-pub appends_on : (a b c : Option (List ℕ)) (part : List ℕ) (done n k : ℕ) → n ≤ k → Appends a b (take done part) → Appends b c (take n (take k (drop done part))) → Appends a c (take (done + n) part)
-appends_on a b c part done n k le first second =
-    let joined : take (done + n) part ≡ take done part ++ take n (take k (drop done part)) =
-    take-add done n part ∙ ap (λ (xs : List ℕ). take done part ++ xs) (sym (take-take n k (drop done part) le)) in
-    subst (λ (bytes : List ℕ). Appends a c bytes) (sym joined) (Appends-trans a b c (take done part) (take n (take k (drop done part))) first second)
 
 -- ---- a read
 

@@ -22,5 +22,25 @@ mod Filling
 mod Going
 -- copies of one log
 mod Prefixes
+-- batches of a partition's log, and what is read of them from a copy's end on
+mod Stored
+-- places of one history that rise
+mod Places
+-- what the reply of a broker comes to
+mod Answers
+-- what a lawful call found that asks for what follows a copy's end
+mod Finding
+-- a copy that holds the first batches of a log
+mod Held
+-- the batches of a partition's history
+mod LogRows
+-- one reply of a broker whose account is lawful
+mod Turns
+-- whole rounds over a session of such a broker
+mod Sessions
+-- following it from the first round on
+mod Followed
+-- a worked session
+mod WorkedSession
 -- a run, from its words to its status
 mod Runs

@@ -10,7 +10,7 @@ use Rattle.follower.specs.Verdict.{HasTaken, IsPiece}
 use Rattle.follower.proofs.Taking.{follow_append, follow_grows, joined_append}
 use Rattle.follower.proofs.Verdicts.{batch_piece, same_piece, same_rows}
 
-some_count : (batch : List ℕ) → IsSomeBatch batch → 1 ≤ count_of batch
+pub some_count : (batch : List ℕ) → IsSomeBatch batch → 1 ≤ count_of batch
 some_count batch is = omega (arith, batch_count batch is.0 is.1, is.1.some_record)
 
 -- ---- rows of batches with one beginning

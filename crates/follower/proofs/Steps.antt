@@ -67,9 +67,10 @@ module _ (asked : Asked) where
   agree_fits before (f ∷ front) all = (all.1, agree_fits (before ++ f ∷ []) front all.2)
 
   -- all fields of a reply stand there, and the body ends
-  pub whole_reply : (body : List ℕ) (told : FetchedPart) (reader : Cursor) → told.index ≡ asked.index → HasRead asked body (reply_fields asked told) reader → rest_of reader ≡ [] → IsReplyBody asked body told
-  whole_reply body told reader index read over = record {
+  pub whole_reply : (body : List ℕ) (told : FetchedPart) (reader : Cursor) → told.index ≡ asked.index → told.start ≡ negsuc 0 → HasRead asked body (reply_fields asked told) reader → rest_of reader ≡ [] → IsReplyBody asked body told
+  whole_reply body told reader index start read over = record {
     index = index;
+    start = start;
     fits = agree_fits [] (reply_fields asked told) read.agree;
     spelled = read.parts ∙ ap (λ (bytes : List ℕ). fields (reply_fields asked told) ++ bytes) over ∙ append-nil (fields (reply_fields asked told));
   }

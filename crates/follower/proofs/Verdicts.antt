@@ -29,7 +29,7 @@ same_piece bytes n m p q = same_pos n m (sym p.told ∙ q.told)
     same_pos : (n m : ℕ) → pos n ≡ pos m → n ≡ m
     same_pos n m e = cc
 
-batch_size : (bytes : List ℕ) → IsSomeBatch bytes → 61 ≤ length bytes
+pub batch_size : (bytes : List ℕ) → IsSomeBatch bytes → 61 ≤ length bytes
 batch_size bytes is =
     elim (cases_lt (length bytes) 61) [
       | inl short ↦ absurd (batch_none bytes is.0 is.1 batch.Short short)

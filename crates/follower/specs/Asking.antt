@@ -1,5 +1,5 @@
 -- The request with which a replica asks its leader for more (Kafka protocol guide, Fetch v4).
-use Rattle.std.specs.Prelude.{◌≤◌, ◌<◌, ◌^◌, ℕ, ℤ, pos, List, [], ◌∷◌, None, FitsSigned, length}
+use Rattle.std.specs.Prelude.{◌≤◌, ◌<◌, ◌^◌, ℕ, ℤ, pos, negsuc, List, [], ◌∷◌, None, FitsSigned, length}
 use Rattle.std.specs.Int.{w32}
 use Rattle.kbytes.specs.Field.{fields}
 use Rattle.kwire.specs.Frames.{framed}
@@ -8,16 +8,16 @@ use Rattle.kwire.specs.declared.request.Ask.TheVariants.{Fetch}
 use Rattle.kwire.specs.declared.request.Request.{Request}
 use Rattle.kwire.specs.declared.config.TheConstants.{MOST_NAME_BYTES}
 use Rattle.follower.specs.Copies.{Copy}
-use Rattle.follower.specs.declared.replica.TheConstants.{LONGEST_WAIT, MOST_ASKED}
+use Rattle.follower.specs.declared.replica.TheConstants.{ASKED_VERSION, LONGEST_WAIT, MOST_ASKED}
 
 -- it names no client, waits at most half a second for one byte, and asks for what follows the copy's end
 abbrev pub request_of : Copy → ℤ → Request
 request_of copy correlation = record {
   correlation = correlation;
   client = None;
-  ask = Fetch copy.id LONGEST_WAIT (pos 1) MOST_ASKED (pos 0) (record {
+  ask = Fetch ASKED_VERSION copy.id LONGEST_WAIT (pos 1) MOST_ASKED (pos 0) (record {
     name = copy.topic;
-    parts = record { index = copy.index; offset = pos copy.end; most = MOST_ASKED } ∷ [];
+    parts = record { index = copy.index; offset = pos copy.end; log_start = negsuc 0; most = MOST_ASKED } ∷ [];
   } ∷ []);
 }
 

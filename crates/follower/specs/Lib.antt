@@ -4,6 +4,8 @@
 pub mod Copies
 -- logs, as whole batches one after the other
 pub mod Logs
+-- what holds of every copy
+pub mod Kept
 -- the body of a reply, and where a body departs from it
 pub mod ReplyBody
 -- what becomes of a reply
@@ -16,6 +18,10 @@ pub mod Flows
 pub mod Course
 -- copies of one log
 pub mod CopyOf
+-- a follower of a broker whose account is lawful
+pub mod FromLawful
+-- a worked session
+pub mod Worked
 -- dials
 pub mod Dialling
 -- the words with which a follower is started
@@ -24,8 +30,6 @@ pub mod Commands
 pub mod Running
 -- ==== the words of private functions
 
--- what holds of every copy
-pub mod Kept
 -- a reply that is being read
 pub mod Standing
 -- the batches of a reply as they are checked

@@ -1,5 +1,5 @@
 -- The body of a reply to a fetch of one partition (Kafka protocol guide, Fetch v4), and where a body departs from it.
-use Rattle.std.specs.Prelude.{◌≡◌, ◌≢◌, ℕ, ℤ, pos, List, [], ◌∷◌, ◌++◌, length, Some, None}
+use Rattle.std.specs.Prelude.{◌≡◌, ◌≢◌, ℕ, ℤ, pos, negsuc, List, [], ◌∷◌, ◌++◌, length, Some, None}
 use Rattle.std.specs.List.{AllByRecursion}
 use Rattle.kbytes.specs.Field.{Field, Int16, Int32, Int64, String, Records, Array, field, fields}
 use Rattle.kbytes.specs.FitsField.{FitsField}
@@ -7,6 +7,7 @@ use Rattle.kwire.specs.Spelling.{told_fields}
 use Rattle.kwire.specs.declared.reply.FetchedPart.{FetchedPart}
 use Rattle.kwire.specs.declared.reply.Told.{Told}
 use Rattle.kwire.specs.declared.reply.Told.TheVariants.{Fetched}
+use Rattle.follower.specs.declared.replica.TheConstants.{ASKED_VERSION}
 
 -- what was asked: the reply's correlation id, and its one partition
 pub record Asked : Type 0 where
@@ -16,7 +17,7 @@ pub record Asked : Type 0 where
 
 -- what is told of the partition alone, at the isolation level 0
 abbrev pub told_alone : Asked → FetchedPart → Told
-told_alone asked told = Fetched (pos 0) (record { name = asked.topic; parts = told ∷ [] } ∷ [])
+told_alone asked told = Fetched ASKED_VERSION (pos 0) (record { name = asked.topic; parts = told ∷ [] } ∷ [])
 
 abbrev pub reply_fields : Asked → FetchedPart → List Field
 reply_fields asked told = Int32 asked.correlation ∷ told_fields (told_alone asked told)
@@ -24,6 +25,8 @@ reply_fields asked told = Int32 asked.correlation ∷ told_fields (told_alone as
 -- the body is that of such a reply, which tells this of the partition
 pub record IsReplyBody (asked : Asked) (body : List ℕ) (told : FetchedPart) : Type 0 where
   pub index : told.index ≡ asked.index
+  -- the version doesn't tell where the log starts
+  pub start : told.start ≡ negsuc 0
   pub fits : AllByRecursion FitsField (reply_fields asked told)
   pub spelled : body ≡ fields (reply_fields asked told)
 

@@ -9,8 +9,7 @@ ghost use Rattle.follower.specs.Rounds.{EndsBy, HasBroken, HasRound, HasTakenFro
 use crate::fault::{FollowEnd, TakeFault};
 use crate::intake::Intake;
 use crate::replica::Replica;
-use crate::writing::write_whole;
-use outside::Link;
+use outside::{Link, write_whole};
 use std::alloc::Global;
 
 // How following ends where a reply wasn't taken.

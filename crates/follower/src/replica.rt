@@ -20,6 +20,9 @@ use partlog::MOST_LOG_BYTES;
 use std::alloc::Global;
 use std::marker::Model;
 
+/// The version of the fetches, which doesn't tell where logs start.
+pub const ASKED_VERSION: i16 = 4;
+
 /// How long a leader may wait for more to copy, in milliseconds.
 pub const LONGEST_WAIT: i32 = 500;
 
@@ -110,6 +113,7 @@ impl Replica {
         parts.push(FetchPart {
             index: self.index,
             offset: self.end as i64,
+            log_start: -1,
             most: MOST_ASKED,
         })?;
         let name = copied(self.alloc, self.topic.as_slice())?;
@@ -119,6 +123,7 @@ impl Replica {
             correlation,
             client: None,
             ask: Ask::Fetch {
+                version: ASKED_VERSION,
                 replica: self.id,
                 max_wait: LONGEST_WAIT,
                 min_bytes: 1,

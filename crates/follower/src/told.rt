@@ -11,7 +11,8 @@ ghost use Rattle.follower.specs.Standing.{HasRead, NoneBegins, head_fields};
 use kbytes::Reader;
 use std::marker::Model;
 
-/// What a reply tells of the partition. A contract sees it as a `FetchedPart`.
+/// What a reply tells of the partition. A contract sees it as a `FetchedPart`, with -1 for where the log starts, which the version doesn't
+/// tell.
 #[derive(Debug, Drop)]
 pub(crate) struct Told<'a> {
     pub(crate) index: i32,
@@ -21,11 +22,12 @@ pub(crate) struct Told<'a> {
 }
 
 impl<'a> Model for Told<'a> {
+    ghost use Rattle.std.specs.Prelude.{negsuc};
     ghost use Rattle.kwire.specs.declared.reply.FetchedPart.{FetchedPart};
 
     ghost Value = { FetchedPart };
 
-    ghost view = { λ t. record { index = t.index; code = t.code; high = t.high; records = t.records.now } };
+    ghost view = { λ t. record { index = t.index; code = t.code; high = t.high; start = negsuc 0; records = t.records.now } };
 }
 
 // Reads this integer, or answers the place where another field stands.

@@ -19,7 +19,7 @@ loop-asked-preserved c =
     let topic = c.args.topic.now in
     let items : c.as_slice-asked-items.result.now ≡ topic.parts = c.as_slice-asked-items.ensures ∙ ap (λ (t : FetchTopic). t.parts) c.topic.view_is in
     let i = c.loop-asked.asked-index in
-    let none : FetchPart = record { index = pos 0; offset = pos 0; most = pos 0 } in
+    let none : FetchPart = record { index = pos 0; offset = pos 0; log_start = pos 0; most = pos 0 } in
     let part : FetchPart = get_or c.as_slice-asked-items.result.now i none in
     let within : i < length topic.parts = omega (arith, c.loop-asked-test.true, ap length items) in
     let is : part ≡ get_or topic.parts i part = ap (λ (xs : List FetchPart). get_or xs i none) items ∙ get_or_default topic.parts i none part within in

@@ -1,5 +1,5 @@
 use Rattle.std.proofs.Common.{◌-◌, length, drop, arith, length-take, length-drop}
-use Rattle.follower.proofs.Flowing.{appends_on}
+use Rattle.outside.proofs.Laws.{appends_on}
 use Rattle.follower.proofs.run.write_all.Goals as goal
 
 pub loop-done-preserved : goal.loop-done-preserved

@@ -1,3 +1,4 @@
+use Rattle.std.specs.Prelude.{negsuc}
 use Rattle.std.proofs.Common.{[], ◌∷◌, ◌++◌, Some, None, refl, sym, ap, subst, ◌∙◌, arith}
 use Rattle.std.specs.Int.{w16, w32, w64}
 use Rattle.std.proofs.lemmas.Int.{to_z-of_z}
@@ -80,8 +81,8 @@ returns-in-Ok-2-clause-told c = λ asked body same head.
     let eight = read_on asked body (head_fields asked ++ Int16 c.in-Ok.code ∷ Int64 c.in-Ok-i64.high ∷ []) c.i64.new.self c.expect_i64.new.reader (Int64 c.in-Ok-i64.high) seven (rw (to_z-of_z w64 c.in-Ok-i64.high high_fits) at c.in_default-expect_i64.ensures.read) refl high_fits in
     let nine = read_on asked body (head_fields asked ++ Int16 c.in-Ok.code ∷ Int64 c.in-Ok-i64.high ∷ Int64 c.in-Ok-i64.high ∷ []) c.expect_i64.new.reader c.expect_i32.new.reader (Array None) eight (spelled_null c.expect_i64.new.reader c.expect_i32.new.reader c.in_default-expect_i32.ensures.read) refl tt in
     let ten = read_on asked body (head_fields asked ++ Int16 c.in-Ok.code ∷ Int64 c.in-Ok-i64.high ∷ Int64 c.in-Ok-i64.high ∷ Array None ∷ []) c.expect_i32.new.reader c.next_records.new.reader (Records (Some c.in-Ok-next_records.field-0.now)) nine c.in-Ok-next_records.ensures.read (c.in-Ok-next_records.field-0.now, refl) c.in-Ok-next_records.ensures.short in
-    let told : FetchedPart = record { index = c.args.index; code = c.in-Ok.code; high = c.in-Ok-i64.high; records = c.in-Ok-next_records.field-0.now } in
+    let told : FetchedPart = record { index = c.args.index; code = c.in-Ok.code; high = c.in-Ok-i64.high; start = negsuc 0; records = c.in-Ok-next_records.field-0.now } in
     let reader = c.next_records.new.reader in
     let moved : HasRead asked body (reply_fields asked told) reader = rw (sym same) ten in
-    let reply = whole_reply asked body told reader (sym same) moved (none_left (rest_of reader) (rw (sym c.rest.ensures) c.if-not-is_empty.ensures)) in
+    let reply = whole_reply asked body told reader (sym same) refl moved (none_left (rest_of reader) (rw (sym c.rest.ensures) c.if-not-is_empty.ensures)) in
     rw (to_z-of_z w32 c.args.index c.ranges.index, to_z-of_z w16 c.in-Ok.code code_fits, to_z-of_z w64 c.in-Ok-i64.high high_fits) reply

@@ -22,7 +22,7 @@ returns c =
     let asked : ℤ → ℕ = λ replica. if is_consumer replica then c.at.result.visible else c.at.result.bytes in
     let upto = c.upto-upto.ensures ∙ ap asked (to_z-of_z w32 c.args.replica c.ranges.replica) ∙ ap (λ (n : Numbers). if is_consumer c.args.replica then n.visible else n.bytes) c.at.ensures.numbers in
     c.read.ensures.bytes
-    ∙ ap (λ (b : Bool). joined (taken c.args.limit b (batches_past start (batches_upto c.upto-upto.result (state_of c.self.inside.log).batches)))) (not_not c.args.any)
-    ∙ ap (λ (g : History). joined (taken c.args.limit c.args.any (batches_past start (batches_upto c.upto-upto.result (state_of g).batches)))) c.self.view_is
-    ∙ ap (λ (n : ℕ). joined (taken c.args.limit c.args.any (batches_past start (batches_upto n bs)))) upto
-    ∙ ap (λ (ys : List StoredBatch). joined (taken c.args.limit c.args.any ys)) reads
+    ∙ ap (λ (b : Bool). joined (taken c.args.budget.left b (batches_past start (batches_upto c.upto-upto.result (state_of c.self.inside.log).batches)))) (not_not c.args.budget.any)
+    ∙ ap (λ (g : History). joined (taken c.args.budget.left c.args.budget.any (batches_past start (batches_upto c.upto-upto.result (state_of g).batches)))) c.self.view_is
+    ∙ ap (λ (n : ℕ). joined (taken c.args.budget.left c.args.budget.any (batches_past start (batches_upto n bs)))) upto
+    ∙ ap (λ (ys : List StoredBatch). joined (taken c.args.budget.left c.args.budget.any ys)) reads

@@ -1,3 +1,4 @@
+use Rattle.std.specs.Prelude.{negsuc}
 use Rattle.std.proofs.Common.{◌≡◌, ◌+◌, ◌<◌, ◌≤◌, ℕ, [], ◌++◌, length, sym, ap, subst, ◌∙◌, arith, max, min}
 use Rattle.std.specs.Int.{w32, w64}
 use Rattle.std.proofs.lemmas.Int.{to_z-of_z}
@@ -13,7 +14,7 @@ use Rattle.follower.proofs.replica.Replica.examine.Goals as goal
 pub returns-in-Err-check_batches-clause-refused : goal.returns-in-Err-check_batches-clause-refused
 returns-in-Err-check_batches-clause-refused c =
     let copy : Copy = record { topic = c.self.inside.topic; index = c.self.inside.index; id = c.self.inside.id; log = c.self.inside.log; end = c.self.inside.end; high = c.self.inside.high } in
-    let told : FetchedPart = record { index = c.told.inside.index; code = c.told.inside.code; high = c.told.inside.high; records = c.told.inside.records.now } in
+    let told : FetchedPart = record { index = c.told.inside.index; code = c.told.inside.code; high = c.told.inside.high; start = negsuc 0; records = c.told.inside.records.now } in
     let reply : IsReplyBody (asked_by copy c.args.correlation) c.args.body.now told =
     subst (IsReplyBody (asked_by copy c.args.correlation) c.args.body.now) (sym c.told.view_is)
     (rw (to_z-of_z w32 c.args.correlation c.ranges.correlation, c.as_slice.ensures, to_z-of_z w32 c.self.inside.index c.self.invariant.index) at c.in-Ok.ensures.told) in
@@ -24,7 +25,7 @@ returns-in-Err-check_batches-clause-refused c =
 pub returns-then-told-len-clause-refused : goal.returns-then-told-len-clause-refused
 returns-then-told-len-clause-refused c =
     let copy : Copy = record { topic = c.self.inside.topic; index = c.self.inside.index; id = c.self.inside.id; log = c.self.inside.log; end = c.self.inside.end; high = c.self.inside.high } in
-    let told : FetchedPart = record { index = c.told.inside.index; code = c.told.inside.code; high = c.told.inside.high; records = c.told.inside.records.now } in
+    let told : FetchedPart = record { index = c.told.inside.index; code = c.told.inside.code; high = c.told.inside.high; start = negsuc 0; records = c.told.inside.records.now } in
     let reply : IsReplyBody (asked_by copy c.args.correlation) c.args.body.now told =
     subst (IsReplyBody (asked_by copy c.args.correlation) c.args.body.now) (sym c.told.view_is)
     (rw (to_z-of_z w32 c.args.correlation c.ranges.correlation, c.as_slice.ensures, to_z-of_z w32 c.self.inside.index c.self.invariant.index) at c.in-Ok.ensures.told) in
@@ -36,7 +37,7 @@ returns-then-told-len-clause-refused c =
 pub returns-clause-brought : goal.returns-clause-brought
 returns-clause-brought c =
     let copy : Copy = record { topic = c.self.inside.topic; index = c.self.inside.index; id = c.self.inside.id; log = c.self.inside.log; end = c.self.inside.end; high = c.self.inside.high } in
-    let told : FetchedPart = record { index = c.told.inside.index; code = c.told.inside.code; high = c.told.inside.high; records = c.told.inside.records.now } in
+    let told : FetchedPart = record { index = c.told.inside.index; code = c.told.inside.code; high = c.told.inside.high; start = negsuc 0; records = c.told.inside.records.now } in
     let reply : IsReplyBody (asked_by copy c.args.correlation) c.args.body.now told =
     subst (IsReplyBody (asked_by copy c.args.correlation) c.args.body.now) (sym c.told.view_is)
     (rw (to_z-of_z w32 c.args.correlation c.ranges.correlation, c.as_slice.ensures, to_z-of_z w32 c.self.inside.index c.self.invariant.index) at c.in-Ok.ensures.told) in
@@ -58,7 +59,7 @@ returns-clause-brought c =
 pub returns-clause-kept : goal.returns-clause-kept
 returns-clause-kept c =
     let copy : Copy = record { topic = c.self.inside.topic; index = c.self.inside.index; id = c.self.inside.id; log = c.self.inside.log; end = c.self.inside.end; high = c.self.inside.high } in
-    let told : FetchedPart = record { index = c.told.inside.index; code = c.told.inside.code; high = c.told.inside.high; records = c.told.inside.records.now } in
+    let told : FetchedPart = record { index = c.told.inside.index; code = c.told.inside.code; high = c.told.inside.high; start = negsuc 0; records = c.told.inside.records.now } in
     let reply : IsReplyBody (asked_by copy c.args.correlation) c.args.body.now told =
     subst (IsReplyBody (asked_by copy c.args.correlation) c.args.body.now) (sym c.told.view_is)
     (rw (to_z-of_z w32 c.args.correlation c.ranges.correlation, c.as_slice.ensures, to_z-of_z w32 c.self.inside.index c.self.invariant.index) at c.in-Ok.ensures.told) in
