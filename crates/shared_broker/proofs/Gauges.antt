@@ -38,8 +38,8 @@ fetch_gauges n replica (a ∷ asked) (Seen part start ∷ results) has =
     (by_kind n part (cond (is_consumer replica) 1 2) has.0 (kind_few (is_consumer replica)), fetch_gauges n replica asked results has.1)
 
 have_gauges : (n : ℕ) (ask : Ask) (results : List Accepted) → AllBelow n (parts_asked results) → AllByRecursion (HasGauge n) (needs_of ask results)
-have_gauges n (Produce transactional acks timeout topics) results has = produce_gauges n results has
-have_gauges n (Fetch replica max_wait min_bytes max_bytes isolation topics) results has = fetch_gauges n replica (map (λ named. named.1) (fetch_parts topics)) results has
+have_gauges n (Produce version transactional acks timeout topics) results has = produce_gauges n results has
+have_gauges n (Fetch version replica max_wait min_bytes max_bytes isolation topics) results has = fetch_gauges n replica (map (λ named. named.1) (fetch_parts topics)) results has
 have_gauges n (Metadata topics) results has = tt
 have_gauges n (Versions version) results has = tt
 
