@@ -3,6 +3,7 @@
 Run it at the top of the repository: `python3 -B -m bench.run`."""
 
 import argparse
+import filecmp
 import os
 import pathlib
 import subprocess
@@ -196,29 +197,46 @@ def least(words, source, out):
     return min(seconds for seconds, _ in runs), max(memory for _, memory in runs)
 
 
-def measured(program, folder, lines, requests, produces):
-    """The program's seconds and bytes, the yardstick's seconds, and the bytes of the trace."""
+def rivalled(words, program, other, folder):
+    """The program's fewest seconds and most bytes, and the fewest seconds of the other one, where there is one, with the same words. The two
+    take turns."""
+    trace, out, rival = folder / "trace", folder / "out", folder / "rival"
+    if other is None:
+        return *least([str(program), *words], trace, out), None
+    runs = [(timed([str(program), *words], trace, out), timed([str(other), *words], trace, rival)) for _ in range(RUNS)]
+    return min(run[0][0] for run in runs), max(run[0][1] for run in runs), min(run[1][0] for run in runs)
+
+
+def measured(program, folder, lines, requests, produces, other=None):
+    """The program's seconds and bytes, the yardstick's seconds, the bytes of the trace, and the other program's seconds, where there is one."""
     trace, out = folder / "trace", folder / "out"
     write(folder, lines)
-    seconds, memory = least([str(program), "replay"], trace, out)
+    seconds, memory, rival = rivalled(["replay"], program, other, folder)
+    if other is not None and not filecmp.cmp(out, folder / "rival", shallow=False):
+        raise Wrong(f"{other} prints something else of this trace")
     replies, waiting, records = told(out)
     if replies + waiting != requests:
         raise Wrong(f"{requests} requests had {replies} replies, and {waiting} wait")
     if records != produces:
         raise Wrong(f"{produces} produces of one record left {records} records")
     plain, _ = least(YARDSTICK, folder / "digits", out)
-    return seconds, memory, plain, trace.stat().st_size
+    return seconds, memory, plain, trace.stat().st_size, rival
 
 
-def show(name, requests, seconds, memory, plain, size):
+def than(seconds, rival, other):
+    """How many times as long as the other program's run it is, in words, where there is one."""
+    return "" if rival is None else f", {seconds / rival:.2f} times as long as {other.name}"
+
+
+def show(name, requests, other, seconds, memory, plain, size, rival):
     print(f"{name}: {requests} requests, {size / 1e6:.1f} MB of text")
     print(f"  {seconds:.3f} s, {requests / seconds:.0f} requests/s, {size / 1e6 / seconds:.1f} MB/s of text,"
           f" peak memory {memory / 1e6:.1f} MB, {memory / size:.1f} times the text")
-    print(f"  {seconds / plain:.1f} times the yardstick's {plain:.3f} s", flush=True)
+    print(f"  {seconds / plain:.1f} times the yardstick's {plain:.3f} s{than(seconds, rival, other)}", flush=True)
 
 
 def show_lines(program, folder, batches):
-    seconds, _, plain, _ = measured(program, folder, cut(batches, LINE), batches, batches)
+    seconds, _, plain, *_ = measured(program, folder, cut(batches, LINE), batches, batches)
     lines = batches * -(-len(produce(0, 0, batch(bytes(1048504)))) // LINE)
     print(f"short lines: {lines} lines of {LINE} bytes")
     print(f"  {seconds:.3f} s, {lines / seconds:.0f} lines/s; {seconds / plain:.1f} times the yardstick", flush=True)
@@ -227,11 +245,11 @@ def show_lines(program, folder, batches):
 def show_beside(program, folder, requests):
     print(f"beside those who wait: {requests} requests of one session", flush=True)
     for waiting in (0, 63):
-        seconds, _, _, _ = measured(program, folder, beside(requests, waiting), requests + waiting, requests // 2)
+        seconds, *_ = measured(program, folder, beside(requests, waiting), requests + waiting, requests // 2)
         print(f"  while {waiting} others wait elsewhere: {seconds:.3f} s", flush=True)
 
 
-def show_workers(program, folder, name, lines, requests):
+def show_workers(program, folder, name, lines, requests, other):
     """Beside the replay on one thread. With workers a trace's clock and sessions go on beside each other, so how many are answered can differ from run to run."""
     trace, out = folder / "trace", folder / "out"
     write(folder, lines)
@@ -239,11 +257,11 @@ def show_workers(program, folder, name, lines, requests):
     print(f"workers: {name}, {requests} requests; on one thread {alone:.3f} s", flush=True)
     first = None
     for workers in (1, 2, 4):
-        seconds, _ = least([str(program), "replay", "--workers", str(workers)], trace, out)
+        seconds, _, rival = rivalled(["replay", "--workers", str(workers)], program, other, folder)
         replies, waiting, _ = told(out)
         first = first or seconds
         print(f"  {workers} workers: {seconds:.3f} s, {seconds / alone:.2f} times one thread, {first / seconds:.2f} times as fast as one worker;"
-              f" {replies} answered, {waiting} wait", flush=True)
+              f" {replies} answered, {waiting} wait{than(seconds, rival, other)}", flush=True)
 
 
 def stormed(program, requests, workers, folder):
@@ -262,15 +280,15 @@ def show_storms(program, folder, requests, other):
     for workers in (1, 2, 4):
         seconds = stormed(program, requests, workers, folder)
         first = first or seconds
-        than = "" if other is None else f", {seconds / stormed(other, requests, workers, folder):.2f} times as long as {other.name}"
-        print(f"  {workers} workers: {seconds:.3f} s, {first / seconds:.2f} times as fast as one worker{than}", flush=True)
+        rival = None if other is None else stormed(other, requests, workers, folder)
+        print(f"  {workers} workers: {seconds:.3f} s, {first / seconds:.2f} times as fast as one worker{than(seconds, rival, other)}", flush=True)
 
 
 def show_growth(program, folder, name, lines_of, produces_of, first):
     print(f"growth: {name}", flush=True)
     before = None
     for requests in (first, 2 * first, 4 * first):
-        seconds, memory, plain, _ = measured(program, folder, lines_of(requests), requests, produces_of(requests))
+        seconds, memory, plain, *_ = measured(program, folder, lines_of(requests), requests, produces_of(requests))
         grown = "" if before is None else f", {seconds / before:.2f} times the time for half as many"
         print(f"  {requests} requests: {seconds:.3f} s{grown}; {seconds / plain:.1f} times the yardstick;"
               f" peak memory {memory / 1e6:.1f} MB", flush=True)
@@ -284,7 +302,7 @@ def main():
     options.add_argument("--large", type=int, default=31, metavar="N", help="batches of 1,048,576 bytes, at most 31")
     options.add_argument("--lines", type=int, default=20, metavar="N", help="batches of 1,048,576 bytes in short lines")
     options.add_argument("--growth", type=int, default=10000, metavar="N", help="the requests of the first of three runs")
-    options.add_argument("--beside", type=pathlib.Path, metavar="PATH", help="another program with the command storm")
+    options.add_argument("--beside", type=pathlib.Path, metavar="PATH", help="another program with the commands replay and storm")
     chosen = options.parse_args()
     if not os.access(chosen.program, os.X_OK):
         print(f"{chosen.program} isn't there: `make build` makes it", file=sys.stderr)
@@ -299,11 +317,11 @@ def main():
                 ("requests that wait", storm(chosen.small), chosen.small, storm_produces(chosen.small)),
                 ("large batches", large(chosen.large), chosen.large, chosen.large),
             ]:
-                show(title, requests, *measured(chosen.program, folder, lines, requests, produces))
+                show(title, requests, chosen.beside, *measured(chosen.program, folder, lines, requests, produces, chosen.beside))
             show_beside(chosen.program, folder, chosen.small)
             show_lines(chosen.program, folder, chosen.lines)
-            show_workers(chosen.program, folder, "requests that wait", storm(chosen.small), chosen.small)
-            show_workers(chosen.program, folder, "64 sessions apart", apart(5 * chosen.small), 5 * chosen.small)
+            show_workers(chosen.program, folder, "requests that wait", storm(chosen.small), chosen.small, chosen.beside)
+            show_workers(chosen.program, folder, "64 sessions apart", apart(5 * chosen.small), 5 * chosen.small, chosen.beside)
             show_storms(chosen.program, folder, chosen.small, chosen.beside)
             show_growth(chosen.program, folder, "one partition", lambda requests: small(requests, 1), lambda requests: requests // 2,
                         chosen.growth)
