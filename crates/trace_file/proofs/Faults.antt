@@ -11,7 +11,7 @@ use Rattle.trace_file.specs.declared.line.LineKind.{LineKind}
 use Rattle.trace_file.specs.declared.line.LineKind.TheVariants as kinds
 use Rattle.trace_file.specs.declared.line.TheConstants.{LAST_MOMENT, LAST_SESSION, MOST_NUMBER}
 use Rattle.trace_file.specs.IsLine.{words_of, AreLeast, AreWordsOf, IsLine}
-use Rattle.trace_file.specs.LineFaults.{Part, Name, Number, Digits, form_of, topic_form, AreFilled, IsNumberFor, IsHexFor, IsRestFault, IsWordsFault, IsLineFault, MayStand, IsNewLine, IsPlaceFault, IsPieceFault}
+use Rattle.trace_file.specs.LineFaults.{Part, Number, Digits, form_of, topic_form, AreFilled, IsNumberFor, IsHexFor, IsRestFault, IsWordsFault, IsLineFault, MayStand, IsNewLine, IsPlaceFault, IsPieceFault}
 use Rattle.trace_file.proofs.Lines.{words_say}
 use Rattle.trace_file.proofs.FewBytes.{decoded_len}
 
