@@ -13,8 +13,9 @@ run:
 	@(cd crates/kafka_room && rt try -- replay $(if $(WORKERS),--workers $(WORKERS)) < $(abspath $(TRACE))) | \
 		python3 -B -m model.words.explain --printed - $(TRACE)
 
-# Serves TOPICS on PORT to Kafka clients, by a build that proves nothing, for a day at most. A topic is NAME PARTITIONS FOLLOWERS, and
-# commas stand between several. What the program writes is shown only once it has ended, so what it would say at its start is said here.
+# Serves TOPICS on PORT to Kafka clients, by a build that proves nothing, for a day at most. A topic is NAME PARTITIONS FOLLOWERS, or
+# NAME PARTITIONS FOLLOWERS MIN with the least number of its in-sync replicas, and commas stand between several. What the program writes
+# is shown only once it has ended, so what it would say at its start is said here.
 serve:
 	@if python3 -B -m clients.listens $(PORT); then echo "Another program listens on 127.0.0.1:$(PORT): name another PORT." >&2; exit 1; fi
 	@echo "Compiles for a minute or two, and then listens on 127.0.0.1:$(PORT), with $(LANES) lanes: so many connections are served at a time."

@@ -196,7 +196,7 @@ class Serving:
         begins = f"kafka_room: listening on {self.address}, {self.lanes} lanes, up to {self.connections} connections, topics "
         expect(errors.startswith(begins) and errors.find("\n") == len(errors) - 1,
                f"standard error should be a line that begins with {begins!r}, and is {errors!r}")
-        for name, partitions, _ in map(str.split, self.topics):
+        for name, partitions, *_ in map(str.split, self.topics):
             expect(f"{name} ({partitions})" in errors[len(begins):], f"{name} ({partitions}) should stand in {errors!r}")
 
 

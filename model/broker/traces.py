@@ -5,7 +5,8 @@ from dataclasses import dataclass
 MOST_BYTES = 67_108_864
 MOST_MOMENT = 10 ** 15
 MOST_COUNT = 4_294_967_295
-WORDS = {b"topic": 4, b"bytes": 3, b"close": 2, b"clock": 2, b"end": 1}
+# How many words a line of each kind has.
+WORDS = {b"topic": (4, 5), b"bytes": (3,), b"close": (2,), b"clock": (2,), b"end": (1,)}
 DIGITS = b"0123456789abcdefABCDEF"
 # What the program tells of each kind of bad line.
 SENTENCES = {
@@ -42,6 +43,14 @@ class Topic:
     name: bytes
     partitions: int
     followers: int
+    # the least number of replicas in sync, the leader counted
+    min_insync: int = 1
+
+    @property
+    def words(self):
+        """What stands behind `topic` where the line is printed."""
+        least = b" %d" % self.min_insync if self.min_insync > 1 else b""
+        return b"%s %d %d" % (self.name, self.partitions, self.followers) + least
 
 
 def _number(word, most):
@@ -61,10 +70,10 @@ def _line(piece):
     words = piece.split(b" ")
     if words[0] not in WORDS:
         raise _Kind("Word")
-    if len(words) != WORDS[words[0]] or b"" in words:
+    if len(words) not in WORDS[words[0]] or b"" in words:
         raise _Kind("Form")
     if words[0] == b"topic":
-        return "topic", Topic(words[1], _number(words[2], MOST_COUNT), _number(words[3], MOST_COUNT))
+        return "topic", Topic(words[1], *(_number(word, MOST_COUNT) for word in words[2:]))
     if words[0] == b"bytes":
         session = _number(words[1], 63)
         return "bytes", (session, _hex(words[2]))
@@ -87,6 +96,7 @@ def may_declare(topics, topic):
         and 1 <= topic.partitions
         and sum(other.partitions for other in topics) + topic.partitions <= 64
         and topic.followers <= 8
+        and 1 <= topic.min_insync <= topic.followers + 1
     )
 
 

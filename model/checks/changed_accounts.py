@@ -465,6 +465,7 @@ def configuration(account):
         yield "a topic of another name", "run", put(replace(topic, name=topic.name + b"x"))
         yield "a topic with a partition more", "lawful", put(replace(topic, partitions=topic.partitions + 1))
         yield "a topic with a follower more", "lawful", put(replace(topic, followers=topic.followers + 1))
+        yield "a topic with another least number in sync", "run", put(replace(topic, min_insync=topic.min_insync + 1))
 
 
 KINDS = [owners, entries_lost_or_doubled, entries_of_another_kind, entries_of_nobody, swapped, shared, in_another_history, looks_more, logs,

@@ -68,7 +68,7 @@ def check(case, told):
 
 
 def text_of(topics, streams):
-    lines = [b"topic %s %d %d" % topic for topic in topics] + [b"bytes 0 " + stream.hex().encode() for stream in streams]
+    lines = [b"topic " + topic.words for topic in topics] + [b"bytes 0 " + stream.hex().encode() for stream in streams]
     return b"\n".join([*lines, b"end", b""])
 
 
@@ -76,7 +76,7 @@ def hostile(random_):
     """Links that mostly bring something changed."""
     topics = random_.choice([talks.TOPICS, talks.WITH_FOLLOWERS])
     streams = [talks.stream(random_, topics) for _ in range(random_.randint(1, MOST_LINKS))]
-    return text_of([(topic.name, topic.partitions, topic.followers) for topic in topics], streams)
+    return text_of(topics, streams)
 
 
 def crowd(random_):

@@ -176,7 +176,7 @@ def on_one_lane(program, random_, count):
 
 
 def declared(topics):
-    return [f"{topic.name.decode()} {topic.partitions} {topic.followers}" for topic in topics]
+    return [topic.words.decode() for topic in topics]
 
 
 # ---- lanes beside each other

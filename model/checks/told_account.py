@@ -60,7 +60,7 @@ class Lines:
 
     def config(self):
         _, port = self.take(b"port")
-        topics = [Topic(bytes_of(name), int(partitions), int(followers)) for _, name, partitions, followers in self.all_of(b"topic")]
+        topics = [Topic(bytes_of(name), *map(int, counts)) for _, name, *counts in self.all_of(b"topic")]
         return Configuration(int(port), tuple(topics))
 
     def parts(self):

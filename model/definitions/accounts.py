@@ -569,7 +569,8 @@ MOST_SESSIONS = 64
 
 
 def configuration_of(port, lines):
-    return Configuration(port, tuple(Topic(what.name, what.partitions, what.followers) for kind, what in lines if kind == "topic"))
+    topics = (what for kind, what in lines if kind == "topic")
+    return Configuration(port, tuple(Topic(topic.name, topic.partitions, topic.followers, topic.min_insync) for topic in topics))
 
 
 def input_of(session, lines):

@@ -48,6 +48,7 @@ class Topic:
     name: bytes
     partitions: int
     followers: int
+    min_insync: int
 
 
 @record

@@ -9,7 +9,7 @@ WAITS = [0, 5, 20, 60, 1000]
 class Crowd:
     def __init__(self, random_):
         self.random = random_
-        self.declared = [(name, random_.choice([1, 1, 2]), random_.choice([0, 1, 1, 2]))
+        self.declared = [requests.topic(random_, name, random_.choice([1, 1, 2]), random_.choice([0, 1, 1, 2]))
                          for name in random_.sample(requests.NAMES, random_.choice([1, 1, 2]))]
         self.sessions = random_.choice([3, 8, 16, 32, 64])
         self.closed, self.moment, self.correlation = set(), 0, 0
@@ -30,11 +30,11 @@ class Crowd:
     def request(self):
         random_ = self.random
         self.correlation += 1
-        name, partitions, followers = random_.choice(self.declared)
-        indices, kind = random_.sample(range(partitions), random_.randint(1, partitions)), random_.random()
+        topic = random_.choice(self.declared)
+        indices, kind = random_.sample(range(topic.partitions), random_.randint(1, topic.partitions)), random_.random()
         if kind < 0.4:
-            return self.produce(name, indices)
-        return self.fetch(name, indices, random_.randint(1, followers) if kind < 0.7 and followers else -1)
+            return self.produce(topic.name, indices)
+        return self.fetch(topic.name, indices, random_.randint(1, topic.followers) if kind < 0.7 and topic.followers else -1)
 
     def lines(self):
         """Lines of clocks, closes and bytes, mostly of bytes."""
@@ -53,5 +53,5 @@ class Crowd:
                     yield b"bytes %d %s" % (session, piece.hex().encode())
 
     def made(self):
-        topics = [b"topic %s %d %d" % topic for topic in self.declared]
+        topics = [requests.topic_line(self.random, topic) for topic in self.declared]
         return b"\n".join([*topics, *self.lines(), b"end"]) + b"\n"

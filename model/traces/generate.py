@@ -6,6 +6,11 @@ from model.broker import traces
 from model.traces import crowded, mutated, requests, waiting
 
 KINDS = ["plain", "mixed", "waiting", "crowded", "changed", "spoiled"]
+BAD_TOPICS = [
+    b"topic . 1 0", b"topic t 0 0", b"topic t 65 0", b"topic t 1 9", b"topic t 01 0", b"topic %s 1 0" % (b"n" * 250), b"topic t 1 1 0",
+    b"topic t 1 1 3", b"topic t 1 8 10", b"topic t 1 9 1", b"topic t 1 1 01", b"topic t 1 1 4294967295", b"topic t 1 1 4294967296",
+    b"topic t 1 4294967295 4294967295", b"topic t 1 1 1 1",
+]
 
 
 def events(random_, declared, waits):
@@ -39,7 +44,7 @@ def events(random_, declared, waits):
 def text(random_, waits):
     """A trace."""
     declared = requests.topics(random_, with_followers=waits)
-    lines = [b"topic %s %d %d" % topic for topic in declared]
+    lines = [requests.topic_line(random_, topic) for topic in declared]
     lines += events(random_, declared, waits)
     return b"\n".join(lines + [b"end"]) + (b"" if random_.random() < 0.1 else b"\n")
 
@@ -58,7 +63,8 @@ def spoiled(random_, whole):
         elif kind == 2:
             lines[place] = random_.choice([b"", b" " + line, line + b" ", line + b"\r", line.replace(b" ", b"  ", 1), b"stop"])
         elif kind == 3:
-            lines[place] = random_.choice([b"topic . 1 0", b"topic t 0 0", b"topic t 65 0", b"topic t 1 9", b"topic t 01 0", b"topic %s 1 0" % (b"n" * 250)])
+            # Mostly first, as behind lines of another kind any topic comes too late.
+            lines[random_.choice([0, 0, place])] = random_.choice(BAD_TOPICS)
         elif kind == 4:
             lines[place] = random_.choice([b"bytes 64 00", b"bytes 0 0", b"bytes 0 0g", b"bytes 0", b"bytes x 00", b"bytes 0 00 00"])
         elif kind == 5:

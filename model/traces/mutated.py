@@ -237,7 +237,7 @@ def with_words(random_, lines, place):
     words = lines[place].split(b" ")
     at, kind = random_.randrange(len(words)), random_.randrange(5)
     if kind < 2:
-        number = random_.choice([0, 1, 63, 64, 65, traces.MOST_MOMENT, traces.MOST_MOMENT + 1, traces.MOST_COUNT, 2**31 - 1, 2**64, 8, 9])
+        number = random_.choice([0, 1, 2, 3, 63, 64, 65, traces.MOST_MOMENT, traces.MOST_MOMENT + 1, traces.MOST_COUNT, 2**31 - 1, 2**64, 8, 9])
         words[at] = b"%d" % number
     elif kind == 2:
         del words[at]

@@ -2,7 +2,7 @@
 
 import struct
 
-from model.broker import batches, wire
+from model.broker import batches, traces, wire
 
 NAMES = [b"t", b"u", b"orders", b"a.b_c-9"]
 UNKNOWN = b"nowhere"
@@ -10,11 +10,22 @@ UNKNOWN = b"nowhere"
 STARTS = [-1, -1, 0, 3, -2, 2**63 - 1, -2**63]
 
 
+def topic(random_, name, partitions, followers):
+    """Mostly with the least number in sync that goes without saying."""
+    return traces.Topic(name, partitions, followers, random_.randint(1, followers + 1) if random_.random() < 0.3 else 1)
+
+
 def topics(random_, with_followers):
     return [
-        (name, random_.randint(1, 3), random_.randint(0, 2) if with_followers else 0)
+        topic(random_, name, random_.randint(1, 3), random_.randint(0, 2) if with_followers else 0)
         for name in random_.sample(NAMES, random_.randint(1, 3))
     ]
+
+
+def topic_line(random_, declared):
+    """As it is printed, or with a least number of 1, which need not be said."""
+    is_said = declared.min_insync == 1 and random_.random() < 0.2
+    return b"topic " + declared.words + (b" 1" if is_said else b"")
 
 
 def some_batch(random_):
@@ -49,10 +60,10 @@ def some_batch(random_):
 def named(random_, declared, part):
     """One or more topics with partitions, mostly known ones, and no partition twice."""
     told = []
-    for name, partitions, _ in random_.sample(declared, random_.randint(1, len(declared))):
-        indices = random_.sample(range(-1, partitions + 1), random_.randint(0, min(3, partitions + 2)))
-        indices = [index for index in indices if 0 <= index < partitions or random_.random() < 0.2]
-        told.append((name, [(index, *part()) for index in indices]))
+    for known in random_.sample(declared, random_.randint(1, len(declared))):
+        indices = random_.sample(range(-1, known.partitions + 1), random_.randint(0, min(3, known.partitions + 2)))
+        indices = [index for index in indices if 0 <= index < known.partitions or random_.random() < 0.2]
+        told.append((known.name, [(index, *part()) for index in indices]))
     if random_.random() < 0.15:
         told.append((UNKNOWN, [(0, *part())]))
     return told
@@ -95,7 +106,7 @@ def fetch(random_, declared, waits):
 
 def other(random_, declared):
     """A request of another api, or a body that is none."""
-    names = random_.choice([None, [], [declared[0][0]], [UNKNOWN, declared[-1][0], declared[-1][0]]])
+    names = random_.choice([None, [], [declared[0].name], [UNKNOWN, declared[-1].name, declared[-1].name]])
     index = random_.choice([0, 1])
     return random_.choice([
         wire.metadata_request(3, names),

@@ -11,7 +11,7 @@ MOST_WAIT = 12
 MOST_REQUESTS = 5
 TOPICS = [traces.Topic(b"t", 2, 0), traces.Topic(b"orders", 1, 0)]
 # With followers, whose produces for all replicas wait.
-WITH_FOLLOWERS = [traces.Topic(b"t", 2, 1), traces.Topic(b"u", 1, 0), traces.Topic(b"orders", 1, 2)]
+WITH_FOLLOWERS = [traces.Topic(b"t", 2, 1), traces.Topic(b"u", 1, 0), traces.Topic(b"orders", 1, 2, min_insync=2)]
 
 
 @dataclass
@@ -77,9 +77,8 @@ def is_short(data, most=MOST_WAIT):
 
 def stream(random_, topics):
     """Requests, mostly with a change, none of which waits for long."""
-    declared = [(topic.name, topic.partitions, topic.followers) for topic in topics]
     while True:
-        data = b"".join(request(random_, declared) for _ in range(random_.randint(1, MOST_REQUESTS)))
+        data = b"".join(request(random_, topics) for _ in range(random_.randint(1, MOST_REQUESTS)))
         if random_.random() < 0.6:
             data = mutated.stream(random_, data)
         if data and is_short(data):

@@ -18,10 +18,10 @@ def small_batch(random_):
 class Maker:
     def __init__(self, random_):
         self.random = random_
-        self.declared = [(name, random_.choice([1, 1, 2, 3]), random_.choice([0, 1, 1, 2, 3]))
+        self.declared = [requests.topic(random_, name, random_.choice([1, 1, 2, 3]), random_.choice([0, 1, 1, 2, 3]))
                          for name in random_.sample(requests.NAMES, random_.choice([1, 1, 2, 3]))]
-        self.broker = broker.Broker([traces.Topic(*topic) for topic in self.declared])
-        self.lines = [b"topic %s %d %d" % topic for topic in self.declared]
+        self.broker = broker.Broker(self.declared)
+        self.lines = [requests.topic_line(random_, topic) for topic in self.declared]
         self.closed = set()
         self.correlation = 0
         # pieces of frames that are still to come, by session
@@ -56,9 +56,9 @@ class Maker:
 
     def part(self):
         """A known partition: its topic, its number there and the broker's own state of it."""
-        name, partitions, _ = self.random.choice(self.declared)
-        index = self.random.randrange(partitions)
-        return name, index, self.broker.partitions[self.broker.number_of(name, index)]
+        topic = self.random.choice(self.declared)
+        index = self.random.randrange(topic.partitions)
+        return topic.name, index, self.broker.partitions[self.broker.number_of(topic.name, index)]
 
     def parts(self):
         """One to four different ones, most often one."""

@@ -216,6 +216,8 @@ class Teller:
         if kind == "topic":
             followers = words.counted(what.followers, "follower") if what.followers else "no followers"
             told = f"topic {what.name.decode()} with {words.counted(what.partitions, 'partition')} and {followers}"
+            if what.min_insync > 1:
+                told += f", at least {words.counted(what.min_insync, 'replica')} in sync"
         elif kind == "bytes":
             return self.bytes_words(*what)
         elif kind == "close":

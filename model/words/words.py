@@ -8,7 +8,8 @@
     the clock shows 500 ms
     end
 
-Lines that are blank, begin with a space or begin with # are for the reader alone. A request is one of
+Lines that are blank, begin with a space or begin with # are for the reader alone. A topic is said with the least number of its replicas
+in sync where that is above 1: `topic t with 1 partition and 2 followers, at least 2 replicas in sync`. A request is one of
 
     produces BATCH to TOPIC/INDEX and BATCH to TOPIC/INDEX ..
     fetches TOPIC/INDEX from offset N and TOPIC/INDEX from offset N with log start N up to N bytes ..
@@ -317,7 +318,16 @@ class Builder:
         words.need("partition|partitions", "and")
         followers = 0 if words.has("no") else words.number()
         words.need("follower|followers")
-        return f"topic {name} {partitions} {followers}"
+        return f"topic {name} {partitions} {followers}{self.least_in_sync(words)}"
+
+    @staticmethod
+    def least_in_sync(words):
+        if not words.has(","):
+            return ""
+        words.need("at", "least")
+        least = words.number()
+        words.need("replica|replicas", "in", "sync")
+        return f" {least}"
 
 
 def built(text):

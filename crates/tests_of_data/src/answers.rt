@@ -190,7 +190,7 @@ const APPENDED: Accepted = Accepted::Appended {
 #[test]
 fn a_full_partition_is_refused_and_another_takes_its_batch(rt: HostRuntime) {
     let mut config = Config::new(rt.alloc(), 9092);
-    assert!(rt; config.add(b"t", 2, 1).is_ok());
+    assert!(rt; config.add(b"t", 2, 1, 1).is_ok());
     let bytes = long_batch(rt.alloc()).expect(&rt, "memory");
     let mut full = PartLog::new(rt.alloc(), 1).expect(&rt, "memory");
     let mut empty = PartLog::new(rt.alloc(), 1).expect(&rt, "memory");

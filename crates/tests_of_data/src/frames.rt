@@ -3,8 +3,8 @@ ghost use Rattle.std.specs.Prelude.{◌≡◌, ◌∷◌, [], pos, IfOk};
 
 use kbytes::{Bytes, List, NoMemory, copied};
 use kwire::{
-    Ask, Config, Frame, Inbox, Reply, Told, TopicInfo, WireFault, next_frame, read_request,
-    reply_bytes, request_bytes, view_request,
+    Ask, Config, ConfigFault, Frame, Inbox, Reply, Told, TopicInfo, WireFault, next_frame,
+    read_request, reply_bytes, request_bytes, view_request,
 };
 use std::alloc::Global;
 use std::test::*;
@@ -212,10 +212,38 @@ fn a_reply_of_metadata(rt: HostRuntime) {
 #[test]
 fn declared_topics(rt: HostRuntime) {
     let mut config = Config::new(rt.alloc(), 9092);
-    assert!(rt; config.add(b"t", 2, 1).is_ok() && config.add(b"v", 1, 0).is_ok());
-    assert!(rt; config.port() == 9092 && config.topics().len() == 2);
+    assert!(rt; config.add(b"t", 2, 1, 2).is_ok() && config.add(b"v", 1, 0, 1).is_ok());
+    assert!(rt; config.port() == 9092);
+    assert!(rt; matches!(config.topics(), [t, v] if t.min_insync == 2 && v.min_insync == 1));
     assert!(rt; config.part_of(b"v", 0) == Some(2) && config.part_of(b"t", 2).is_none());
     assert!(rt; config.parts() == 3 && config.followers_of(1) == 1);
+}
+
+// Behind a topic `t` with one partition.
+const UNDECLARED: &[(&[u8], u32, u32, u32, ConfigFault)] = &[
+    (b"", 1, 1, 1, ConfigFault::BadName),
+    (b"..", 0, 9, 0, ConfigFault::BadName),
+    (b"t", 0, 9, 0, ConfigFault::TopicTwice),
+    (b"u", 0, 1, 1, ConfigFault::BadCount),
+    (b"u", 64, 1, 1, ConfigFault::BadCount),
+    (b"u", 1, 9, 1, ConfigFault::BadCount),
+    (b"u", 1, 4_294_967_295, 4_294_967_295, ConfigFault::BadCount),
+    (b"u", 1, 1, 0, ConfigFault::BadCount),
+    (b"u", 1, 0, 2, ConfigFault::BadCount),
+    (b"u", 1, 1, 3, ConfigFault::BadCount),
+    (b"u", 1, 8, 10, ConfigFault::BadCount),
+    (b"u", 1, 1, 4_294_967_295, ConfigFault::BadCount),
+];
+
+#[test]
+fn topics_that_cannot_be_declared(rt: HostRuntime) {
+    let mut config = Config::new(rt.alloc(), 9092);
+    assert!(rt; config.add(b"t", 1, 1, 1).is_ok());
+    for (name, partitions, followers, min_insync, fault) in UNDECLARED {
+        let added = config.add(name, *partitions, *followers, *min_insync);
+        assert!(rt; matches!(added, Err(why) if why == *fault));
+    }
+    assert!(rt; config.topics().len() == 1 && config.add(b"u", 63, 8, 9).is_ok());
 }
 
 #[test]

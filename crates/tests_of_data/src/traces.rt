@@ -20,6 +20,7 @@ fn is_whole(lines: &[Line]) -> bool {
             Line::Topic {
                 partitions: 1,
                 followers: 1,
+                min_insync: 1,
                 ..
             },
             Line::Feed { session: 63, .. },
@@ -53,6 +54,27 @@ fn lines_are_written_as_they_were_read(rt: HostRuntime) {
     assert!(rt; put_lines(&mut out, lines.as_slice()).is_ok() && out.as_slice() == WHOLE);
 }
 
+// The least number of in-sync replicas stands where it is above 1. It may be left out or given where it is 1.
+const IN_SYNC: &[u8] = b"topic t 1 1\ntopic u 1 1 2\ntopic v 1 8 9\nend\n";
+
+const IN_SYNC_GIVEN: &[u8] = b"topic t 1 1 1\ntopic u 1 1 2\ntopic v 1 8 9\nend\n";
+
+#[test]
+fn the_least_number_in_sync_is_read_and_written(rt: HostRuntime) {
+    for text in [IN_SYNC, IN_SYNC_GIVEN] {
+        let lines = read_trace(rt.alloc(), text, true).expect(&rt, "a trace");
+        let config = config_of(rt.alloc(), lines.as_slice(), 9093).expect(&rt, "memory");
+        assert!(rt;
+            matches!(
+                config.topics(),
+                [t, u, v] if t.min_insync == 1 && u.min_insync == 2 && v.min_insync == 9
+            )
+        );
+        let mut out = Bytes::new(rt.alloc());
+        assert!(rt; put_lines(&mut out, lines.as_slice()).is_ok() && out.as_slice() == IN_SYNC);
+    }
+}
+
 #[test]
 fn a_servers_topics_make_its_configuration(rt: HostRuntime) {
     let text = b"topic a 63 8\ntopic b 1 0\nend\n";
@@ -76,15 +98,23 @@ const BAD: &[(&[u8], u32, LineKind)] = &[
     (b"close\nend\n", 1, LineKind::Form),
     (b"end \n", 1, LineKind::Form),
     (b"bytes 64  0g\nend\n", 1, LineKind::Form),
-    (b"topic t 1 0 0\nend\n", 1, LineKind::Form),
+    (b"topic t 1\nend\n", 1, LineKind::Form),
+    (b"topic t 1 0 1 01\nend\n", 1, LineKind::Form),
+    (b"topic t 1 0 \nend\n", 1, LineKind::Form),
     (b"clock 01\nend\n", 1, LineKind::Number),
     (b"clock 1000000000000001\nend\n", 1, LineKind::Number),
     (b"topic t 4294967296 0\nend\n", 1, LineKind::Number),
+    (b"topic t 1 1 4294967296\nend\n", 1, LineKind::Number),
+    (b"topic t 1 9 01\nend\n", 1, LineKind::Number),
+    (b"topic t 1 1 +1\nend\n", 1, LineKind::Number),
     (b"bytes 64 0g\nend\n", 1, LineKind::Number),
     (b"bytes 0 0g\nend\n", 1, LineKind::Hex),
     (b"close 0\nbytes 0 abc\nend\n", 2, LineKind::Hex),
     (b"topic u 64 0\ntopic v 1 0\nend\n", 2, LineKind::BadTopic),
     (b"topic t 1 0\ntopic t 1 0\nend\n", 2, LineKind::BadTopic),
+    (b"topic t 1 1 0\nend\n", 1, LineKind::BadTopic),
+    (b"topic t 1 1 2\ntopic u 1 1 3\nend\n", 2, LineKind::BadTopic),
+    (b"topic t 1 4294967295 4294967295\nend\n", 1, LineKind::BadTopic),
     (
         b"topic t 1 0\nclock 0\ntopic t 1 0\nend\n",
         3,
