@@ -12,11 +12,12 @@ DIGITS = b"0123456789abcdefABCDEF"
 SENTENCES = {
     "Word": "a line begins with topic, bytes, close, clock or end",
     "Form": "a line has as many words as its kind, and one space between two words",
-    "Number": "a session is a number from 0 to 63, a moment from 0 to 10^15, partitions and followers from 0 to 4294967295, "
-              "with no leading zeros",
+    "Number": "a session is a number from 0 to 63, a moment from 0 to 10^15, partitions, followers and in-sync replicas from 0 to "
+              "4294967295, with no leading zeros",
     "Hex": "bytes are written as pairs of hex digits",
     "BadTopic": "a topic has a new name of at most 249 letters, digits, dots, underscores and hyphens, at least 1 partition, "
-                "at most 64 with those of other topics, and at most 8 followers",
+                "at most 64 with those of other topics, at most 8 followers, and a least number of in-sync replicas from 1 to one more "
+                "than its followers",
     "Order": "topics stand first and end last, the clock never goes back, and nothing more comes for a session that is closed",
     "NoEnd": "the line end is missing",
     "TooLong": "a trace has at most 67108864 bytes",

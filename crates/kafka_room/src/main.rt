@@ -51,6 +51,8 @@ A trace has topics first and its end last, one space between two words, and
 numbers without sign or leading zeros. It has at most 67108864 bytes.
   topic NAME N F  a topic with N partitions, at most 64 with all others, and F
                   followers, 0 to 8. NAME is new: 1 to 249 of A-Z a-z 0-9 . _ -
+                  One word more is the least number of its in-sync replicas,
+                  the leader counted, 1 to F + 1. Without it that is 1
   bytes S HEX     session S, 0 to 63, receives bytes, as pairs of hex digits
   close S         the input of session S ended: no more lines name it
   clock T         the moment is T ms, 0 to 10^15. It never goes back

@@ -58,13 +58,14 @@ pub enum LineKind {
     Word,
     #[error("a line has as many words as its kind, and one space between two words")]
     Form,
-    #[error("a session is a number from 0 to 63, a moment from 0 to 10^15, partitions and followers from 0 to 4294967295, with no \
-         leading zeros")]
+    #[error("a session is a number from 0 to 63, a moment from 0 to 10^15, partitions, followers and in-sync replicas from 0 to \
+         4294967295, with no leading zeros")]
     Number,
     #[error("bytes are written as pairs of hex digits")]
     Hex,
     #[error("a topic has a new name of at most 249 letters, digits, dots, underscores and hyphens, at least 1 partition, at most 64 \
-         with those of other topics, and at most 8 followers")]
+         with those of other topics, at most 8 followers, and a least number of in-sync replicas from 1 to one more than its \
+         followers")]
     BadTopic,
     #[error("topics stand first and end last, the clock never goes back, and nothing more comes for a session that is closed")]
     Order,
