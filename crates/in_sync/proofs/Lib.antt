@@ -4,3 +4,5 @@ pub mod Growing
 pub mod Kept
 -- the first of the followers that lags
 pub mod Late
+-- who is in sync, and the high watermark, as a history grows
+pub mod History

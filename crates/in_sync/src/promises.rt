@@ -1,11 +1,12 @@
 //! Laws of a partition's replicas, over every history. They do nothing.
-ghost use Rattle.std.specs.Prelude.{◌≡◌, ℕ, ◌+◌, ◌≤◌, List, [], ◌∷◌, ◌++◌, min, fold, IsTrue, IsFalse};
+ghost use Rattle.std.specs.Prelude.{◌≡◌, ℕ, ◌+◌, ◌≤◌, List, [], ◌∷◌, ◌++◌, length, min, fold, IsTrue, IsFalse};
 ghost use Rattle.in_sync.specs.ReplicaEvent.{ReplicaEvent, Fetched, Left};
 ghost use Rattle.in_sync.specs.LogEnd.{log_end_of};
 ghost use Rattle.in_sync.specs.Position.{position_of, positions_of};
 ghost use Rattle.in_sync.specs.InSync.{in_sync_of, high_watermark_of, count_of};
 ghost use Rattle.in_sync.specs.Lagging.{Lags};
 ghost use Rattle.in_sync.specs.NobodyLeft.{NobodyLeft};
+ghost use Rattle.in_sync.specs.Standings.{Standings, StandsFor};
 ghost use Rattle.in_sync.specs.Worked.{one_record, taken_out, without_it, still_out, back_in, third_record};
 
 /// Law: while a history only grows, the high watermark doesn't fall, whoever leaves the in-sync set or comes back. It is
@@ -38,6 +39,16 @@ pub fn in_sync_again()
     ensures from_log_end { (followers : ℕ) (events : List ReplicaEvent) (replica offset t : ℕ)
         → log_end_of events ≤ offset
         → IsTrue (in_sync_of followers (events ++ Fetched replica offset t ∷ []) replica) }
+{}
+
+/// Law: what is kept for a history has a standing for each follower, and the log end and the high watermark of the history.
+pub fn standings_say()
+    ensures followers { (standings : Standings) (followers : ℕ) (events : List ReplicaEvent)
+        → StandsFor standings followers events → length standings.followers ≡ followers }
+    ensures log_end { (standings : Standings) (followers : ℕ) (events : List ReplicaEvent)
+        → StandsFor standings followers events → standings.log_end ≡ log_end_of events }
+    ensures high_watermark { (standings : Standings) (followers : ℕ) (events : List ReplicaEvent)
+        → StandsFor standings followers events → standings.high_watermark ≡ high_watermark_of followers events }
 {}
 
 /// Law: of a worked history with one follower. A record is appended that it doesn't fetch. It lags after 30,000 milliseconds
