@@ -1,5 +1,5 @@
 -- The standing of a replica as its history grows by one entry.
-use Rattle.std.proofs.Common.{◌≡◌, ℕ, ◌+◌, ◌==◌, Bool, true, false, cond, nat_le, Option, Some, None, List, [], ◌∷◌, ◌++◌, reverse, max, fold, arith, refl, ap, sym, ◌∙◌, append-nil}
+use Rattle.std.proofs.Common.{◌≡◌, ℕ, ◌+◌, ◌==◌, Bool, true, false, cond, nat_le, Option, Some, None, List, [], ◌∷◌, ◌++◌, reverse, max, fold, arith, refl, ap, ◌∙◌, append-nil}
 use Rattle.std.specs.Option.{option_to_list}
 use Rattle.std.specs.List.{cons_option, filter_map}
 use Rattle.std.proofs.lemmas.List.{reverse-append, reverse-reverse}
@@ -8,8 +8,8 @@ use Rattle.std.proofs.lemmas.List.Sums.{fold_push, sum_by-append}
 use Rattle.in_sync.specs.declared.standing.Standing.{Standing}
 use Rattle.in_sync.specs.ReplicaEvent.{ReplicaEvent, Appended, Fetched, Left}
 use Rattle.in_sync.specs.LogEnd.{log_end_of, added_by}
-use Rattle.in_sync.specs.Position.{offset_by, position_of}
-use Rattle.in_sync.specs.InSync.{in_sync_after, in_sync_of, least_among, high_watermark_of}
+use Rattle.in_sync.specs.Position.{offset_by}
+use Rattle.in_sync.specs.InSync.{in_sync_after, least_among, high_watermark_of}
 use Rattle.in_sync.specs.CaughtUp.{Fetch, last_fetch_after, moments_after, reached, reached_by_last}
 use Rattle.in_sync.specs.Standings.{standing_of, fetched_at, fetched_end}
 use Rattle.in_sync.specs.Steps.{after_fetch}
@@ -58,7 +58,10 @@ module _ (followers : ℕ) (events : List ReplicaEvent) (replica : ℕ) where
   out = record was { in_sync = false }
 
   left_or_not : (b : Bool) → ◌≡◌ {A = Standing} (record {
-    position = was.position; caught_up = was.caught_up; fetched_at = was.fetched_at; fetched_end = was.fetched_end;
+    position = was.position;
+    caught_up = was.caught_up;
+    fetched_at = was.fetched_at;
+    fetched_end = was.fetched_end;
     in_sync = cond b false was.in_sync;
   }) (cond b out was)
   left_or_not true = refl

@@ -1,5 +1,5 @@
 -- The first of the followers that lags.
-use Rattle.std.proofs.Common.{◌≡◌, ◌≢◌, ℕ, zero, suc, ◌+◌, ◌<◌, ◌≤◌, Bool, true, false, cond, nat_lt, nat_le, ◌&&◌, List, [], ◌∷◌, map, Option, Some, None, IfSome, IsNone, ◌↔◌, arith, refl, ap, sym, subst, ◌∙◌, inl, inr}
+use Rattle.std.proofs.Common.{◌≡◌, ℕ, zero, suc, ◌+◌, ◌<◌, ◌≤◌, Bool, true, false, cond, nat_lt, nat_le, ◌&&◌, List, map, Option, Some, None, IfSome, IsNone, ◌↔◌, arith, refl, ap, sym, ◌∙◌, inl, inr}
 use Rattle.std.specs.List.{range_with_len}
 use Rattle.std.proofs.lemmas.Bool.{leb-true, leb-false, le-leb, false≢true}
 use Rattle.std.proofs.lemmas.Bool.Decides.{eqb_tells}

@@ -10,7 +10,8 @@ use Rattle.in_sync.specs.Position.{position_of}
 abbrev pub least_among : (ℕ → Bool) → ℕ → List ReplicaEvent → ℕ
 least_among test followers events = fold min (log_end_of events) (map (position_of events) (filter test (range_with_len 1 followers)))
 
--- whether a replica is in sync after these entries, the newest of which is the first
+-- whether a replica is in sync after these entries, the newest of which is the first; what a fetch is compared with is the high
+-- watermark before it
 abbrev pub in_sync_after : ℕ → List ReplicaEvent → ℕ → Bool
 in_sync_after followers [] replica = true
 in_sync_after followers (Appended count ∷ earlier) replica = in_sync_after followers earlier replica

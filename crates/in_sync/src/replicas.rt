@@ -52,10 +52,7 @@ fn count_in_sync(followers: &[Standing]) -> usize
     ensures count { result ≡ length (filter (λ (s : Standing). s.in_sync) followers.now) }
     ensures bound { result ≤ length followers.now }
 {
-    followers
-        .iter()
-        .filter(|follower| follower.in_sync)
-        .count()
+    followers.iter().filter(|standing| standing.in_sync).count()
 }
 
 /// The first of the followers that lags at this moment, numbered from 1.
@@ -146,7 +143,7 @@ impl InSync {
     pub fn lagging(&self, t: u64) -> Option<u32>
         ensures found { (followers : ℕ) (events : List ReplicaEvent) → StandsFor self.now followers events
             → IfSome result (λ replica. Lags followers events t replica
-                × ((other : ℕ) → Lags followers events t other → replica ≤ other)) }
+            × ((other : ℕ) → Lags followers events t other → replica ≤ other)) }
         ensures none { (followers : ℕ) (events : List ReplicaEvent) → StandsFor self.now followers events
             → (IsNone result ↔ ((replica : ℕ) → Lags followers events t replica → ⊥)) }
     {

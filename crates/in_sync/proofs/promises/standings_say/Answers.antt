@@ -1,5 +1,3 @@
-use Rattle.std.proofs.Common.{ap}
-use Rattle.in_sync.specs.Standings.{Standings}
 use Rattle.in_sync.proofs.Kept.{kept-length}
 use Rattle.in_sync.proofs.promises.standings_say.Goals as goal
 

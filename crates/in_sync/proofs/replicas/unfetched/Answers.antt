@@ -1,4 +1,4 @@
-use Rattle.std.proofs.Common.{◌≡◌, ℕ, ◌+◌, [], ◌∷◌, ◌++◌, arith, ◌∙◌, ap, sym}
+use Rattle.std.proofs.Common.{◌+◌, [], ◌∷◌, ◌++◌, arith, ◌∙◌, ap, sym}
 use Rattle.std.proofs.lemmas.List.FromFn.{map-range_with_len_more}
 use Rattle.in_sync.specs.declared.standing.Standing.{Standing}
 use Rattle.in_sync.specs.Standings.{standing_of, standings_of}

@@ -1,4 +1,4 @@
-use Rattle.std.proofs.Common.{arith, ap, ◌+◌, ◌∙◌}
+use Rattle.std.proofs.Common.{ap, ◌+◌, ◌∙◌}
 use Rattle.in_sync.specs.Steps.{least_of}
 use Rattle.in_sync.proofs.Kept.{kept-appended}
 use Rattle.in_sync.proofs.replicas.InSync.append.Goals as goal

@@ -1,4 +1,4 @@
-use Rattle.std.proofs.Common.{arith, ap, ◌+◌, ◌∙◌, length, filter, List}
+use Rattle.std.proofs.Common.{ap, ◌+◌, ◌∙◌, length, filter, List}
 use Rattle.in_sync.specs.declared.standing.Standing.{Standing}
 use Rattle.in_sync.proofs.Kept.{kept-count}
 use Rattle.in_sync.proofs.replicas.InSync.count.Goals as goal

@@ -1,4 +1,4 @@
-use Rattle.std.proofs.Common.{◌≡◌, ℕ, List, ap, sym, subst, ◌∙◌, Option}
+use Rattle.std.proofs.Common.{ap, sym, subst, ◌∙◌}
 use Rattle.in_sync.specs.Steps.{first_late}
 use Rattle.in_sync.proofs.Kept.{kept-late}
 use Rattle.in_sync.proofs.Late.{IsLeast, IsNobody, lagging-found, lagging-none}

@@ -15,8 +15,8 @@ pub returns : goal.returns
 returns c =
     let there : c.in-Some.at < length c.self.inside.followers.items = omega (arith, c.in-Some.ensures.follower.1, ap length c.as_slice.ensures.value) in
     record {
-  stands = λ followers events stands.
-      kept-left followers events c.self.inside.log_end c.self.inside.high_watermark c.self.inside.followers.items (c.self.view_is ∙ stands)
-      c.in-Some.at c.args.replica c.in-Some.ensures.follower.0 there c.index_mut.result.now (record c.index_mut.result.now { in_sync = false }) c.index_mut.ensures.value c.args.t c.least_of-self-inside.result refl
-      (c.least_of-self-inside.ensures ∙ ap (least_of c.self.inside.log_end) c.as_slice-2.ensures.value);
-}
+      stands = λ followers events stands.
+          kept-left followers events c.self.inside.log_end c.self.inside.high_watermark c.self.inside.followers.items (c.self.view_is ∙ stands)
+          c.in-Some.at c.args.replica c.in-Some.ensures.follower.0 there c.index_mut.result.now (record c.index_mut.result.now { in_sync = false }) c.index_mut.ensures.value c.args.t c.least_of-self-inside.result refl
+          (c.least_of-self-inside.ensures ∙ ap (least_of c.self.inside.log_end) c.as_slice-2.ensures.value);
+    }

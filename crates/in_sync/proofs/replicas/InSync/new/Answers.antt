@@ -1,4 +1,4 @@
-use Rattle.std.proofs.Common.{◌≡◌, arith, ap, ◌∙◌, length, []}
+use Rattle.std.proofs.Common.{arith, ap, ◌∙◌, length, []}
 use Rattle.std.proofs.lemmas.List.FromFn.{length-map-range_with_len}
 use Rattle.in_sync.specs.Standings.{standing_of}
 use Rattle.in_sync.proofs.Kept.{fresh}
