@@ -13,6 +13,8 @@ mod frames;
 #[cfg(test)]
 mod logs;
 #[cfg(test)]
+mod replicas;
+#[cfg(test)]
 mod samples;
 #[cfg(test)]
 mod streams;

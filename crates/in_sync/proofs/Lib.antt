@@ -1,0 +1,8 @@
+-- the standing of a replica as its history grows by one entry
+pub mod Growing
+-- what is kept of all followers, as their history grows by one entry
+pub mod Kept
+-- the first of the followers that lags
+pub mod Late
+-- who is in sync, and the high watermark, as a history grows
+pub mod History
