@@ -27,7 +27,7 @@ at part place = record { part = part; place = place }
 
 -- one topic with two partitions, and no followers
 abbrev pub two_parts : Configuration
-two_parts = record { port = 9092; topics = record { name = codes "t"; partitions = 2; followers = 0 } ∷ [] }
+two_parts = record { port = 9092; topics = record { name = codes "t"; partitions = 2; followers = 0; min_insync = 1 } ∷ [] }
 
 abbrev pub from_start : ℕ → FetchPart
 from_start index = record { index = pos index; offset = pos 0; log_start = negsuc 0; most = pos 1000 }
@@ -131,7 +131,7 @@ reply_of high records = record {
 
 -- one topic with one partition, which has a follower
 abbrev pub followed : Configuration
-followed = record { port = 9092; topics = record { name = codes "t"; partitions = 1; followers = 1 } ∷ [] }
+followed = record { port = 9092; topics = record { name = codes "t"; partitions = 1; followers = 1; min_insync = 1 } ∷ [] }
 
 -- a produce of one batch to it
 abbrev pub produce_of : ℤ → List ℕ → Request
@@ -182,7 +182,7 @@ swapped_print plain batch =
 
 -- a trace of one topic, whose one session is closed at once, and whose clock tells 5
 abbrev pub closed_lines : List Line
-closed_lines = lines.Topic (codes "t") 2 0 ∷ lines.Shut 0 ∷ lines.Clock 5 ∷ lines.End ∷ []
+closed_lines = lines.Topic (codes "t") 2 0 1 ∷ lines.Shut 0 ∷ lines.Clock 5 ∷ lines.End ∷ []
 
 abbrev pub closed_transcript : Transcript
 closed_transcript = record { number = 0; first = 0; calls = []; end = Some Closed }

@@ -40,7 +40,7 @@ use Rattle.broker_spec.proofs.Playing.{empty_there, ticks_more}
 
 pub input_unnamed : (s : ℕ) (lines : List Line) → is_named s lines ≡ false → input_of s lines ≡ []
 input_unnamed s [] missing = refl
-input_unnamed s (Topic n p f ∷ lines) missing = input_unnamed s lines missing
+input_unnamed s (Topic n p f m ∷ lines) missing = input_unnamed s lines missing
 input_unnamed s (Feed session bytes ∷ lines) missing =
     let parts = neither (eqb session s) (is_named s lines) missing in
     rw parts.0 (input_unnamed s lines parts.1)
@@ -50,7 +50,7 @@ input_unnamed s (End ∷ lines) missing = input_unnamed s lines missing
 
 pub shut_unnamed : (s : ℕ) (lines : List Line) → is_named s lines ≡ false → is_shut s lines ≡ false
 shut_unnamed s [] missing = refl
-shut_unnamed s (Topic n p f ∷ lines) missing = shut_unnamed s lines missing
+shut_unnamed s (Topic n p f m ∷ lines) missing = shut_unnamed s lines missing
 shut_unnamed s (Feed session bytes ∷ lines) missing = shut_unnamed s lines (neither (eqb session s) (is_named s lines) missing).1
 shut_unnamed s (Shut session ∷ lines) missing =
     let parts = neither (eqb session s) (is_named s lines) missing in
@@ -67,7 +67,7 @@ named_here s session n rest later found =
 
 pub named_below : (s : ℕ) (lines : List Line) → is_named s lines ≡ true → s < sessions_of lines
 named_below s [] found = absurd cc
-named_below s (Topic n p f ∷ lines) found = named_below s lines found
+named_below s (Topic n p f m ∷ lines) found = named_below s lines found
 named_below s (Feed session bytes ∷ lines) found = named_here s session (sessions_of lines) (is_named s lines) (λ e. named_below s lines e) found
 named_below s (Shut session ∷ lines) found = named_here s session (sessions_of lines) (is_named s lines) (λ e. named_below s lines e) found
 named_below s (Clock t ∷ lines) found = named_below s lines found
@@ -83,7 +83,7 @@ last_here s session n rest later e =
 -- the greatest session that is named is named
 pub last_named : (s : ℕ) (lines : List Line) → sessions_of lines ≡ suc s → is_named s lines ≡ true
 last_named s [] e = absurd (omega (arith, e))
-last_named s (Topic n p f ∷ lines) e = last_named s lines e
+last_named s (Topic n p f m ∷ lines) e = last_named s lines e
 last_named s (Feed session bytes ∷ lines) e = last_here s session (sessions_of lines) (is_named s lines) (λ d. last_named s lines d) e
 last_named s (Shut session ∷ lines) e = last_here s session (sessions_of lines) (is_named s lines) (λ d. last_named s lines d) e
 last_named s (Clock t ∷ lines) e = last_named s lines e
@@ -347,8 +347,8 @@ pub record MayCome (fed : List Line) (line : Line) : Type 0 where
   pub named : (s : ℕ) → names s line ≡ true → (s < 64) × (is_shut s fed ≡ false)
 
 pub fed_line : (fed : List Line) (board : Board) (line : Line) → IsFedBy fed board → MayCome fed line → IsFedBy (fed ++ line ∷ []) (brought board line)
-fed_line fed board (Topic name partitions followers) h may =
-    let line = Topic name partitions followers in
+fed_line fed board (Topic name partitions followers least) h may =
+    let line = Topic name partitions followers least in
     fed_same fed board line board.clock (λ s. refl) (λ s. refl) (λ s. refl) (ticks_line fed board.clock line (λ m more. refl) h.ticks) h
 fed_line fed board (Feed session bytes) h may = let n = may.named session (eq-eqb session session refl) in fed_feed fed board session bytes h n.0 n.1
 fed_line fed board (Shut session) h may = let n = may.named session (eq-eqb session session refl) in fed_shut fed board session h n.0 n.1

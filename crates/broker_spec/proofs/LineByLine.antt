@@ -118,7 +118,7 @@ rests_keep (suc acts) board turned h =
     ap (λ (t : Turned). t.board.config) h.6 ∙ rested ∙ acted ∙ scan
 
 brought_keeps : (board : Board) (line : Line) → (brought board line).config ≡ board.config
-brought_keeps board (Topic name partitions followers) = refl
+brought_keeps board (Topic name partitions followers least) = refl
 brought_keeps board (Feed session bytes) = refl
 brought_keeps board (Shut session) = refl
 brought_keeps board (Clock t) = either_way (λ (x : Board). x.config ≡ board.config) (nat_lt (moment_of board.clock) t) _ _ refl refl

@@ -91,7 +91,7 @@ line_bytes line lines fits s bytes is =
     front_bytes bytes (input_of s lines) (rw (eq-eqb s) at here)
 
 pub brought_seats : (board : Board) (line : Line) → AreSeats board.seats → ((s : ℕ) (bytes : List ℕ) → line ≡ Feed s bytes → IsBytes bytes) → AreSeats (brought board line).seats
-brought_seats board (Topic name partitions followers) are fits = are
+brought_seats board (Topic name partitions followers least) are fits = are
 brought_seats board (Feed session bytes) are fits =
     let inbox = (seat_at board session).inbox in
     seats_set board.seats session _ are (either_way IsBytes (is_there (transcript_at board session).end) inbox (inbox ++ bytes) (inbox_bytes board session are) (both_bytes inbox bytes (inbox_bytes board session are) (fits session bytes refl)))
@@ -121,7 +121,7 @@ bytes_or_none true bytes fits = fits
 bytes_or_none false bytes fits = none_are_bytes
 
 spelled_bytes : (session : ℕ) (piece : List ℕ) (line : Line) → IsLine piece line → IsBytes (bytes_in session line)
-spelled_bytes session piece (Topic name partitions followers) is = none_are_bytes
+spelled_bytes session piece (Topic name partitions followers least) is = none_are_bytes
 spelled_bytes session piece (Feed s bytes) is = bytes_or_none (s == session) bytes (decode_of-ok is.hex bytes is.digits).3
 spelled_bytes session piece (Shut s) is = none_are_bytes
 spelled_bytes session piece (Clock t) is = none_are_bytes

@@ -149,7 +149,7 @@ tick_sound board t h lt =
     }
 
 pub brought_sound : (board : Board) (line : Line) → IsSound board → IsSound (brought board line)
-brought_sound board (Topic name partitions followers) h = h
+brought_sound board (Topic name partitions followers least) h = h
 brought_sound board (Feed session bytes) h =
     let inbox = (seat_at board session).inbox in
     named_sound board session (cond (is_there (transcript_at board session).end) inbox (inbox ++ bytes)) (seat_at board session).is_shut h

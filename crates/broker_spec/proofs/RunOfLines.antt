@@ -272,7 +272,7 @@ plays_fed fed (line ∷ lines) board turned h may played =
 
 -- a session that was named before isn't closed already
 shuts_no : (s : ℕ) (earlier line : Line) → MayFollow earlier line → names s line ≡ true → shuts s earlier ≡ false
-shuts_no s (Topic name partitions followers) line follows named = refl
+shuts_no s (Topic name partitions followers least) line follows named = refl
 shuts_no s (Feed session bytes) line follows named = refl
 shuts_no s (Shut session) line follows named =
     elim (same_or_not session s) [
@@ -308,11 +308,11 @@ trace_may_come text fed (line ∷ lines) trace = (
 topics_more : (ts more : List topics.Topic) → partitions_of (ts ++ more) ≡ partitions_of ts + partitions_of more
 topics_more ts more = sum_by-append (λ t. t.partitions) ts more
 
-one_more : (ts : List topics.Topic) (line : Line) → partitions_of ts ≤ 64 → ((name : List ℕ) (partitions followers : ℕ) → line ≡ Topic name partitions followers → partitions_of ts + partitions ≤ 64)
+one_more : (ts : List topics.Topic) (line : Line) → partitions_of ts ≤ 64 → ((name : List ℕ) (partitions followers least : ℕ) → line ≡ Topic name partitions followers least → partitions_of ts + partitions ≤ 64)
     → partitions_of (ts ++ flat_map topic_in (line ∷ [])) ≤ 64
-one_more ts (Topic name partitions followers) few new =
-    let topic : topics.Topic = record { name = name; partitions = partitions; followers = followers } in
-    omega (arith, new name partitions followers refl, topics_more ts (topic ∷ []), sum_by-cons (λ (t : topics.Topic). t.partitions) topic [])
+one_more ts (Topic name partitions followers least) few new =
+    let topic : topics.Topic = record { name = name; partitions = partitions; followers = followers; min_insync = least } in
+    omega (arith, new name partitions followers least refl, topics_more ts (topic ∷ []), sum_by-cons (λ (t : topics.Topic). t.partitions) topic [])
 one_more ts (Feed session bytes) few new = omega (arith, few, topics_more ts [])
 one_more ts (Shut session) few new = omega (arith, few, topics_more ts [])
 one_more ts (Clock t) few new = omega (arith, few, topics_more ts [])
@@ -321,7 +321,7 @@ one_more ts End few new = omega (arith, few, topics_more ts [])
 few_behind : (lines front back : List Line) → AreNewTopics lines → lines ≡ front ++ back → partitions_of (flat_map topic_in front) ≤ 64 → partitions_of (flat_map topic_in lines) ≤ 64
 few_behind lines front [] new parts few = subst (λ (ls : List Line). partitions_of (flat_map topic_in ls) ≤ 64) (sym (parts ∙ append-nil front)) few
 few_behind lines front (line ∷ back) new parts few =
-    let here = one_more (flat_map topic_in front) line few (λ name partitions followers is. (new front back name partitions followers (parts ∙ ap (λ (l : Line). front ++ l ∷ back) is)).few) in
+    let here = one_more (flat_map topic_in front) line few (λ name partitions followers least is. (new front back name partitions followers least (parts ∙ ap (λ (l : Line). front ++ l ∷ back) is)).few) in
     few_behind lines (front ++ line ∷ []) back new (parts ∙ sym (append_assoc front (line ∷ []) back))
     (subst (λ (ts : List topics.Topic). partitions_of ts ≤ 64) (sym (flat_map-append topic_in front (line ∷ []))) here)
 
@@ -331,7 +331,7 @@ declared_behind lines front (line ∷ back) new parts =
     by_line line parts (declared_behind lines (front ++ line ∷ []) back new (parts ∙ sym (append_assoc front (line ∷ []) back)))
   where
     by_line : (line : Line) → lines ≡ front ++ line ∷ back → AllByRecursion IsDeclared (flat_map topic_in back) → AllByRecursion IsDeclared (flat_map topic_in (line ∷ back))
-    by_line (Topic name partitions followers) is rest = let n = new front back name partitions followers is in ((n.named.short, n.some, n.replicas), rest)
+    by_line (Topic name partitions followers least) is rest = let n = new front back name partitions followers least is in ((n.named.short, n.some, n.replicas, n.in_sync, n.enough), rest)
     by_line (Feed session bytes) is rest = rest
     by_line (Shut session) is rest = rest
     by_line (Clock t) is rest = rest

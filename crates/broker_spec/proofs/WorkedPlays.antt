@@ -90,7 +90,7 @@ third_line = lines.Feed 2 (framed (body_of poll))
 
 -- the board behind each line
 abbrev start : Board
-start = (scanned (brought (opening followed) (lines.Topic (codes "t") 1 1))).board
+start = (scanned (brought (opening followed) (lines.Topic (codes "t") 1 1 1))).board
 
 abbrev parked : Board
 parked = (next start first_line 0 (end_of produce) produce (put_it ∷ [])).board
@@ -130,8 +130,8 @@ all_played =
     let fetches_it = on parked second_line (third_line ∷ lines.Clock 99 ∷ lines.Clock 100 ∷ lines.End ∷ []) (next parked second_line 1 (end_of follow) follow (fetched_by (pos 1) ∷ [])) _ catches_up polls in
     let put = on start first_line (second_line ∷ third_line ∷ lines.Clock 99 ∷ lines.Clock 100 ∷ lines.End ∷ []) (next start first_line 0 (end_of produce) produce (put_it ∷ [])) _ puts fetches_it in (
       _,
-      on (opening followed) (lines.Topic (codes "t") 1 1) (first_line ∷ second_line ∷ third_line ∷ lines.Clock 99 ∷ lines.Clock 100 ∷ lines.End ∷ []) (scanned (brought (opening followed) (lines.Topic (codes "t") 1 1))) _
-          (nobody (opening followed) (lines.Topic (codes "t") 1 1) refl) put,
+      on (opening followed) (lines.Topic (codes "t") 1 1 1) (first_line ∷ second_line ∷ third_line ∷ lines.Clock 99 ∷ lines.Clock 100 ∷ lines.End ∷ []) (scanned (brought (opening followed) (lines.Topic (codes "t") 1 1 1))) _
+          (nobody (opening followed) (lines.Topic (codes "t") 1 1 1) refl) put,
       refl,
     )
 
@@ -150,7 +150,7 @@ pub expires : (account : Account) (text : List ℕ) → IsPlay followed worked_l
 expires account text play = ap (λ (a : Account). calls_of a 2) (same_account account text play)
 
 followed_declared : AreDeclared followed.topics
-followed_declared = record { each = ((omega arith, omega arith, omega arith), tt); few = omega arith }
+followed_declared = record { each = ((omega arith, omega arith, omega arith, omega arith, omega arith), tt); few = omega arith }
 
 pub worked_lawful : (account : Account) (text : List ℕ) → IsPlay followed worked_lines account text → IsLawful account
 worked_lawful account text play = play_is_lawful followed worked_lines account text followed_declared play

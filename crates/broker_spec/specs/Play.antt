@@ -20,7 +20,7 @@ with_seat board session inbox is_shut =
 
 -- what a line brings, before anything is done with it; what comes for a session that ended is dropped
 abbrev pub brought : Board → Line → Board
-brought board (Topic name partitions followers) = board
+brought board (Topic name partitions followers least) = board
 brought board (Feed session bytes) =
     let seat = seat_at board session in
     with_seat board session (if is_there (transcript_at board session).end then seat.inbox else seat.inbox ++ bytes) seat.is_shut

@@ -44,7 +44,7 @@ body_of request = fields (request_fields request)
 
 abbrev pub worked_lines : List Line
 worked_lines =
-    lines.Topic (codes "t") 1 1 ∷ lines.Feed 0 (framed (body_of produce)) ∷ lines.Feed 1 (framed (body_of follow))
+    lines.Topic (codes "t") 1 1 1 ∷ lines.Feed 0 (framed (body_of produce)) ∷ lines.Feed 1 (framed (body_of follow))
     ∷ lines.Feed 2 (framed (body_of poll)) ∷ lines.Clock 99 ∷ lines.Clock 100 ∷ lines.End ∷ []
 
 -- the consumer's call, whose looks stand behind the tick

@@ -79,7 +79,7 @@ text_of left new text input size = (read_whole left new text input size, told le
 -- ---- the lines
 
 playable : (piece : List ℕ) (line : Line) → IsLine piece line → IsPlayable line
-playable piece (Topic name partitions followers) is = tt
+playable piece (Topic name partitions followers least) is = tt
 playable piece (Feed session bytes) is = is.in_range
 playable piece (Shut session) is = is.in_range
 playable piece (Clock t) is = is.in_range

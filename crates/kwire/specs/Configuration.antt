@@ -45,10 +45,12 @@ part_of config name index = part_from 0 config.topics name index
 abbrev pub followers_of : List Topic → List ℕ
 followers_of topics = flat_map (λ topic. replicate topic.partitions topic.followers) topics
 
--- what may be declared beside these topics
-pub record IsNewTopic (topics : List Topic) (called : List ℕ) (partitions followers : ℕ) : Type 0 where
+-- what may be declared beside these topics; `least` is the least number of in-sync replicas, the leader counted
+pub record IsNewTopic (topics : List Topic) (called : List ℕ) (partitions followers least : ℕ) : Type 0 where
   pub named : IsTopicName called
   pub once : ¬ Contains (names_of topics) called
   pub some : 0 < partitions
   pub few : partitions_of topics + partitions ≤ MOST_PARTITIONS
   pub replicas : followers ≤ MOST_FOLLOWERS
+  pub in_sync : 0 < least
+  pub enough : least ≤ followers + 1

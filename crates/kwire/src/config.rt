@@ -28,6 +28,9 @@ pub struct Topic {
     pub name: Bytes,
     pub partitions: u32,
     pub followers: u32,
+    /// The least number of in-sync replicas, the leader counted, with which a produce that asks for all replicas is taken:
+    /// Kafka's `min.insync.replicas`. It is from 1 to the number of replicas.
+    pub min_insync: u32,
 }
 
 /// Why a topic can't be declared.
@@ -36,7 +39,8 @@ pub enum ConfigFault {
     /// The name isn't 1 to 249 letters, digits, `.`, `_` and `-`, or is `.` or `..`.
     BadName,
     TopicTwice,
-    /// There are no partitions, more than 64 over all topics, or more than 8 followers.
+    /// There are no partitions, more than 64 over all topics, or more than 8 followers, or the least number of in-sync
+    /// replicas is 0 or above the number of replicas.
     BadCount,
     NoMemory,
 }
@@ -48,7 +52,7 @@ impl fmt::Display for ConfigFault {
             ConfigFault::TopicTwice => write!(f, "the topic is declared twice"),
             ConfigFault::BadCount => write!(
                 f,
-                "the number of partitions or followers is out of range"
+                "the number of partitions, followers or in-sync replicas is out of range"
             ),
             ConfigFault::NoMemory => write!(f, "no memory was left"),
         }
@@ -152,20 +156,27 @@ impl Config {
     }
 
     /// Declares a topic after the others. It answers `BadName` exactly where this is no topic's name, else `TopicTwice`
-    /// exactly where the topic is declared already, else `BadCount` exactly where the number of partitions or followers is
-    /// out of range. After a refusal the configuration is as before.
-    pub fn add(&mut self, name: &[u8], partitions: u32, followers: u32) -> Result<(), ConfigFault>
+    /// exactly where the topic is declared already, else `BadCount` exactly where the number of partitions, of followers or
+    /// of the least in-sync replicas is out of range. After a refusal the configuration is as before.
+    pub fn add(
+        &mut self,
+        name: &[u8],
+        partitions: u32,
+        followers: u32,
+        min_insync: u32,
+    ) -> Result<(), ConfigFault>
         ensures added { OnOk result (self.new ≡ record self.old {
           topics = self.old.topics
-              ++ record { name = name.now; partitions = partitions; followers = followers } ∷ [];
+              ++ record { name = name.now; partitions = partitions; followers = followers; min_insync = min_insync } ∷ [];
         }) }
-        ensures allowed { OnOk result (IsNewTopic self.old.topics name.now partitions followers) }
+        ensures allowed { OnOk result (IsNewTopic self.old.topics name.now partitions followers min_insync) }
         ensures bad_name { (result ≡ Err ConfigFault.BadName) ↔ (IsTopicName name.now → ⊥) }
         ensures twice { (result ≡ Err ConfigFault.TopicTwice)
             ↔ (IsTopicName name.now × Contains (names_of self.old.topics) name.now) }
         ensures bad_count { (result ≡ Err ConfigFault.BadCount)
             ↔ (IsTopicName name.now × (Contains (names_of self.old.topics) name.now → ⊥)
-            × ((partitions ≡ 0) ⊎ (MOST_PARTITIONS < partitions_of self.old.topics + partitions) ⊎ (MOST_FOLLOWERS < followers))) }
+            × ((partitions ≡ 0) ⊎ (MOST_PARTITIONS < partitions_of self.old.topics + partitions) ⊎ (MOST_FOLLOWERS < followers)
+            ⊎ (min_insync ≡ 0) ⊎ (followers + 1 < min_insync))) }
         ensures refused { OnErr result (self.new ≡ self.old) }
     {
         if !is_topic_name(name) {
@@ -177,6 +188,8 @@ impl Config {
         if partitions == 0
             || partitions > MOST_PARTITIONS - self.parts
             || followers > MOST_FOLLOWERS
+            || min_insync == 0
+            || min_insync > followers + 1
         {
             return Err(ConfigFault::BadCount);
         }
@@ -185,6 +198,7 @@ impl Config {
             name: kept,
             partitions,
             followers,
+            min_insync,
         })?;
         self.parts += partitions;
         Ok(())

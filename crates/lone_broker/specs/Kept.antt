@@ -77,7 +77,7 @@ TurnsBy turns before after text more =
 
 -- the session of a line is one that there may be, and its moment one that a clock shows
 abbrev pub IsPlayable : Line → Type 0
-IsPlayable (lines.Topic name partitions followers) = Unit {0}
+IsPlayable (lines.Topic name partitions followers least) = Unit {0}
 IsPlayable (lines.Feed session bytes) = session < most_sessions
 IsPlayable (lines.Shut session) = session < most_sessions
 IsPlayable (lines.Clock t) = t ≤ MOST_MOMENT

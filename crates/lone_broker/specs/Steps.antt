@@ -85,7 +85,7 @@ pub record IsTicked (before after : Kept) : Type 0 where
 
 -- what a line brings
 abbrev pub IsBrought : Line → Kept → Kept → Type 0
-IsBrought (lines.Topic name partitions followers) before after = after ≡ before
+IsBrought (lines.Topic name partitions followers least) before after = after ≡ before
 IsBrought (lines.Feed session bytes) before after = IsReseated session before after
 IsBrought (lines.Shut session) before after = IsReseated session before after
 IsBrought (lines.Clock t) before after = IsTicked before after

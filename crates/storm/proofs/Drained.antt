@@ -27,7 +27,7 @@ wait_briefly x i = waits_by (kind_of (block_of i)) x i
 
 -- a moment of n requests
 abbrev IsEarly : ℕ → Line → Type 0
-IsEarly n (Topic name partitions followers) = Unit {0}
+IsEarly n (Topic name partitions followers least) = Unit {0}
 IsEarly n (Feed session bytes) = Unit {0}
 IsEarly n (Shut session) = Unit {0}
 IsEarly n (Clock t) = t ≤ 10 * (n / 16 + 1)

@@ -14,7 +14,7 @@ use Rattle.storm.specs.Places.{block_of, session_of, draws_before}
 use Rattle.storm.specs.Requests.{ask_of, request_with}
 
 abbrev pub topic_line : Line
-topic_line = Topic (codes "storm") PARTITIONS 1
+topic_line = Topic (codes "storm") PARTITIONS 1 1
 
 -- a request's frame, whose numbers are drawn from state x
 abbrev pub frame_from : ℕ → ℕ → List ℕ

@@ -27,6 +27,7 @@ fn topic_line(alloc: Global) -> Result<Line, NoMemory>
         name: copied(alloc, TOPIC)?,
         partitions: PARTITIONS,
         followers: 1,
+        min_insync: 1,
     })
 }
 

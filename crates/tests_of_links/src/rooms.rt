@@ -14,7 +14,7 @@ use std::sync::Wait;
 // The topic `t` with two partitions.
 pub(crate) fn config(alloc: Global) -> Result<Config, NoMemory> {
     let mut config = Config::new(alloc, 9092);
-    match config.add(b"t", 2, 0) {
+    match config.add(b"t", 2, 0, 1) {
         Ok(()) => Ok(config),
         Err(_) => Err(NoMemory),
     }

@@ -133,7 +133,7 @@ fn config(alloc: Global) -> Result<Config, NoMemory>
     ensures { IfOk result (λ config. config ≡ two_parts) }
 {
     let mut config = Config::new(alloc, 9092);
-    match config.add(b"t", 2, 0) {
+    match config.add(b"t", 2, 0, 1) {
         Ok(()) => Ok(config),
         Err(_) => Err(NoMemory),
     }

@@ -1,6 +1,6 @@
 -- What is wrong with a piece of text is one thing, and a line has nothing wrong.
 use Rattle.std.proofs.Common.{◌≡◌, ◌≢◌, ℕ, ◌<◌, ◌≤◌, Bool, List, [], ◌∷◌, length, refl, sym, ap, ◌∙◌, subst, arith, inl, inr, ◌⊎◌}
-use Rattle.std.specs.Prelude.{Option, Some, None, MatchOption}
+use Rattle.std.specs.Prelude.{Option, Some, None, MatchOption, codes}
 use Rattle.std.specs.Fmt.{decimal}
 use Rattle.std.specs.List.{All, AllZip}
 use Rattle.std.proofs.lemmas.Fmt.{decimal_nonempty}
@@ -10,8 +10,8 @@ use Rattle.trace_file.specs.declared.line.Line.TheVariants.{Topic, Feed, Shut, C
 use Rattle.trace_file.specs.declared.line.LineKind.{LineKind}
 use Rattle.trace_file.specs.declared.line.LineKind.TheVariants as kinds
 use Rattle.trace_file.specs.declared.line.TheConstants.{LAST_MOMENT, LAST_SESSION, MOST_NUMBER}
-use Rattle.trace_file.specs.IsLine.{words_of, AreWordsOf, IsLine}
-use Rattle.trace_file.specs.LineFaults.{Part, Name, Number, Digits, form_of, AreFilled, IsNumberFor, IsHexFor, IsRestFault, IsWordsFault, IsLineFault, MayStand, IsNewLine, IsPlaceFault, IsPieceFault}
+use Rattle.trace_file.specs.IsLine.{words_of, AreLeast, AreWordsOf, IsLine}
+use Rattle.trace_file.specs.LineFaults.{Part, Number, Digits, form_of, topic_form, AreFilled, IsNumberFor, IsHexFor, IsRestFault, IsWordsFault, IsLineFault, MayStand, IsNewLine, IsPlaceFault, IsPieceFault}
 use Rattle.trace_file.proofs.Lines.{words_say}
 use Rattle.trace_file.proofs.FewBytes.{decoded_len}
 
@@ -38,16 +38,33 @@ long_some word long is = absurd (omega (arith, ap length is))
 number_some : (n : ℕ) → n ≤ LAST_MOMENT → decimal n ≢ []
 number_some n le = long_some (decimal n) (decimal_nonempty n (omega arith))
 
--- a line has nothing wrong
-words_unfaulty : (words : List (List ℕ)) (line : Line) (kind : LineKind) → AreWordsOf words line → IsWordsFault words kind → ⊥
-words_unfaulty words (Topic name p f) kind h fault =
-    unfaulty (name ∷ decimal p ∷ decimal f ∷ []) (Name ∷ Number MOST_NUMBER ∷ Number MOST_NUMBER ∷ []) kind
+-- nor has a topic's line, with its last word or without
+topic_unfaulty : (name : List ℕ) (p f m : ℕ) (last : List (List ℕ)) (kind : LineKind) → 0 < length name → p ≤ MOST_NUMBER → f ≤ MOST_NUMBER → m ≤ MOST_NUMBER → AreLeast last m
+    → IsWordsFault (codes "topic" ∷ name ∷ decimal p ∷ decimal f ∷ last) kind → ⊥
+topic_unfaulty name p f m last kind named partitions followers least (inl none) fault =
+    unfaulty (name ∷ decimal p ∷ decimal f ∷ []) (topic_form 3) kind
     (record {
       count_is = refl;
-      filled = one_more name (decimal p ∷ decimal f ∷ []) (long_some name h.named)
-          (one_more (decimal p) (decimal f ∷ []) (number_some p (omega (arith, h.partitions_fit))) (one_more (decimal f) [] (number_some f (omega (arith, h.followers_fit))) none_empty));
+      filled = one_more name (decimal p ∷ decimal f ∷ []) (long_some name named)
+          (one_more (decimal p) (decimal f ∷ []) (number_some p (omega (arith, partitions))) (one_more (decimal f) [] (number_some f (omega (arith, followers))) none_empty));
     })
-    (tt, ((p, h.partitions_fit, refl), ((f, h.followers_fit, refl), tt))) (tt, (tt, (tt, tt))) (subst (λ (ws : List (List ℕ)). IsWordsFault ws kind) h.spelled fault)
+    (tt, ((p, partitions, refl), ((f, followers, refl), tt))) (tt, (tt, (tt, tt)))
+    (subst (λ (ws : List (List ℕ)). IsWordsFault (codes "topic" ∷ name ∷ decimal p ∷ decimal f ∷ ws) kind) none.0 fault)
+topic_unfaulty name p f m last kind named partitions followers least (inr one) fault =
+    unfaulty (name ∷ decimal p ∷ decimal f ∷ decimal m ∷ []) (topic_form 4) kind
+    (record {
+      count_is = refl;
+      filled = one_more name (decimal p ∷ decimal f ∷ decimal m ∷ []) (long_some name named)
+          (one_more (decimal p) (decimal f ∷ decimal m ∷ []) (number_some p (omega (arith, partitions)))
+          (one_more (decimal f) (decimal m ∷ []) (number_some f (omega (arith, followers))) (one_more (decimal m) [] (number_some m (omega (arith, least))) none_empty)));
+    })
+    (tt, ((p, partitions, refl), ((f, followers, refl), ((m, least, refl), tt)))) (tt, (tt, (tt, (tt, tt))))
+    (subst (λ (ws : List (List ℕ)). IsWordsFault (codes "topic" ∷ name ∷ decimal p ∷ decimal f ∷ ws) kind) one fault)
+
+-- a line has nothing wrong
+words_unfaulty : (words : List (List ℕ)) (line : Line) (kind : LineKind) → AreWordsOf words line → IsWordsFault words kind → ⊥
+words_unfaulty words (Topic name p f m) kind h fault =
+    topic_unfaulty name p f m h.last kind h.named h.partitions_fit h.followers_fit h.least_fits h.least_is (subst (λ (ws : List (List ℕ)). IsWordsFault ws kind) h.spelled fault)
 words_unfaulty words (Feed s bytes) kind h fault =
     unfaulty (decimal s ∷ h.hex ∷ []) (Number LAST_SESSION ∷ Digits ∷ []) kind
     (record {
@@ -98,7 +115,7 @@ form_kind words (Some parts) a b x y = rest_kind words parts a b x y
 
 words_kind : (words : List (List ℕ)) (a b : LineKind) → IsWordsFault words a → IsWordsFault words b → a ≡ b
 words_kind [] a b x y = absurd x
-words_kind (word ∷ words) a b x y = form_kind words (form_of word) a b x y
+words_kind (word ∷ words) a b x y = form_kind words (form_of word (length words)) a b x y
 
 -- the two faults of a line's place
 two : (only_topics : Bool) (before : List Line) (line : Line) (kind : LineKind) → IsPlaceFault only_topics before line kind

@@ -63,7 +63,7 @@ taken_size true bytes n le = le
 taken_size false bytes n le = omega arith
 
 line_size : (s : ℕ) (piece : List ℕ) (line : Line) → IsLine piece line → length (bytes_in s line) ≤ length piece
-line_size s piece (Topic name partitions followers) h = omega arith
+line_size s piece (Topic name partitions followers least) h = omega arith
 line_size s piece (Feed session bytes) h = taken_size (eqb session s) bytes (length piece) (feed_size piece session bytes h)
 line_size s piece (Shut session) h = omega arith
 line_size s piece (Clock t) h = omega arith
@@ -90,7 +90,7 @@ named_there s session rest lt later found =
 lines_named : (s : ℕ) (pieces : List (List ℕ)) (lines : List Line) → AllZip IsLine pieces lines → is_named s lines ≡ true → s < MOST_SESSIONS
 lines_named s pieces [] h found = absurd cc
 lines_named s [] (line ∷ lines) h found = absurd h
-lines_named s (piece ∷ pieces) (Topic name partitions followers ∷ lines) h found = lines_named s pieces lines h.1 found
+lines_named s (piece ∷ pieces) (Topic name partitions followers least ∷ lines) h found = lines_named s pieces lines h.1 found
 lines_named s (piece ∷ pieces) (Feed session bytes ∷ lines) h found = named_there s session (is_named s lines) h.0.in_range (λ e. lines_named s pieces lines h.1 e) found
 lines_named s (piece ∷ pieces) (Shut session ∷ lines) h found = named_there s session (is_named s lines) h.0.in_range (λ e. lines_named s pieces lines h.1 e) found
 lines_named s (piece ∷ pieces) (Clock t ∷ lines) h found = lines_named s pieces lines h.1 found

@@ -31,10 +31,10 @@ cut_push (w ∷ xs) (z ∷ front) back x y e =
     ]
 
 new_more : (lines : List Line) (line : Line) → AreNewTopics lines → IsNewLine lines line → AreNewTopics (lines ++ line ∷ [])
-new_more lines line before new front back name partitions followers e =
-    elim (cut_push lines front back line (Topic name partitions followers) e) [
-      | inl p ↦ subst (λ (ls : List Line). IsNewTopic (flat_map topic_in ls) name partitions followers) p.0 (new name partitions followers p.1)
-      | inr p ↦ before front p.0 name partitions followers p.1
+new_more lines line before new front back name partitions followers least e =
+    elim (cut_push lines front back line (Topic name partitions followers least) e) [
+      | inl p ↦ subst (λ (ls : List Line). IsNewTopic (flat_map topic_in ls) name partitions followers least) p.0 (new name partitions followers least p.1)
+      | inr p ↦ before front p.0 name partitions followers least p.1
     ]
 
 empty_cut : (front back : List Line) (line : Line) → [] ≡ front ++ line ∷ back → ⊥
@@ -45,7 +45,7 @@ empty_cut (l ∷ front) back line e = absurd cc
 pub begin_none : (only_topics : Bool) → MayBegin only_topics []
 begin_none only_topics = record {
   pairs = λ i j d lt within. absurd (omega arith);
-  topics = λ front back name partitions followers e. absurd (empty_cut front back (Topic name partitions followers) e);
+  topics = λ front back name partitions followers least e. absurd (empty_cut front back (Topic name partitions followers least) e);
   declares = λ only k d lt. absurd (omega arith);
 }
 
@@ -70,7 +70,7 @@ begin_parts only_topics front back line h =
             subst (λ (l : Line). MayFollow (get_or front k d) l) (here d) (subst (λ (l : Line). MayFollow l (get_or (front ++ line ∷ back) (length front) d)) there pair);
         declares = λ only. subst DeclaresOrEnds (here line) (h.declares only (length front) line within);
       },
-      λ name partitions followers is. h.topics front back name partitions followers (ap (λ (l : Line). front ++ l ∷ back) is),
+      λ name partitions followers least is. h.topics front back name partitions followers least (ap (λ (l : Line). front ++ l ∷ back) is),
     )
 
 -- what was read, with one more line
@@ -95,8 +95,8 @@ pairs_tail line lines h i j d lt within = h (suc i) (suc j) d (omega arith) (ome
 -- the end stands last
 pub ends_last : (lines : List Line) → AllPairs MayFollow lines → list_any is_end lines ≡ true → (before : List Line) × (lines ≡ before ++ End ∷ [])
 ends_last [] h found = absurd cc
-ends_last (Topic name partitions followers ∷ lines) h found =
-    let later = ends_last lines (pairs_tail (Topic name partitions followers) lines h) found in (Topic name partitions followers ∷ later.0, ap (λ (ls : List Line). Topic name partitions followers ∷ ls) later.1)
+ends_last (Topic name partitions followers least ∷ lines) h found =
+    let later = ends_last lines (pairs_tail (Topic name partitions followers least) lines h) found in (Topic name partitions followers least ∷ later.0, ap (λ (ls : List Line). Topic name partitions followers least ∷ ls) later.1)
 ends_last (Feed session bytes ∷ lines) h found =
     let later = ends_last lines (pairs_tail (Feed session bytes) lines h) found in (Feed session bytes ∷ later.0, ap (λ (ls : List Line). Feed session bytes ∷ ls) later.1)
 ends_last (Shut session ∷ lines) h found =

@@ -26,3 +26,5 @@ pub mod OneFault
 pub mod Refused
 -- a line that is written is read back
 pub mod ReadBack
+-- what is written, part by part
+pub mod Written

@@ -26,7 +26,7 @@ no_end : (line : Line) → is_end line ≡ false → line ≢ End
 no_end line isnt is = let e : is_end line ≡ true = ap is_end is in absurd cc
 
 a_topic : (line : Line) → is_no_topic line ≡ false → IsTopic line
-a_topic (Topic name partitions followers) isnt = tt
+a_topic (Topic name partitions followers least) isnt = tt
 a_topic (Feed session bytes) isnt = absurd cc
 a_topic (Shut session) isnt = absurd cc
 a_topic (Clock t) isnt = absurd cc
@@ -62,7 +62,7 @@ pub follows_unended : (lines : List Line) (line : Line) → All (λ earlier. May
 follows_unended lines line all = list_any_none is_end lines (All-weaker (λ earlier. MayFollow earlier line) (λ earlier. is_end earlier ≡ false) none lines all)
   where
     none : (earlier : Line) → MayFollow earlier line → is_end earlier ≡ false
-    none (Topic name partitions followers) may = refl
+    none (Topic name partitions followers least) may = refl
     none (Feed session bytes) may = refl
     none (Shut session) may = refl
     none (Clock t) may = refl
@@ -72,7 +72,7 @@ pub follows_topics : (lines : List Line) (line : Line) → IsTopic line → All 
 follows_topics lines line topic all = list_any_none is_no_topic lines (All-weaker (λ earlier. MayFollow earlier line) (λ earlier. is_no_topic earlier ≡ false) none lines all)
   where
     none : (earlier : Line) → MayFollow earlier line → is_no_topic earlier ≡ false
-    none (Topic name partitions followers) may = refl
+    none (Topic name partitions followers least) may = refl
     none (Feed session bytes) may = absurd (may.topics_first topic)
     none (Shut session) may = absurd (may.topics_first topic)
     none (Clock t) may = absurd (may.topics_first topic)
@@ -86,7 +86,7 @@ follows_open lines line s named all = list_any_none (shuts s) lines (All-weaker 
     by_test session false is may = refl
 
     none : (earlier : Line) → MayFollow earlier line → shuts s earlier ≡ false
-    none (Topic name partitions followers) may = refl
+    none (Topic name partitions followers least) may = refl
     none (Feed session bytes) may = refl
     none (Shut session) may = by_test session (eqb session s) refl may
     none (Clock t) may = refl
@@ -99,7 +99,7 @@ follows_moment (line ∷ lines) u all =
     omega (arith, later, first line (All-head (λ earlier. MayFollow earlier (Clock u)) line lines all))
   where
     first : (earlier : Line) → MayFollow earlier (Clock u) → moment_in earlier ≤ u
-    first (Topic name partitions followers) may = omega arith
+    first (Topic name partitions followers least) may = omega arith
     first (Feed session bytes) may = omega arith
     first (Shut session) may = omega arith
     first (Clock t) may = may.no_fall t u refl refl
@@ -112,16 +112,16 @@ moment_of-append (first ∷ front) line = let later = moment_of-append front lin
 pub refused_ended : (only_topics : Bool) (order : Order) (lines : List Line) (line : Line) → Sees order lines → order.ended ≡ true → MayStand only_topics lines line → ⊥
 refused_ended only_topics order lines line sees ended may = let unended = follows_unended lines line may.follows in let e = sees.ended in absurd cc
 
-pub allowed_topic : (only_topics : Bool) (order : Order) (lines : List Line) (name : List ℕ) (partitions followers : ℕ) → Sees order lines → order.ended ≡ false → order.begun ≡ false
-    → MayStand only_topics lines (Topic name partitions followers)
-allowed_topic only_topics order lines name partitions followers sees unended unbegun = record {
-  follows = follows_from lines (Topic name partitions followers) (sym sees.ended ∙ unended) (λ topic. sym sees.begun ∙ unbegun) (λ u is. absurd cc) (λ s named. absurd cc);
+pub allowed_topic : (only_topics : Bool) (order : Order) (lines : List Line) (name : List ℕ) (partitions followers least : ℕ) → Sees order lines → order.ended ≡ false → order.begun ≡ false
+    → MayStand only_topics lines (Topic name partitions followers least)
+allowed_topic only_topics order lines name partitions followers least sees unended unbegun = record {
+  follows = follows_from lines (Topic name partitions followers least) (sym sees.ended ∙ unended) (λ topic. sym sees.begun ∙ unbegun) (λ u is. absurd cc) (λ s named. absurd cc);
   declares = λ only. tt;
 }
 
-pub refused_topic : (only_topics : Bool) (order : Order) (lines : List Line) (name : List ℕ) (partitions followers : ℕ) → Sees order lines → MayStand only_topics lines (Topic name partitions followers)
+pub refused_topic : (only_topics : Bool) (order : Order) (lines : List Line) (name : List ℕ) (partitions followers least : ℕ) → Sees order lines → MayStand only_topics lines (Topic name partitions followers least)
     → order.begun ≡ false
-refused_topic only_topics order lines name partitions followers sees may = sees.begun ∙ follows_topics lines (Topic name partitions followers) tt may.follows
+refused_topic only_topics order lines name partitions followers least sees may = sees.begun ∙ follows_topics lines (Topic name partitions followers least) tt may.follows
 
 pub allowed_feed : (order : Order) (lines : List Line) (session : ℕ) (bytes : List ℕ) → Sees order lines → session < MOST_SESSIONS → order.ended ≡ false → slice_index_or order.closed session false ≡ false
     → MayStand false lines (Feed session bytes)
@@ -177,9 +177,9 @@ test_no p lines line is = test_more p lines line ∙ ap (λ (x : Bool). list_any
 test_yes : (p : Line → Bool) (lines : List Line) (line : Line) → p line ≡ true → list_any p (lines ++ line ∷ []) ≡ true
 test_yes p lines line is = test_more p lines line ∙ ap (λ (x : Bool). list_any p lines || x) is ∙ or_true (list_any p lines)
 
-pub passed_topic : (order : Order) (lines : List Line) (name : List ℕ) (partitions followers : ℕ) → Sees order lines → Sees order (lines ++ Topic name partitions followers ∷ [])
-passed_topic order lines name partitions followers sees =
-    let line = Topic name partitions followers in
+pub passed_topic : (order : Order) (lines : List Line) (name : List ℕ) (partitions followers least : ℕ) → Sees order lines → Sees order (lines ++ Topic name partitions followers least ∷ [])
+passed_topic order lines name partitions followers least sees =
+    let line = Topic name partitions followers least in
     record {
       ended = sees.ended ∙ sym (test_no is_end lines line refl);
       begun = sees.begun ∙ sym (test_no is_no_topic lines line refl);

@@ -1,9 +1,9 @@
 -- A line that is written is read back.
-use Rattle.std.proofs.Common.{◌≡◌, ℕ, ◌<◌, ◌≤◌, Bool, true, false, nat_le, ◌&&◌, eqb, List, [], ◌∷◌, ◌++◌, length, get_or, refl, sym, ap, ◌∙◌, arith, append_assoc}
+use Rattle.std.proofs.Common.{◌≡◌, ℕ, ◌<◌, ◌≤◌, Bool, true, false, nat_le, ◌&&◌, eqb, List, [], ◌∷◌, ◌++◌, length, get_or, refl, sym, ap, subst, ◌∙◌, arith, append_assoc, cond, inl, inr}
 use Rattle.std.specs.Prelude.{codes}
 use Rattle.std.specs.Fmt.{decimal}
 use Rattle.std.specs.List.{All, list_all, slice_split}
-use Rattle.std.proofs.lemmas.Bool.{ne_eqb}
+use Rattle.std.proofs.lemmas.Bool.{ne_eqb, cases_lt, lt-ltb, le-ltb}
 use Rattle.std.proofs.lemmas.List.{get_or_default}
 use Rattle.std.proofs.lemmas.List.Elements.{All-cons, All-append}
 use Rattle.std.proofs.lemmas.List.Sums.{AllPass-from_list_all}
@@ -15,8 +15,8 @@ use Rattle.kwire.specs.Configuration.{is_name_byte}
 use Rattle.trace_file.specs.declared.line.Line.{Line}
 use Rattle.trace_file.specs.declared.line.Line.TheVariants.{Topic, Feed, Shut, Clock, End}
 use Rattle.trace_file.specs.declared.line.TheConstants.{LAST_MOMENT}
-use Rattle.trace_file.specs.IsLine.{words_of, IsLine}
-use Rattle.trace_file.specs.PrintedLine.{line_of, text_of, IsWritable}
+use Rattle.trace_file.specs.IsLine.{words_of, AreLeast, IsLine}
+use Rattle.trace_file.specs.PrintedLine.{line_of, least_words, text_of, IsWritable}
 use Rattle.trace_file.specs.Trace.{pieces_of}
 use Rattle.trace_file.proofs.Cuts.{pieces_of-cut}
 use Rattle.trace_file.proofs.Numbers.{decimal_value}
@@ -99,12 +99,30 @@ words_back word words rest h =
     let cut = ap (slice_split (λ c. eqb c 10)) text ∙ slice_split_at (λ c. eqb c 10) piece 10 rest (joined_lacks (word ∷ words) h) refl in
     (piece, joined_words word words h, pieces_of-cut (line_of (word ∷ words) ++ rest) piece rest cut)
 
+-- the words of a topic's least number of in-sync replicas are words, and tell it
+least_back : (least : ℕ) → 0 < least → least ≤ LAST_MOMENT → AreWords (least_words least) × AreLeast (least_words least) least
+unfolding AreWords
+least_back least some le =
+    elim (cases_lt 1 least) [
+      | inl more ↦
+          let is : least_words least ≡ decimal least ∷ [] = ap (λ (b : Bool). cond b (decimal least ∷ []) []) (lt-ltb 1 least more) in
+          (subst AreWords (sym is) (number_word least le, tt), inr is)
+      | inr one ↦
+          let is : least_words least ≡ [] = ap (λ (b : Bool). cond b (decimal least ∷ []) []) (le-ltb 1 least one) in
+          (subst AreWords (sym is) tt, inl (is, omega (arith, some, one)))
+    ]
+
 pub line_back : (line : Line) (rest : List ℕ) → IsWritable line → (piece : List ℕ) × IsLine piece line × (pieces_of (text_of line ++ rest) ≡ piece ∷ pieces_of rest)
 unfolding AreWords
-line_back (Topic name p f) rest h =
-    let back = words_back (codes "topic") (name ∷ decimal p ∷ decimal f ∷ []) rest
-    (kind_word (codes "topic") refl, (name_word name h.0.bytes, (number_word p (omega (arith, h.1)), (number_word f (omega (arith, h.2)), tt))))
-    in (back.0, record { spelled = back.1; named = h.0.some; partitions_fit = h.1; followers_fit = h.2 }, back.2)
+line_back (Topic name p f m) rest h =
+    let last = least_back m h.3 (omega (arith, h.4)) in
+    let back = words_back (codes "topic") (name ∷ decimal p ∷ decimal f ∷ least_words m) rest
+    (kind_word (codes "topic") refl, (name_word name h.0.bytes, (number_word p (omega (arith, h.1)), (number_word f (omega (arith, h.2)), last.0))))
+    in (
+      back.0,
+      record { last = least_words m; spelled = back.1; named = h.0.some; partitions_fit = h.1; followers_fit = h.2; least_is = last.1; least_fits = h.4 },
+      back.2,
+    )
 line_back (Feed s bytes) rest h =
     let back = words_back (codes "bytes") (decimal s ∷ encode_lower bytes ∷ []) rest (kind_word (codes "bytes") refl, (number_word s (omega (arith, h.0)), (hex_word bytes h.2, tt)))
     in (back.0, record { hex = encode_lower bytes; spelled = back.1; digits = decode_of-encode_lower bytes h.2; some = h.1; in_range = h.0 }, back.2)

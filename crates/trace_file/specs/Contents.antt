@@ -7,7 +7,7 @@ use Rattle.kwire.specs.declared.config.Topic as topics
 use Rattle.kwire.specs.Configuration.{Configuration}
 
 abbrev pub topic_in : Line → List topics.Topic
-topic_in (Topic name partitions followers) = record { name = name; partitions = partitions; followers = followers } ∷ []
+topic_in (Topic name partitions followers least) = record { name = name; partitions = partitions; followers = followers; min_insync = least } ∷ []
 topic_in (Feed session bytes) = []
 topic_in (Shut session) = []
 topic_in (Clock t) = []
@@ -18,21 +18,21 @@ configuration_of port lines = record { port = port; topics = flat_map topic_in l
 
 -- what a session received in a line, whether the line ends its input, and whether it names the session
 abbrev pub bytes_in : ℕ → Line → List ℕ
-bytes_in session (Topic name partitions followers) = []
+bytes_in session (Topic name partitions followers least) = []
 bytes_in session (Feed s bytes) = if s == session then bytes else []
 bytes_in session (Shut s) = []
 bytes_in session (Clock t) = []
 bytes_in session End = []
 
 abbrev pub shuts : ℕ → Line → Bool
-shuts session (Topic name partitions followers) = false
+shuts session (Topic name partitions followers least) = false
 shuts session (Feed s bytes) = false
 shuts session (Shut s) = s == session
 shuts session (Clock t) = false
 shuts session End = false
 
 abbrev pub names : ℕ → Line → Bool
-names session (Topic name partitions followers) = false
+names session (Topic name partitions followers least) = false
 names session (Feed s bytes) = s == session
 names session (Shut s) = s == session
 names session (Clock t) = false
@@ -51,7 +51,7 @@ is_named session lines = list_any (names session) lines
 -- one more than the greatest session that is named, or 0
 abbrev pub sessions_of : List Line → ℕ
 sessions_of [] = 0
-sessions_of (Topic name partitions followers ∷ lines) = sessions_of lines
+sessions_of (Topic name partitions followers least ∷ lines) = sessions_of lines
 sessions_of (Feed session bytes ∷ lines) = max (session + 1) (sessions_of lines)
 sessions_of (Shut session ∷ lines) = max (session + 1) (sessions_of lines)
 sessions_of (Clock t ∷ lines) = sessions_of lines
@@ -60,7 +60,7 @@ sessions_of (End ∷ lines) = sessions_of lines
 -- the moments of the clock lines that are above all before
 abbrev pub rising_from : ℕ → List Line → List ℕ
 rising_from moment [] = []
-rising_from moment (Topic name partitions followers ∷ lines) = rising_from moment lines
+rising_from moment (Topic name partitions followers least ∷ lines) = rising_from moment lines
 rising_from moment (Feed session bytes ∷ lines) = rising_from moment lines
 rising_from moment (Shut session ∷ lines) = rising_from moment lines
 rising_from moment (Clock t ∷ lines) = if nat_lt moment t then t ∷ rising_from t lines else rising_from moment lines

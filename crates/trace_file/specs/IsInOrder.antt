@@ -7,7 +7,7 @@ use Rattle.kwire.specs.Configuration.{IsNewTopic}
 use Rattle.trace_file.specs.Contents.{topic_in, names}
 
 abbrev pub IsTopic : Line → Type 0
-IsTopic (Topic name partitions followers) = Unit {0}
+IsTopic (Topic name partitions followers least) = Unit {0}
 IsTopic (Feed session bytes) = ⊥
 IsTopic (Shut session) = ⊥
 IsTopic (Clock t) = ⊥
@@ -15,7 +15,7 @@ IsTopic End = ⊥
 
 -- a topic, or the end
 abbrev pub DeclaresOrEnds : Line → Type 0
-DeclaresOrEnds (Topic name partitions followers) = Unit {0}
+DeclaresOrEnds (Topic name partitions followers least) = Unit {0}
 DeclaresOrEnds (Feed session bytes) = ⊥
 DeclaresOrEnds (Shut session) = ⊥
 DeclaresOrEnds (Clock t) = ⊥
@@ -34,8 +34,8 @@ pub record MayFollow (earlier later : Line) : Type 0 where
 
 -- each topic may be declared beside those before it
 abbrev pub AreNewTopics : List Line → Type 0
-AreNewTopics lines = (front back : List Line) (name : List ℕ) (partitions followers : ℕ)
-    → lines ≡ front ++ Topic name partitions followers ∷ back → IsNewTopic (flat_map topic_in front) name partitions followers
+AreNewTopics lines = (front back : List Line) (name : List ℕ) (partitions followers least : ℕ)
+    → lines ≡ front ++ Topic name partitions followers least ∷ back → IsNewTopic (flat_map topic_in front) name partitions followers least
 
 -- `end` stands last, and so once
 pub record IsInOrder (lines : List Line) : Type 0 where

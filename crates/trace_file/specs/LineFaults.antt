@@ -1,6 +1,6 @@
 -- What is wrong with a line: with its text alone, or with the place where it stands. The kinds are looked for in the order in
 -- which they stand here, and the first that applies is the line's.
-use Rattle.std.specs.Prelude.{ℕ, ◌≡◌, ◌≢◌, ◌≤◌, ◌⊎◌, Bool, List, [], ◌∷◌, length, codes, Option, Some, None, Ok, MatchOption, IsTrue, if◌then◌else◌}
+use Rattle.std.specs.Prelude.{ℕ, ◌≡◌, ◌≢◌, ◌≤◌, ◌==◌, ◌⊎◌, Bool, List, [], ◌∷◌, length, codes, Option, Some, None, Ok, MatchOption, IsTrue, if◌then◌else◌}
 use Rattle.std.specs.Bool.{nat_eq}
 use Rattle.std.specs.Cmp.Lexicographic.{pointwise}
 use Rattle.std.specs.Fmt.{decimal}
@@ -22,10 +22,14 @@ pub data Part : Type 0 where
   Number : ℕ → Part
   Digits : Part
 
--- the words that stand after a first word, where a line may begin with it
-abbrev pub form_of : List ℕ → Option (List Part)
-form_of word =
-    if pointwise nat_eq word (codes "topic") then Some (Name ∷ Number MOST_NUMBER ∷ Number MOST_NUMBER ∷ [])
+-- the words after that of a topic's line, of which it may have a fourth
+abbrev pub topic_form : ℕ → List Part
+topic_form count = Name ∷ Number MOST_NUMBER ∷ Number MOST_NUMBER ∷ (if count == 4 then Number MOST_NUMBER ∷ [] else [])
+
+-- the words that stand after a first word, where a line may begin with it and have so many after it
+abbrev pub form_of : List ℕ → ℕ → Option (List Part)
+form_of word count =
+    if pointwise nat_eq word (codes "topic") then Some (topic_form count)
     else if pointwise nat_eq word (codes "bytes") then Some (Number LAST_SESSION ∷ Digits ∷ [])
     else if pointwise nat_eq word (codes "close") then Some (Number LAST_SESSION ∷ [])
     else if pointwise nat_eq word (codes "clock") then Some (Number LAST_MOMENT ∷ [])
@@ -62,7 +66,7 @@ IsRestFault words parts kinds.TooLong = ⊥
 
 abbrev pub IsWordsFault : List (List ℕ) → LineKind → Type 0
 IsWordsFault [] kind = ⊥
-IsWordsFault (word ∷ words) kind = MatchOption (form_of word) (kind ≡ kinds.Word) (λ parts. IsRestFault words parts kind)
+IsWordsFault (word ∷ words) kind = MatchOption (form_of word (length words)) (kind ≡ kinds.Word) (λ parts. IsRestFault words parts kind)
 
 -- what is wrong with the text of a line
 abbrev pub IsLineFault : List ℕ → LineKind → Type 0
@@ -75,8 +79,8 @@ pub record MayStand (only_topics : Bool) (before : List Line) (line : Line) : Ty
 
 -- a line's topic, if it is one, may be declared beside those before it
 abbrev pub IsNewLine : List Line → Line → Type 0
-IsNewLine before line = (name : List ℕ) (partitions followers : ℕ) → line ≡ Topic name partitions followers
-    → IsNewTopic (flat_map topic_in before) name partitions followers
+IsNewLine before line = (name : List ℕ) (partitions followers least : ℕ) → line ≡ Topic name partitions followers least
+    → IsNewTopic (flat_map topic_in before) name partitions followers least
 
 -- what is wrong with the place of a line whose text is right
 abbrev pub IsPlaceFault : Bool → List Line → Line → LineKind → Type 0

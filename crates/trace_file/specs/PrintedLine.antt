@@ -1,5 +1,5 @@
 -- One line that is written: it ends with a line feed, and bytes are written in lower case hex.
-use Rattle.std.specs.Prelude.{ℕ, ◌<◌, ◌≤◌, List, [], ◌∷◌, ◌++◌, length, codes}
+use Rattle.std.specs.Prelude.{ℕ, ◌<◌, ◌≤◌, List, [], ◌∷◌, ◌++◌, length, codes, nat_lt, if◌then◌else◌}
 use Rattle.std.specs.Fmt.{decimal}
 use Rattle.hex.specs.Hex.{encode_lower, IsBytes}
 use Rattle.trace_file.specs.declared.line.Line.{Line}
@@ -19,9 +19,13 @@ line_of (word ∷ next ∷ words) = word ++ 32 ∷ line_of (next ∷ words)
 abbrev pub reply_line : ℕ → Reply → List ℕ
 reply_line session reply = line_of (codes "reply" ∷ decimal session ∷ encode_lower (spelling reply) ∷ [])
 
+-- the words of a topic's least number of in-sync replicas, which is written where it is above 1
+abbrev pub least_words : ℕ → List (List ℕ)
+least_words least = if nat_lt 1 least then decimal least ∷ [] else []
+
 -- a line of a trace
 abbrev pub text_of : Line → List ℕ
-text_of (Topic name partitions followers) = line_of (codes "topic" ∷ name ∷ decimal partitions ∷ decimal followers ∷ [])
+text_of (Topic name partitions followers least) = line_of (codes "topic" ∷ name ∷ decimal partitions ∷ decimal followers ∷ least_words least)
 text_of (Feed session bytes) = line_of (codes "bytes" ∷ decimal session ∷ encode_lower bytes ∷ [])
 text_of (Shut session) = line_of (codes "close" ∷ decimal session ∷ [])
 text_of (Clock t) = line_of (codes "clock" ∷ decimal t ∷ [])
@@ -29,7 +33,7 @@ text_of End = line_of (codes "end" ∷ [])
 
 -- a line that a trace may have, so that its text is read back as that line
 abbrev pub IsWritable : Line → Type 0
-IsWritable (Topic name partitions followers) = IsTopicName name × (partitions ≤ MOST_NUMBER) × (followers ≤ MOST_NUMBER)
+IsWritable (Topic name partitions followers least) = IsTopicName name × (partitions ≤ MOST_NUMBER) × (followers ≤ MOST_NUMBER) × (0 < least) × (least ≤ MOST_NUMBER)
 IsWritable (Feed session bytes) = (session < MOST_SESSIONS) × (0 < length bytes) × IsBytes bytes
 IsWritable (Shut session) = session < MOST_SESSIONS
 IsWritable (Clock t) = t ≤ LAST_MOMENT

@@ -10,14 +10,14 @@ use Rattle.trace_file.specs.Contents.{topic_in, is_shut}
 use Rattle.trace_file.specs.FirstBad.{MayBegin}
 
 abbrev pub is_end : Line → Bool
-is_end (Topic name partitions followers) = false
+is_end (Topic name partitions followers least) = false
 is_end (Feed session bytes) = false
 is_end (Shut session) = false
 is_end (Clock t) = false
 is_end End = true
 
 abbrev pub is_no_topic : Line → Bool
-is_no_topic (Topic name partitions followers) = false
+is_no_topic (Topic name partitions followers least) = false
 is_no_topic (Feed session bytes) = true
 is_no_topic (Shut session) = true
 is_no_topic (Clock t) = true
@@ -25,7 +25,7 @@ is_no_topic End = true
 
 -- the moment of a line, or 0
 abbrev pub moment_in : Line → ℕ
-moment_in (Topic name partitions followers) = 0
+moment_in (Topic name partitions followers least) = 0
 moment_in (Feed session bytes) = 0
 moment_in (Shut session) = 0
 moment_in (Clock t) = t
@@ -45,7 +45,7 @@ pub record Sees (order : Order) (lines : List Line) : Type 0 where
 
 -- the session that a line names is one of those that there may be
 abbrev pub NamesOne : Line → Type 0
-NamesOne (Topic name partitions followers) = Unit {0}
+NamesOne (Topic name partitions followers least) = Unit {0}
 NamesOne (Feed session bytes) = session < MOST_SESSIONS
 NamesOne (Shut session) = session < MOST_SESSIONS
 NamesOne (Clock t) = Unit {0}

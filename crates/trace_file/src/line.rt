@@ -10,7 +10,7 @@ pub const MOST_SESSIONS: u32 = kbytes::MOST_SESSIONS;
 /// The greatest number of a session of a trace.
 pub const LAST_SESSION: u32 = MOST_SESSIONS - 1;
 
-/// The greatest number of partitions or followers that a line may write. A topic may have fewer.
+/// The greatest number of partitions, followers or in-sync replicas that a line may write. A topic may have fewer.
 pub const MOST_NUMBER: u32 = 4_294_967_295;
 
 /// The greatest moment that a line may write, in milliseconds.
@@ -25,11 +25,12 @@ pub const REPLAY_PORT: u16 = 9092;
 /// A line of a trace.
 #[derive(Debug, Drop)]
 pub enum Line {
-    /// `topic NAME PARTITIONS FOLLOWERS` declares a topic.
+    /// `topic NAME PARTITIONS FOLLOWERS MIN` declares a topic. Without MIN the least number of in-sync replicas is 1.
     Topic {
         name: Bytes,
         partitions: u32,
         followers: u32,
+        min_insync: u32,
     },
     /// `bytes S HEX`: the session receives these bytes.
     Feed {

@@ -1,9 +1,9 @@
 //! Writing a line of a trace as text. What is written is read back as that line (`promises`).
 
-ghost use Rattle.std.specs.Prelude.{◌≡◌, ◌∷◌, ◌++◌, [], codes, length, take, OnOk, OnErr};
+ghost use Rattle.std.specs.Prelude.{◌≡◌, ◌∷◌, ◌++◌, [], codes, length, take, nat_lt, if◌then◌else◌, OnOk, OnErr};
 ghost use Rattle.std.specs.Fmt.{decimal};
 ghost use Rattle.hex.specs.Hex.{encode_lower};
-ghost use Rattle.trace_file.specs.PrintedLine.{line_of, text_of};
+ghost use Rattle.trace_file.specs.PrintedLine.{line_of, least_words, text_of};
 
 use crate::line::Line;
 use crate::reply_line::put_hex;
@@ -19,18 +19,48 @@ fn put_number(out: &mut Bytes, n: u64) -> Result<(), NoMemory>
     Ok(())
 }
 
-// Adds the line at the end. If memory runs out, a part of it may be there; that is so for the functions below, too.
-fn put_topic(out: &mut Bytes, name: &[u8], partitions: u32, followers: u32) -> Result<(), NoMemory>
-    ensures ok { OnOk result (out.new ≡ out.old ++ line_of (codes "topic" ∷ name.now ∷ decimal partitions ∷ decimal followers ∷ [])) }
+// Adds the last word of a topic's line at the end, where there is one, and the line feed. If memory runs out, a part of it
+// may be there; that is so for the functions below, too.
+fn put_least(out: &mut Bytes, least: u32) -> Result<(), NoMemory>
+    ensures ok { OnOk result (out.new ≡ out.old ++ (if nat_lt 1 least then 32 ∷ decimal least else []) ++ 10 ∷ []) }
+    ensures front { OnErr result (take (length out.old) out.new ≡ out.old) }
+{
+    if least > 1 {
+        out.push(b' ')?;
+        put_number(out, u64::from(least))?;
+    }
+    out.push(b'\n')?;
+    Ok(())
+}
+
+// Adds the numbers of a topic's line at the end, and the line feed.
+fn put_counts(out: &mut Bytes, partitions: u32, followers: u32, least: u32) -> Result<(), NoMemory>
+    ensures ok { OnOk result (out.new ≡ out.old ++ line_of (decimal partitions ∷ decimal followers ∷ least_words least)) }
+    ensures front { OnErr result (take (length out.old) out.new ≡ out.old) }
+{
+    put_number(out, u64::from(partitions))?;
+    out.push(b' ')?;
+    put_number(out, u64::from(followers))?;
+    put_least(out, least)?;
+    Ok(())
+}
+
+// Adds the line at the end.
+fn put_topic(
+    out: &mut Bytes,
+    name: &[u8],
+    partitions: u32,
+    followers: u32,
+    least: u32,
+) -> Result<(), NoMemory>
+    ensures ok { OnOk result (out.new ≡ out.old
+        ++ line_of (codes "topic" ∷ name.now ∷ decimal partitions ∷ decimal followers ∷ least_words least)) }
     ensures front { OnErr result (take (length out.old) out.new ≡ out.old) }
 {
     out.extend(b"topic ".as_slice())?;
     out.extend(name)?;
     out.push(b' ')?;
-    put_number(out, u64::from(partitions))?;
-    out.push(b' ')?;
-    put_number(out, u64::from(followers))?;
-    out.push(b'\n')?;
+    put_counts(out, partitions, followers, least)?;
     Ok(())
 }
 
@@ -75,7 +105,8 @@ fn put_text(out: &mut Bytes, line: &Line) -> Result<(), NoMemory>
             name,
             partitions,
             followers,
-        } => put_topic(out, name.as_slice(), *partitions, *followers),
+            min_insync,
+        } => put_topic(out, name.as_slice(), *partitions, *followers, *min_insync),
         Line::Feed { session, bytes } => put_feed(out, *session, bytes.as_slice()),
         Line::Shut { session } => put_shut(out, *session),
         Line::Clock { t } => put_clock(out, *t),

@@ -5,14 +5,14 @@ ghost use Rattle.std.specs.Fmt.{decimal};
 ghost use Rattle.hex.specs.Hex.{decode_of};
 ghost use Rattle.trace_file.specs.declared.line.LineKind.TheVariants as kinds;
 ghost use Rattle.trace_file.specs.IsLine.{words_of, AreWordsOf, IsLine};
-ghost use Rattle.trace_file.specs.LineFaults.{IsWordsFault, IsLineFault};
+ghost use Rattle.trace_file.specs.LineFaults.{AreFilled, IsWordsFault, IsLineFault};
 ghost use Rattle.trace_file.specs.Refusals.{Tells};
 
 use crate::line::{LAST_MOMENT, LAST_SESSION, Line, LineKind, MOST_NUMBER};
 use crate::number::number;
 use crate::pieces::cut;
 use crate::refusal::Refusal;
-use crate::words::{one_word, three_words, two_words};
+use crate::words::{four_words, one_word, three_words, two_words};
 use hex::FromHexError;
 use kbytes::{Bytes, copied};
 use std::alloc::Global;
@@ -28,7 +28,8 @@ fn small(word: &[u8], most: u32) -> Option<u32>
 }
 
 // `NAME PARTITIONS FOLLOWERS`
-fn topic(alloc: Global, rest: &[u8]) -> Result<Line, Refusal>
+fn short_topic(alloc: Global, rest: &[u8]) -> Result<Line, Refusal>
+    requires { AreFilled (words_of rest.now) 4 → ⊥ }
     ensures line { IfOk result (AreWordsOf (codes "topic" ∷ words_of rest.now)) }
     ensures fault { IfErr result (λ e. Tells e (IsWordsFault (codes "topic" ∷ words_of rest.now))) }
 {
@@ -46,6 +47,33 @@ fn topic(alloc: Global, rest: &[u8]) -> Result<Line, Refusal>
         name,
         partitions,
         followers,
+        min_insync: 1,
+    })
+}
+
+// `NAME PARTITIONS FOLLOWERS` or `NAME PARTITIONS FOLLOWERS MIN`
+fn topic(alloc: Global, rest: &[u8]) -> Result<Line, Refusal>
+    ensures line { IfOk result (AreWordsOf (codes "topic" ∷ words_of rest.now)) }
+    ensures fault { IfErr result (λ e. Tells e (IsWordsFault (codes "topic" ∷ words_of rest.now))) }
+{
+    let Some((name, partitions, followers, least)) = four_words(rest) else {
+        return short_topic(alloc, rest);
+    };
+    let Some(partitions) = small(partitions, MOST_NUMBER) else {
+        return Err(Refusal::Bad(LineKind::Number));
+    };
+    let Some(followers) = small(followers, MOST_NUMBER) else {
+        return Err(Refusal::Bad(LineKind::Number));
+    };
+    let Some(min_insync) = small(least, MOST_NUMBER) else {
+        return Err(Refusal::Bad(LineKind::Number));
+    };
+    let name = copied(alloc, name)?;
+    Ok(Line::Topic {
+        name,
+        partitions,
+        followers,
+        min_insync,
     })
 }
 

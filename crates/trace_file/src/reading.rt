@@ -38,11 +38,12 @@ fn declare(config: &mut Config, line: &Line) -> Result<(), Refusal>
         name,
         partitions,
         followers,
+        min_insync,
     } = line
     else {
         return Ok(());
     };
-    match config.add(name.as_slice(), *partitions, *followers) {
+    match config.add(name.as_slice(), *partitions, *followers, *min_insync) {
         Ok(()) => Ok(()),
         Err(fault) => Err(Refusal::from(fault)),
     }

@@ -55,3 +55,14 @@ pub fn three_words(text: &[u8]) -> Option<(&[u8], &[u8], &[u8])>
     let (second, third) = two_words(rest)?;
     Some((first, second, third))
 }
+
+/// The four words of the bytes, or `None`.
+pub fn four_words(text: &[u8]) -> Option<(&[u8], &[u8], &[u8], &[u8])>
+    ensures some { IfSome result (λ p. words_of text.now ≡ p.0.now ∷ p.1.now ∷ p.2.now ∷ p.3.now ∷ []) }
+    ensures filled { OnSome result (AreFilled (words_of text.now) 4) }
+    ensures none { IfNone result (AreFilled (words_of text.now) 4 → ⊥) }
+{
+    let (first, rest) = word_before(text)?;
+    let (second, third, fourth) = three_words(rest)?;
+    Some((first, second, third, fourth))
+}

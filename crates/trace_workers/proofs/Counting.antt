@@ -11,14 +11,14 @@ use Rattle.trace_workers.specs.Playable.{AreTraced}
 
 -- the first line, and those behind it
 pub one_line : (line : Line) (lines : List Line) → sessions_of (line ∷ lines) ≡ max (sessions_of (line ∷ [])) (sessions_of lines)
-one_line (Topic name partitions followers) lines = omega arith
+one_line (Topic name partitions followers least) lines = omega arith
 one_line (Feed session bytes) lines = omega arith
 one_line (Shut session) lines = omega arith
 one_line (Clock t) lines = omega arith
 one_line End lines = omega arith
 
 line_below : (n : ℕ) (line : Line) → ((session : ℕ) → names session line ≡ true → session < n) → sessions_of (line ∷ []) ≤ n
-line_below n (Topic name partitions followers) below = omega arith
+line_below n (Topic name partitions followers least) below = omega arith
 line_below n (Feed session bytes) below = omega (arith, below session (eq-eqb session session refl))
 line_below n (Shut session) below = omega (arith, below session (eq-eqb session session refl))
 line_below n (Clock t) below = omega arith

@@ -17,7 +17,7 @@ after_rise m t rest behind tail less is =
 
 pub rising_after : (m : ℕ) (xs ys : List Line) → rising_from m (xs ++ ys) ≡ rising_from m xs ++ rising_from (latest_from m xs) ys
 rising_after m [] ys = refl
-rising_after m (Topic name partitions followers ∷ xs) ys = rising_after m xs ys
+rising_after m (Topic name partitions followers least ∷ xs) ys = rising_after m xs ys
 rising_after m (Feed session bytes ∷ xs) ys = rising_after m xs ys
 rising_after m (Shut session ∷ xs) ys = rising_after m xs ys
 rising_after m (Clock t ∷ xs) ys = by_test (ltb m t) (ltb-true m t) (rising_after t xs ys) (rising_after m xs ys)

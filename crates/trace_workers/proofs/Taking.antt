@@ -13,7 +13,7 @@ use Rattle.trace_workers.proofs.Traced.{named_below, open_before, within_limit}
 
 may_by_line : (count : ℕ) (before : List Line) (line : Line) (worker : WorkerView) → HasAll count worker → ((session : ℕ) → names session line ≡ true → session < count)
     → ((session : ℕ) → names session line ≡ true → is_shut session before ≡ false) → ((t : ℕ) → line ≡ Clock t → t ≤ MOST_MOMENT) → is_own worker line ≡ true → MayTake before line worker
-may_by_line count before (Topic name partitions followers) worker all below opened limit own = tt
+may_by_line count before (Topic name partitions followers least) worker all below opened limit own = tt
 may_by_line count before (Feed session bytes) worker all below opened limit own =
     let named : eqb session session ≡ true = eq-eqb session session refl in
     (all session (below session named) (eqb-true _ worker.number own), opened session named)

@@ -19,19 +19,19 @@ no_session session n e = absurd (false≢true e)
 -- only sessions below the count are named
 pub named_below : (lines : List Line) (i : ℕ) (d : Line) (session : ℕ) → i < length lines → names session (get_or lines i d) ≡ true → session < sessions_of lines
 named_below [] i d session less e = absurd (omega (arith, less))
-named_below (Topic name partitions followers ∷ lines) zero d session less e = absurd (false≢true e)
+named_below (Topic name partitions followers least ∷ lines) zero d session less e = absurd (false≢true e)
 named_below (Feed s bytes ∷ lines) zero d session less e = omega (arith, eqb-true s session e)
 named_below (Shut s ∷ lines) zero d session less e = omega (arith, eqb-true s session e)
 named_below (Clock t ∷ lines) zero d session less e = absurd (false≢true e)
 named_below (End ∷ lines) zero d session less e = absurd (false≢true e)
-named_below (Topic name partitions followers ∷ lines) (suc i) d session less e = named_below lines i d session (omega (arith, less)) e
+named_below (Topic name partitions followers least ∷ lines) (suc i) d session less e = named_below lines i d session (omega (arith, less)) e
 named_below (Feed s bytes ∷ lines) (suc i) d session less e = omega (arith, named_below lines i d session (omega (arith, less)) e)
 named_below (Shut s ∷ lines) (suc i) d session less e = omega (arith, named_below lines i d session (omega (arith, less)) e)
 named_below (Clock t ∷ lines) (suc i) d session less e = named_below lines i d session (omega (arith, less)) e
 named_below (End ∷ lines) (suc i) d session less e = named_below lines i d session (omega (arith, less)) e
 
 shut_is : (session : ℕ) (line : Line) → shuts session line ≡ true → line ≡ Shut session
-shut_is session (Topic name partitions followers) e = absurd (false≢true e)
+shut_is session (Topic name partitions followers least) e = absurd (false≢true e)
 shut_is session (Feed s bytes) e = absurd (false≢true e)
 shut_is session (Shut s) e = ap Shut (eqb-true s session e)
 shut_is session (Clock t) e = absurd (false≢true e)
@@ -51,7 +51,7 @@ open_before lines i d session order less named =
     ]
 
 limit_of : (piece : List ℕ) (line : Line) (t : ℕ) → IsLine piece line → line ≡ Clock t → t ≤ MOST_MOMENT
-limit_of piece (Topic name partitions followers) t h e = absurd cc
+limit_of piece (Topic name partitions followers least) t h e = absurd cc
 limit_of piece (Feed s bytes) t h e = absurd cc
 limit_of piece (Shut s) t h e = absurd cc
 limit_of piece (Clock u) t h e = let same : u ≡ t = cc in omega (arith, same, h.in_range)

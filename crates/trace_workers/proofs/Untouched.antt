@@ -20,14 +20,14 @@ use Rattle.trace_workers.proofs.Moments.{latest_from, rising_after}
 -- ---- a line that doesn't name the session
 
 no_bytes : (n : ℕ) (line : Line) → names n line ≡ false → bytes_in n line ≡ []
-no_bytes n (Topic name partitions followers) e = refl
+no_bytes n (Topic name partitions followers least) e = refl
 no_bytes n (Feed s bytes) e = ap (λ (b : Bool). cond b bytes []) e
 no_bytes n (Shut s) e = refl
 no_bytes n (Clock t) e = refl
 no_bytes n End e = refl
 
 no_end : (n : ℕ) (line : Line) → names n line ≡ false → shuts n line ≡ false
-no_end n (Topic name partitions followers) e = refl
+no_end n (Topic name partitions followers least) e = refl
 no_end n (Feed s bytes) e = refl
 no_end n (Shut s) e = e
 no_end n (Clock t) e = refl

@@ -165,8 +165,8 @@ no_clock broker lines None e = tt
 no_clock broker lines (Some pass) e = absurd (false≢true (sym e))
 
 pub done_foreign : (broker : BrokerView) (before : List Line) (line : Line) (worker : WorkerView) → worker.number < worker.worker_count → is_own worker line ≡ false → HasDone broker before worker → HasDone broker (before ++ line ∷ []) worker
-done_foreign broker before (Topic name partitions followers) worker below foreign h =
-    let line : Line = Topic name partitions followers in
+done_foreign broker before (Topic name partitions followers least) worker below foreign h =
+    let line : Line = Topic name partitions followers least in
     done_past broker before line worker (λ k. refl) (clock_past broker before line worker.clock (λ m. refl) h.clock) h
 done_foreign broker before (Feed session bytes) worker below foreign h =
     let line : Line = Feed session bytes in

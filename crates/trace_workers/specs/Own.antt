@@ -11,7 +11,7 @@ is_own_session worker session = session % worker.worker_count == worker.number
 
 -- bytes for a session of its own, the end of such a session's input, and a moment where it has the clock
 abbrev pub is_own : WorkerView → Line → Bool
-is_own worker (Topic name partitions followers) = false
+is_own worker (Topic name partitions followers least) = false
 is_own worker (Feed session bytes) = is_own_session worker session
 is_own worker (Shut session) = is_own_session worker session
 is_own worker (Clock t) = is_some worker.clock
@@ -22,7 +22,7 @@ IsThere worker session = session / worker.worker_count < length worker.sessions
 
 -- the session that the line names is there, and its input is still open where bytes come; a moment is within the limit
 abbrev pub MayTake : List Line → Line → WorkerView → Type 0
-MayTake before (Topic name partitions followers) worker = ⊤
+MayTake before (Topic name partitions followers least) worker = ⊤
 MayTake before (Feed session bytes) worker = IsThere worker session × (is_shut session before ≡ false)
 MayTake before (Shut session) worker = IsThere worker session
 MayTake before (Clock t) worker = t ≤ MOST_MOMENT

@@ -14,8 +14,8 @@ unreachable-requires c =
     sym (take-append-drop i lines) ∙ ap (λ (ls : List Line). take i lines ++ ls) (drop_more lines i line c.loop-line-test.true)
     ∙ ap (λ (l : Line). take i lines ++ l ∷ drop (i + 1) lines) (sym c.line-item.is)
     in
-    let new : IsNewLine (take i lines) line = λ name partitions followers is.
-    c.requires (take i lines) (drop (i + 1) lines) name partitions followers (parts ∙ ap (λ (l : Line). take i lines ++ l ∷ drop (i + 1) lines) is)
+    let new : IsNewLine (take i lines) line = λ name partitions followers least is.
+    c.requires (take i lines) (drop (i + 1) lines) name partitions followers least (parts ∙ ap (λ (l : Line). take i lines ++ l ∷ drop (i + 1) lines) is)
     in
     let told = rw c.in-Err-Bad.field-0-is at c.in-Err-Bad.ensures.fault in
     told.1 (take i lines) (ap (λ (k : Configuration). k.topics) c.loop-line.invariant) new

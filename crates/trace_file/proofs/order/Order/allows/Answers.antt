@@ -18,8 +18,8 @@ returns-in-Topic c = λ lines sees.
     let order = c.args.self.now in
     let t = c.in-Topic in (
       λ yes. subst (MayStand c.args.only_topics lines) (sym t.is)
-          (allowed_topic c.args.only_topics order lines t.name t.partitions t.followers sees c.if-self.false (not-true order.begun yes)),
-      λ may. ap not (refused_topic c.args.only_topics order lines t.name t.partitions t.followers sees (subst (MayStand c.args.only_topics lines) t.is may)),
+          (allowed_topic c.args.only_topics order lines t.name t.partitions t.followers t.min_insync sees c.if-self.false (not-true order.begun yes)),
+      λ may. ap not (refused_topic c.args.only_topics order lines t.name t.partitions t.followers t.min_insync sees (subst (MayStand c.args.only_topics lines) t.is may)),
     )
 
 pub returns-then-not-only_topics : goal.returns-then-not-only_topics

@@ -8,7 +8,7 @@ pub returns-in-Topic : goal.returns-in-Topic
 returns-in-Topic c = λ lines sees.
     let order = c.args.self.now in
     subst (λ (line : Line). Sees order (lines ++ line ∷ [])) (sym c.in-Topic.is)
-    (passed_topic order lines c.in-Topic.name c.in-Topic.partitions c.in-Topic.followers sees)
+    (passed_topic order lines c.in-Topic.name c.in-Topic.partitions c.in-Topic.followers c.in-Topic.min_insync sees)
 
 pub returns-in-Feed : goal.returns-in-Feed
 returns-in-Feed c = λ lines sees.
