@@ -113,8 +113,16 @@ const BAD: &[(&[u8], u32, LineKind)] = &[
     (b"topic u 64 0\ntopic v 1 0\nend\n", 2, LineKind::BadTopic),
     (b"topic t 1 0\ntopic t 1 0\nend\n", 2, LineKind::BadTopic),
     (b"topic t 1 1 0\nend\n", 1, LineKind::BadTopic),
-    (b"topic t 1 1 2\ntopic u 1 1 3\nend\n", 2, LineKind::BadTopic),
-    (b"topic t 1 4294967295 4294967295\nend\n", 1, LineKind::BadTopic),
+    (
+        b"topic t 1 1 2\ntopic u 1 1 3\nend\n",
+        2,
+        LineKind::BadTopic,
+    ),
+    (
+        b"topic t 1 4294967295 4294967295\nend\n",
+        1,
+        LineKind::BadTopic,
+    ),
     (
         b"topic t 1 0\nclock 0\ntopic t 1 0\nend\n",
         3,
