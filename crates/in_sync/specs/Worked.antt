@@ -26,3 +26,9 @@ back_in = still_out ++ Fetched 1 2 30000 ∷ []
 -- a third record, which it has still to fetch
 abbrev pub third_record : List ReplicaEvent
 third_record = back_in ++ Appended 1 ∷ []
+
+-- a follower that fetches as fast as records come, and is always one of them behind: it fetches from the log end at 10, from
+-- below it at 20, and at 30 from where the log ended at 20
+abbrev pub one_behind : List ReplicaEvent
+one_behind =
+    Appended 1 ∷ Fetched 1 1 10 ∷ Appended 1 ∷ Fetched 1 1 20 ∷ Appended 1 ∷ Fetched 1 2 30 ∷ []

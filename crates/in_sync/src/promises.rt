@@ -3,11 +3,12 @@ ghost use Rattle.std.specs.Prelude.{◌≡◌, ℕ, ◌+◌, ◌≤◌, List, []
 ghost use Rattle.in_sync.specs.ReplicaEvent.{ReplicaEvent, Fetched, Left};
 ghost use Rattle.in_sync.specs.LogEnd.{log_end_of};
 ghost use Rattle.in_sync.specs.Position.{position_of, positions_of};
+ghost use Rattle.in_sync.specs.CaughtUp.{caught_up_of};
 ghost use Rattle.in_sync.specs.InSync.{in_sync_of, high_watermark_of, count_of};
 ghost use Rattle.in_sync.specs.Lagging.{Lags};
 ghost use Rattle.in_sync.specs.NobodyLeft.{NobodyLeft};
 ghost use Rattle.in_sync.specs.Standings.{Standings, StandsFor};
-ghost use Rattle.in_sync.specs.Worked.{one_record, taken_out, without_it, still_out, back_in, third_record};
+ghost use Rattle.in_sync.specs.Worked.{one_record, taken_out, without_it, still_out, back_in, third_record, one_behind};
 
 /// Law: while a history only grows, the high watermark doesn't fall, whoever leaves the in-sync set or comes back. It is
 /// never above the log end.
@@ -53,7 +54,8 @@ pub fn standings_say()
 
 /// Law: of a worked history with one follower. A record is appended that it doesn't fetch. It lags after 30,000 milliseconds
 /// and not one earlier, and leaves. From then on the high watermark is the log end, 1, and 2 after another record. A fetch
-/// from 1 leaves it out, and one from 2 takes it in. A third record is below no high watermark until it fetches again.
+/// from 1 leaves it out, and one from 2 takes it in. A third record is below no high watermark until it fetches again. One
+/// that is always a record behind has caught up when it asked for all that was there, and lags from then on.
 pub fn worked_history()
     ensures not_yet { Lags 1 one_record 29999 1 → ⊥ }
     ensures lags { Lags 1 one_record 30000 1 }
@@ -62,4 +64,6 @@ pub fn worked_history()
     ensures still_out { IsFalse (in_sync_of 1 still_out 1) × (position_of still_out 1 ≡ 1) }
     ensures back { IsTrue (in_sync_of 1 back_in 1) × (count_of 1 back_in ≡ 2) × (high_watermark_of 1 back_in ≡ 2) }
     ensures waits { (high_watermark_of 1 third_record ≡ 2) × (log_end_of third_record ≡ 3) }
+    ensures behind { caught_up_of one_behind 1 ≡ 20 }
+    ensures behind_lags { Lags 1 one_behind 30020 1 × (Lags 1 one_behind 30019 1 → ⊥) }
 {}
