@@ -52,7 +52,7 @@ requests_writable seed n i (suc k) le =
 
 load_writable : (seed n : ℕ) → n ≤ 200000 → AllByRecursion IsWritable (storm_lines seed n)
 load_writable seed n le = (
-  (storm_is_new.named, omega arith, omega arith),
+  (storm_is_new.named, omega arith, omega arith, omega arith, omega arith),
   all_append IsWritable (flat_map (request_lines seed n) (range_with_len 0 n)) (End ∷ []) (requests_writable seed n 0 n (omega (arith, le))) (tt, tt),
 )
 
