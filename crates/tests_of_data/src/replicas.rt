@@ -1,12 +1,26 @@
 //! Who of a partition's followers is in sync.
 
 use in_sync::{InSync, MOST_LAG};
+use std::process::Abort;
 use std::test::*;
 
+#[derive(Clone, Copy)]
 enum Step {
     Append(u32),
     Fetch(u64),
     Leave,
+}
+
+// An append within the bound that a log end has.
+fn append(rt: &impl Abort, replicas: &mut InSync, count: u32) {
+    assert!(rt; replicas.log_end() < 100);
+    replicas.append(count);
+}
+
+// A fetch by a follower from an offset that the log has.
+fn fetch(rt: &impl Abort, replicas: &mut InSync, replica: u32, offset: u64, t: u64) {
+    assert!(rt; 0 < replica && replica <= replicas.followers() && offset <= replicas.log_end());
+    replicas.fetch(replica, offset, t);
 }
 
 // What is lagging is asked of before the step, and the other numbers are those after it.
@@ -27,8 +41,8 @@ fn a_follower_lags_and_leaves_and_comes_back(rt: HostRuntime) {
     ] {
         assert!(rt; replicas.lagging(t) == lagging);
         match step {
-            Step::Append(more) => replicas.append(more),
-            Step::Fetch(offset) => replicas.fetch(1, offset, t),
+            Step::Append(more) => append(&rt, &mut replicas, more),
+            Step::Fetch(offset) => fetch(&rt, &mut replicas, 1, offset, t),
             Step::Leave => replicas.leave(1, t),
         }
         assert!(rt; replicas.log_end() == log_end && replicas.high_watermark() == high_watermark);
@@ -40,13 +54,13 @@ fn a_follower_lags_and_leaves_and_comes_back(rt: HostRuntime) {
 #[test]
 fn who_asks_for_all_that_was_there_had_caught_up_then(rt: HostRuntime) {
     let mut replicas = InSync::new(rt.alloc(), 3).expect(&rt, "memory");
-    replicas.append(2);
+    append(&rt, &mut replicas, 2);
     for replica in 1..4 {
-        replicas.fetch(replica, 0, 1_000);
+        fetch(&rt, &mut replicas, replica, 0, 1_000);
     }
-    replicas.append(5);
-    replicas.fetch(2, 1, 2_000);
-    replicas.fetch(3, 2, 2_000);
+    append(&rt, &mut replicas, 5);
+    fetch(&rt, &mut replicas, 2, 1, 2_000);
+    fetch(&rt, &mut replicas, 3, 2, 2_000);
     assert!(rt; replicas.lagging(MOST_LAG) == Some(1));
     replicas.leave(1, MOST_LAG);
     assert!(rt; replicas.lagging(MOST_LAG) == Some(2));
