@@ -1,5 +1,6 @@
--- Who is in sync with the leader, and the high watermark. A replica is in sync as the last entry says that took it out of the
--- set or put it in. Leaving takes it out. A fetch from the high watermark before it or farther puts it in. At first all are.
+-- Who is in sync with the leader, and the high watermark. The last entry that took a replica out of the set or put it in
+-- decides, and at first all are in. Leaving takes a replica out. A fetch from an offset that is at least the high watermark
+-- before it puts it in.
 use Rattle.std.specs.Prelude.{ℕ, ◌+◌, ◌==◌, Bool, true, false, List, [], ◌∷◌, length, reverse, min, map, filter, fold, nat_le, if◌then◌else◌}
 use Rattle.std.specs.List.{range_with_len}
 use Rattle.in_sync.specs.ReplicaEvent.{ReplicaEvent, Appended, Fetched, Left}

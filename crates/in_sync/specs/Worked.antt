@@ -1,5 +1,5 @@
--- A worked history of a partition with one follower, written out: a wrong word among the definitions would break what is
--- shown of it. Each step is the one before it and what came then.
+-- Worked histories of a partition with one follower, written out: a wrong word among the definitions would break what is
+-- shown of them. In the first each step is the one before it and what came then.
 use Rattle.std.specs.Prelude.{List, [], ◌∷◌, ◌++◌}
 use Rattle.in_sync.specs.ReplicaEvent.{ReplicaEvent, Appended, Fetched, Left}
 
@@ -27,8 +27,8 @@ back_in = still_out ++ Fetched 1 2 30000 ∷ []
 abbrev pub third_record : List ReplicaEvent
 third_record = back_in ++ Appended 1 ∷ []
 
--- a follower that fetches as fast as records come, and is always one of them behind: it fetches from the log end at 10, from
--- below it at 20, and at 30 from where the log ended at 20
-abbrev pub one_behind : List ReplicaEvent
-one_behind =
-    Appended 1 ∷ Fetched 1 1 10 ∷ Appended 1 ∷ Fetched 1 1 20 ∷ Appended 1 ∷ Fetched 1 2 30 ∷ []
+-- ==== another one, of which the follower's next fetch is left open
+
+-- it fetched when there were two records, for the last time at the moment 1000, and then five more came
+abbrev pub asked_once : List ReplicaEvent
+asked_once = Appended 2 ∷ Fetched 1 0 900 ∷ Fetched 1 1 1000 ∷ Appended 5 ∷ []

@@ -3,12 +3,12 @@ ghost use Rattle.std.specs.Prelude.{◌≡◌, ℕ, ◌+◌, ◌≤◌, List, []
 ghost use Rattle.in_sync.specs.ReplicaEvent.{ReplicaEvent, Fetched, Left};
 ghost use Rattle.in_sync.specs.LogEnd.{log_end_of};
 ghost use Rattle.in_sync.specs.Position.{position_of, positions_of};
-ghost use Rattle.in_sync.specs.CaughtUp.{caught_up_of};
 ghost use Rattle.in_sync.specs.InSync.{in_sync_of, high_watermark_of, count_of};
+ghost use Rattle.in_sync.specs.CaughtUp.{caught_up_of};
 ghost use Rattle.in_sync.specs.Lagging.{Lags};
 ghost use Rattle.in_sync.specs.NobodyLeft.{NobodyLeft};
 ghost use Rattle.in_sync.specs.Standings.{Standings, StandsFor};
-ghost use Rattle.in_sync.specs.Worked.{one_record, taken_out, without_it, still_out, back_in, third_record, one_behind};
+ghost use Rattle.in_sync.specs.Worked.{one_record, taken_out, without_it, still_out, back_in, third_record, asked_once};
 
 /// Law: while a history only grows, the high watermark doesn't fall, whoever leaves the in-sync set or comes back. It is
 /// never above the log end.
@@ -52,11 +52,12 @@ pub fn standings_say()
         → StandsFor standings followers events → standings.high_watermark ≡ high_watermark_of followers events }
 {}
 
-/// Law: of a worked history with one follower. A record is appended that it doesn't fetch. It lags after 30,000 milliseconds
+/// Law: of worked histories with one follower. In one, a record is appended that it doesn't fetch. It lags after 30,000 milliseconds
 /// and not one earlier, and leaves. From then on the high watermark is the log end, 1, and 2 after another record. A fetch
-/// from 1 leaves it out, and one from 2 takes it in. A third record is below no high watermark until it fetches again. One
-/// that is always a record behind has caught up when it asked for all that was there, and lags from then on.
-pub fn worked_history()
+/// from 1 leaves it out, and one from 2 takes it in. A third record doesn't raise the high watermark: the follower hasn't
+/// fetched it. In another history, a fetch that asks for all that was there at the one before reaches the moment of that
+/// one, one that asks for less reaches none, and one from the log end reaches its own.
+pub fn worked_histories()
     ensures not_yet { Lags 1 one_record 29999 1 → ⊥ }
     ensures lags { Lags 1 one_record 30000 1 }
     ensures left { (high_watermark_of 1 taken_out ≡ 1) × (count_of 1 taken_out ≡ 1) }
@@ -64,6 +65,7 @@ pub fn worked_history()
     ensures still_out { IsFalse (in_sync_of 1 still_out 1) × (position_of still_out 1 ≡ 1) }
     ensures back { IsTrue (in_sync_of 1 back_in 1) × (count_of 1 back_in ≡ 2) × (high_watermark_of 1 back_in ≡ 2) }
     ensures waits { (high_watermark_of 1 third_record ≡ 2) × (log_end_of third_record ≡ 3) }
-    ensures behind { caught_up_of one_behind 1 ≡ 20 }
-    ensures behind_lags { Lags 1 one_behind 30020 1 × (Lags 1 one_behind 30019 1 → ⊥) }
+    ensures all_of_then { caught_up_of (asked_once ++ Fetched 1 2 2000 ∷ []) 1 ≡ 1000 }
+    ensures not_all { caught_up_of (asked_once ++ Fetched 1 1 2000 ∷ []) 1 ≡ 0 }
+    ensures all_of_now { caught_up_of (asked_once ++ Fetched 1 7 2000 ∷ []) 1 ≡ 2000 }
 {}
