@@ -8,7 +8,7 @@
 //!
 //! ```text
 //! port PORT
-//! topic NAME PARTITIONS FOLLOWERS     each topic; the name in hex
+//! topic NAME PARTITIONS FOLLOWERS MIN each topic; the name in hex
 //! part FOLLOWERS LOG                  each partition, with its entries in order after it:
 //! append BY SEQ COUNT LEN
 //! follow BY SEQ REPLICA OFFSET

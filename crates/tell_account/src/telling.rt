@@ -11,10 +11,11 @@ fn tell_config<W: Write>(out: &mut W, config: &Config) -> io::Result<()> {
     for topic in config.topics() {
         writeln!(
             out,
-            "topic {} {} {}",
+            "topic {} {} {} {}",
             Hex(topic.name.as_slice()),
             topic.partitions,
-            topic.followers
+            topic.followers,
+            topic.min_insync
         )?;
     }
     Ok(())
