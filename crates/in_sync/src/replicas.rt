@@ -126,8 +126,8 @@ impl InSync {
         self.high_watermark = least_of(log_end, self.followers.as_slice());
     }
 
-    /// Enters that a replica was taken out of the in-sync set at this moment. One that isn't a follower changes nothing. It
-    /// takes no memory.
+    /// Enters that a replica was taken out of the in-sync set at this moment, which stands in the history alone. One that isn't
+    /// a follower changes nothing. It takes no memory.
     pub fn leave(&mut self, replica: u32, t: u64)
         ensures stands { (followers : ℕ) (events : List ReplicaEvent) → StandsFor self.old followers events
             → StandsFor self.new followers (events ++ Left replica t ∷ []) }
