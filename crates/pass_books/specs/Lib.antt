@@ -8,6 +8,8 @@ pub mod Told
 pub mod Owned
 -- what holds of a book
 pub mod IsBook
+-- a pass took followers out
+pub mod TakenOut
 -- the books of all passes, and the account that they come to
 pub mod Together
 -- two passes, written out

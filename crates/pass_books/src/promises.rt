@@ -1,6 +1,6 @@
 //! Laws of books. They do nothing.
 
-ghost use Rattle.std.specs.Prelude.{◌≡◌, ◌<◌, ◌≤◌, ◌+◌, ◌∷◌, ◌++◌, [], ℕ, ℤ, count_by, if◌then◌else◌, length, sum_by, false, true, List, None, Option, Some, slice_get};
+ghost use Rattle.std.specs.Prelude.{◌≡◌, ◌<◌, ◌≤◌, ◌+◌, ◌∷◌, ◌++◌, [], ℕ, ℤ, Contains, count_by, if◌then◌else◌, length, sum_by, false, true, List, None, Option, Some, slice_get};
 ghost use Rattle.kbatch.specs.Batch.{IsBatch};
 ghost use Rattle.kbatch.specs.declared.record.Record.{Record};
 ghost use Rattle.partlog.specs.declared.clock_event.ClockEvent.{ClockEvent};
@@ -15,7 +15,7 @@ ghost use Rattle.audit.specs.declared.account.SessionEnd.{SessionEnd};
 ghost use Rattle.audit.specs.declared.account.SessionEnd.TheVariants.{NoMemory};
 ghost use Rattle.audit.specs.declared.account.Transcript.{Transcript};
 ghost use Rattle.audit.specs.Fits.{IsReplyOf};
-ghost use Rattle.audit.specs.Histories.{no_state};
+ghost use Rattle.audit.specs.Histories.{no_state, ticks_of};
 ghost use Rattle.audit.specs.IsLawful.{is_won_as, is_won_by, IsLawful};
 ghost use Rattle.audit.specs.LawfulCall.{operation_parts};
 ghost use Rattle.audit.specs.Worked.{at, fetch_both, fetch_one, followed, three_waits, two_parts};
@@ -41,6 +41,7 @@ ghost use Rattle.pass_books.specs.Finishing.{IsDelayed, IsFinishing, late_seen, 
 ghost use Rattle.pass_books.specs.IsBook.{IsBook};
 ghost use Rattle.pass_books.specs.Owned.{OthersAlone};
 ghost use Rattle.pass_books.specs.Together.{account_of, all_calls_in, AreTogether, won_by};
+ghost use Rattle.pass_books.specs.TakenOut.{HasTakenOut};
 ghost use Rattle.pass_books.specs.Told.{last_is_cut};
 ghost use Rattle.pass_books.specs.Turns.{accepted_there, Finds, looked_there, noted_there};
 ghost use Rattle.pass_books.specs.Underway.{begun_amid, book_amid, earlier_calls, Underway, with_end};
@@ -57,7 +58,8 @@ pub fn books_are_lawful()
 {}
 
 /// Law: a book between two calls. A pass that has done nothing has one. It stays a book whatever others do, when the pass ticks
-/// the clock, and when it begins or ends a transcript. Where the last call was cut off, the transcript ends as out of memory.
+/// the clock, when it takes followers out at a moment that the clock was told, and when it begins or ends a transcript. Where the last
+/// call was cut off, the transcript ends as out of memory.
 pub fn books_go_on()
     ensures opened { (config : Configuration) (number : ℕ) → partitions_of config.topics ≤ MOST_PARTITIONS
         → IsBook (opening_book config number) None }
@@ -66,6 +68,9 @@ pub fn books_go_on()
         → IsBook (record book { parts = later; clock = behind }) waits }
     ensures ticked { (book : Book) (waits : Option Waiting) (t : ℕ) → moment_of book.clock < t → IsBook book waits
         → IsBook (record book { clock = book.clock ++ Tick t ∷ [] }) waits }
+    ensures taken_out { (book : Book) (waits : Option Waiting) (t : ℕ) (later : List History) → HasTakenOut book.number t book.parts later
+        → Contains (ticks_of book.clock) t → AreHistories book.config later book.clock → IsBook book waits
+        → IsBook (record book { parts = later }) waits }
     ensures begun { (book : Book) (number : ℕ) → IsBook book None
         → IsBook (record book { transcripts = book.transcripts ++ begun_behind book.transcripts number ∷ [] }) None }
     ensures ended { (book : Book) (front : List Transcript) (last : Transcript) (end : SessionEnd) → last.end ≡ None
