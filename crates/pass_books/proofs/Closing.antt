@@ -1,19 +1,24 @@
 -- The books of all passes come to a lawful account.
-use Rattle.std.proofs.Common.{◌≡◌, ℕ, zero, suc, List, [], ◌∷◌, ◌++◌, map, Option, Some, None, unwrap_or, refl, sym, ap, subst, ◌∙◌, arith, inl, inr, append_assoc, append-nil}
+use Rattle.std.proofs.Common.{◌≡◌, ℕ, zero, suc, ◌<◌, ℤ, List, [], ◌∷◌, ◌++◌, map, Option, Some, None, unwrap_or, refl, sym, ap, subst, ◌∙◌, arith, inl, inr, append_assoc, append-nil}
 use Rattle.std.proofs.lemmas.Grind.{flat_map-append}
-use Rattle.std.specs.Prelude.{slice_get, count_by}
+use Rattle.std.proofs.lemmas.Option.{slice_get-map}
+use Rattle.std.specs.Option.{option_map}
+use Rattle.std.specs.Prelude.{Contains, slice_get, count_by}
 use Rattle.std.specs.List.{AllByRecursion, flat_map}
 use Rattle.std.specs.List.Sorted.{IsStrictlyIncreasing}
 use Rattle.partlog.specs.declared.clock_event.ClockEvent.{ClockEvent}
+use Rattle.partlog.specs.declared.event.PartEvent.{PartEvent}
+use Rattle.partlog.specs.declared.event.PartEvent.TheVariants.{Follow, Shrink}
 use Rattle.partlog.specs.History.{History}
 use Rattle.partlog.specs.Moment.{moment_of}
 use Rattle.partlog.specs.State.{PartState}
 use Rattle.audit.specs.declared.account.Account.{Account}
 use Rattle.audit.specs.declared.account.Call.{Call}
+use Rattle.audit.specs.declared.account.PartAccount.{PartAccount}
 use Rattle.audit.specs.declared.account.CallHow.{CallHow}
 use Rattle.audit.specs.declared.account.Point.{Point}
 use Rattle.audit.specs.declared.account.Transcript.{Transcript}
-use Rattle.audit.specs.Histories.{Owner, owners_of, points_of, calls_in, calls_of, call_of}
+use Rattle.audit.specs.Histories.{AreNotLater, HadLagged, IsToldMoment, Owner, event_at, event_in, owners_of, part_account, points_of, calls_in, calls_of, call_of, ticks_of}
 use Rattle.audit.specs.IsLawful.{IsLawful, FollowOn, is_point, is_won_by, places_in}
 use Rattle.audit.specs.LawfulCall.{Step, IsLawfulCall, Completes, final_of, operation_in, part_in, shown_at_last}
 use Rattle.kbytes.proofs.Laws.{get_there}
@@ -21,11 +26,12 @@ use Rattle.kanswer.specs.Waiting.{Shown, values_of}
 use Rattle.kwire.specs.Configuration.{Configuration}
 use Rattle.opcond.specs.Operation.{Operation}
 use Rattle.opcond.specs.Tally.{IsAnswerable}
-use Rattle.broker_spec.specs.Board.{Waiting}
+use Rattle.broker_spec.specs.Board.{Waiting, empty_history}
 use Rattle.broker_spec.specs.Completing.{present}
 use Rattle.broker_spec.specs.GoesOn.{GoesOn, the_owner}
 use Rattle.broker_spec.specs.Kept.{owners_at}
 use Rattle.broker_spec.specs.Sound.{IsWaiting}
+use Rattle.broker_spec.specs.Timely.{IsTimely, events_at, pass_of}
 use Rattle.broker_spec.proofs.Laws.{all_from_get, all_get, all_on, flat_points, followers_map, get_map, goes_back, last_state, map_get, push_get, whole_logs}
 use Rattle.pass_books.specs.Book.{Book}
 use Rattle.pass_books.specs.IsBook.{IsBook, IsFinished, Stand, with_call}
@@ -34,6 +40,7 @@ use Rattle.pass_books.specs.Together.{AreTogether, IsAnswerableIn, account_of, a
 use Rattle.pass_books.specs.Told.{told}
 use Rattle.pass_books.proofs.Ending.{told_calls}
 use Rattle.pass_books.proofs.Growing.{account_goes_on, owner_seen, owner_stands, owners_same}
+use Rattle.pass_books.proofs.Timing.{event_seen, not_later_on, tick_on, told_on}
 
 -- ---- the calls of a pass, as they are told
 
@@ -105,7 +112,7 @@ module _ (config : Configuration) (books : List Book) (waits : ℕ → Option Wa
       → (call : Call) × (call_of account by seq ≡ Some call) × (count_by (is_point part place) (points_of call) ≡ 1)
   left_in book part place by seq at there =
       let with_it = together.each by book at in
-      let found = (own_of by book at).left part place seq (owner_seen book.parts finals book.clock clock with_it.grown part place (the_owner by seq) (with_it.within part place seq there) there) in
+      let found = (own_of by book at).left part place seq (owner_seen book.parts finals book.clock clock with_it.grown part place (the_owner by seq) (with_it.within.calls part place seq there) there) in
       let call = get_map points_of (calls_in book.transcripts) seq found.0 found.1 in
       (call.0, ap (λ (calls : List Call). slice_get calls seq) (calls_at by book at) ∙ call.1, ap (count_by (is_point part place)) call.2 ∙ found.2)
 
@@ -127,6 +134,65 @@ module _ (config : Configuration) (books : List Book) (waits : ℕ → Option Wa
       (λ point is. ap (λ (os : List (Option Owner)). slice_get os point.place) (same_owners point.part)
       ∙ owner_stands book.parts finals book.clock clock with_it.grown point.part point.place (the_owner pass seq) is)
       (points_of call) ((own_of pass book found.1).points seq (points_of call) (map_get points_of (calls_in book.transcripts) seq call found.2))
+
+  -- ---- moments
+
+  -- the events of a part are those of its history
+  event_is : (part place : ℕ) → event_at account (record { part = part; place = place }) ≡ slice_get (events_at finals part) place
+  event_is part place = ap (λ (o : Option PartAccount). event_in o place) (slice_get-map part_account finals part) ∙ by_case (slice_get finals part)
+    where
+      by_case : (o : Option History) → event_in (option_map part_account o) place ≡ slice_get ((unwrap_or o (empty_history 0)).events) place
+      by_case None = refl
+      by_case (Some h) = refl
+
+  had_lagged : (part place by t : ℕ) (replica : ℤ) → slice_get (events_at finals part) place ≡ Some (Shrink by replica t) → HadLagged (slice_get account.parts part) place t replica
+  had_lagged part place by t replica there = subst (λ (o : Option PartAccount). HadLagged o place t replica) (sym (slice_get-map part_account finals part)) (by_case (slice_get finals part) refl there)
+    where
+      by_case : (o : Option History) → slice_get finals part ≡ o → slice_get ((unwrap_or o (empty_history 0)).events) place ≡ Some (Shrink by replica t) → HadLagged (option_map part_account o) place t replica
+      by_case None is at = absurd cc
+      by_case (Some h) is at = together.late part h is place by t replica at
+
+  -- the book of the pass that left an entry, whether a call left it or not
+  book_by : (part place : ℕ) (event : PartEvent) → slice_get (events_at finals part) place ≡ Some event → (book : Book) × (slice_get books (pass_of event) ≡ Some book)
+  book_by part place event there =
+      let nobody : Book = record { config = config; number = 0; parts = []; clock = []; transcripts = [] } in
+      (unwrap_or (slice_get books (pass_of event)) nobody, get_there books (pass_of event) nobody (together.known_entries part place event there))
+
+  timely_in : (k : ℕ) (book : Book) → slice_get books k ≡ Some book → IsTimely k book.parts book.clock (map points_of (calls_in book.transcripts))
+  timely_in k book e = subst (λ (n : ℕ). IsTimely n book.parts book.clock (map points_of (calls_in book.transcripts))) (together.each k book e).number (each k book e).timely
+
+  -- the pass saw it itself
+  saw_it : (k : ℕ) (book : Book) → slice_get books k ≡ Some book → (part place : ℕ) (event : PartEvent) → slice_get (events_at finals part) place ≡ Some event → pass_of event ≡ k
+      → slice_get (events_at book.parts part) place ≡ Some event
+  saw_it k book e part place event there whose =
+      let with_it = together.each k book e in
+      event_seen book.parts finals with_it.grown.each part place event (with_it.within.entries part place event there whose) there
+
+  shrink_told : (part place by t : ℕ) (replica : ℤ) → slice_get (events_at finals part) place ≡ Some (Shrink by replica t) → Contains (ticks_of clock) t
+  shrink_told part place by t replica there =
+      let book = book_by part place (Shrink by replica t) there in
+      let with_it = together.each by book.0 book.1 in
+      let told = (timely_in by book.0 book.1).shrinks part place t replica (saw_it by book.0 book.1 part place (Shrink by replica t) there refl) in
+      subst (λ (events : List ClockEvent). Contains (ticks_of events) t) (sym with_it.grown.events) (tick_on book.0.clock with_it.grown.more t told)
+
+  follow_told : (part place by seq offset t : ℕ) (replica : ℤ) → slice_get (events_at finals part) place ≡ Some (Follow by seq replica offset t) → IsToldMoment clock t
+  follow_told part place by seq offset t replica there =
+      let book = book_by part place (Follow by seq replica offset t) there in
+      let with_it = together.each by book.0 book.1 in
+      let told = (timely_in by book.0 book.1).told part place seq offset t replica (saw_it by book.0 book.1 part place (Follow by seq replica offset t) there refl) in
+      subst (λ (events : List ClockEvent). IsToldMoment events t) (sym with_it.grown.events) (told_on book.0.clock with_it.grown.more t told)
+
+  -- an earlier call of the same pass saw the clock no later
+  follow_late : (part place by seq offset t : ℕ) (replica : ℤ) → slice_get (events_at finals part) place ≡ Some (Follow by seq replica offset t) → (before : ℕ) (call : Call) → before < seq → call_of account by before ≡ Some call
+      → AreNotLater clock t (points_of call)
+  follow_late part place by seq offset t replica there before call lt e =
+      let found = book_with by before call e in
+      let book = found.0 in
+      let with_it = together.each by book found.1 in
+      let row : slice_get (map points_of (calls_in book.transcripts)) before ≡ Some (points_of call) = map_get points_of (calls_in book.transcripts) before call found.2 in
+      let late = (timely_in by book found.1).late part place seq offset t replica (saw_it by book found.1 part place (Follow by seq replica offset t) there refl) before (points_of call) lt row in
+      subst (λ (events : List ClockEvent). AreNotLater events t (points_of call)) (sym with_it.grown.events)
+      (not_later_on book.parts book.clock with_it.grown.more by before t (points_of call) ((own_of by book found.1).points before (points_of call) row) late)
 
   nothing_rises : (part : ℕ) → IsStrictlyIncreasing (places_in part (flat_map points_of []))
   nothing_rises part k lt = absurd (omega (arith, lt))
@@ -185,7 +251,16 @@ module _ (config : Configuration) (books : List Book) (waits : ℕ → Option Wa
 
   pub books_lawful : IsLawful account
   books_lawful = record {
-    entries = record { left = entry_left; points = points_owned; ticks = together.histories.ticks };
+    entries = record {
+      left = entry_left;
+      points = points_owned;
+      ticks = together.histories.ticks;
+      shrinks = λ part place by t replica e.
+          let there = sym (event_is part place) ∙ e in
+          (had_lagged part place by t replica there, shrink_told part place by t replica there);
+      follows = λ part place by seq offset t replica e. follow_told part place by seq offset t replica (sym (event_is part place) ∙ e);
+      earlier = λ part place by seq offset t replica e. follow_late part place by seq offset t replica (sym (event_is part place) ∙ e);
+    };
     order = the_order;
     logs = record { followers = followers_map finals ∙ together.histories.followers; whole = whole_logs finals together.histories.whole };
     calls = each_lawful;

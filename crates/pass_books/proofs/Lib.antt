@@ -10,6 +10,8 @@ mod Ending
 mod Closing
 -- which entries are a pass's own, as entries come
 mod Owning
+-- the moments of a pass's own entries
+mod Timing
 -- the book of a pass that has done nothing
 mod Opening
 -- what comes between two turns of a pass
