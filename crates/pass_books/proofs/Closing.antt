@@ -3,7 +3,7 @@ use Rattle.std.proofs.Common.{◌≡◌, ℕ, zero, suc, ◌<◌, ℤ, List, [],
 use Rattle.std.proofs.lemmas.Grind.{flat_map-append}
 use Rattle.std.proofs.lemmas.Option.{slice_get-map}
 use Rattle.std.specs.Option.{option_map}
-use Rattle.std.specs.Prelude.{Contains, slice_get, count_by}
+use Rattle.std.specs.Prelude.{slice_get, count_by}
 use Rattle.std.specs.List.{AllByRecursion, flat_map}
 use Rattle.std.specs.List.Sorted.{IsStrictlyIncreasing}
 use Rattle.partlog.specs.declared.clock_event.ClockEvent.{ClockEvent}
@@ -18,7 +18,7 @@ use Rattle.audit.specs.declared.account.PartAccount.{PartAccount}
 use Rattle.audit.specs.declared.account.CallHow.{CallHow}
 use Rattle.audit.specs.declared.account.Point.{Point}
 use Rattle.audit.specs.declared.account.Transcript.{Transcript}
-use Rattle.audit.specs.Histories.{AreNotLater, HadLagged, IsToldMoment, Owner, event_at, event_in, owners_of, part_account, points_of, calls_in, calls_of, call_of, ticks_of}
+use Rattle.audit.specs.Histories.{AreNotLater, HadLagged, Owner, event_at, event_in, owners_of, part_account, points_of, calls_in, calls_of, call_of}
 use Rattle.audit.specs.IsLawful.{IsLawful, FollowOn, is_point, is_won_by, places_in}
 use Rattle.audit.specs.LawfulCall.{Step, IsLawfulCall, Completes, final_of, operation_in, part_in, shown_at_last}
 use Rattle.kbytes.proofs.Laws.{get_there}
@@ -32,7 +32,7 @@ use Rattle.broker_spec.specs.GoesOn.{GoesOn, the_owner}
 use Rattle.broker_spec.specs.Kept.{owners_at}
 use Rattle.broker_spec.specs.Sound.{IsWaiting}
 use Rattle.broker_spec.specs.Timely.{IsTimely, events_at, pass_of}
-use Rattle.broker_spec.proofs.Laws.{all_from_get, all_get, all_on, flat_points, followers_map, get_map, goes_back, last_state, map_get, push_get, whole_logs}
+use Rattle.broker_spec.proofs.Laws.{IsTimelyEvent, all_from_get, all_get, all_on, event_on, flat_points, followers_map, get_map, goes_back, last_state, map_get, push_get, rows_seen, timely_event, was_there, whole_logs}
 use Rattle.pass_books.specs.Book.{Book}
 use Rattle.pass_books.specs.IsBook.{IsBook, IsFinished, Stand, with_call}
 use Rattle.pass_books.specs.Owned.{AreOwn}
@@ -40,7 +40,6 @@ use Rattle.pass_books.specs.Together.{AreTogether, IsAnswerableIn, account_of, a
 use Rattle.pass_books.specs.Told.{told}
 use Rattle.pass_books.proofs.Ending.{told_calls}
 use Rattle.pass_books.proofs.Growing.{account_goes_on, owner_seen, owner_stands, owners_same}
-use Rattle.pass_books.proofs.Timing.{event_seen, not_later_on, tick_on, told_on}
 
 -- ---- the calls of a pass, as they are told
 
@@ -161,38 +160,29 @@ module _ (config : Configuration) (books : List Book) (waits : ℕ → Option Wa
   timely_in : (k : ℕ) (book : Book) → slice_get books k ≡ Some book → IsTimely k book.parts book.clock (map points_of (calls_in book.transcripts))
   timely_in k book e = subst (λ (n : ℕ). IsTimely n book.parts book.clock (map points_of (calls_in book.transcripts))) (together.each k book e).number (each k book e).timely
 
-  -- the pass saw it itself
-  saw_it : (k : ℕ) (book : Book) → slice_get books k ≡ Some book → (part place : ℕ) (event : PartEvent) → slice_get (events_at finals part) place ≡ Some event → pass_of event ≡ k
-      → slice_get (events_at book.parts part) place ≡ Some event
-  saw_it k book e part place event there whose =
-      let with_it = together.each k book e in
-      event_seen book.parts finals with_it.grown.each part place event (with_it.within.entries part place event there whose) there
-
-  shrink_told : (part place by t : ℕ) (replica : ℤ) → slice_get (events_at finals part) place ≡ Some (Shrink by replica t) → Contains (ticks_of clock) t
-  shrink_told part place by t replica there =
-      let book = book_by part place (Shrink by replica t) there in
-      let with_it = together.each by book.0 book.1 in
-      let told = (timely_in by book.0 book.1).shrinks part place t replica (saw_it by book.0 book.1 part place (Shrink by replica t) there refl) in
-      subst (λ (events : List ClockEvent). Contains (ticks_of events) t) (sym with_it.grown.events) (tick_on book.0.clock with_it.grown.more t told)
-
-  follow_told : (part place by seq offset t : ℕ) (replica : ℤ) → slice_get (events_at finals part) place ≡ Some (Follow by seq replica offset t) → IsToldMoment clock t
-  follow_told part place by seq offset t replica there =
-      let book = book_by part place (Follow by seq replica offset t) there in
-      let with_it = together.each by book.0 book.1 in
-      let told = (timely_in by book.0 book.1).told part place seq offset t replica (saw_it by book.0 book.1 part place (Follow by seq replica offset t) there refl) in
-      subst (λ (events : List ClockEvent). IsToldMoment events t) (sym with_it.grown.events) (told_on book.0.clock with_it.grown.more t told)
+  -- the pass saw it, and what its calls ask of it holds by the final clock
+  in_time : (part place : ℕ) (event : PartEvent) → slice_get (events_at finals part) place ≡ Some event
+      → (book : Book) × (slice_get books (pass_of event) ≡ Some book) × IsTimelyEvent (pass_of event) clock (map points_of (calls_in book.transcripts)) event
+  in_time part place event there =
+      let k = pass_of event in
+      let found = book_by part place event there in
+      let book = found.0 in
+      let rows = map points_of (calls_in book.transcripts) in
+      let with_it = together.each k book found.1 in
+      let saw = was_there book.parts finals with_it.grown.each part place event (with_it.within.entries part place event there refl) there in
+      let was = timely_event k book.parts book.clock rows (timely_in k book found.1) part place event saw in
+      let own = own_of k book found.1 in
+      let on = event_on k book.clock with_it.grown.more rows event (rows_seen k book.parts book.clock rows own.points) was in
+      (book, found.1, subst (λ (events : List ClockEvent). IsTimelyEvent k events rows event) (sym with_it.grown.events) on)
 
   -- an earlier call of the same pass saw the clock no later
   follow_late : (part place by seq offset t : ℕ) (replica : ℤ) → slice_get (events_at finals part) place ≡ Some (Follow by seq replica offset t) → (before : ℕ) (call : Call) → before < seq → call_of account by before ≡ Some call
       → AreNotLater clock t (points_of call)
   follow_late part place by seq offset t replica there before call lt e =
-      let found = book_with by before call e in
-      let book = found.0 in
-      let with_it = together.each by book found.1 in
-      let row : slice_get (map points_of (calls_in book.transcripts)) before ≡ Some (points_of call) = map_get points_of (calls_in book.transcripts) before call found.2 in
-      let late = (timely_in by book found.1).late part place seq offset t replica (saw_it by book found.1 part place (Follow by seq replica offset t) there refl) before (points_of call) lt row in
-      subst (λ (events : List ClockEvent). AreNotLater events t (points_of call)) (sym with_it.grown.events)
-      (not_later_on book.parts book.clock with_it.grown.more by before t (points_of call) ((own_of by book found.1).points before (points_of call) row) late)
+      let found = in_time part place (Follow by seq replica offset t) there in
+      let calls = calls_in found.0.transcripts in
+      let its : slice_get calls before ≡ Some call = sym (ap (λ (cs : List Call). slice_get cs before) (calls_at by found.0 found.1)) ∙ e in
+      (found.2 refl).1 before (points_of call) lt (map_get points_of calls before call its)
 
   nothing_rises : (part : ℕ) → IsStrictlyIncreasing (places_in part (flat_map points_of []))
   nothing_rises part k lt = absurd (omega (arith, lt))
@@ -257,8 +247,8 @@ module _ (config : Configuration) (books : List Book) (waits : ℕ → Option Wa
       ticks = together.histories.ticks;
       shrinks = λ part place by t replica e.
           let there = sym (event_is part place) ∙ e in
-          (had_lagged part place by t replica there, shrink_told part place by t replica there);
-      follows = λ part place by seq offset t replica e. follow_told part place by seq offset t replica (sym (event_is part place) ∙ e);
+          (had_lagged part place by t replica there, (in_time part place (Shrink by replica t) there).2 refl);
+      follows = λ part place by seq offset t replica e. ((in_time part place (Follow by seq replica offset t) (sym (event_is part place) ∙ e)).2 refl).0;
       earlier = λ part place by seq offset t replica e. follow_late part place by seq offset t replica (sym (event_is part place) ∙ e);
     };
     order = the_order;

@@ -65,7 +65,7 @@ pub others_came : (book : Book) (waits : Option Waiting) (later : List History) 
     → AreHistories book.config later behind → IsBook book waits → IsBook (record book { parts = later; clock = behind }) waits
 others_came book waits later behind grown within histories h =
     let rows = map points_of (calls_in book.transcripts) in
-    let entries = in_time_others book.number rows book.parts later book.clock behind grown (omega (arith, h.histories.few)) within (record { own = h.own; timely = h.timely }) in
+    let entries = in_time_others book.number rows book.parts later book.clock behind grown within (record { own = h.own; timely = h.timely }) in
     record {
       histories = histories;
       own = entries.own;
@@ -81,7 +81,7 @@ pub taken_out : (book : Book) (waits : Option Waiting) (t : ℕ) (later : List H
 taken_out book waits t later out told histories h =
     let rows = map points_of (calls_in book.transcripts) in
     let size = as_many book.config book.parts later book.clock book.clock h.histories histories in
-    let entries = in_time_taken book.number t rows book.parts later book.clock out told (omega (arith, h.histories.few)) size (record { own = h.own; timely = h.timely }) in
+    let entries = in_time_taken book.number t rows book.parts later book.clock out told size (record { own = h.own; timely = h.timely }) in
     record {
       histories = histories;
       own = entries.own;
@@ -176,7 +176,7 @@ pub others_underway : (u : Underway) (later : List History) (behind : List Clock
 others_underway u later behind grown within histories h =
     let rows = map points_of (earlier_calls u) ++ points_of u.call ∷ [] in
     underway_on u later behind u.call h grown histories
-    (in_time_others u.number rows u.parts later u.clock behind grown (omega (arith, h.histories.few)) within (record { own = h.own; timely = h.timely }))
+    (in_time_others u.number rows u.parts later u.clock behind grown within (record { own = h.own; timely = h.timely }))
 
 -- with its end told otherwise
 pub underway_as : (u : Underway) (how : CallHow) → IsUnderway u → IsUnderway (with_end u how)

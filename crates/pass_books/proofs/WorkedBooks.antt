@@ -66,7 +66,7 @@ small = omega arith
 
 module _ (all : List ℕ) (one : Record) (is_batch : IsBatch batch (one ∷ [])) (is_request : IsRequest all produce) where
   abbrev asked : Decision
-  asked = AskLog 0 (append_outcome (pos 3) 0 1 batch)
+  asked = AskLog 0 (append_outcome (pos 3) 1 0 1 batch)
 
   abbrev transcript : Transcript
   transcript = record { number = 7; first = 0; calls = []; end = None }

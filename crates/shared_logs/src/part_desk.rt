@@ -4,6 +4,7 @@ ghost use Rattle.std.specs.Prelude.{◌≡◌, [], IfOk, OnOk, OnErr, length};
 ghost use Rattle.kanswer.specs.Decisions.{fetch_outcome};
 ghost use Rattle.kanswer.specs.Sent.{sent_outcome};
 ghost use Rattle.partlog.specs.Gauges.{numbers_of};
+ghost use Rattle.partlog.specs.Kept.{IsKept};
 ghost use Rattle.partlog.specs.Lagging.{LeftLate, NoneLags};
 ghost use Rattle.partlog.specs.Looked.{looked};
 ghost use Rattle.partlog.specs.Shrunk.{all_shrunk};
@@ -155,6 +156,7 @@ impl PartDesk {
         ensures untouched { numbers_of (state_of self.new.history) ≡ numbers_of (state_of self.old.history) → pass.new ≡ pass.old }
         ensures name { part_name self.new ≡ part_name self.old }
         ensures added { AddedBy entry_by visit.now.visitor.who.by (log_entries self.old.history) (log_entries self.new.history) }
+        ensures whole { IsKept self.new.history.log self.new.history.events }
         ensures made { IsOfRoom visit.now.room.now pass.new }
         ensures went { GoesOn pass.old.seat pass.new.seat }
         ensures kept { KeepsOperation (caller_now pass.old.seat) (caller_now pass.new.seat) }
@@ -208,6 +210,7 @@ impl PartDesk {
         ensures keeps { PartKeeps self }
         ensures late { LeftLate self.history.followers self.history.events }
     {
+        self.log.numbers();
         (self.log, self.sources)
     }
 }

@@ -43,11 +43,12 @@ impl SharedLogs {
             tick,
         );
         pass.moment = moment;
-        let rose = rose?;
-        if rose {
+        if rose? {
             pass.ticked = t;
+            Ok(true)
+        } else {
+            Ok(false)
         }
-        Ok(rose)
     }
 
     // Takes out of each partition's in-sync set, one after the other, every follower that lags at this moment. If memory runs out, some of them
@@ -60,7 +61,7 @@ impl SharedLogs {
         ensures none_lags { OnOk result (NoPartLags t pass.new.parts) }
     {
         for at in 0..self.parts.len() {
-            self.shrink(rt, pass, at as u32, t)?;
+            self.shrink(rt, pass, at, t)?;
         }
         pass.keeps();
         Ok(())

@@ -199,17 +199,16 @@ impl SharedLogs {
         &self,
         rt: &impl Wait,
         pass: &mut LogPass,
-        part: u32,
+        at: usize,
         t: u64,
     ) -> Result<(), NoMemory>
         requires made { pass.old.made ≡ self.now }
-        requires there { part < length self.now.parts }
+        requires there { at < length self.now.parts }
         ensures made { pass.new.made ≡ self.now }
         ensures seen { HasSeen pass.new }
-        ensures shrunk { HasShrunkOne part t pass.old pass.new }
-        ensures none_lags { OnOk result (NoneLags (history_at pass.new.parts part).followers (history_at pass.new.parts part).events t) }
+        ensures shrunk { HasShrunkOne at t pass.old pass.new }
+        ensures none_lags { OnOk result (NoneLags (history_at pass.new.parts at).followers (history_at pass.new.parts at).events t) }
     {
-        let at = part as usize;
         // a replica that leaves is of no call
         let who = Who {
             by: pass.number,
