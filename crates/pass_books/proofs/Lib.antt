@@ -36,3 +36,5 @@ mod Winning
 mod WorkedBooks
 -- the books of three passes that waited
 mod WorkedWaits
+-- the book of a pass that took a follower out
+mod WorkedLeaves

@@ -53,13 +53,13 @@ another number by seq other s e =
     let o : ◌≡◌ {A = Owner} (record { by = by; seq = seq }) (record { by = number; seq = s }) = some_is (record { by = by; seq = seq }) (record { by = number; seq = s }) e in
     other (ap (λ (x : Owner). x.by) o)
 
-zero_one : ◌≢◌ {A = ℕ} 0 1
+pub zero_one : ◌≢◌ {A = ℕ} 0 1
 zero_one e = absurd (omega (arith, e))
 
-one_zero : ◌≢◌ {A = ℕ} 1 0
+pub one_zero : ◌≢◌ {A = ℕ} 1 0
 one_zero e = absurd (omega (arith, e))
 
-small : 1 ≤ 64
+pub small : 1 ≤ 64
 small = omega arith
 
 -- ---- the pass that produces
@@ -242,11 +242,11 @@ looked_since = record {
         (one_put looked, refl, record { followers = refl; more = Look 0 0 ∷ []; bytes = []; events = refl; log = refl }, (zero_one, tt))
     in_first (suc p) h e = absurd cc
 
-no_waits : (k : ℕ) (w : Waiting) → none_waits k ≡ Some w → ⊥
+pub no_waits : (k : ℕ) (w : Waiting) → none_waits k ≡ Some w → ⊥
 no_waits k w e = absurd cc
 
 -- a pass that saw everything
-saw_all : (config : Configuration) (k : ℕ) (book : Book) → book.number ≡ k → book.config ≡ config → GoesWith config book.parts book.clock k book None
+pub saw_all : (config : Configuration) (k : ℕ) (book : Book) → book.number ≡ k → book.config ≡ config → GoesWith config book.parts book.clock k book None
 saw_all config k book number same = record {
   number = number;
   same = same;

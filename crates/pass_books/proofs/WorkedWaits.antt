@@ -48,7 +48,7 @@ differ a b apart same = let equal : eqb a b ≡ true = eq-eqb a b same in absurd
 no_tick : (number t : ℕ) → NotOf number (clock_owner_of (clocks.Tick t))
 no_tick number t seq e = absurd cc
 
-rises_none : IsStrictlyIncreasing (0 ∷ [])
+pub rises_none : IsStrictlyIncreasing (0 ∷ [])
 rises_none k lt = absurd (omega (arith, lt))
 
 rises_once : IsStrictlyIncreasing (0 ∷ 100 ∷ [])
@@ -267,10 +267,10 @@ looked_on number first more second others clock behind a b c = record { each = �
         (looks_by (second ++ others), refl, l.0, l.1)
     by_part (suc (suc p)) h e = absurd cc
 
-of_some : (a n : ℕ) → a < n → IsOfSome n (the_owner a 0)
+pub of_some : (a n : ℕ) → a < n → IsOfSome n (the_owner a 0)
 of_some a n lt by seq e = owner_below a 0 by seq n lt (ap Some e)
 
-of_nobody : (n : ℕ) → IsOfSome n None
+pub of_nobody : (n : ℕ) → IsOfSome n None
 of_nobody n by seq e = absurd cc
 
 module _ (one both : List ℕ) (first : IsRequest one fetch_one) (second : IsRequest both fetch_both) where

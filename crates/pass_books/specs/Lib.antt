@@ -16,6 +16,8 @@ pub mod Together
 pub mod Worked
 -- three passes that waited, written out
 pub mod WorkedWaits
+-- a pass that took a follower out, written out
+pub mod WorkedLeaves
 -- ==== the words of lemmas that the crates above may cite
 
 -- a pass amid a call

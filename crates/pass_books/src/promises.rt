@@ -46,6 +46,7 @@ ghost use Rattle.pass_books.specs.Told.{last_is_cut};
 ghost use Rattle.pass_books.specs.Turns.{accepted_there, Finds, looked_there, noted_there};
 ghost use Rattle.pass_books.specs.Underway.{begun_amid, book_amid, earlier_calls, Underway, with_end};
 ghost use Rattle.pass_books.specs.Worked.{books_before, clock_looked, fetched, first_waits, follower, looked, none_waits, one_put, producer, satisfied_books, waiting_books};
+ghost use Rattle.pass_books.specs.WorkedLeaves.{clock_told, leave_books, left_at, ticker};
 ghost use Rattle.pass_books.specs.WorkedWaits.{cut_book, expired_book, fetch_waits, last_clock, last_parts, parked_book, second_waits, three_books};
 
 /// Law: the books of all passes give a lawful account, in whatever order the passes acted. Each pass knows only the prefixes of
@@ -208,4 +209,21 @@ pub fn worked_waits()
         → AreTogether two_parts (three_books one both) second_waits last_parts last_clock (2 ∷ []) }
     ensures same { (one both : List ℕ) → account_of two_parts (three_books one both) last_parts last_clock (2 ∷ []) ≡ three_waits one both }
     ensures lawful { (one both : List ℕ) → IsRequest one fetch_one → IsRequest both fetch_both → IsLawful (three_waits one both) }
+{}
+
+/// Law: worked books of a pass that took a follower out. One pass put a batch and was cut off. Another told the clock a moment, 30,000
+/// milliseconds after the follower had caught up, and took it out. The two books go together, and give a lawful account. Books don't go
+/// together where the follower didn't lag yet, nor where the pass doesn't know what it took out; and a pass has no book in which it took a
+/// follower out at a moment that the clock wasn't told.
+pub fn worked_leaves()
+    ensures taken_out { IsBook (ticker 30000 (left_at 30000)) None }
+    ensures together { (all : List ℕ)
+        → AreTogether followed (leave_books all (ticker 30000 (left_at 30000))) none_waits (one_put (left_at 30000) ∷ []) (clock_told 30000) [] }
+    ensures lawful { (all : List ℕ) (one : Record) → IsBatch batch (one ∷ []) → IsRequest all produce
+        → IsLawful (account_of followed (leave_books all (ticker 30000 (left_at 30000))) (one_put (left_at 30000) ∷ []) (clock_told 30000) []) }
+    ensures early { (all : List ℕ) (waits : ℕ → Option Waiting) (wins : List ℕ)
+        → AreTogether followed (leave_books all (ticker 29999 (left_at 29999))) waits (one_put (left_at 29999) ∷ []) (clock_told 29999) wins → ⊥ }
+    ensures unseen { (all : List ℕ) (waits : ℕ → Option Waiting) (wins : List ℕ)
+        → AreTogether followed (leave_books all (ticker 30000 [])) waits (one_put (left_at 30000) ∷ []) (clock_told 30000) wins → ⊥ }
+    ensures untold { (waits : Option Waiting) → IsBook (ticker 30001 (left_at 30000)) waits → ⊥ }
 {}

@@ -191,7 +191,13 @@ pub(crate) fn read_from(
     ensures refused { OnErr result (SawPart (known key.old) (known key.new)) }
 {
     let mut turn = late_turn(visit.rt, lock, key, rest.late);
-    let read = read_at(visit.alloc, turn.value_mut(), visit.visitor.who, rest, budget);
+    let read = read_at(
+        visit.alloc,
+        turn.value_mut(),
+        visit.visitor.who,
+        rest,
+        budget,
+    );
     lock.end(key, turn);
     read
 }
