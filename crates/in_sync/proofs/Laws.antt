@@ -7,5 +7,6 @@ pub use Rattle.in_sync.proofs.History.{high-grows, high-within}
 pub use Rattle.in_sync.proofs.Leaving.{lags-left, lags-true, true-lags, late-first, late-least, late-rest, late-none, none-late, late-with}
 -- how many are in sync
 pub use Rattle.in_sync.proofs.Counting.{count-some, count-within}
+pub use Rattle.in_sync.proofs.History.{count-of-all}
 -- what is kept
 pub use Rattle.in_sync.proofs.Counting.{stands-followers}

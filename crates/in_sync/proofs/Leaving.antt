@@ -1,10 +1,9 @@
 -- Those that lag, as they leave one after the other.
-use Rattle.std.proofs.Common.{◌≡◌, ◌⊎◌, ℕ, zero, suc, ◌+◌, ◌==◌, ◌<◌, ◌≤◌, Bool, true, false, cond, List, [], ◌∷◌, ◌++◌, filter, arith, refl, ap, sym, ◌∙◌, inl, inr}
+use Rattle.std.proofs.Common.{◌≡◌, ℕ, zero, suc, ◌+◌, ◌==◌, ◌<◌, ◌≤◌, Bool, true, false, cond, List, [], ◌∷◌, ◌++◌, filter, arith, refl, ap, sym, ◌∙◌, inl, inr}
 use Rattle.std.specs.List.{range_with_len}
 use Rattle.std.proofs.lemmas.Bool.{false≢true}
 use Rattle.std.proofs.lemmas.Bool.Decides.{eqb_tells}
 use Rattle.std.proofs.lemmas.List.Elements.{filter_agree}
-use Rattle.in_sync.specs.declared.standing.Standing.{Standing}
 use Rattle.in_sync.specs.ReplicaEvent.{ReplicaEvent, Left}
 use Rattle.in_sync.specs.LogEnd.{log_end_of}
 use Rattle.in_sync.specs.Lagging.{IsFollower, Lags, lags}
@@ -43,22 +42,17 @@ from_next test first r fails least q from passes =
 
 first-is : (test : ℕ → Bool) (first count r : ℕ) (rest : List ℕ) → filter test (range_with_len first count) ≡ r ∷ rest → IsFirstOf test first count r rest
 first-is test first zero r rest is = absurd cc
-first-is test first (suc count) r rest is = by_first (test first) refl is
+first-is test first (suc count) r rest is = by_first (test first) refl is (first-is test (first + 1) count r rest)
   where
-    abbrev tail : List ℕ
-    tail = filter test (range_with_len (first + 1) count)
-
-    abbrev others : List ℕ
-    others = filter (without test r) (range_with_len (first + 1) count)
-
     dropped : (b : Bool) (l : List ℕ) → cond (cond b false false) (first ∷ l) l ≡ l
     dropped true l = refl
     dropped false l = refl
 
-    by_first : (b : Bool) → test first ≡ b → cond b (first ∷ tail) tail ≡ r ∷ rest → IsFirstOf test first (suc count) r rest
-    by_first true passes all =
+    by_first : (b : Bool) → test first ≡ b → cond b (first ∷ filter test (range_with_len (first + 1) count)) (filter test (range_with_len (first + 1) count)) ≡ r ∷ rest → (filter test (range_with_len (first + 1) count) ≡ r ∷ rest → IsFirstOf test (first + 1) count r rest) → IsFirstOf test first (suc count) r rest
+    by_first true passes all later =
+        let others : List ℕ = filter (without test r) (range_with_len (first + 1) count) in
         let here : first ≡ r = cc in
-        let after : tail ≡ rest = cc in
+        let after : filter test (range_with_len (first + 1) count) ≡ rest = cc in
         record {
           from = omega (arith, here);
           below = omega (arith, here);
@@ -66,8 +60,9 @@ first-is test first (suc count) r rest is = by_first (test first) refl is
           least = λ q from _. omega (arith, here, from);
           others = ap (λ b. cond (cond b false (test first)) (first ∷ others) others) (tested r first (sym here)) ∙ above-it test r (first + 1) count (omega (arith, here)) ∙ after;
         }
-    by_first false fails all =
-        let found : IsFirstOf test (first + 1) count r rest = first-is test (first + 1) count r rest all in
+    by_first false fails all later =
+        let others : List ℕ = filter (without test r) (range_with_len (first + 1) count) in
+        let found : IsFirstOf test (first + 1) count r rest = later all in
         record {
           from = omega (arith, found.from);
           below = omega (arith, found.below);
@@ -79,17 +74,14 @@ first-is test first (suc count) r rest is = by_first (test first) refl is
 -- where none passes there is none
 none-passes : (test : ℕ → Bool) (first count : ℕ) → filter test (range_with_len first count) ≡ [] → (q : ℕ) → first ≤ q → q < first + count → test q ≡ true → ⊥
 none-passes test first zero none q from below passes = absurd (omega (arith, from, below))
-none-passes test first (suc count) none q from below passes = by_first (test first) refl none
+none-passes test first (suc count) none q from below passes = by_first (test first) refl none (λ rest next. none-passes test (first + 1) count rest q next (omega (arith, below)) passes)
   where
-    abbrev tail : List ℕ
-    tail = filter test (range_with_len (first + 1) count)
-
-    by_first : (b : Bool) → test first ≡ b → cond b (first ∷ tail) tail ≡ [] → ⊥
-    by_first true is some = absurd cc
-    by_first false fails rest =
+    by_first : (b : Bool) → test first ≡ b → cond b (first ∷ filter test (range_with_len (first + 1) count)) (filter test (range_with_len (first + 1) count)) ≡ [] → (filter test (range_with_len (first + 1) count) ≡ [] → first + 1 ≤ q → ⊥) → ⊥
+    by_first true is some later = absurd cc
+    by_first false fails rest later =
         elim (eqb_tells q first) [
           | inl same ↦ absurd (false≢true (sym fails ∙ ap test (sym same.1) ∙ passes))
-          | inr apart ↦ let not_it = apart.1 in none-passes test (first + 1) count rest q (omega (arith, from, not_it)) (omega (arith, below)) passes
+          | inr apart ↦ let not_it = apart.1 in later rest (omega (arith, from, not_it))
         ]
 
 module _ (followers : ℕ) (events : List ReplicaEvent) where
@@ -142,17 +134,17 @@ module _ (followers : ℕ) (events : List ReplicaEvent) where
         by_list [] is = is
         by_list (r ∷ rest) is = absurd (nobody r (late-first r rest is))
 
+    abbrev after : ℕ → ℕ → List ℕ
+    after u left = filter (lags followers (events ++ Left left u ∷ []) t) (range_with_len 1 followers)
+
     -- where one is the least of them
     pub late-with : (replica u : ℕ) → Lags followers events t replica → ((other : ℕ) → Lags followers events t other → replica ≤ other) → late ≡ replica ∷ filter (lags followers (events ++ Left replica u ∷ []) t) (range_with_len 1 followers)
     late-with replica u lagging least = by_list late refl
       where
-        abbrev after : ℕ → List ℕ
-        after r = filter (lags followers (events ++ Left r u ∷ []) t) (range_with_len 1 followers)
-
-        by_list : (l : List ℕ) → late ≡ l → late ≡ replica ∷ after replica
+        by_list : (l : List ℕ) → late ≡ l → late ≡ replica ∷ after u replica
         by_list [] is = absurd (late-none is replica lagging)
         by_list (r ∷ rest) is =
             let low : replica ≤ r = least r (late-first r rest is) in
             let high : r ≤ replica = late-least r rest is replica lagging in
             let same : r ≡ replica = omega (arith, low, high) in
-            is ∙ ap (λ (l : List ℕ). r ∷ l) (sym (late-rest r u rest is)) ∙ ap (λ (n : ℕ). n ∷ after n) same
+            is ∙ ap (λ (l : List ℕ). r ∷ l) (sym (late-rest r u rest is)) ∙ ap (λ (n : ℕ). n ∷ after u n) same

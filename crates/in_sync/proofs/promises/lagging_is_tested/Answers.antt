@@ -1,4 +1,4 @@
-use Rattle.std.proofs.Common.{ℕ, cond, false, ap, sym, refl, ◌∙◌}
+use Rattle.std.proofs.Common.{cond, false, ap, sym, refl, ◌∙◌}
 use Rattle.in_sync.specs.Lagging.{lags}
 use Rattle.in_sync.proofs.Kept.{tested, untested}
 use Rattle.in_sync.proofs.Leaving.{lags-left, lags-true, true-lags}
