@@ -1,7 +1,8 @@
 //! The log of one partition with its history. A broker appends to it, reads it, enters each fetch and each look, and takes
 //! followers out of the in-sync set that lag; `search` finds batches in it.
 
-ghost use Rattle.std.specs.Prelude.{◌≡◌, ◌↔◌, ◌+◌, ◌<◌, ◌≤◌, ℕ, pos, [], ◌++◌, length, not, IfOk, IfSome, IfNone, OnOk, OnErr, OnTrue, OnFalse, IsTrue, IsErrOf};
+ghost use Rattle.std.specs.Prelude.{◌≡◌, ◌↔◌, ◌+◌, ◌<◌, ◌≤◌, ℕ, pos, [], ◌++◌, length, not, IfOk, IfSome, IfNone, OnOk, OnErr, IsTrue, IsErrOf};
+ghost use Rattle.std.specs.Bool.{OnTrue, OnFalse};
 ghost use Rattle.in_sync.specs.Lagging.{Lags};
 ghost use Rattle.kbatch.specs.Head.{head_size};
 ghost use Rattle.kbatch.specs.Stamp.{stamped};
@@ -249,6 +250,7 @@ impl PartLog {
         requires { Lags self.old.followers (replica_events self.old.events) t replica }
         ensures shrunk { OnOk result (self.new ≡ shrunk self.old by (pos replica) t) }
         ensures refused { OnErr result (self.new ≡ self.old) }
+        ensures late { LeftLate self.new.followers self.new.events }
     {
         self.events.push(PartEvent::Shrink {
             by,
@@ -287,7 +289,6 @@ impl PartLog {
         ensures all { OnOk result (self.new ≡ all_shrunk self.old by t) }
         ensures none_lags { OnOk result (NoneLags self.new.followers self.new.events t) }
         ensures some { OnErr result ((n : ℕ) × (self.new ≡ some_shrunk n self.old by t)) }
-        ensures was_kept { IsKept self.old.log self.old.events }
         ensures kept { IsKept self.new.log self.new.events }
         ensures late { LeftLate self.new.followers self.new.events }
     {
