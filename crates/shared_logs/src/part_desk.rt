@@ -75,9 +75,9 @@ impl PartDesk {
         Ok(PartDesk { log, part, sources })
     }
 
-    /// Puts a batch at the end of the log for the call that visits, where there is room, and raises the gauges that rose. The pass
-    /// of the room then owes their scans, which `settle` pays once the turn is over. Where there is no room, the log is looked at and
-    /// the partition is refused for a full log. If memory runs out, all is as it was.
+    /// Puts a batch at the end of the log for the call that visits, where enough replicas are in sync and there is room, and raises the
+    /// gauges that rose. The pass of the room then owes their scans, which `settle` pays once the turn is over. Where too few are in sync
+    /// or there is no room, the log is looked at and the partition is refused. If memory runs out, all is as it was.
     pub fn put(
         &mut self,
         visit: &Visit<'_, '_, impl Wait>,
@@ -104,8 +104,8 @@ impl PartDesk {
         Ok(entered)
     }
 
-    /// Enters what a fetch asks of the partition for the call that visits: a follower's fetch in range moves the follower, and the
-    /// gauges that rose are raised, as in `put`; every other fetch looks at the log. A negative replica is a consumer. If memory runs
+    /// Enters what a fetch asks of the partition for the call that visits: a follower's fetch in range moves the follower, at the visitor's
+    /// moment, and the gauges that rose are raised, as in `put`; every other fetch looks at the log. A negative replica is a consumer. If memory runs
     /// out, all is as it was.
     pub fn fetch(
         &mut self,
