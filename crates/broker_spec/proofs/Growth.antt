@@ -14,12 +14,12 @@ use Rattle.partlog.specs.declared.clock_event.ClockEvent.{ClockEvent}
 use Rattle.partlog.specs.declared.clock_event.ClockEvent.TheVariants as clocks
 use Rattle.partlog.specs.Moment.{moment_of, tick_of}
 use Rattle.partlog.specs.Looked.{looked}
-use Rattle.partlog.specs.Replicas.{replica_event, replica_events}
+use Rattle.partlog.specs.Replicas.{replica_events}
 use Rattle.partlog.specs.Added.{added_bytes, added_count, bytes_of, log_end_of}
 use Rattle.partlog.specs.Batches.{StoredBatch, batches_of, batches_after}
 use Rattle.partlog.specs.History.{History}
 use Rattle.partlog.specs.State.{state_of, state_before, state_at, front_of}
-use Rattle.partlog.proofs.Laws.{batches-append}
+use Rattle.partlog.proofs.Laws.{batches-append, events-append}
 use Rattle.kanswer.specs.Decisions.{Entry, Put, Followed, Looked}
 use Rattle.kanswer.specs.WithEntry.{entered}
 pub use Rattle.broker_spec.specs.GoesOn.{Longer, IsWhole}
@@ -138,7 +138,7 @@ looked_end : (es : List PartEvent) (by seq : ℕ) → log_end_of (es ++ Look by 
 looked_end es by seq = let e : PartEvent = Look by seq in omega (arith, sum_by_push added_count es e)
 
 looked_replicas : (es : List PartEvent) (by seq : ℕ) → replica_events (es ++ Look by seq ∷ []) ≡ replica_events es
-looked_replicas es by seq = filter_map-append replica_event es (Look by seq ∷ []) ∙ append-nil (replica_events es)
+looked_replicas es by seq = events-append es (Look by seq ∷ []) ∙ append-nil (replica_events es)
 
 -- a look leaves the state as it was
 pub looked_state : (h : History) (by seq : ℕ) → state_of (looked h by seq) ≡ state_of h

@@ -1,27 +1,18 @@
 -- Whoever was taken out lagged then, as histories go on.
-use Rattle.std.proofs.Common.{◌≡◌, ℕ, ◌≤◌, ℤ, pos, List, [], ◌∷◌, ◌++◌, length, map, take, filter, Option, Some, unwrap_or, refl, sym, ap, subst, ◌∙◌, arith, inl, inr, append-nil, append_assoc}
-use Rattle.std.proofs.Math.Seq.{take-append_seam}
+use Rattle.std.proofs.Common.{◌≡◌, ℕ, ◌≤◌, ℤ, List, ◌++◌, length, take, Some, sym, ap, subst, ◌∙◌, arith, inl, inr}
 use Rattle.std.proofs.lemmas.Bool.{cases_lt}
 use Rattle.std.proofs.lemmas.List.{take-append-le}
-use Rattle.std.proofs.lemmas.List.Elements.{filter_map-append}
 use Rattle.std.proofs.lemmas.Option.{slice_get_within}
 use Rattle.std.specs.Prelude.{slice_get}
-use Rattle.std.specs.List.{range_with_len}
-use Rattle.in_sync.proofs.Laws.{late-first, late-rest}
-use Rattle.in_sync.specs.Lagging.{Lags, lags}
-use Rattle.in_sync.specs.ReplicaEvent.{ReplicaEvent, Left}
 use Rattle.partlog.specs.declared.event.PartEvent.{PartEvent}
 use Rattle.partlog.specs.declared.event.PartEvent.TheVariants.{Append, Follow, Look, Shrink}
 use Rattle.partlog.specs.History.{History}
 use Rattle.partlog.specs.Lagging.{LagsAt, LeftLate}
-use Rattle.partlog.specs.Replicas.{replica_event, replica_events}
-use Rattle.partlog.specs.Shrunk.{all_shrunk, late_at, shrinks_at}
 use Rattle.kanswer.specs.Decisions.{Entry, Put, Followed, Looked}
 use Rattle.kbytes.proofs.Laws.{get_there, get_within, some_is}
 use Rattle.broker_spec.specs.Board.{empty_history, history_at}
 use Rattle.broker_spec.specs.GoesOn.{AllLonger}
 use Rattle.broker_spec.proofs.Growth.{event_of}
-use Rattle.broker_spec.proofs.Ledger.{push_get}
 use Rattle.broker_spec.proofs.Timely.{NewEvents, events_at, events_of_part}
 
 -- of each history
@@ -29,7 +20,7 @@ abbrev pub AllLate : List History → Type 0
 AllLate parts = (p : ℕ) (h : History) → slice_get parts p ≡ Some h → LeftLate h.followers h.events
 
 -- entries came, and those that took a follower out are right
-pub late_on : (followers : ℕ) (events more : List PartEvent)
+late_on : (followers : ℕ) (events more : List PartEvent)
     → ((place by t : ℕ) (replica : ℤ) → slice_get (events ++ more) place ≡ Some (Shrink by replica t) → length events ≤ place → LagsAt followers (take place (events ++ more)) t replica)
     → LeftLate followers events → LeftLate followers (events ++ more)
 late_on followers events more new late place by t replica e =
@@ -39,43 +30,6 @@ late_on followers events more new late place by t replica e =
           subst (λ (es : List PartEvent). LagsAt followers es t replica) (sym front) (late place by t replica (sym (get_within events more place lt) ∙ e))
       | inr past ↦ new place by t replica e past
     ]
-
--- one was taken out that lagged
-pub late_left : (followers : ℕ) (events : List PartEvent) (by t replica : ℕ) → Lags followers (replica_events events) t replica → LeftLate followers events
-    → LeftLate followers (events ++ Shrink by (pos replica) t ∷ [])
-late_left followers events by t replica lagged late =
-    let left : PartEvent = Shrink by (pos replica) t in
-    late_on followers events (left ∷ []) (λ place b u r e past.
-    elim (push_get events left (Shrink b r u) place e) [
-      | inl front ↦ absurd (omega (arith, slice_get_within events place (Shrink b r u) front, past))
-      | inr last ↦
-          let front : take place (events ++ left ∷ []) ≡ events = ap (λ (n : ℕ). take n (events ++ left ∷ [])) last.0 ∙ take-append_seam events (left ∷ []) in
-          let is : Shrink b r u ≡ left = last.1 in
-          subst (λ (es : List PartEvent). LagsAt followers es u r) (sym front)
-          (subst (λ (n : ℕ). LagsAt followers (events) n r) (sym (moment_is b by r (pos replica) u t is)) (subst (LagsAt followers events t) (sym (replica_is b by r (pos replica) u t is)) lagged))
-    ]) late
-  where
-    moment_is : (b by : ℕ) (r replica : ℤ) (u t : ℕ) → Shrink b r u ≡ Shrink by replica t → u ≡ t
-    moment_is b by r replica u t is = cc
-
-    replica_is : (b by : ℕ) (r replica : ℤ) (u t : ℕ) → Shrink b r u ≡ Shrink by replica t → r ≡ replica
-    replica_is b by r replica u t is = cc
-
--- all who lagged were taken out, the least first
-late_each : (followers by t : ℕ) (late : List ℕ) (events : List PartEvent) → filter (lags followers (replica_events events) t) (range_with_len 1 followers) ≡ late
-    → LeftLate followers events → LeftLate followers (events ++ map (λ replica. Shrink by (pos replica) t) late)
-late_each followers by t [] events is was = subst (LeftLate followers) (sym (append-nil events)) was
-late_each followers by t (replica ∷ late) events is was =
-    let left : PartEvent = Shrink by (pos replica) t in
-    let after : List PartEvent = events ++ left ∷ [] in
-    let replicas : replica_events after ≡ replica_events events ++ Left replica t ∷ [] = filter_map-append replica_event events (left ∷ []) in
-    let rest : filter (lags followers (replica_events after) t) (range_with_len 1 followers) ≡ late =
-    ap (λ (rs : List ReplicaEvent). filter (lags followers rs t) (range_with_len 1 followers)) replicas ∙ late-rest followers (replica_events events) t replica t late is in
-    subst (LeftLate followers) (append_assoc events (left ∷ []) (map (λ r. Shrink by (pos r) t) late))
-    (late_each followers by t late after rest (late_left followers events by t replica (late-first followers (replica_events events) t replica late is) was))
-
-pub late_shrunk : (h : History) (by t : ℕ) → LeftLate h.followers h.events → LeftLate h.followers (all_shrunk h by t).events
-late_shrunk h by t late = late_each h.followers by t (late_at h t) h.events refl late
 
 -- ---- entries that take nobody out
 

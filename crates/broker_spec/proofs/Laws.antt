@@ -32,7 +32,7 @@ pub use Rattle.broker_spec.proofs.Accepting.{owners_clock, owners_part, kept_par
 pub use Rattle.broker_spec.proofs.Timely.{AreSeen, FollowsBelow, IsTimelyEvent, NewEvents, entry_timely, event_on, events_of_part, events_there, follows_below, moment_before, moment_grows, moment_told, none_later, others_timely, owner_there, rows_seen, set_new, tick_stays, tick_told, ticks_append, timely_begun, timely_clock, timely_entered, timely_event, timely_events, timely_more, timely_others, timely_rows, timely_shrunk, told_stays, was_there}
 pub use Rattle.broker_spec.proofs.NewEntries.{IsLeft, LeavesOnly, accepted_new, accepted_timely, looks_timely}
 -- whoever was taken out lagged then, as histories go on
-pub use Rattle.broker_spec.proofs.Late.{AllLate, TakesNobody, entry_takes, late_left, late_more, late_on, late_shrunk}
+pub use Rattle.broker_spec.proofs.Late.{AllLate, TakesNobody, entry_takes, late_more}
 -- all who lagged left
 pub use Rattle.broker_spec.proofs.Playing.{shrunk_longer, shrunk_new, shrunk_whole}
 -- ---- calls

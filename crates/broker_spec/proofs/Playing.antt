@@ -16,6 +16,7 @@ use Rattle.partlog.specs.History.{History}
 use Rattle.partlog.specs.Lagging.{LeftLate}
 use Rattle.partlog.specs.Moment.{moment_of, tick_of}
 use Rattle.partlog.specs.Shrunk.{all_shrunk, late_at, shrinks_at}
+use Rattle.partlog.proofs.Laws.{late-all-shrunk}
 use Rattle.audit.specs.declared.account.SessionEnd.{SessionEnd}
 use Rattle.audit.specs.declared.account.SessionEnd.TheVariants.{Refused}
 use Rattle.audit.specs.declared.account.TheConstants.{MOST_CALLS}
@@ -39,7 +40,7 @@ use Rattle.broker_spec.proofs.Cases.{either_way, no_end}
 use Rattle.broker_spec.proofs.Counting.{AllBelow, rises_on}
 use Rattle.broker_spec.proofs.Fair.{followers_size}
 use Rattle.broker_spec.proofs.Going.{grown_clock}
-use Rattle.broker_spec.proofs.Late.{AllLate, late_shrunk}
+use Rattle.broker_spec.proofs.Late.{AllLate}
 use Rattle.broker_spec.proofs.Lawful.{get_map, map_get}
 use Rattle.broker_spec.proofs.Ledger.{HasNobodysMore, kept_grown}
 use Rattle.broker_spec.proofs.Timely.{IsTimelyEvent, NewEvents, events_at, events_of_part, events_there, rows_seen, tick_told, timely_events, timely_more}
@@ -219,7 +220,7 @@ module _ (board : Board) (t : ℕ) (h : IsSound board) (lt : moment_of board.clo
   late_later : AllLate later
   late_later p l e =
       let found = get_map left_at board.parts p l e in
-      subst (λ (k : History). LeftLate k.followers k.events) found.2 (late_shrunk found.0 0 t (h.sound.late p found.0 found.1))
+      subst (λ (k : History). LeftLate k.followers k.events) found.2 (late-all-shrunk found.0 0 t (h.sound.late p found.0 found.1))
 
   leaves_timely : (r : ℕ) (rows : List (List Point)) → NewEvents board.parts later (IsTimelyEvent r behind rows)
   leaves_timely r rows p place event e past =

@@ -57,7 +57,7 @@ pub tick_told : (clock : List ClockEvent) (t : ℕ) → Contains (ticks_of (cloc
 tick_told clock t = subst (λ (ts : List ℕ). Contains ts t) (sym (ticks_append clock (clocks.Tick t ∷ []))) (Contains-push (ticks_of clock) t)
 
 pub told_stays : (clock more : List ClockEvent) (t : ℕ) → IsToldMoment clock t → IsToldMoment (clock ++ more) t
-told_stays clock more t (inl zero) = inl zero
+told_stays clock more t (inl none) = inl none
 told_stays clock more t (inr has) = inr (tick_stays clock more t has)
 
 told_from : (least : ℕ) (clock : List ClockEvent)
