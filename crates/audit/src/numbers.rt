@@ -71,11 +71,7 @@ fn enter(replicas: &mut InSync, event: &PartEvent)
 }
 
 /// The high watermark of a history: the least of its log end and the positions of the followers in sync.
-pub fn high_watermark(
-    alloc: Global,
-    events: &[PartEvent],
-    followers: u32,
-) -> Result<u64, NoMemory>
+pub fn high_watermark(alloc: Global, events: &[PartEvent], followers: u32) -> Result<u64, NoMemory>
     requires { IsTrackable followers events.now }
     ensures { IfOk result (λ high. high ≡ high_watermark_of followers (replica_events events.now)) }
 {

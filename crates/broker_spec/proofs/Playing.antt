@@ -2,7 +2,6 @@
 use Rattle.std.proofs.Common.{◌≡◌, ℕ, zero, suc, ◌≤◌, ◌<◌, ◌⊎◌, Bool, true, false, max, pos, cond, eqb, List, [], ◌∷◌, ◌++◌, length, map, set, replicate, Option, Some, None, MatchBool, unwrap_or, refl, sym, ap, subst, ◌∙◌, arith, append-nil, inl, inr}
 use Rattle.std.proofs.lemmas.Bool.{ltb-true, eqb-true}
 use Rattle.std.proofs.lemmas.List.{length-map, length-set, length-replicate, map-append}
-use Rattle.std.proofs.lemmas.List.Sums.{sum_by-append, sum_by-cons}
 use Rattle.std.proofs.lemmas.Option.{slice_get_within}
 use Rattle.std.specs.Prelude.{slice_get, nat_lt, ◌==◌}
 use Rattle.std.specs.List.{AllByRecursion, filter_map, fold, range_with_len}
@@ -11,12 +10,11 @@ use Rattle.partlog.specs.declared.clock_event.ClockEvent.{ClockEvent}
 use Rattle.partlog.specs.declared.clock_event.ClockEvent.TheVariants as clocks
 use Rattle.partlog.specs.declared.event.PartEvent.{PartEvent}
 use Rattle.partlog.specs.declared.event.PartEvent.TheVariants.{Shrink}
-use Rattle.partlog.specs.Added.{added_bytes, bytes_of}
 use Rattle.partlog.specs.History.{History}
 use Rattle.partlog.specs.Lagging.{LeftLate}
 use Rattle.partlog.specs.Moment.{moment_of, tick_of}
 use Rattle.partlog.specs.Shrunk.{all_shrunk, late_at, shrinks_at}
-use Rattle.partlog.proofs.Laws.{late-all-shrunk}
+use Rattle.partlog.proofs.Laws.{late-all-shrunk, same-all-shrunk}
 use Rattle.audit.specs.declared.account.SessionEnd.{SessionEnd}
 use Rattle.audit.specs.declared.account.SessionEnd.TheVariants.{Refused}
 use Rattle.audit.specs.declared.account.TheConstants.{MOST_CALLS}
@@ -43,7 +41,7 @@ use Rattle.broker_spec.proofs.Going.{grown_clock}
 use Rattle.broker_spec.proofs.Late.{AllLate}
 use Rattle.broker_spec.proofs.Lawful.{get_map, map_get}
 use Rattle.broker_spec.proofs.Ledger.{HasNobodysMore, kept_grown}
-use Rattle.broker_spec.proofs.Timely.{IsTimelyEvent, NewEvents, events_at, events_of_part, events_there, rows_seen, tick_told, timely_events, timely_more}
+use Rattle.broker_spec.proofs.Timely.{IsTimelyEvent, NewEvents, events_at, events_of_part, events_there, rows_seen, tick_told, ticks_append, timely_events, timely_more}
 use Rattle.broker_spec.proofs.Boards.{IsSound, session_on, sound_alike, find_is, none_waits, waiting_of, ledger_of}
 use Rattle.broker_spec.proofs.Acts.{handled_sound, ended_sound}
 use Rattle.broker_spec.proofs.Answering.{completed_sound}
@@ -132,9 +130,7 @@ named_sound board s inbox shut h = record {
 }
 
 pub ticks_more : (clock : List ClockEvent) (t : ℕ) → ticks_of (clock ++ clocks.Tick t ∷ []) ≡ ticks_of clock ++ t ∷ []
-ticks_more [] t = refl
-ticks_more (clocks.Tick u ∷ clock) t = ap (λ (ts : List ℕ). u ∷ ts) (ticks_more clock t)
-ticks_more (clocks.Look by seq ∷ clock) t = ticks_more clock t
+ticks_more clock t = ticks_append clock (clocks.Tick t ∷ [])
 
 -- every tick is at most the moment
 ticks_below : (clock : List ClockEvent) (least t : ℕ) → fold max least (filter_map tick_of clock) < t → (least < t) × AllBelow t (ticks_of clock)
@@ -153,17 +149,13 @@ ticks_rise clock t rises lt = subst (λ (ts : List ℕ). IsStrictlyIncreasing (0
 pub shrunk_longer : (h : History) (by t : ℕ) → Longer h (all_shrunk h by t)
 shrunk_longer h by t = record { followers = refl; more = shrinks_at h by t; bytes = []; events = refl; log = sym (append-nil h.log) }
 
--- a leave is of no call, and puts no bytes
+-- a leave is of no call
 leaves_nobodys : (by t : ℕ) (late : List ℕ) → AllByRecursion (λ o. o ≡ None) (map owner_of (map (λ replica. Shrink by (pos replica) t) late))
 leaves_nobodys by t [] = tt
 leaves_nobodys by t (replica ∷ late) = (refl, leaves_nobodys by t late)
 
-leaves_no_bytes : (by t : ℕ) (late : List ℕ) → bytes_of (map (λ replica. Shrink by (pos replica) t) late) ≡ 0
-leaves_no_bytes by t [] = refl
-leaves_no_bytes by t (replica ∷ late) = sum_by-cons added_bytes (Shrink by (pos replica) t) (map (λ r. Shrink by (pos r) t) late) ∙ leaves_no_bytes by t late
-
 pub shrunk_whole : (h : History) (by t : ℕ) → IsWhole h → IsWhole (all_shrunk h by t)
-shrunk_whole h by t whole = sum_by-append added_bytes h.events (shrinks_at h by t) ∙ omega (arith, whole, leaves_no_bytes by t (late_at h t))
+shrunk_whole h by t whole = (same-all-shrunk h by t).bytes ∙ whole
 
 behind_front : {X : Type 0} (xs ys : List X) (k : ℕ) (x : X) → slice_get (xs ++ ys) k ≡ Some x → length xs ≤ k → (j : ℕ) × (slice_get ys j ≡ Some x)
 behind_front [] ys k x e past = (k, e)
