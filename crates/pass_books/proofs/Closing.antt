@@ -1,5 +1,5 @@
 -- The books of all passes come to a lawful account.
-use Rattle.std.proofs.Common.{◌≡◌, ℕ, zero, suc, ◌<◌, ℤ, List, [], ◌∷◌, ◌++◌, map, Option, Some, None, unwrap_or, refl, sym, ap, subst, ◌∙◌, arith, inl, inr, append_assoc, append-nil}
+use Rattle.std.proofs.Common.{◌≡◌, ℕ, zero, suc, ◌<◌, ℤ, List, [], ◌∷◌, ◌++◌, length, map, Option, Some, None, unwrap_or, refl, sym, ap, subst, ◌∙◌, arith, inl, inr, append_assoc, append-nil}
 use Rattle.std.proofs.lemmas.Grind.{flat_map-append}
 use Rattle.std.proofs.lemmas.Option.{slice_get-map}
 use Rattle.std.specs.Option.{option_map}
@@ -11,7 +11,6 @@ use Rattle.partlog.specs.declared.event.PartEvent.{PartEvent}
 use Rattle.partlog.specs.declared.event.PartEvent.TheVariants.{Follow, Shrink}
 use Rattle.partlog.specs.History.{History}
 use Rattle.partlog.specs.Moment.{moment_of}
-use Rattle.partlog.specs.State.{PartState}
 use Rattle.audit.specs.declared.account.Account.{Account}
 use Rattle.audit.specs.declared.account.Call.{Call}
 use Rattle.audit.specs.declared.account.PartAccount.{PartAccount}
@@ -20,26 +19,25 @@ use Rattle.audit.specs.declared.account.Point.{Point}
 use Rattle.audit.specs.declared.account.Transcript.{Transcript}
 use Rattle.audit.specs.Histories.{AreNotLater, HadLagged, Owner, event_at, event_in, owners_of, part_account, points_of, calls_in, calls_of, call_of}
 use Rattle.audit.specs.IsLawful.{IsLawful, FollowOn, is_point, is_won_by, places_in}
-use Rattle.audit.specs.LawfulCall.{Step, IsLawfulCall, Completes, final_of, operation_in, part_in, shown_at_last}
+use Rattle.audit.specs.LawfulCall.{IsLawfulCall, Completes, operation_in, operation_parts, shown_at_last}
 use Rattle.kbytes.proofs.Laws.{get_there}
 use Rattle.kanswer.specs.Waiting.{Shown, values_of}
 use Rattle.kwire.specs.Configuration.{Configuration}
 use Rattle.opcond.specs.Operation.{Operation}
 use Rattle.opcond.specs.Tally.{IsAnswerable}
 use Rattle.broker_spec.specs.Board.{Waiting, empty_history}
-use Rattle.broker_spec.specs.Completing.{present}
 use Rattle.broker_spec.specs.GoesOn.{GoesOn, the_owner}
 use Rattle.broker_spec.specs.Kept.{owners_at}
-use Rattle.broker_spec.specs.Sound.{IsWaiting}
+use Rattle.broker_spec.specs.Sound.{AllBelow, AreHistories, IsWaiting}
 use Rattle.broker_spec.specs.Timely.{IsTimely, events_at, pass_of}
-use Rattle.broker_spec.proofs.Laws.{IsTimelyEvent, all_from_get, all_get, all_on, event_on, flat_points, followers_map, get_map, goes_back, last_state, map_get, push_get, rows_seen, timely_event, was_there, whole_logs}
+use Rattle.broker_spec.proofs.Laws.{IsTimelyEvent, all_from_get, all_get, all_on, event_on, flat_points, followers_map, get_map, goes_back, last_shown, map_get, push_get, rows_seen, timely_event, was_there, whole_logs}
 use Rattle.pass_books.specs.Book.{Book}
 use Rattle.pass_books.specs.IsBook.{IsBook, IsFinished, Stand, with_call}
 use Rattle.pass_books.specs.Owned.{AreOwn}
-use Rattle.pass_books.specs.Together.{AreTogether, IsAnswerableIn, account_of, all_calls_in, shown_in}
+use Rattle.pass_books.specs.Together.{AreTogether, IsAnswerableIn, account_of, all_calls_in}
 use Rattle.pass_books.specs.Told.{told}
 use Rattle.pass_books.proofs.Ending.{told_calls}
-use Rattle.pass_books.proofs.Growing.{account_goes_on, owner_seen, owner_stands, owners_same}
+use Rattle.pass_books.proofs.Growing.{account_goes_on, as_many, owner_seen, owner_stands, owners_same}
 
 -- ---- the calls of a pass, as they are told
 
@@ -198,31 +196,23 @@ module _ (config : Configuration) (books : List Book) (waits : ℕ → Option Wa
 
   -- ---- calls
 
-  last_present : (o : Option ℕ) → final_of account o ≡ present finals o
-  last_present None = refl
-  last_present (Some p) = last_state finals p
-
-  last_shown : (steps : List Step) → shown_at_last account steps ≡ shown_in finals steps
-  last_shown [] = refl
-  last_shown (step ∷ steps) =
-      ap (λ (s : PartState). record { result = step.result; state = s } ∷ shown_at_last account steps) (last_present (part_in step.result))
-      ∙ ap (λ (ss : List Shown). record { result = step.result; state = present finals (part_in step.result) } ∷ ss) (last_shown steps)
-
-  parked_lawful : (parts : List History) (seen : List ClockEvent) (w : Waiting) (call : Call) → GoesOn config parts seen account → IsWaiting config parts seen w call → (IsAnswerableIn finals clock w → ⊥) → IsLawfulCall account call
-  parked_lawful parts seen w call goes waits still =
+  parked_lawful : (parts : List History) (seen : List ClockEvent) (w : Waiting) (call : Call) → GoesOn config parts seen account → length finals ≡ length parts → IsWaiting config parts seen w call
+      → (IsAnswerableIn finals clock w → ⊥) → IsLawfulCall account call
+  parked_lawful parts seen w call goes size waits still =
+      let within : AllBelow (length finals) (operation_parts w.steps) = subst (λ (n : ℕ). AllBelow n (operation_parts w.steps)) (sym size) waits.within in
       let d = waits.delayed account goes in
       let unanswerable : IsAnswerable (operation_in account w.request w.steps d.looks) (values_of w.request.ask (shown_at_last account w.steps)) (moment_of clock) → ⊥ =
-      λ answerable. still (subst (λ (ss : List Shown). IsAnswerable w.operation (values_of w.request.ask ss) (moment_of clock)) (last_shown w.steps)
+      λ answerable. still (subst (λ (ss : List Shown). IsAnswerable w.operation (values_of w.request.ask ss) (moment_of clock)) (last_shown account finals refl w.steps within)
       (subst (λ (op : Operation). IsAnswerable op (values_of w.request.ask (shown_at_last account w.steps)) (moment_of clock)) d.operation answerable)) in
       inl (record {
         whole = record { request = w.request; steps = w.steps; looks = d.looks; accepted = d.accepted; entries = d.entries };
         completed = subst (λ (how : CallHow). Completes account w.request w.steps d.looks call.finish how) (sym waits.how) (d.delayed, waits.unfinished, unanswerable);
       })
 
-  stands_lawful : (book : Book) (o : Option Waiting) → book.config ≡ config → GoesOn book.config book.parts book.clock account → ((w : Waiting) → o ≡ Some w → IsAnswerableIn finals clock w → ⊥) → Stand book o
+  stands_lawful : (book : Book) (o : Option Waiting) → book.config ≡ config → GoesOn book.config book.parts book.clock account → length finals ≡ length book.parts → ((w : Waiting) → o ≡ Some w → IsAnswerableIn finals clock w → ⊥) → Stand book o
       → (seq : ℕ) (call : Call) → slice_get (calls_in book.transcripts) seq ≡ Some call → IsLawfulCall account call
-  stands_lawful book None same goes still stand seq call e = (all_get (IsFinished book.config book.parts book.clock) (calls_in book.transcripts) seq call stand e).lawful account goes
-  stands_lawful book (Some w) same goes still stand seq call e =
+  stands_lawful book None same goes size still stand seq call e = (all_get (IsFinished book.config book.parts book.clock) (calls_in book.transcripts) seq call stand e).lawful account goes
+  stands_lawful book (Some w) same goes size still stand seq call e =
       let earlier = calls_in stand.front ++ stand.transcript.calls in
       let calls : calls_in book.transcripts ≡ earlier ++ stand.call ∷ [] = ap calls_in stand.transcripts ∙ calls_with stand.front stand.transcript stand.call in
       elim (push_get earlier stand.call call seq (sym (ap (λ (cs : List Call). slice_get cs seq) calls) ∙ e)) [
@@ -230,14 +220,16 @@ module _ (config : Configuration) (books : List Book) (waits : ℕ → Option Wa
         | inr last ↦
             let waits : IsWaiting config book.parts book.clock w stand.call = subst (λ (c : Configuration). IsWaiting c book.parts book.clock w stand.call) same stand.waits in
             let on : GoesOn config book.parts book.clock account = subst (λ (c : Configuration). GoesOn c book.parts book.clock account) same goes in
-            subst (IsLawfulCall account) (sym last.1) (parked_lawful book.parts book.clock w stand.call on waits (still w refl))
+            subst (IsLawfulCall account) (sym last.1) (parked_lawful book.parts book.clock w stand.call on size waits (still w refl))
       ]
 
   each_lawful : (pass seq : ℕ) (call : Call) → call_of account pass seq ≡ Some call → IsLawfulCall account call
   each_lawful pass seq call e =
       let found = book_with pass seq call e in
-      let with_it = together.each pass found.0 found.1 in
-      stands_lawful found.0 (waits pass) with_it.same (goes_on pass found.0 found.1) with_it.still (each pass found.0 found.1).calls seq call found.2
+      let book = found.0 in
+      let with_it = together.each pass book found.1 in
+      let histories = subst (λ (c : Configuration). AreHistories c book.parts book.clock) with_it.same (each pass book found.1).histories in
+      stands_lawful book (waits pass) with_it.same (goes_on pass book found.1) (as_many config book.parts finals book.clock clock histories together.histories) with_it.still (each pass book found.1).calls seq call found.2
 
   pub books_lawful : IsLawful account
   books_lawful = record {

@@ -1,5 +1,5 @@
 -- The worked books of a pass that took a follower out: it comes of the moves of its pass, and goes together with that of the producer.
-use Rattle.std.proofs.Common.{◌≡◌, ◌≢◌, ℕ, zero, suc, ◌+◌, ◌≤◌, ◌<◌, ℤ, pos, List, [], ◌∷◌, length, Option, Some, None, refl, sym, subst, arith, append-nil, get_or}
+use Rattle.std.proofs.Common.{◌≡◌, ℕ, zero, suc, ◌+◌, ◌≤◌, ◌<◌, ℤ, pos, List, [], ◌∷◌, length, Option, Some, None, refl, sym, subst, arith, append-nil, get_or}
 use Rattle.std.specs.Prelude.{Contains, slice_get}
 use Rattle.std.specs.List.{AllByRecursion}
 use Rattle.kbatch.specs.Batch.{IsBatch}
@@ -12,7 +12,7 @@ use Rattle.partlog.specs.declared.event.PartEvent.TheVariants.{Append, Shrink}
 use Rattle.partlog.specs.History.{History}
 use Rattle.partlog.specs.Lagging.{LagsAt, LeftLate}
 use Rattle.audit.specs.declared.account.CallHow.TheVariants.{Cut}
-use Rattle.audit.specs.Histories.{clock_owner_of, owner_of, ticks_of}
+use Rattle.audit.specs.Histories.{clock_owner_of, owner_of}
 use Rattle.audit.specs.IsLawful.{IsLawful}
 use Rattle.audit.specs.Worked.{followed}
 use Rattle.kbytes.proofs.Laws.{some_is}
@@ -25,7 +25,6 @@ use Rattle.broker_spec.specs.WorkedPlay.{batch, produce}
 use Rattle.pass_books.specs.Book.{Book, opening_book}
 use Rattle.pass_books.specs.IsBook.{IsBook}
 use Rattle.pass_books.specs.Owned.{OthersAlone}
-use Rattle.pass_books.specs.TakenOut.{HasTakenOut}
 use Rattle.pass_books.specs.Together.{AreTogether, GoesWith, account_of}
 use Rattle.pass_books.specs.Worked.{clock_looked, none_waits, one_put, producer}
 use Rattle.pass_books.specs.WorkedLeaves.{clock_told, leave_books, left_at, ticker}
@@ -85,7 +84,7 @@ leave_histories = part_histories followed (one_put [] ∷ []) clock 0 (one_put [
 
 pub ticker_left : IsBook (ticker 30000 (left_at 30000)) None
 ticker_left =
-    taken_out (ticker 30000 []) None 30000 finals (record { grown = leave_longer; taken = the_leave }) (0, (omega arith, refl)) leave_histories told
+    taken_out (ticker 30000 []) None 30000 finals (record { grown = leave_longer; taken = the_leave }) (0, omega arith, refl) leave_histories told
 
 -- ---- they go together
 
@@ -181,6 +180,6 @@ untold_no_book waits h =
     let told : Contains (30001 ∷ []) 30000 = h.timely.shrinks 0 1 30000 (pos 1) refl in
     never told.0 told.1 told.2
   where
-    never : (i : ℕ) → i < 1 → get_or (30001 ∷ []) i 30000 ≡ 30000 → ⊥
+    never : (i : ℕ) → i < 1 → ◌≡◌ {A = ℕ} (get_or (30001 ∷ []) i 30000) 30000 → ⊥
     never zero less is = absurd (omega (arith, is))
     never (suc i) less is = absurd (omega (arith, less))
