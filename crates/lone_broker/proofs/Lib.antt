@@ -25,7 +25,7 @@ pub mod Needs
 -- what a session's line brings, and a session that ends
 pub mod Bringing
 -- what a clock line leaves where the moment rises
-pub mod Shrinking
+pub mod Risen
 -- a request that was handled
 pub mod Taking
 -- a request that is completed

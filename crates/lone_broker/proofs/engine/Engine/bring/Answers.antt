@@ -41,24 +41,24 @@ returns-in_ok-feed-in-Feed-clause-alone c =
 
 pub returns-in-Shut-clause-brought : goal.returns-in-Shut-clause-brought
 returns-in-Shut-clause-brought c =
-    let i = c.self.inside in
+    let i = c.self-in-Shut.inside in
     let kept = c.args.self.now in
     let s = c.in-Shut.session in
     let few : s < 64 = subst IsPlayable c.in-Shut.is c.requires.playable in
     let there : s < length kept.board.seats = omega (arith, few, c.requires.stands.1.kept_of.seats) in
     let next = reseated kept s (shut_seat s (seat_at kept.board s)) in
-    let made = desk_changed i.config i.parts i.clock i.desks c.as_mut_slice-in-Shut.result.now i.parked kept s (shut_seat s) c.index-as_mut_slice-session-in-Shut.result c.shut.new.self c.self.view_is there c.as_mut_slice-in-Shut.ensures.value c.index-as_mut_slice-session-in-Shut.is c.shut.ensures in
+    let made = desk_changed i.config i.parts i.clock i.desks c.as_mut_slice-in-Shut.result.now i.parked kept s (shut_seat s) c.index-as_mut_slice-session-in-Shut.result c.shut.new.self c.self-in-Shut.view_is there c.as_mut_slice-in-Shut.ensures.value c.index-as_mut_slice-session-in-Shut.is c.shut.ensures in
     λ board stands. subst (λ (k : Kept). StandsFor k (brought board c.args.line.now)) (sym made)
     (subst (λ (l : Line). StandsFor next (brought board l)) (sym c.in-Shut.is) (shut_stands kept s few board stands))
 
 pub returns-in-Shut-clause-alone : goal.returns-in-Shut-clause-alone
 returns-in-Shut-clause-alone c =
-    let i = c.self.inside in
+    let i = c.self-in-Shut.inside in
     let kept = c.args.self.now in
     let s = c.in-Shut.session in
     let few : s < 64 = subst IsPlayable c.in-Shut.is c.requires.playable in
     let there : s < length kept.board.seats = omega (arith, few, c.requires.stands.1.kept_of.seats) in
-    let made = desk_changed i.config i.parts i.clock i.desks c.as_mut_slice-in-Shut.result.now i.parked kept s (shut_seat s) c.index-as_mut_slice-session-in-Shut.result c.shut.new.self c.self.view_is there c.as_mut_slice-in-Shut.ensures.value c.index-as_mut_slice-session-in-Shut.is c.shut.ensures in
+    let made = desk_changed i.config i.parts i.clock i.desks c.as_mut_slice-in-Shut.result.now i.parked kept s (shut_seat s) c.index-as_mut_slice-session-in-Shut.result c.shut.new.self c.self-in-Shut.view_is there c.as_mut_slice-in-Shut.ensures.value c.index-as_mut_slice-session-in-Shut.is c.shut.ensures in
     let next = reseated kept s (shut_seat s (seat_at kept.board s)) in
     subst (λ (k : Kept). IsBrought c.args.line.now kept k) (sym made)
     (subst (λ (l : Line). IsBrought l kept next) (sym c.in-Shut.is) (is_reseated kept s (shut_seat s (seat_at kept.board s)) there (no_less (next_call kept.board s))))

@@ -7,7 +7,7 @@ use Rattle.broker_spec.specs.Play.{brought}
 use Rattle.lone_broker.specs.Kept.{Kept, StandsFor}
 use Rattle.lone_broker.specs.Steps.{IsTicked}
 use Rattle.audit.proofs.Laws.{on_ok}
-use Rattle.lone_broker.proofs.Shrinking.{risen_stands, risen_ticked, risen_written, still_stands, still_ticked, still_written}
+use Rattle.lone_broker.proofs.Risen.{risen_stands, risen_ticked, risen_written, still_stands, still_ticked, still_written}
 use Rattle.lone_broker.proofs.engine.Engine.tick.Goals as goal
 
 pub returns-then-rose-clause-brought : goal.returns-then-rose-clause-brought
@@ -34,8 +34,8 @@ returns-then-rose-clause-alone c =
     (sym (risen_written i.config i.parts c.as_mut_slice.result.now c.shrink_parts.new.parts i.clock c.tick.new.self i.desks i.parked kept t c.self.view_is c.as_mut_slice.ensures.value is c.in_ok-rose.ensures.ticked rises))
     (risen_ticked kept t risen))
 
-pub returns-clause-brought : goal.returns-clause-brought
-returns-clause-brought c =
+pub returns-else-rose-clause-brought : goal.returns-else-rose-clause-brought
+returns-else-rose-clause-brought c =
     let i = c.self.inside in
     let kept = c.args.self.now in
     let t = c.args.t in
@@ -45,8 +45,8 @@ returns-clause-brought c =
     (sym (still_written i.config i.parts i.clock c.tick.new.self i.desks i.parked kept t c.self.view_is c.in_ok-rose.ensures.ticked never))
     (still_stands kept t stays board stands)
 
-pub returns-clause-alone : goal.returns-clause-alone
-returns-clause-alone c =
+pub returns-else-rose-clause-alone : goal.returns-else-rose-clause-alone
+returns-else-rose-clause-alone c =
     let i = c.self.inside in
     let kept = c.args.self.now in
     let t = c.args.t in

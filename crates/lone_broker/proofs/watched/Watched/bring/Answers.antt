@@ -2,7 +2,7 @@ use Rattle.std.proofs.Common.{◌≤◌, List, length, sym, ap, subst, ◌∙◌
 use Rattle.partlog.specs.declared.numbers.Numbers.{Numbers}
 use Rattle.trace_file.specs.declared.line.Line.{Line}
 use Rattle.broker_spec.specs.Play.{brought}
-use Rattle.lone_broker.specs.Kept.{parked_at}
+use Rattle.lone_broker.specs.Kept.{Stands, parked_at}
 use Rattle.lone_broker.specs.Steps.{IsBrought}
 use Rattle.lone_broker.specs.Watching.{AreTold, AreWatched, IsWatched}
 use Rattle.lone_broker.proofs.Standing.{written}
@@ -59,7 +59,7 @@ returns-in-Clock-clause-watched c =
     let ticked = subst (λ (l : Line). IsBrought l w.engine engine) c.in-Clock.is c.in_ok-bring.ensures.alone in
     let are : AreTold later engine.board.parts = subst (AreTold later) c.parts.ensures c.tell_all.ensures.told in
     let waits = c.tell_all.ensures.watched (parked_at w.engine) (subst (λ (ns : List Numbers). AreWatched w.waiters ns (parked_at w.engine)) (sym value) h.waits) in
-    let stands = (brought h.stands.0 c.args.line.now, c.in_ok-bring.ensures.brought h.stands.0 h.stands.1) in
+    let stands : Stands engine = (brought h.stands.0 c.args.line.now, c.in_ok-bring.ensures.brought h.stands.0 h.stands.1) in
     subst (λ (ns : List Numbers). IsWatched (record { engine = engine; told = ns; waiters = c.tick.new.self; ready = w.ready })) (sym (written w.told later (are.size ∙ ticked.size ∙ sym h.told.size)))
     (ticked_watched w engine later c.tell_all.new.waiters c.tick.new.self c.moment.result h stands ticked are waits c.tell_all.ensures.warned.moment (λ s. (c.tell_all.ensures.warned.waits s).watches.last) c.moment.ensures.moment
     c.tick.ensures.moment c.tick.ensures.suspects c.tick.ensures.watches c.tick.ensures.coming)
