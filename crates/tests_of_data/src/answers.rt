@@ -4,8 +4,9 @@ ghost use Rattle.kanswer.specs.LogReadings.{named_count};
 
 use crate::samples::{LONG_FRONT, ONE};
 use kanswer::{
-    Accepted, Budget, Entered, SentBatch, Terms, Visitor, answer, decide_put, enter_batch, enter_fetch,
-    is_quiet, needs_op, op_of, read_asked, read_nothing, read_numbers, read_part, value_of_gauge,
+    Accepted, Budget, Entered, SentBatch, Terms, Visitor, answer, decide_put, enter_batch,
+    enter_fetch, is_quiet, needs_op, op_of, read_asked, read_nothing, read_numbers, read_part,
+    value_of_gauge,
 };
 use kbatch::view_batch;
 use kbytes::{List, NoMemory};
