@@ -10,14 +10,14 @@ use Rattle.partlog.specs.Follower.{IsFollower}
 use Rattle.partlog.specs.State.{PartState as State}
 use Rattle.partlog.specs.Gauges.{gauges_of}
 use Rattle.partlog.specs.Start.{start_of}
-use Rattle.kwire.specs.Configuration.{Configuration, followers_of, min_insync_at, part_of}
+use Rattle.kwire.specs.Configuration.{Configuration, followers_of, part_of}
 use Rattle.kwire.specs.declared.request.Ask.{Ask}
 use Rattle.kwire.specs.declared.request.Ask.TheVariants.{Produce, Fetch, Metadata, Versions}
 use Rattle.kwire.specs.declared.request.FetchPart.{FetchPart}
 use Rattle.kwire.specs.declared.request.ProducePart.{ProducePart}
 use Rattle.kanswer.specs.declared.accepted.Accepted.{Accepted}
 use Rattle.kanswer.specs.declared.accepted.Accepted.TheVariants.{Refused, Appended, Seen}
-use Rattle.kanswer.specs.Decisions.{Entry, Put, Followed, Looked, Outcome, Decision, Refuse, AskLog, BatchDecides, Decides, ProduceDecides, append_outcome, full_code, fetch_decision, fetch_outcome, fetch_parts, in_range_outcome, is_acks, look, needed_insync, offset_of, produce_parts}
+use Rattle.kanswer.specs.Decisions.{Entry, Put, Followed, Looked, Outcome, Decision, Refuse, AskLog, BatchDecides, Decides, ProduceDecides, append_outcome, full_code, fetch_decision, fetch_outcome, fetch_parts, in_range_outcome, is_acks, least_insync, look, offset_of, produce_parts}
 
 abbrev pub IsSoundEntry : ℕ → Entry → State → Type 0
 IsSoundEntry followers (Put count batch) state =
@@ -82,8 +82,7 @@ part_sound version config (Some part) known least bytes d h = acks_sound version
 
 produce_sound : (version : ℤ) (config : Configuration) (id : Option (List ℕ)) (acks : ℤ) (named : List ℕ × ProducePart) (d : Decision) → ProduceDecides config version id acks named d → IsSound config d
 produce_sound version config (Some id) acks named d h = subst (IsSound config) (sym h) tt
-produce_sound version config None acks named d h = part_sound version config (part_of config named.0 named.1.index) (is_acks acks)
-    (λ (part : ℕ). needed_insync acks (min_insync_at config.topics part)) (unwrap_or named.1.records []) d h
+produce_sound version config None acks named d h = part_sound version config (part_of config named.0 named.1.index) (is_acks acks) (least_insync config acks) (unwrap_or named.1.records []) d h
 
 all_produced : (version : ℤ) (config : Configuration) (id : Option (List ℕ)) (acks : ℤ) (named : List (List ℕ × ProducePart)) (ds : List Decision) → AllZip (ProduceDecides config version id acks) named ds → AllByRecursion (IsSound config) ds
 all_produced version config id acks named [] h = tt
