@@ -11,7 +11,7 @@ use Rattle.in_sync.specs.Position.{position_of}
 use Rattle.in_sync.specs.InSync.{in_sync_of, high_watermark_of}
 use Rattle.in_sync.specs.Lagging.{IsFollower}
 use Rattle.in_sync.specs.Standings.{Standings, standing_of, standings_of}
-use Rattle.in_sync.specs.Steps.{least_of, after_fetch, first_late}
+use Rattle.in_sync.specs.Steps.{least_of, after_fetch, is_late, first_late}
 use Rattle.in_sync.proofs.Growing.{standing-appended, standing-fetched, standing-left, end-appended, end-fetched, end-left}
 
 -- of those in sync, counted and with their positions
@@ -146,6 +146,9 @@ module _ (followers : ℕ) (events : List ReplicaEvent) (log_end high : ℕ) (st
         ∙ sym (new_is ∙ ap step there_now) in
         gathered followers (events ++ Left replica t ∷ []) log_end new_high (set standings at new) (end_is ∙ end-left events replica t) least
         (replaced then moved (λ r apart. standing-left followers events r replica t ∙ ap (λ b. cond b (step (now r)) (now r)) (untested replica r apart)))
+
+    pub kept-is_late : (t : ℕ) → is_late log_end t v ≡ is_late (log_end_of events) t (now replica)
+    kept-is_late t = ap (λ (n : ℕ). is_late n t v) end_is ∙ ap (is_late (log_end_of events) t) there_now
 
   -- one that is no follower
   pub kept-left-none : (replica t : ℕ) → (IsFollower replica (length standings) → ⊥) → ◌≡◌ {A = Standings} (record { log_end = log_end; high_watermark = high; followers = standings }) (standings_of followers (events ++ Left replica t ∷ []))

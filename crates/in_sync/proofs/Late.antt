@@ -61,12 +61,12 @@ module _ (followers : ℕ) (events : List ReplicaEvent) (t : ℕ) where
   abbrev long_ago : ℕ → Bool
   long_ago replica = nat_le (caught_up_of events replica + MOST_LAG) t
 
-  lags_late : (replica : ℕ) → Lags followers events t replica → each_late replica ≡ true
+  pub lags_late : (replica : ℕ) → Lags followers events t replica → each_late replica ≡ true
   lags_late replica lags =
       joined (in_sync_of followers events replica) (behind replica && long_ago replica) lags.in_sync
       (joined (behind replica) (long_ago replica) (le-leb (suc (position_of events replica)) (log_end_of events) (omega (arith, lags.behind))) (le-leb (caught_up_of events replica + MOST_LAG) t lags.late))
 
-  late_lags : (replica : ℕ) → 1 ≤ replica → replica < 1 + followers → each_late replica ≡ true → Lags followers events t replica
+  pub late_lags : (replica : ℕ) → 1 ≤ replica → replica < 1 + followers → each_late replica ≡ true → Lags followers events t replica
   late_lags replica from below late =
       let one = both (in_sync_of followers events replica) (behind replica && long_ago replica) late in
       let two = both (behind replica) (long_ago replica) one.1 in

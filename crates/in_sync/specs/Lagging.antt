@@ -1,6 +1,6 @@
 -- A follower lags at a moment where it is in sync, hasn't fetched all, and had caught up 30,000 milliseconds before or
 -- earlier (Kafka's `replica.lag.time.max.ms`).
-use Rattle.std.specs.Prelude.{ℕ, ◌+◌, ◌<◌, ◌≤◌, IsTrue, List}
+use Rattle.std.specs.Prelude.{ℕ, ◌+◌, ◌<◌, ◌≤◌, ◌&&◌, Bool, IsTrue, List, nat_lt, nat_le}
 use Rattle.in_sync.specs.declared.limits.TheConstants.{MOST_LAG}
 use Rattle.in_sync.specs.ReplicaEvent.{ReplicaEvent}
 use Rattle.in_sync.specs.LogEnd.{log_end_of}
@@ -17,3 +17,8 @@ pub record Lags (followers : ℕ) (events : List ReplicaEvent) (t replica : ℕ)
   pub in_sync : IsTrue (in_sync_of followers events replica)
   pub behind : position_of events replica < log_end_of events
   pub late : caught_up_of events replica + MOST_LAG ≤ t
+
+-- the same as a test, which asks of a follower
+abbrev pub lags : ℕ → List ReplicaEvent → ℕ → ℕ → Bool
+lags followers events t replica =
+    in_sync_of followers events replica && (nat_lt (position_of events replica) (log_end_of events) && nat_le (caught_up_of events replica + MOST_LAG) t)

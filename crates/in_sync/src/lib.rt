@@ -28,6 +28,7 @@ mod standing;
 
 pub use limits::MOST_LAG;
 pub use promises::{
-    high_watermark_never_falls, in_sync_again, nobody_left, standings_say, worked_histories,
+    high_watermark_never_falls, in_sync_again, lagging_is_tested, nobody_left, standings_say,
+    worked_histories,
 };
 pub use replicas::InSync;

@@ -1,11 +1,11 @@
 //! Laws of a partition's replicas, over every history. They do nothing.
-ghost use Rattle.std.specs.Prelude.{◌≡◌, ℕ, ◌+◌, ◌≤◌, List, [], ◌∷◌, ◌++◌, length, min, fold, IsTrue, IsFalse};
+ghost use Rattle.std.specs.Prelude.{◌≡◌, ◌≢◌, ◌↔◌, ℕ, ◌+◌, ◌≤◌, List, [], ◌∷◌, ◌++◌, length, min, fold, IsTrue, IsFalse};
 ghost use Rattle.in_sync.specs.ReplicaEvent.{ReplicaEvent, Fetched, Left};
 ghost use Rattle.in_sync.specs.LogEnd.{log_end_of};
 ghost use Rattle.in_sync.specs.Position.{position_of, positions_of};
 ghost use Rattle.in_sync.specs.InSync.{in_sync_of, high_watermark_of, count_of};
 ghost use Rattle.in_sync.specs.CaughtUp.{caught_up_of};
-ghost use Rattle.in_sync.specs.Lagging.{Lags};
+ghost use Rattle.in_sync.specs.Lagging.{IsFollower, Lags, lags};
 ghost use Rattle.in_sync.specs.NobodyLeft.{NobodyLeft};
 ghost use Rattle.in_sync.specs.Standings.{Standings, StandsFor};
 ghost use Rattle.in_sync.specs.Worked.{one_record, taken_out, without_it, still_out, back_in, third_record, asked_once};
@@ -40,6 +40,17 @@ pub fn in_sync_again()
     ensures from_log_end { (followers : ℕ) (events : List ReplicaEvent) (replica offset t : ℕ)
         → log_end_of events ≤ offset
         → IsTrue (in_sync_of followers (events ++ Fetched replica offset t ∷ []) replica) }
+{}
+
+/// Law: the test for lagging agrees with what lagging is, of each follower. A replica that has left doesn't lag, and each
+/// other one lags as before.
+pub fn lagging_is_tested()
+    ensures agrees { (followers : ℕ) (events : List ReplicaEvent) (t replica : ℕ) → IsFollower replica followers
+        → (IsTrue (lags followers events t replica) ↔ Lags followers events t replica) }
+    ensures left { (followers : ℕ) (events : List ReplicaEvent) (replica at t : ℕ)
+        → IsFalse (lags followers (events ++ Left replica at ∷ []) t replica) }
+    ensures others { (followers : ℕ) (events : List ReplicaEvent) (left at t replica : ℕ) → left ≢ replica
+        → lags followers (events ++ Left left at ∷ []) t replica ≡ lags followers events t replica }
 {}
 
 /// Law: what is kept for a history has a standing for each follower, and the log end and the high watermark of the history.

@@ -1,6 +1,6 @@
 //! The followers of a partition, and how each stands to its leader.
 
-ghost use Rattle.std.specs.Prelude.{◌≡◌, ◌↔◌, ◌+◌, ◌<◌, ◌≤◌, ◌^◌, ℕ, List, [], ◌∷◌, ◌++◌, length, filter, IfOk, IfSome, IfNone, IsNone};
+ghost use Rattle.std.specs.Prelude.{◌≡◌, ◌↔◌, ◌+◌, ◌<◌, ◌≤◌, ◌^◌, ℕ, List, [], ◌∷◌, ◌++◌, length, filter, IfOk, IfSome, IfNone, IsNone, IsTrue};
 ghost use Rattle.in_sync.specs.ReplicaEvent.{ReplicaEvent, Appended, Fetched, Left};
 ghost use Rattle.in_sync.specs.LogEnd.{log_end_of};
 ghost use Rattle.in_sync.specs.InSync.{high_watermark_of, count_of};
@@ -21,7 +21,7 @@ use std::marker::Model;
 pub struct InSync {
     log_end: u64,
     high_watermark: u64,
-    /// From the first follower on.
+    /// From the first follower on. There are few enough for a number of 32 bits to count them and the leader.
     followers: Vec<Standing>,
 }
 
@@ -33,7 +33,7 @@ impl Model for InSync {
 
     ghost view = { λ s. record { log_end = s.log_end; high_watermark = s.high_watermark; followers = s.followers.items } };
 
-    ghost invariant = { λ s. length s.followers.items < 2 ^ 32 };
+    ghost invariant = { λ s. length s.followers.items < 4294967295 };
 }
 
 /// The least of the log end and the positions of the followers in sync.
@@ -91,10 +91,13 @@ fn unfetched(alloc: Global, followers: u32) -> Result<Vec<Standing>, NoMemory>
 }
 
 impl InSync {
-    /// The followers of a partition whose log is empty. All of them are in sync.
+    /// The followers of a partition whose log is empty. All of them are in sync. There is no memory for `u32::MAX` of them.
     pub fn new(alloc: Global, followers: u32) -> Result<InSync, NoMemory>
         ensures stands { IfOk result (λ replicas. StandsFor replicas followers []) }
     {
+        if followers == u32::MAX {
+            return Err(NoMemory);
+        }
         Ok(InSync {
             log_end: 0,
             high_watermark: 0,
@@ -150,6 +153,17 @@ impl InSync {
         first_late(self.log_end, t, self.followers.as_slice())
     }
 
+    /// Whether this replica is a follower that lags at this moment, in milliseconds.
+    pub fn lags(&self, replica: u32, t: u64) -> bool
+        ensures lags { (followers : ℕ) (events : List ReplicaEvent) → StandsFor self.now followers events
+            → (IsTrue result ↔ Lags followers events t replica) }
+    {
+        match place_of(replica, self.followers.as_slice()) {
+            Some(at) => self.followers[at].is_late(self.log_end, t),
+            None => false,
+        }
+    }
+
     /// The log end: the number of records that were appended.
     pub fn log_end(&self) -> u64
         ensures value { result ≡ self.now.log_end }
@@ -169,11 +183,11 @@ impl InSync {
     }
 
     /// How many replicas are in sync, with the leader.
-    pub fn count(&self) -> u64
+    pub fn count(&self) -> u32
         ensures count { (followers : ℕ) (events : List ReplicaEvent) → StandsFor self.now followers events
             → result ≡ count_of followers events }
     {
-        1 + count_in_sync(self.followers.as_slice()) as u64
+        1 + count_in_sync(self.followers.as_slice()) as u32
     }
 
     /// How many followers there are, in sync or not.

@@ -6,10 +6,12 @@ use Rattle.std.proofs.lemmas.Bool.{cases_lt, lt-ltb, le-ltb}
 use Rattle.std.proofs.lemmas.Int.{ints}
 use Rattle.std.specs.Cmp.Lexicographic.{pointwise}
 use Rattle.std.specs.Bool.{nat_eq}
+use Rattle.std.proofs.lemmas.Option.{unwrap_or-slice_get}
+use Rattle.std.specs.List.{flat_map}
 use Rattle.std.proofs.lemmas.List.{drop_all, length-replicate, get_or_append_left, get_or-append_right, get_or-replicate}
 use Rattle.std.proofs.lemmas.List.Sums.{sum_by-take-drop, sum_by-cons}
 use Rattle.kwire.specs.declared.config.Topic.{Topic}
-use Rattle.kwire.specs.Configuration.{partitions_of, followers_of, part_from}
+use Rattle.kwire.specs.Configuration.{partitions_of, followers_of, min_insyncs_of, min_insync_at, part_from}
 
 module _ (topics : List Topic) (i : ℕ) (topic : Topic) (lt : i < length topics) (is : topic ≡ get_or topics i topic) where
   pub topic_here : drop i topics ≡ topic ∷ drop (i + 1) topics
@@ -52,16 +54,37 @@ pub below_64 : (r : Option ℕ) (all : ℕ) → all ≤ 64 → IfSome r (λ part
 below_64 None all le h = tt
 below_64 (Some part) all le h = omega (arith, h)
 
--- ---- followers
+-- ---- a number of each topic, told of each of its partitions
+
+abbrev by_partition : (Topic → ℕ) → List Topic → List ℕ
+by_partition number topics = flat_map (λ topic. replicate topic.partitions (number topic)) topics
+
+module _ (number : Topic → ℕ) (topics : List Topic) (i : ℕ) (topic : Topic) (lt : i < length topics) (is : topic ≡ get_or topics i topic) where
+  number_here : (left : ℕ) → left < topic.partitions → get_or (by_partition number (drop i topics)) left 0 ≡ number topic
+  number_here left less =
+      ap (λ (ts : List Topic). get_or (by_partition number ts) left 0) (topic_here topics i topic lt is)
+      ∙ get_or_append_left (replicate topic.partitions (number topic)) (by_partition number (drop (i + 1) topics)) 0 left (omega (arith, length-replicate topic.partitions (number topic), less))
+      ∙ get_or-replicate topic.partitions left (number topic) 0 less
+
+  number_next : (left : ℕ) → topic.partitions ≤ left → get_or (by_partition number (drop i topics)) left 0 ≡ get_or (by_partition number (drop (i + 1) topics)) (left - topic.partitions) 0
+  number_next left more =
+      ap (λ (ts : List Topic). get_or (by_partition number ts) left 0) (topic_here topics i topic lt is)
+      ∙ get_or-append_right (replicate topic.partitions (number topic)) (by_partition number (drop (i + 1) topics)) topic.partitions left 0 (length-replicate topic.partitions (number topic)) more
 
 module _ (topics : List Topic) (i : ℕ) (topic : Topic) (lt : i < length topics) (is : topic ≡ get_or topics i topic) where
   pub followers_here : (left : ℕ) → left < topic.partitions → slice_index (followers_of (drop i topics)) left ≡ topic.followers
-  followers_here left less =
-      ap (λ (ts : List Topic). slice_index (followers_of ts) left) (topic_here topics i topic lt is)
-      ∙ get_or_append_left (replicate topic.partitions topic.followers) (followers_of (drop (i + 1) topics)) 0 left (omega (arith, length-replicate topic.partitions topic.followers, less))
-      ∙ get_or-replicate topic.partitions left topic.followers 0 less
+  followers_here left less = number_here (λ t. t.followers) topics i topic lt is left less
 
   pub followers_next : (left : ℕ) → topic.partitions ≤ left → slice_index (followers_of (drop i topics)) left ≡ slice_index (followers_of (drop (i + 1) topics)) (left - topic.partitions)
-  followers_next left more =
-      ap (λ (ts : List Topic). slice_index (followers_of ts) left) (topic_here topics i topic lt is)
-      ∙ get_or-append_right (replicate topic.partitions topic.followers) (followers_of (drop (i + 1) topics)) topic.partitions left 0 (length-replicate topic.partitions topic.followers) more
+  followers_next left more = number_next (λ t. t.followers) topics i topic lt is left more
+
+  pub min_insync_here : (left : ℕ) → left < topic.partitions → min_insync_at (drop i topics) left ≡ topic.min_insync
+  min_insync_here left less = unwrap_or-slice_get (min_insyncs_of (drop i topics)) left 0 ∙ number_here (λ t. t.min_insync) topics i topic lt is left less
+
+  pub min_insync_next : (left : ℕ) → topic.partitions ≤ left → min_insync_at (drop i topics) left ≡ min_insync_at (drop (i + 1) topics) (left - topic.partitions)
+  min_insync_next left more =
+      unwrap_or-slice_get (min_insyncs_of (drop i topics)) left 0 ∙ number_next (λ t. t.min_insync) topics i topic lt is left more
+      ∙ sym (unwrap_or-slice_get (min_insyncs_of (drop (i + 1) topics)) (left - topic.partitions) 0)
+
+pub min_insync_past : (topics : List Topic) (i left : ℕ) → length topics ≤ i → min_insync_at (drop i topics) left ≡ 0
+min_insync_past topics i left le = ap (λ (ts : List Topic). min_insync_at ts left) (drop_all i topics le)

@@ -1,9 +1,9 @@
 -- The configuration: the port that metadata tells, and the topics in the order in which they were declared. Partitions are
 -- numbered from 0 over all topics.
-use Rattle.std.specs.Prelude.{ℕ, ◌+◌, ◌<◌, ◌≤◌, ◌≢◌, ℤ, pos, negsuc, Bool, ◌&&◌, ◌||◌, List, [], ◌∷◌, length, map, sum_by, replicate, codes, nat_lt, nat_le, ◌==◌, if◌then◌else◌, Option, Some, None, Contains, IsTrue}
+use Rattle.std.specs.Prelude.{ℕ, ◌+◌, ◌<◌, ◌≤◌, ◌≢◌, ℤ, pos, negsuc, Bool, ◌&&◌, ◌||◌, List, [], ◌∷◌, length, map, sum_by, replicate, codes, nat_lt, nat_le, ◌==◌, if◌then◌else◌, Option, Some, None, unwrap_or, Contains, IsTrue}
 use Rattle.std.specs.Bool.{nat_eq}
 use Rattle.std.specs.Cmp.Lexicographic.{pointwise}
-use Rattle.std.specs.List.{flat_map, list_all}
+use Rattle.std.specs.List.{flat_map, list_all, slice_get}
 use Rattle.kwire.specs.declared.config.Topic.{Topic}
 use Rattle.kwire.specs.declared.config.TheConstants.{MOST_NAME_BYTES, MOST_PARTITIONS, MOST_FOLLOWERS}
 
@@ -44,6 +44,14 @@ part_of config name index = part_from 0 config.topics name index
 -- the number of followers of each partition, in order
 abbrev pub followers_of : List Topic → List ℕ
 followers_of topics = flat_map (λ topic. replicate topic.partitions topic.followers) topics
+
+-- the least number of in-sync replicas of each partition, in order
+abbrev pub min_insyncs_of : List Topic → List ℕ
+min_insyncs_of topics = flat_map (λ topic. replicate topic.partitions topic.min_insync) topics
+
+-- that of the partition with this number, or 0 where there is none
+abbrev pub min_insync_at : List Topic → ℕ → ℕ
+min_insync_at topics part = unwrap_or (slice_get (min_insyncs_of topics) part) 0
 
 -- what may be declared beside these topics; `least` is the least number of in-sync replicas, the leader counted
 pub record IsNewTopic (topics : List Topic) (called : List ℕ) (partitions followers least : ℕ) : Type 0 where

@@ -24,6 +24,12 @@ pub const REPLICA_NOT_AVAILABLE: i16 = 9;
 /// The batch has too many bytes.
 pub const MESSAGE_TOO_LARGE: i16 = 10;
 
+/// The produce asks for all replicas, and fewer of the partition's replicas are in sync than its topic asks for.
+pub const NOT_ENOUGH_REPLICAS: i16 = 19;
+
+/// The batch was appended, and since then so many replicas left that fewer are in sync than the topic asks for.
+pub const NOT_ENOUGH_REPLICAS_AFTER_APPEND: i16 = 20;
+
 /// The produce asks for acks other than 0, 1 and all.
 pub const INVALID_REQUIRED_ACKS: i16 = 21;
 

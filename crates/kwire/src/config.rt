@@ -141,7 +141,7 @@ fn part_in(topic: &Topic, before: u32, number: u32) -> Option<u32>
 
 impl Config {
     ghost use Rattle.std.specs.Prelude.{[], ◌∷◌, ◌++◌, ◌<◌, ◌⊎◌, IfSome, slice_index, pos};
-    ghost use Rattle.kwire.specs.Configuration.{IsTopicName, IsNewTopic, names_of, partitions_of, followers_of, part_of, part_from};
+    ghost use Rattle.kwire.specs.Configuration.{IsTopicName, IsNewTopic, names_of, partitions_of, followers_of, min_insync_at, part_of, part_from};
 
     /// A configuration without topics. It takes no memory.
     pub fn new(alloc: Global, port: u16) -> Config
@@ -264,6 +264,20 @@ impl Config {
         for topic in self.topics.as_slice() {
             if left < topic.partitions {
                 return topic.followers;
+            }
+            left -= topic.partitions;
+        }
+        0
+    }
+    /// The least number of in-sync replicas with which a partition takes a produce that asks for all of them, by its number
+    /// over all topics, or 0 where there is no such partition.
+    pub fn min_insync_of(&self, part: u32) -> u32
+        ensures { result ≡ min_insync_at self.now.topics part }
+    {
+        let mut left = part;
+        for topic in self.topics.as_slice() {
+            if left < topic.partitions {
+                return topic.min_insync;
             }
             left -= topic.partitions;
         }

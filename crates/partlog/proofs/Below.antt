@@ -6,7 +6,7 @@ use Rattle.std.proofs.lemmas.List.Sums.{sum_by-cons}
 use Rattle.std.proofs.lemmas.Bool.{cases_lt}
 use Rattle.std.proofs.lemmas.Bool.Decides.{nat_tests}
 use Rattle.partlog.specs.declared.event.PartEvent.{PartEvent}
-use Rattle.partlog.specs.declared.event.PartEvent.TheVariants.{Append, Follow, Look}
+use Rattle.partlog.specs.declared.event.PartEvent.TheVariants.{Append, Follow, Look, Shrink}
 use Rattle.partlog.specs.Added.{added_bytes, bytes_of, log_end_of}
 use Rattle.partlog.specs.Batches.{StoredBatch, batches_after, next_offset}
 use Rattle.partlog.specs.Boundary.{IsBoundary}
@@ -121,9 +121,12 @@ batches-take n before (Append by seq count len ∷ es) log fits =
     let rest : drop len (take n log) ≡ take (n - len) (drop len log) = ap (λ k. drop len (take k log)) parts ∙ drop-take len (n - len) log in
     ap (λ l. record { base = log_end_of before; count = count; bytes = l } ∷ batches_after (before ++ e ∷ []) es (drop len (take n log))) (take-take len n log (omega (arith, fits, total)))
     ∙ ap (λ l. record { base = log_end_of before; count = count; bytes = take len log } ∷ l) (ap (λ l. batches_after (before ++ e ∷ []) es l) rest ∙ batches-take (n - len) (before ++ e ∷ []) es (drop len log) (omega (arith, fits, total)))
-batches-take n before (Follow by seq replica offset ∷ es) log fits =
-    let e : PartEvent = Follow by seq replica offset in
+batches-take n before (Follow by seq replica offset t ∷ es) log fits =
+    let e : PartEvent = Follow by seq replica offset t in
     batches-take n (before ++ e ∷ []) es log (omega (arith, fits, sum_by-cons added_bytes e es))
 batches-take n before (Look by seq ∷ es) log fits =
     let e : PartEvent = Look by seq in
+    batches-take n (before ++ e ∷ []) es log (omega (arith, fits, sum_by-cons added_bytes e es))
+batches-take n before (Shrink by replica t ∷ es) log fits =
+    let e : PartEvent = Shrink by replica t in
     batches-take n (before ++ e ∷ []) es log (omega (arith, fits, sum_by-cons added_bytes e es))

@@ -9,7 +9,7 @@ use Rattle.partlog.specs.Gauges.{bytes_in, batches_below}
 use Rattle.partlog.specs.History.{History}
 use Rattle.partlog.specs.Kept.{IsDense, IsKept}
 use Rattle.partlog.specs.Readable.{IsReadable}
-use Rattle.partlog.specs.State.{state_of, state_before, front_of, high_of}
+use Rattle.partlog.specs.State.{state_of, state_before, front_of}
 use Rattle.partlog.specs.Taken.{batches_past, batches_upto}
 use Rattle.partlog.proofs.Appending.{batches-append}
 use Rattle.partlog.proofs.Below.{below-fitting, past-below, upto-all, upto-below, upto-whole, batches-take}
@@ -28,7 +28,7 @@ kept-front h place kept =
 pub readable-now : (h : History) → IsKept h.log h.events → IsReadable (state_of h).batches (state_of h)
 readable-now h kept =
     let bs : List StoredBatch = batches_of h.events h.log in
-    let high : ℕ = high_of (state_of h) in
+    let high : ℕ = (state_of h).high in
     let full = kept-full h.log h.events kept in
     let rising = kept-rising h.log h.events kept in
     record {
@@ -48,7 +48,7 @@ readable-before h place kept =
     let front : History = front_of h place in
     let xs : List StoredBatch = (state_before h place).batches in
     let ys : List StoredBatch = batches_after (take place h.events) (drop place h.events) (drop (bytes_of (take place h.events)) h.log) in
-    let high : ℕ = high_of (state_before h place) in
+    let high : ℕ = (state_before h place).high in
     let parts = later h place in
     let full : IsFull (xs ++ ys) = subst IsFull parts (kept-full h.log h.events kept) in
     let rising : IsRising 0 xs = kept-rising front.log front.events (kept-front h place kept) in

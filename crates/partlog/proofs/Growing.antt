@@ -1,6 +1,6 @@
 -- No number falls as a history grows.
-use Rattle.std.proofs.Common.{◌≡◌, ℕ, ◌+◌, ◌≤◌, pos, Bool, true, false, nat_le, cond, Option, refl, List, [], ◌∷◌, ◌++◌, length, take, drop, min, max, map, fold, arith, sym, ap, subst, ◌∙◌}
-use Rattle.std.specs.List.{filter_map, range_with_len}
+use Rattle.std.proofs.Common.{◌≡◌, ℕ, ◌+◌, ◌≤◌, Bool, true, false, nat_le, cond, Option, refl, List, [], ◌∷◌, ◌++◌, length, take, drop, max, fold, arith, sym, ap, subst, ◌∙◌}
+use Rattle.std.specs.List.{filter_map}
 use Rattle.std.proofs.Math.Seq.{take-append_seam, take-take}
 use Rattle.std.proofs.lemmas.Bool.{leb-true, le-leb, false≢true}
 use Rattle.std.proofs.lemmas.List.{take-append-drop}
@@ -15,11 +15,11 @@ use Rattle.partlog.specs.Gauges.{bytes_in, batches_below, numbers_of}
 use Rattle.partlog.specs.History.{History}
 use Rattle.partlog.specs.Kept.{IsKept}
 use Rattle.partlog.specs.Moment.{moment_of, tick_of}
-use Rattle.partlog.specs.Position.{offset_by, position_of}
-use Rattle.partlog.specs.State.{state_of, state_before, high_of}
+use Rattle.partlog.specs.State.{state_of, state_before}
 use Rattle.partlog.proofs.Appending.{batches-append}
 use Rattle.partlog.proofs.Below.{batches-take}
 use Rattle.partlog.proofs.Earlier.{kept-front}
+use Rattle.partlog.proofs.Replicas.{high-grows}
 
 fold-max-ge : (a : ℕ) (xs : List ℕ) → a ≤ fold max a xs
 fold-max-ge a [] = omega arith
@@ -32,10 +32,6 @@ greatest-grows h xs ys =
 
 pub moment-grows : (events more : List ClockEvent) → moment_of events ≤ moment_of (events ++ more)
 moment-grows events more = greatest-grows tick_of events more
-
-least-grows : (f g : ℕ → ℕ) (a b : ℕ) (rs : List ℕ) → ((r : ℕ) → f r ≤ g r) → a ≤ b → fold min a (map f rs) ≤ fold min b (map g rs)
-least-grows f g a b [] le at = at
-least-grows f g a b (r ∷ rs) le at = least-grows f g (min a (f r)) (min b (g r)) rs le (omega (arith, le r))
 
 below-grows : (low high : ℕ) (bs : List StoredBatch) → low ≤ high → bytes_in (batches_below low bs) ≤ bytes_in (batches_below high bs)
 below-grows low high [] le = omega arith
@@ -70,21 +66,17 @@ module _ (log bytes : List ℕ) (followers : ℕ) (events more : List PartEvent)
   end-grows : log_end_of events ≤ log_end_of (events ++ more)
   end-grows = omega (arith, sum_by-append added_count events more)
 
-  high-grows : high_of (state_of was) ≤ high_of (state_of is)
-  high-grows =
-      least-grows (λ r. position_of events (pos r)) (λ r. position_of (events ++ more) (pos r)) (log_end_of events) (log_end_of (events ++ more)) (range_with_len 1 followers)
-      (λ r. greatest-grows (offset_by (pos r)) events more) end-grows
-
   pub numbers-grow : NoneFell (numbers_of (state_of was)) (numbers_of (state_of is))
   numbers-grow =
-      let low : ℕ = high_of (state_of was) in
-      let high : ℕ = high_of (state_of is) in
+      let low : ℕ = (state_of was).high in
+      let high : ℕ = (state_of is).high in
+      let rises = high-grows followers events more in
       let all = ap bytes_in batches-grow ∙ sum_by-append (λ (b : StoredBatch). length b.bytes) (batches_of events log) rest in
       let seen = ap (λ bs. bytes_in (batches_below high bs)) batches-grow ∙ ap bytes_in (filter-append (λ (b : StoredBatch). nat_le (next_offset b) high) (batches_of events log) rest) ∙ sum_by-append (λ (b : StoredBatch). length b.bytes) (batches_below high (batches_of events log)) (batches_below high rest) in
-      let below = below-grows low high (batches_of events log) high-grows in
+      let below = below-grows low high (batches_of events log) rises in
       record {
         end = end-grows;
-        high = high-grows;
+        high = rises;
         visible = omega (arith, seen, below);
         bytes = omega (arith, all);
       }

@@ -20,8 +20,14 @@ pub mod Whole
 pub mod Earlier
 -- what a search among the starts of batches finds
 pub mod Halving
--- how far the replicas have fetched as one fetches more
-pub mod Following
+-- what a history says of the replicas, as it goes on
+pub mod Replicas
+-- whoever was taken out lagged, as a history goes on
+pub mod Lagging
+-- what those who are taken out leave of a log
+pub mod Taken
+-- all who lag are taken out, one after the other
+pub mod Shrinking
 -- the clock's moment as its history goes on
 pub mod Timing
 -- what is kept of a log as it grows

@@ -5,7 +5,7 @@ use Rattle.std.proofs.lemmas.List.{length-take-le}
 use Rattle.std.proofs.lemmas.List.Sums.{sum_by-cons, sum_by_push}
 use Rattle.std.proofs.lemmas.List.Elements.{All-tail}
 use Rattle.partlog.specs.declared.event.PartEvent.{PartEvent}
-use Rattle.partlog.specs.declared.event.PartEvent.TheVariants.{Append, Follow, Look}
+use Rattle.partlog.specs.declared.event.PartEvent.TheVariants.{Append, Follow, Look, Shrink}
 use Rattle.partlog.specs.Added.{added_count, added_bytes, log_end_of, bytes_of}
 use Rattle.partlog.specs.Batches.{batches_after}
 use Rattle.partlog.specs.Kept.{IsDense}
@@ -20,11 +20,14 @@ full-batches before (Append by seq count len ∷ es) log dense fits =
     let total : bytes_of (e ∷ es) ≡ len + bytes_of es = sum_by-cons added_bytes e es in
     let size : length (take len log) ≡ len = length-take-le len log (omega (arith, fits, total)) in
     (omega (arith, here.0, here.1, size), full-batches (before ++ e ∷ []) es (drop len log) (All-tail IsDense e es dense) (omega (arith, fits, total, length-drop len log)))
-full-batches before (Follow by seq replica offset ∷ es) log dense fits =
-    let e : PartEvent = Follow by seq replica offset in
+full-batches before (Follow by seq replica offset t ∷ es) log dense fits =
+    let e : PartEvent = Follow by seq replica offset t in
     full-batches (before ++ e ∷ []) es log (All-tail IsDense e es dense) (omega (arith, fits, sum_by-cons added_bytes e es))
 full-batches before (Look by seq ∷ es) log dense fits =
     let e : PartEvent = Look by seq in
+    full-batches (before ++ e ∷ []) es log (All-tail IsDense e es dense) (omega (arith, fits, sum_by-cons added_bytes e es))
+full-batches before (Shrink by replica t ∷ es) log dense fits =
+    let e : PartEvent = Shrink by replica t in
     full-batches (before ++ e ∷ []) es log (All-tail IsDense e es dense) (omega (arith, fits, sum_by-cons added_bytes e es))
 
 pub rising-batches : (before es : List PartEvent) (log : List ℕ) → All IsDense es → IsRising (log_end_of before) (batches_after before es log)
@@ -34,12 +37,16 @@ rising-batches before (Append by seq count len ∷ es) log dense =
     let here : IsDense e = dense 0 e (omega arith) in
     let Rises : ℕ → Type 0 = λ base. IsRising base (batches_after (before ++ e ∷ []) es (drop len log)) in
     (refl, here.0, subst Rises (sum_by_push added_count before e) (rising-batches (before ++ e ∷ []) es (drop len log) (All-tail IsDense e es dense)))
-rising-batches before (Follow by seq replica offset ∷ es) log dense =
-    let e : PartEvent = Follow by seq replica offset in
+rising-batches before (Follow by seq replica offset t ∷ es) log dense =
+    let e : PartEvent = Follow by seq replica offset t in
     let Rises : ℕ → Type 0 = λ base. IsRising base (batches_after (before ++ e ∷ []) es log) in
     subst Rises (sum_by_push added_count before e ∙ omega arith) (rising-batches (before ++ e ∷ []) es log (All-tail IsDense e es dense))
 rising-batches before (Look by seq ∷ es) log dense =
     let e : PartEvent = Look by seq in
+    let Rises : ℕ → Type 0 = λ base. IsRising base (batches_after (before ++ e ∷ []) es log) in
+    subst Rises (sum_by_push added_count before e ∙ omega arith) (rising-batches (before ++ e ∷ []) es log (All-tail IsDense e es dense))
+rising-batches before (Shrink by replica t ∷ es) log dense =
+    let e : PartEvent = Shrink by replica t in
     let Rises : ℕ → Type 0 = λ base. IsRising base (batches_after (before ++ e ∷ []) es log) in
     subst Rises (sum_by_push added_count before e ∙ omega arith) (rising-batches (before ++ e ∷ []) es log (All-tail IsDense e es dense))
 
@@ -49,9 +56,12 @@ joined-batches before [] log = refl
 joined-batches before (Append by seq count len ∷ es) log =
     let e : PartEvent = Append by seq count len in
     ap (λ l. take len log ++ l) (joined-batches (before ++ e ∷ []) es (drop len log)) ∙ sym (take-add len (bytes_of es) log) ∙ ap (λ n. take n log) (sym (sum_by-cons added_bytes e es))
-joined-batches before (Follow by seq replica offset ∷ es) log =
-    let e : PartEvent = Follow by seq replica offset in
+joined-batches before (Follow by seq replica offset t ∷ es) log =
+    let e : PartEvent = Follow by seq replica offset t in
     joined-batches (before ++ e ∷ []) es log ∙ ap (λ n. take n log) (omega (arith, sum_by-cons added_bytes e es))
 joined-batches before (Look by seq ∷ es) log =
     let e : PartEvent = Look by seq in
+    joined-batches (before ++ e ∷ []) es log ∙ ap (λ n. take n log) (omega (arith, sum_by-cons added_bytes e es))
+joined-batches before (Shrink by replica t ∷ es) log =
+    let e : PartEvent = Shrink by replica t in
     joined-batches (before ++ e ∷ []) es log ∙ ap (λ n. take n log) (omega (arith, sum_by-cons added_bytes e es))

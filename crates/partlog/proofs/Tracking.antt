@@ -1,27 +1,30 @@
 -- What is kept of a log beside its bytes and its history, as these grow.
-use Rattle.std.proofs.Common.{◌≡◌, ℕ, pos, ◌+◌, ◌≤◌, ◌<◌, List, [], ◌∷◌, ◌++◌, length, take, drop, min, max, map, fold, get_or, set, arith, sym, ap, subst, ◌∙◌, refl, append-nil}
-use Rattle.std.specs.List.{filter_map, range_with_len}
+use Rattle.std.proofs.Common.{◌≡◌, ℕ, pos, ◌+◌, ◌≤◌, ◌<◌, ◌^◌, List, [], ◌∷◌, ◌++◌, length, take, drop, arith, sym, ap, subst, ◌∙◌, refl, append-nil}
 use Rattle.std.proofs.Math.Seq.{take-append_seam, drop-append_seam, take-length}
-use Rattle.std.proofs.lemmas.List.Elements.{filter_map-append}
-use Rattle.std.proofs.lemmas.List.FromFn.{map-range_with_len_more}
 use Rattle.std.proofs.lemmas.List.Sums.{sum_by-cons, sum_by_push}
+use Rattle.in_sync.specs.InSync.{high_watermark_of, count_of}
+use Rattle.in_sync.specs.ReplicaEvent.{ReplicaEvent, Appended, Fetched, Left}
+use Rattle.in_sync.specs.Standings.{Standings, StandsFor}
+use Rattle.in_sync.proofs.Laws.{count-of-all}
 use Rattle.partlog.specs.declared.batch_start.BatchStart.{BatchStart}
 use Rattle.partlog.specs.declared.event.PartEvent.{PartEvent}
-use Rattle.partlog.specs.declared.event.PartEvent.TheVariants.{Append, Follow, Look}
+use Rattle.partlog.specs.declared.event.PartEvent.TheVariants.{Append, Follow, Look, Shrink}
 use Rattle.partlog.specs.declared.numbers.Numbers.{Numbers}
-use Rattle.partlog.specs.Added.{added_count, bytes_of, log_end_of}
+use Rattle.partlog.specs.Added.{added_bytes, added_count, bytes_of, log_end_of}
 use Rattle.partlog.specs.Batches.{StoredBatch, batches_after, batches_of}
-use Rattle.partlog.specs.Gauges.{bytes_in, batches_below, numbers_of}
-use Rattle.partlog.specs.Kept.{IsKept}
-use Rattle.partlog.specs.Position.{offset_by, position_of, positions_of}
+use Rattle.partlog.specs.Gauges.{bytes_in, batches_below}
+use Rattle.partlog.specs.Kept.{IsDense, IsKept}
+use Rattle.partlog.specs.Lagging.{LagsAt, LeftLate}
+use Rattle.partlog.specs.Replicas.{replica_events}
 use Rattle.partlog.specs.Starts.{AreStarts, starts_from, records_in}
 use Rattle.partlog.specs.Tracked.{IsTracked}
 use Rattle.partlog.proofs.Appending.{batches-append}
 use Rattle.partlog.proofs.Below.{batches-take}
-use Rattle.partlog.proofs.Following.{positions-raised}
 use Rattle.partlog.proofs.Gathered.{IsScanned, numbers_are}
+use Rattle.partlog.proofs.Lagging.{late-nobody, late-append, late-follow, late-look, late-shrink}
+use Rattle.partlog.proofs.Replicas.{events-append, end-of-replicas, high-within}
 use Rattle.partlog.proofs.Stamping.{kept-push, kept-none}
-use Rattle.partlog.proofs.Whole.{kept-full, kept-rising, kept-bytes}
+use Rattle.partlog.proofs.Whole.{kept-full, kept-rising, kept-bytes, kept-end}
 
 -- the batches of the entries have the records that these added
 records_in-batches : (before es : List PartEvent) (log : List ℕ) → records_in (batches_after before es log) ≡ log_end_of es
@@ -31,11 +34,14 @@ records_in-batches before (Append by seq count len ∷ es) log =
     let now : StoredBatch = record { base = log_end_of before; count = count; bytes = take len log } in
     let more : List StoredBatch = batches_after (before ++ e ∷ []) es (drop len log) in
     sum_by-cons (λ (b : StoredBatch). b.count) now more ∙ ap (λ n. count + n) (records_in-batches (before ++ e ∷ []) es (drop len log)) ∙ sym (sum_by-cons added_count e es)
-records_in-batches before (Follow by seq replica offset ∷ es) log =
-    let e : PartEvent = Follow by seq replica offset in
+records_in-batches before (Follow by seq replica offset t ∷ es) log =
+    let e : PartEvent = Follow by seq replica offset t in
     records_in-batches (before ++ e ∷ []) es log ∙ omega (arith, sum_by-cons added_count e es)
 records_in-batches before (Look by seq ∷ es) log =
     let e : PartEvent = Look by seq in
+    records_in-batches (before ++ e ∷ []) es log ∙ omega (arith, sum_by-cons added_count e es)
+records_in-batches before (Shrink by replica t ∷ es) log =
+    let e : PartEvent = Shrink by replica t in
     records_in-batches (before ++ e ∷ []) es log ∙ omega (arith, sum_by-cons added_count e es)
 
 starts-push : (place : ℕ) (bs : List StoredBatch) (b : StoredBatch) → starts_from place (bs ++ b ∷ []) ≡ starts_from place bs ++ record { base = b.base; place = place + bytes_in bs } ∷ []
@@ -55,96 +61,110 @@ are-starts log events starts next kept each base place = record {
   rising = kept-rising log events kept;
 }
 
--- an entry that is no fetch moves no position
-unmoved : (followers : ℕ) (events : List PartEvent) (e : PartEvent) → ((replica : ℕ) → filter_map (offset_by (pos replica)) (e ∷ []) ≡ []) → positions_of followers (events ++ e ∷ []) ≡ positions_of followers events
-unmoved followers events e none =
-    let one : (replica : ℕ) → position_of (events ++ e ∷ []) (pos replica) ≡ position_of events (pos replica) =
-    λ replica. ap (λ l. fold max 0 l) (filter_map-append (offset_by (pos replica)) events (e ∷ []) ∙ ap (λ l. filter_map (offset_by (pos replica)) events ++ l) (none replica) ∙ append-nil (filter_map (offset_by (pos replica)) events)) in
-    λ i. map (λ replica. one replica i) (range_with_len 1 followers)
+-- before the first entry
+pub tracked-new : (followers : ℕ) (replicas : Standings) (insync : ℕ) → followers < 2 ^ 31 → insync ≡ followers + 1 → StandsFor replicas followers [] → IsTracked [] followers [] [] replicas (record { end = 0; high = 0; visible = 0; bytes = 0; insync = insync })
+tracked-new followers replicas insync few all stands =
+    let high : 0 ≡ high_watermark_of followers [] = omega (arith, high-within followers []) in
+    let count : insync ≡ count_of followers [] = omega (arith, all, count-of-all followers [] tt) in
+    record {
+      kept = record { whole = refl; bounded = omega arith; dense = λ k d lt. absurd (omega arith) };
+      starts = refl;
+      few = few;
+      stands = stands;
+      numbers = ap (λ (n : ℕ). record { end = 0; high = n; visible = 0; bytes = 0; insync = insync }) high
+          ∙ ap (λ (n : ℕ). record { end = 0; high = high_watermark_of followers []; visible = 0; bytes = 0; insync = n }) count;
+      late = late-nobody followers;
+    }
 
--- followers that fetched nothing
-pub unfetched-more : (followers : ℕ) → positions_of (followers + 1) [] ≡ positions_of followers [] ++ 0 ∷ []
-unfetched-more followers = map-range_with_len_more (λ replica. position_of [] (pos replica)) 1 followers (followers + 1) (omega arith)
+-- what is kept of the replicas, once one more entry stands in the history
+stands-with : (followers : ℕ) (events : List PartEvent) (e : PartEvent) (now : Standings) → StandsFor now followers (replica_events events ++ replica_events (e ∷ [])) → StandsFor now followers (replica_events (events ++ e ∷ []))
+stands-with followers events e now stands = subst (λ (es : List ReplicaEvent). StandsFor now followers es) (sym (events-append events (e ∷ []))) stands
 
-pub tracked-new : (followers : ℕ) → IsTracked [] followers [] [] (positions_of followers []) (record { end = 0; high = 0; visible = 0; bytes = 0 })
-tracked-new followers = record {
-  kept = record { whole = refl; bounded = omega arith; dense = λ k d lt. absurd (omega arith) };
-  starts = refl;
-  positions = refl;
-  numbers = ap (λ (n : ℕ). record { end = 0; high = n; visible = 0; bytes = 0 }) (sym (nothing (positions_of followers [])));
-}
-  where
-    nothing : (ps : List ℕ) → fold min 0 ps ≡ 0
-    nothing [] = refl
-    nothing (p ∷ ps) = ap (λ n. fold min n ps) (omega arith) ∙ nothing ps
-
-module _ (log : List ℕ) (followers : ℕ) (events : List PartEvent) (starts : List BatchStart) (positions : List ℕ) (numbers : Numbers) (tracked : IsTracked log followers events starts positions numbers) where
+module _ (log : List ℕ) (followers : ℕ) (events : List PartEvent) (starts : List BatchStart) (replicas : Standings) (numbers : Numbers) (tracked : IsTracked log followers events starts replicas numbers) where
   pub tracked-starts : AreStarts starts (record { base = numbers.end; place = numbers.bytes }) (batches_of events log)
   tracked-starts =
       are-starts log events starts (record { base = numbers.end; place = numbers.bytes }) tracked.kept tracked.starts (ap (λ (n : Numbers). n.end) tracked.numbers) (ap (λ (n : Numbers). n.bytes) tracked.numbers ∙ kept-bytes log events tracked.kept)
 
   pub tracked-scanned : IsScanned log followers events numbers
   tracked-scanned =
-      let end : numbers.end ≡ log_end_of events = ap (λ (n : Numbers). n.end) tracked.numbers in
-      let high : numbers.high ≡ fold min (log_end_of events) (positions_of followers events) = ap (λ (n : Numbers). n.high) tracked.numbers in
+      let high : numbers.high ≡ high_watermark_of followers (replica_events events) = ap (λ (n : Numbers). n.high) tracked.numbers in
       record {
-        end = end;
-        high = high ∙ ap (λ m. fold min m (positions_of followers events)) (sym end);
+        end = ap (λ (n : Numbers). n.end) tracked.numbers;
+        high = high;
         visible = ap (λ (n : Numbers). n.visible) tracked.numbers ∙ ap (λ h. bytes_in (batches_below h (batches_of events log))) (sym high);
         bytes = ap (λ (n : Numbers). n.bytes) tracked.numbers ∙ kept-bytes log events tracked.kept;
+        insync = ap (λ (n : Numbers). n.insync) tracked.numbers;
       }
 
-  -- an entry that adds nothing
-  module _ (e : PartEvent) (none : batches_after events (e ∷ []) (drop (bytes_of events) log) ≡ []) (no_records : added_count e ≡ 0) where
-    same-batches : batches_of (events ++ e ∷ []) log ≡ batches_of events log
+  -- what is kept of the replicas has the log end
+  pub tracked-end : replicas.log_end ≡ numbers.end
+  tracked-end = ap (λ (s : Standings). s.log_end) tracked.stands ∙ sym (end-of-replicas events) ∙ sym (ap (λ (n : Numbers). n.end) tracked.numbers)
+
+  pub tracked-bound : numbers.end ≤ 67108864
+  tracked-bound = omega (arith, tracked-scanned.end, kept-end log events tracked.kept)
+
+  -- an entry that adds nothing to the log, with the replicas and the numbers after it
+  module _ (e : PartEvent) (none : batches_after events (e ∷ []) (drop (bytes_of events) log) ≡ []) (no_records : added_count e ≡ 0) (no_bytes : added_bytes e ≡ 0) (dense : IsDense e) (late : LeftLate followers (events ++ e ∷ [])) (now : Standings) (stands : StandsFor now followers (replica_events (events ++ e ∷ []))) where
+    abbrev next : List PartEvent
+    next = events ++ e ∷ []
+
+    same-batches : batches_of next log ≡ batches_of events log
     same-batches = batches-append [] events (e ∷ []) log ∙ ap (λ bs. batches_of events log ++ bs) none ∙ append-nil (batches_of events log)
 
-    same-end : log_end_of (events ++ e ∷ []) ≡ log_end_of events
+    same-end : log_end_of next ≡ log_end_of events
     same-end = sum_by_push added_count events e ∙ omega (arith, no_records)
 
-  -- a look
-  module _ (by seq : ℕ) where
-    looked-positions : positions_of followers (events ++ Look by seq ∷ []) ≡ positions_of followers events
-    looked-positions = unmoved followers events (Look by seq) (λ replica. refl)
-
-    pub tracked-look : IsTracked log followers (events ++ Look by seq ∷ []) starts positions numbers
-    tracked-look =
-        let Is : List StoredBatch → ℕ → List ℕ → Type 0 = λ bs end ps. numbers ≡ numbers_of (record { batches = bs; log_end = end; positions = ps }) in
-        record {
-          kept = kept-none log events (Look by seq) refl tt tracked.kept;
-          starts = tracked.starts ∙ ap (starts_from 0) (sym (same-batches (Look by seq) refl refl));
-          positions = tracked.positions ∙ sym looked-positions;
-          numbers = subst (λ bs. Is bs (log_end_of (events ++ Look by seq ∷ [])) (positions_of followers (events ++ Look by seq ∷ []))) (sym (same-batches (Look by seq) refl refl))
-              (subst (λ end. Is (batches_of events log) end (positions_of followers (events ++ Look by seq ∷ []))) (sym (same-end (Look by seq) refl refl))
-              (subst (λ ps. Is (batches_of events log) (log_end_of events) ps) (sym looked-positions) tracked.numbers));
-        }
-
-  -- a follower's fetch
-  module _ (by seq at offset : ℕ) (there : at < followers) (ps : List ℕ) (raised : ps ≡ set positions at (max (get_or positions at 0) offset)) where
-    abbrev fetch : PartEvent
-    fetch = Follow by seq (pos (at + 1)) offset
-
-    pub followed-positions : ps ≡ positions_of followers (events ++ fetch ∷ [])
-    followed-positions =
-        raised ∙ ap (λ (was : List ℕ). set was at (max (get_or was at 0) offset)) tracked.positions ∙ sym (positions-raised followers events by seq at offset there)
-
-    pub tracked-follow : (n : Numbers) → n.end ≡ numbers.end → n.high ≡ fold min numbers.end ps → n.visible ≡ bytes_in (batches_below n.high (batches_of events log)) → n.bytes ≡ numbers.bytes → IsTracked log followers (events ++ fetch ∷ []) starts ps n
-    tracked-follow n end high visible bytes =
+    tracked-quiet : (n : Numbers) → n.end ≡ numbers.end → n.high ≡ high_watermark_of followers (replica_events next) → n.visible ≡ bytes_in (batches_below n.high (batches_of events log)) → n.bytes ≡ numbers.bytes → n.insync ≡ count_of followers (replica_events next) → IsTracked log followers next starts now n
+    tracked-quiet n end high visible bytes insync =
         let was = tracked-scanned in
-        let kept : IsKept log (events ++ fetch ∷ []) = kept-none log events fetch refl tt tracked.kept in
-        let same = same-batches fetch refl refl in
-        let seen : IsScanned log followers (events ++ fetch ∷ []) n = record {
-          end = end ∙ was.end ∙ sym (same-end fetch refl refl);
-          high = high ∙ ap (λ e. fold min e ps) (sym end) ∙ ap (fold min n.end) followed-positions;
-          visible = visible ∙ ap (λ bs. bytes_in (batches_below n.high bs)) (sym same);
+        let kept : IsKept log next = kept-none log events e no_bytes dense tracked.kept in
+        let seen : IsScanned log followers next n = record {
+          end = end ∙ was.end ∙ sym same-end;
+          high = high;
+          visible = visible ∙ ap (λ bs. bytes_in (batches_below n.high bs)) (sym same-batches);
           bytes = bytes ∙ was.bytes;
+          insync = insync;
         } in
         record {
           kept = kept;
-          starts = tracked.starts ∙ ap (starts_from 0) (sym same);
-          positions = followed-positions;
-          numbers = numbers_are log followers (events ++ fetch ∷ []) n kept seen;
+          starts = tracked.starts ∙ ap (starts_from 0) (sym same-batches);
+          few = tracked.few;
+          stands = stands;
+          numbers = numbers_are log followers next n kept seen;
+          late = late;
         }
+
+  -- a look
+  pub tracked-look : (by seq : ℕ) → IsTracked log followers (events ++ Look by seq ∷ []) starts replicas numbers
+  tracked-look by seq =
+      let e : PartEvent = Look by seq in
+      let was = tracked-scanned in
+      let same : replica_events (events ++ e ∷ []) ≡ replica_events events = events-append events (e ∷ []) ∙ append-nil (replica_events events) in
+      tracked-quiet e refl refl refl tt (late-look followers events by seq tracked.late) replicas
+      (subst (λ (es : List ReplicaEvent). StandsFor replicas followers es) (sym same) tracked.stands)
+      numbers refl (was.high ∙ ap (high_watermark_of followers) (sym same)) was.visible refl (was.insync ∙ ap (count_of followers) (sym same))
+
+  -- a follower's fetch
+  module _ (by seq replica offset t : ℕ) (now : Standings) (entered : StandsFor now followers (replica_events events ++ Fetched replica offset t ∷ [])) where
+    abbrev fetch : PartEvent
+    fetch = Follow by seq (pos replica) offset t
+
+    pub fetched-stands : StandsFor now followers (replica_events (events ++ fetch ∷ []))
+    fetched-stands = stands-with followers events fetch now entered
+
+    pub tracked-follow : (n : Numbers) → n.end ≡ numbers.end → n.high ≡ high_watermark_of followers (replica_events (events ++ fetch ∷ [])) → n.visible ≡ bytes_in (batches_below n.high (batches_of events log)) → n.bytes ≡ numbers.bytes → n.insync ≡ count_of followers (replica_events (events ++ fetch ∷ [])) → IsTracked log followers (events ++ fetch ∷ []) starts now n
+    tracked-follow = tracked-quiet fetch refl refl refl tt (late-follow followers events by seq (pos replica) offset t tracked.late) now fetched-stands
+
+  -- one who lagged is taken out
+  module _ (by replica t : ℕ) (lagging : LagsAt followers events t (pos replica)) (now : Standings) (entered : StandsFor now followers (replica_events events ++ Left replica t ∷ [])) where
+    abbrev left : PartEvent
+    left = Shrink by (pos replica) t
+
+    pub left-stands : StandsFor now followers (replica_events (events ++ left ∷ []))
+    left-stands = stands-with followers events left now entered
+
+    pub tracked-left : (n : Numbers) → n.end ≡ numbers.end → n.high ≡ high_watermark_of followers (replica_events (events ++ left ∷ [])) → n.visible ≡ bytes_in (batches_below n.high (batches_of events log)) → n.bytes ≡ numbers.bytes → n.insync ≡ count_of followers (replica_events (events ++ left ∷ [])) → IsTracked log followers (events ++ left ∷ []) starts now n
+    tracked-left = tracked-quiet left refl refl refl tt (late-shrink followers events by (pos replica) t tracked.late lagging) now left-stands
 
   -- a batch that was stamped
   module _ (w : List ℕ) (by seq count len : ℕ) (some : 0 < count) (dense : count < len) (size : length w ≡ len) (room : length log + len ≤ 67108864) where
@@ -184,20 +204,26 @@ module _ (log : List ℕ) (followers : ℕ) (events : List PartEvent) (starts : 
         let sum : log_end_of (events ++ entry ∷ []) ≡ log_end_of events + count = sum_by_push added_count events entry in
         are-starts (log ++ w) (events ++ entry ∷ []) ss next pushed-kept (is ∙ pushed-starts) (base ∙ omega arith) place
 
-    pub tracked-push : (ss : List BatchStart) (next : BatchStart) (n : Numbers) → ss ≡ starts ++ record { base = numbers.end; place = length log } ∷ [] → next.base ≡ numbers.end + count → next.place ≡ length (log ++ w) → n.end ≡ next.base → n.high ≡ fold min next.base positions → n.visible ≡ bytes_in (batches_below n.high (batches_of (events ++ entry ∷ []) (log ++ w))) → n.bytes ≡ next.place → IsTracked (log ++ w) followers (events ++ entry ∷ []) ss positions n
-    tracked-push ss next n is base place end high visible bytes =
-        let before : numbers.end ≡ log_end_of events = ap (λ (m : Numbers). m.end) tracked.numbers in
-        let sum : log_end_of (events ++ entry ∷ []) ≡ log_end_of events + count = sum_by_push added_count events entry in
-        let same : positions ≡ positions_of followers (events ++ entry ∷ []) = tracked.positions ∙ sym (unmoved followers events entry (λ replica. refl)) in
-        let seen : IsScanned (log ++ w) followers (events ++ entry ∷ []) n = record {
-          end = end ∙ base ∙ omega arith;
-          high = high ∙ ap (λ e. fold min e positions) (sym end) ∙ ap (fold min n.end) same;
-          visible = visible;
-          bytes = bytes ∙ place;
-        } in
-        record {
-          kept = pushed-kept;
-          starts = is ∙ pushed-starts;
-          positions = same;
-          numbers = numbers_are (log ++ w) followers (events ++ entry ∷ []) n pushed-kept seen;
-        }
+    module _ (now : Standings) (entered : StandsFor now followers (replica_events events ++ Appended count ∷ [])) where
+      pub pushed-stands : StandsFor now followers (replica_events (events ++ entry ∷ []))
+      pushed-stands = stands-with followers events entry now entered
+
+      pub tracked-push : (ss : List BatchStart) (next : BatchStart) (n : Numbers) → ss ≡ starts ++ record { base = numbers.end; place = length log } ∷ [] → next.base ≡ numbers.end + count → next.place ≡ length (log ++ w) → n.end ≡ next.base → n.high ≡ high_watermark_of followers (replica_events (events ++ entry ∷ [])) → n.visible ≡ bytes_in (batches_below n.high (batches_of (events ++ entry ∷ []) (log ++ w))) → n.bytes ≡ next.place → n.insync ≡ count_of followers (replica_events (events ++ entry ∷ [])) → IsTracked (log ++ w) followers (events ++ entry ∷ []) ss now n
+      tracked-push ss next n is base place end high visible bytes insync =
+          let before : numbers.end ≡ log_end_of events = ap (λ (m : Numbers). m.end) tracked.numbers in
+          let sum : log_end_of (events ++ entry ∷ []) ≡ log_end_of events + count = sum_by_push added_count events entry in
+          let seen : IsScanned (log ++ w) followers (events ++ entry ∷ []) n = record {
+            end = end ∙ base ∙ omega arith;
+            high = high;
+            visible = visible;
+            bytes = bytes ∙ place;
+            insync = insync;
+          } in
+          record {
+            kept = pushed-kept;
+            starts = is ∙ pushed-starts;
+            few = tracked.few;
+            stands = pushed-stands;
+            numbers = numbers_are (log ++ w) followers (events ++ entry ∷ []) n pushed-kept seen;
+            late = late-append followers events by seq count len tracked.late;
+          }

@@ -2,7 +2,7 @@
 -- A batch's base offset is the sum of the counts before it (Kafka's record batch v2, `baseOffset`).
 use Rattle.std.specs.Prelude.{ℕ, ◌+◌, List, [], ◌∷◌, ◌++◌, take, drop}
 use Rattle.partlog.specs.declared.event.PartEvent.{PartEvent}
-use Rattle.partlog.specs.declared.event.PartEvent.TheVariants.{Append, Follow, Look}
+use Rattle.partlog.specs.declared.event.PartEvent.TheVariants.{Append, Follow, Look, Shrink}
 use Rattle.partlog.specs.Added.{log_end_of}
 
 -- a batch as it stands in a log
@@ -20,8 +20,9 @@ abbrev pub batches_after : List PartEvent → List PartEvent → List ℕ → Li
 batches_after before [] log = []
 batches_after before (Append by seq count len ∷ events) log =
     record { base = log_end_of before; count = count; bytes = take len log } ∷ batches_after (before ++ Append by seq count len ∷ []) events (drop len log)
-batches_after before (Follow by seq replica offset ∷ events) log = batches_after (before ++ Follow by seq replica offset ∷ []) events log
+batches_after before (Follow by seq replica offset t ∷ events) log = batches_after (before ++ Follow by seq replica offset t ∷ []) events log
 batches_after before (Look by seq ∷ events) log = batches_after (before ++ Look by seq ∷ []) events log
+batches_after before (Shrink by replica t ∷ events) log = batches_after (before ++ Shrink by replica t ∷ []) events log
 
 abbrev pub batches_of : List PartEvent → List ℕ → List StoredBatch
 batches_of events log = batches_after [] events log

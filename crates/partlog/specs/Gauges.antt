@@ -2,7 +2,7 @@
 use Rattle.std.specs.Prelude.{ℕ, List, length, filter, sum_by, nat_le}
 use Rattle.partlog.specs.declared.numbers.Numbers.{Numbers}
 use Rattle.partlog.specs.Batches.{StoredBatch, next_offset}
-use Rattle.partlog.specs.State.{PartState, high_of}
+use Rattle.partlog.specs.State.{PartState}
 
 -- the bytes of these batches
 abbrev pub bytes_in : List StoredBatch → ℕ
@@ -21,11 +21,11 @@ pub record Gauges : Type 0 where
 
 abbrev pub gauges_of : PartState → Gauges
 gauges_of s = record {
-  high = high_of s;
-  visible = bytes_in (batches_below (high_of s) s.batches);
+  high = s.high;
+  visible = bytes_in (batches_below s.high s.batches);
   bytes = bytes_in s.batches;
 }
 
--- the log end and the gauges
+-- the log end, the gauges, and how many replicas are in sync
 abbrev pub numbers_of : PartState → Numbers
-numbers_of s = record { end = s.log_end; high = (gauges_of s).high; visible = (gauges_of s).visible; bytes = (gauges_of s).bytes }
+numbers_of s = record { end = s.log_end; high = (gauges_of s).high; visible = (gauges_of s).visible; bytes = (gauges_of s).bytes; insync = s.insync }

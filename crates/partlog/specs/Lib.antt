@@ -6,9 +6,9 @@ pub mod History
 pub mod Added
 -- the batches of a history, with their base offsets
 pub mod Batches
--- how far a replica has fetched
-pub mod Position
--- the state of a history: batches, log end, positions and high watermark; also at a place of it
+-- what a history says of the partition's replicas
+pub mod Replicas
+-- the state of a history: batches, log end, high watermark and how many are in sync; also at a place of it
 pub mod State
 -- a batch put at the end of a log
 pub mod Appended
@@ -26,6 +26,10 @@ pub mod Follower
 pub mod InRange
 -- a log that a follower fetched from
 pub mod Followed
+-- who lags, and that whoever was taken out did
+pub mod Lagging
+-- a log that those who lagged were taken out of
+pub mod Shrunk
 -- the clock's history after it was told a moment
 pub mod Ticked
 -- where reading from an offset begins

@@ -1,25 +1,25 @@
 -- The state of a partition is that of its whole history.
-use Rattle.std.specs.Prelude.{ℕ, ◌+◌, List, min, take, fold}
+use Rattle.std.specs.Prelude.{ℕ, ◌+◌, List, take}
+use Rattle.in_sync.specs.InSync.{high_watermark_of, count_of}
 use Rattle.partlog.specs.History.{History}
 use Rattle.partlog.specs.Added.{log_end_of, bytes_of}
 use Rattle.partlog.specs.Batches.{StoredBatch, batches_of}
-use Rattle.partlog.specs.Position.{positions_of}
+use Rattle.partlog.specs.Replicas.{replica_events}
 
 pub record PartState : Type 0 where
   pub batches : List StoredBatch
   pub log_end : ℕ
-  pub positions : List ℕ
+  -- the high watermark, and how many replicas are in sync, the leader among them
+  pub high : ℕ
+  pub insync : ℕ
 
 abbrev pub state_of : History → PartState
 state_of h = record {
   batches = batches_of h.events h.log;
   log_end = log_end_of h.events;
-  positions = positions_of h.followers h.events;
+  high = high_watermark_of h.followers (replica_events h.events);
+  insync = count_of h.followers (replica_events h.events);
 }
-
--- the high watermark is the least of the log end and all positions
-abbrev pub high_of : PartState → ℕ
-high_of s = fold min s.log_end s.positions
 
 -- the history up to a place, with the log bytes of its own Appends
 abbrev pub front_of : History → ℕ → History

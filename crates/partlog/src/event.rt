@@ -9,16 +9,23 @@ pub enum PartEvent {
         count: u32,
         len: u32,
     },
-    /// A follower fetched from an offset between 0 and the log end.
+    /// A follower fetched from an offset between 0 and the log end, at this moment in milliseconds.
     Follow {
         by: u32,
         seq: u32,
         replica: i32,
         offset: u64,
+        t: u64,
     },
     /// The log was looked at, and nothing changed.
     Look {
         by: u32,
         seq: u32,
+    },
+    /// A follower that lagged at this moment, in milliseconds, was taken out of the in-sync set. It is nobody's call.
+    Shrink {
+        by: u32,
+        replica: i32,
+        t: u64,
     },
 }

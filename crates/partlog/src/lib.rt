@@ -1,7 +1,8 @@
 //! One partition's log and history, and the clock's history.
 //!
 //! The layer above sees a `PartLog` as its log's bytes, its number of followers and its whole history. It appends batches,
-//! enters the fetches of followers, reads the numbers that follow from the history, and takes log and history in the end.
+//! enters the fetches of followers, takes those out of the in-sync set that lag, reads the numbers that follow from the
+//! history, and takes log and history in the end.
 //! A `ClockLog` is the clock's history, and its moment follows from it. Each entry names the pass and the call that made
 //! it, so that a call's answer can be recomputed from the entries before it.
 #![tactic(auto)]

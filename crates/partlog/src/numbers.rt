@@ -7,12 +7,14 @@ use crate::batch_start::BatchStart;
 pub struct Numbers {
     /// The log end offset: the offset of the next record.
     pub end: u64,
-    /// The high watermark: the offset up to which every replica has fetched.
+    /// The high watermark: the offset up to which every replica in sync has fetched.
     pub high: u64,
     /// The bytes of the batches wholly below the high watermark.
     pub visible: u64,
     /// The bytes of all batches.
     pub bytes: u64,
+    /// How many replicas are in sync, the leader among them.
+    pub insync: u32,
 }
 
 impl Numbers {

@@ -1,12 +1,13 @@
-//! The log of one partition with its history. A broker appends to it, reads it, and enters each fetch and each look;
-//! `search` finds batches in it.
+//! The log of one partition with its history. A broker appends to it, reads it, enters each fetch and each look, and takes
+//! followers out of the in-sync set that lag; `search` finds batches in it.
 
-ghost use Rattle.std.specs.Prelude.{◌≡◌, ◌↔◌, ◌+◌, ◌<◌, ◌≤◌, ℕ, pos, [], ◌++◌, length, not, max, slice_index, slice_set, IfOk, IfSome, IfNone, OnOk, OnErr, IsErrOf};
+ghost use Rattle.std.specs.Prelude.{◌≡◌, ◌↔◌, ◌+◌, ◌<◌, ◌≤◌, ℕ, pos, [], ◌++◌, length, not, IfOk, IfSome, IfNone, OnOk, OnErr, IsTrue, IsErrOf};
+ghost use Rattle.std.specs.Bool.{OnTrue, OnFalse};
+ghost use Rattle.in_sync.specs.Lagging.{Lags};
 ghost use Rattle.kbatch.specs.Head.{head_size};
 ghost use Rattle.kbatch.specs.Stamp.{stamped};
 ghost use Rattle.partlog.specs.Follower.{IsFollower};
 ghost use Rattle.partlog.specs.InRange.{IsInRange};
-ghost use Rattle.partlog.specs.Position.{positions_of};
 
 use crate::batch_start::BatchStart;
 use crate::event::PartEvent;
@@ -15,6 +16,7 @@ use crate::numbers::Numbers;
 use crate::placed::Placed;
 use crate::search::{numbers_at, start_from, start_of, taken_end};
 use crate::who::Who;
+use in_sync::InSync;
 use kbatch::{Batch, BatchView, stamp};
 use kbytes::{Bytes, List, NoMemory};
 use std::alloc::Global;
@@ -31,8 +33,8 @@ pub struct PartLog {
     events: List<PartEvent>,
     /// Where each batch begins.
     starts: Vec<BatchStart>,
-    /// How far each follower has fetched, from the first on.
-    positions: List<u64>,
+    /// How the replicas stand by the history.
+    replicas: InSync,
     numbers: Numbers,
 }
 
@@ -45,29 +47,18 @@ impl Model for PartLog {
 
     ghost view = { λ p. record { log = p.log; followers = p.followers; events = p.events } };
 
-    ghost invariant = { λ p. IsTracked p.log p.followers p.events p.starts.items p.positions p.numbers };
+    ghost invariant = { λ p. IsTracked p.log p.followers p.events p.starts.items p.replicas p.numbers };
 }
 
-/// The positions of that many followers before their first fetch.
-fn unfetched(alloc: Global, followers: u32) -> Result<List<u64>, NoMemory>
-    ensures { IfOk result (λ positions. positions ≡ positions_of followers []) }
-{
-    let mut positions = List::new(alloc);
-    for _ in 0..followers {
-        positions.push(0)?;
-    }
-    Ok(positions)
-}
-
-/// The place of a replica among that many followers, which are numbered from 1.
-fn follower_place(replica: i32, followers: u32) -> Option<usize>
-    ensures follower { IfSome result (λ at. (replica ≡ pos (at + 1)) × (at < followers)) }
+/// The replica, where it is one of that many followers, which are numbered from 1.
+fn follower_of(replica: i32, followers: u32) -> Option<u32>
+    ensures follower { IfSome result (λ number. (replica ≡ pos number) × (0 < number) × (number ≤ followers)) }
     ensures no_replica { IfNone result (IsFollower replica followers → ⊥) }
 {
     if replica < 1 || replica as u32 > followers {
         return None;
     }
-    Some(replica as usize - 1)
+    Some(replica as u32)
 }
 
 /// The offset, where it is between 0 and the log end.
@@ -79,14 +70,6 @@ fn offset_within(offset: i64, end: u64) -> Option<u64>
         return None;
     }
     Some(offset as u64)
-}
-
-/// Raises a follower's position to this offset, or leaves it where it is farther already.
-fn raise_position(positions: &mut [u64], at: usize, offset: u64)
-    requires { at < length positions.old }
-    ensures { positions.new ≡ slice_set positions.old at (max (slice_index positions.old at) offset) }
-{
-    positions[at] = positions[at].max(offset);
 }
 
 /// Appends a batch's bytes to a log, stamped with this base offset. They are copied once.
@@ -109,28 +92,35 @@ impl PartLog {
     ghost use Rattle.partlog.specs.Followed.{followed};
     ghost use Rattle.partlog.specs.Gauges.{numbers_of};
     ghost use Rattle.partlog.specs.Kept.{IsKept};
+    ghost use Rattle.partlog.specs.Lagging.{LagsAt, IsLeastLate, NoneLags, LeftLate};
     ghost use Rattle.partlog.specs.Looked.{looked};
+    ghost use Rattle.partlog.specs.Replicas.{replica_events};
+    ghost use Rattle.partlog.specs.Shrunk.{shrunk, all_shrunk, some_shrunk};
     ghost use Rattle.partlog.specs.Start.{start_of};
     ghost use Rattle.partlog.specs.State.{state_of};
     ghost use Rattle.partlog.specs.declared.part_log.TheConstants.{MOST_LOG_BYTES};
     ghost use Rattle.partlog.specs.Taken.{batches_past, batches_upto, joined, taken};
 
-    /// An empty log with that many followers.
+    /// An empty log with that many followers. There is no memory for more than `i32::MAX` of them.
     pub fn new(alloc: Global, followers: u32) -> Result<PartLog, NoMemory>
         ensures empty { IfOk result (λ part. part ≡ record { log = []; followers = followers; events = [] }) }
         ensures kept { IfOk result (λ part. IsKept part.log part.events) }
     {
+        if followers > i32::MAX as u32 {
+            return Err(NoMemory);
+        }
         Ok(PartLog {
             log: Bytes::new(alloc),
             followers,
             events: List::new(alloc),
             starts: Vec::new(alloc),
-            positions: unfetched(alloc, followers)?,
+            replicas: InSync::new(alloc, followers)?,
             numbers: Numbers {
                 end: 0,
                 high: 0,
                 visible: 0,
                 bytes: 0,
+                insync: followers + 1,
             },
         })
     }
@@ -174,11 +164,12 @@ impl PartLog {
             place: start as u64,
         };
         self.starts.push(first).unwrap();
+        self.replicas.append(count);
         let next = BatchStart {
             base: base + u64::from(count),
             place: self.log.len() as u64,
         };
-        self.numbers = numbers_at(self.starts.as_slice(), next, self.positions.as_slice());
+        self.numbers = numbers_at(self.starts.as_slice(), next, &self.replicas);
         Ok(Placed { base, place })
     }
 
@@ -196,12 +187,18 @@ impl PartLog {
         self.append_view(who, &batch.view())
     }
 
-    /// Enters a follower's fetch from an offset. It answers the place of the entry, or `NoReplica` exactly where the replica
-    /// isn't one of the followers, or else `OutOfRange` exactly where the offset is below 0 or above the log end. After a
-    /// refusal the log is as it was.
-    pub fn follow(&mut self, who: Who, replica: i32, offset: i64) -> Result<u64, FollowFault>
+    /// Enters a follower's fetch from an offset, at this moment in milliseconds. It answers the place of the entry, or
+    /// `NoReplica` exactly where the replica isn't one of the followers, or else `OutOfRange` exactly where the offset is
+    /// below 0 or above the log end. After a refusal the log is as it was.
+    pub fn follow(
+        &mut self,
+        who: Who,
+        replica: i32,
+        offset: i64,
+        t: u64,
+    ) -> Result<u64, FollowFault>
         ensures followed { OnOk result ((at : ℕ) × (offset ≡ pos at)
-            × (self.new ≡ followed self.old who.by who.seq replica at)) }
+            × (self.new ≡ followed self.old who.by who.seq replica at t)) }
         ensures place { IfOk result (λ place. place ≡ length self.old.events) }
         ensures no_replica { IsErrOf result FollowFault.NoReplica ↔ (IsFollower replica self.old.followers → ⊥) }
         ensures out_of_range { (end : ℕ) → IsErrOf result (FollowFault.OutOfRange end)
@@ -211,7 +208,7 @@ impl PartLog {
         ensures was_kept { IsKept self.old.log self.old.events }
         ensures kept { IsKept self.new.log self.new.events }
     {
-        let Some(at) = follower_place(replica, self.followers) else {
+        let Some(follower) = follower_of(replica, self.followers) else {
             return Err(FollowFault::NoReplica);
         };
         let log_end = self.numbers.end;
@@ -224,10 +221,11 @@ impl PartLog {
             seq: who.seq,
             replica,
             offset,
+            t,
         })?;
-        raise_position(self.positions.as_mut_slice(), at, offset);
+        self.replicas.fetch(follower, offset, t);
         let next = self.numbers.next_start();
-        self.numbers = numbers_at(self.starts.as_slice(), next, self.positions.as_slice());
+        self.numbers = numbers_at(self.starts.as_slice(), next, &self.replicas);
         Ok(place)
     }
 
@@ -245,6 +243,75 @@ impl PartLog {
             seq: who.seq,
         })?;
         Ok(place)
+    }
+
+    /// Takes a follower out of the in-sync set that lags at this moment, and enters that.
+    fn leave(&mut self, by: u32, replica: u32, t: u64) -> Result<(), NoMemory>
+        requires { Lags self.old.followers (replica_events self.old.events) t replica }
+        ensures shrunk { OnOk result (self.new ≡ shrunk self.old by (pos replica) t) }
+        ensures refused { OnErr result (self.new ≡ self.old) }
+        ensures late { LeftLate self.new.followers self.new.events }
+    {
+        self.events.push(PartEvent::Shrink {
+            by,
+            replica: replica as i32,
+            t,
+        })?;
+        self.replicas.leave(replica, t);
+        let next = self.numbers.next_start();
+        self.numbers = numbers_at(self.starts.as_slice(), next, &self.replicas);
+        Ok(())
+    }
+
+    /// Takes the least of the followers out of the in-sync set that lag at this moment, in milliseconds, and answers true; or
+    /// answers false exactly where none lags, and changes nothing. After a refusal the log is as it was.
+    pub fn shrink(&mut self, by: u32, t: u64) -> Result<bool, NoMemory>
+        ensures left { IfOk result (λ left. OnTrue left ((replica : ℕ)
+            × IsLeastLate self.old.followers self.old.events t replica
+            × (self.new ≡ shrunk self.old by (pos replica) t))) }
+        ensures none { IfOk result (λ left. OnFalse left (NoneLags self.old.followers self.old.events t
+            × (self.new ≡ self.old))) }
+        ensures refused { OnErr result (self.new ≡ self.old) }
+        ensures was_kept { IsKept self.old.log self.old.events }
+        ensures kept { IsKept self.new.log self.new.events }
+        ensures late { LeftLate self.new.followers self.new.events }
+    {
+        let Some(replica) = self.replicas.lagging(t) else {
+            return Ok(false);
+        };
+        self.leave(by, replica, t)?;
+        Ok(true)
+    }
+
+    /// Takes all followers out of the in-sync set that lag at this moment, in milliseconds, the least first. After a refusal
+    /// some of the first of them may have been taken out.
+    pub fn shrink_all(&mut self, by: u32, t: u64) -> Result<(), NoMemory>
+        ensures all { OnOk result (self.new ≡ all_shrunk self.old by t) }
+        ensures none_lags { OnOk result (NoneLags self.new.followers self.new.events t) }
+        ensures some { OnErr result ((n : ℕ) × (self.new ≡ some_shrunk n self.old by t)) }
+        ensures kept { IsKept self.new.log self.new.events }
+        ensures late { LeftLate self.new.followers self.new.events }
+    {
+        while self.shrink(by, t)? {}
+        Ok(())
+    }
+
+    /// Takes this replica out of the in-sync set and answers true exactly where it is a follower that lags at this moment, in
+    /// milliseconds. Else it answers false and changes nothing. After a refusal the log is as it was.
+    pub fn take_out(&mut self, by: u32, replica: i32, t: u64) -> Result<bool, NoMemory>
+        ensures lags { IfOk result (λ out. IsTrue out ↔ LagsAt self.old.followers self.old.events t replica) }
+        ensures out { IfOk result (λ out. OnTrue out (self.new ≡ shrunk self.old by replica t)) }
+        ensures as_before { IfOk result (λ out. OnFalse out (self.new ≡ self.old)) }
+        ensures refused { OnErr result (self.new ≡ self.old) }
+        ensures was_kept { IsKept self.old.log self.old.events }
+        ensures kept { IsKept self.new.log self.new.events }
+        ensures late { LeftLate self.new.followers self.new.events }
+    {
+        if replica < 0 || !self.replicas.lags(replica as u32, t) {
+            return Ok(false);
+        }
+        self.leave(by, replica as u32, t)?;
+        Ok(true)
     }
 
     /// The byte place of the first batch whose last offset is at least this one, or the log's length where there is none.
@@ -299,6 +366,7 @@ impl PartLog {
         ensures bytes { result.bytes ≤ MOST_LOG_BYTES }
         ensures all { result.bytes ≡ length self.now.log }
         ensures kept { IsKept self.now.log self.now.events }
+        ensures late { LeftLate self.now.followers self.now.events }
     {
         self.numbers
     }
@@ -315,6 +383,7 @@ impl PartLog {
         ensures log { result.0 ≡ self.log }
         ensures events { result.1 ≡ self.events }
         ensures kept { IsKept self.log self.events }
+        ensures late { LeftLate self.followers self.events }
     {
         (self.log, self.events)
     }

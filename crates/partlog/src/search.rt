@@ -1,5 +1,8 @@
 //! Binary search in the starts of a log's batches, for `PartLog`. `next` is where the next batch will begin.
-ghost use Rattle.std.specs.Prelude.{◌≡◌, ◌+◌, ◌≤◌, ◌<◌, ◌^◌, List, ℕ, length, not, min, fold};
+ghost use Rattle.std.specs.Prelude.{◌≡◌, ◌+◌, ◌≤◌, ◌<◌, ◌^◌, List, ℕ, length, not};
+ghost use Rattle.in_sync.specs.InSync.{high_watermark_of, count_of};
+ghost use Rattle.in_sync.specs.ReplicaEvent.{ReplicaEvent};
+ghost use Rattle.in_sync.specs.Standings.{StandsFor};
 ghost use Rattle.std.specs.List.Sorted.{IsNonDecreasingBy, IsPartitionPoint};
 ghost use Rattle.partlog.specs.Batches.{StoredBatch};
 ghost use Rattle.partlog.specs.Gauges.{bytes_in, batches_below};
@@ -8,6 +11,7 @@ ghost use Rattle.partlog.specs.Taken.{batches_past, batches_upto, fitting, taken
 
 use crate::batch_start::BatchStart;
 use crate::numbers::Numbers;
+use in_sync::InSync;
 
 /// How many batches begin at or before an offset.
 fn count_at(starts: &[BatchStart], offset: u64) -> usize
@@ -92,22 +96,24 @@ pub(crate) fn taken_end(
     if after <= upto { after } else { start }
 }
 
-/// The numbers of a log with these batches, where its followers have these positions.
-pub(crate) fn numbers_at(starts: &[BatchStart], next: BatchStart, positions: &[u64]) -> Numbers
+/// The numbers of a log with these batches, where its replicas stand like this.
+pub(crate) fn numbers_at(starts: &[BatchStart], next: BatchStart, replicas: &InSync) -> Numbers
     requires { (batches : List StoredBatch) × AreStarts starts.now next batches }
     ensures end { result.end ≡ next.base }
-    ensures high { result.high ≡ fold min next.base positions.now }
+    ensures high { (followers : ℕ) (events : List ReplicaEvent) → StandsFor replicas.now followers events
+        → result.high ≡ high_watermark_of followers events }
     ensures visible { (batches : List StoredBatch) → AreStarts starts.now next batches
         → result.visible ≡ bytes_in (batches_below result.high batches) }
     ensures bytes { result.bytes ≡ next.place }
+    ensures insync { (followers : ℕ) (events : List ReplicaEvent) → StandsFor replicas.now followers events
+        → result.insync ≡ count_of followers events }
 {
-    let high = positions
-        .iter()
-        .fold(next.base, |least, position| least.min(*position));
+    let high = replicas.high_watermark();
     Numbers {
         end: next.base,
         high,
         visible: start_of(starts, next, high),
         bytes: next.place,
+        insync: replicas.count(),
     }
 }
