@@ -10,27 +10,27 @@ use Rattle.kwire.specs.declared.request.ProducePart.{ProducePart}
 use Rattle.kwire.specs.declared.request.Request.{Request}
 use Rattle.kwire.specs.Configuration.{Configuration, part_of}
 use Rattle.kwire.specs.IsRequest.{IsRequest}
-use Rattle.kanswer.specs.Decisions.{Decision, Refuse, AskLog, Decides, ProduceDecides, BatchDecides, append_outcome, code_of, produce_parts, is_acks}
+use Rattle.kanswer.specs.Decisions.{Decision, Refuse, AskLog, Decides, ProduceDecides, BatchDecides, append_outcome, code_of, produce_parts, is_acks, least_insync}
 use Rattle.kanswer.proofs.RequestBytes.{HasBytes, CarriesBytes, request_bytes}
 
-batch_decides : (version : ℤ) (part : ℕ) (bytes : List ℕ) → IsBytes bytes → (d : Decision) × BatchDecides version part bytes d
-batch_decides version part bytes fits =
+batch_decides : (version : ℤ) (least part : ℕ) (bytes : List ℕ) → IsBytes bytes → (d : Decision) × BatchDecides version least part bytes d
+batch_decides version least part bytes fits =
     elim (batch_or_fault bytes fits) [
-      | inl batch ↦ (AskLog part (append_outcome version part (length batch.0) bytes), inr (batch.0, batch.1, refl))
+      | inl batch ↦ (AskLog part (append_outcome version least part (length batch.0) bytes), inr (batch.0, batch.1, refl))
       | inr fault ↦ (Refuse (code_of fault.0), inl (fault.0, fault.1, refl))
     ]
 
-acks_decide : (version : ℤ) (b : Bool) (part : ℕ) (bytes : List ℕ) → IsBytes bytes → (d : Decision) × MatchBool b (BatchDecides version part bytes d) (d ≡ Refuse (pos 21))
-acks_decide version true part bytes fits = batch_decides version part bytes fits
-acks_decide version false part bytes fits = (Refuse (pos 21), refl)
+acks_decide : (version : ℤ) (b : Bool) (least part : ℕ) (bytes : List ℕ) → IsBytes bytes → (d : Decision) × MatchBool b (BatchDecides version least part bytes d) (d ≡ Refuse (pos 21))
+acks_decide version true least part bytes fits = batch_decides version least part bytes fits
+acks_decide version false least part bytes fits = (Refuse (pos 21), refl)
 
-part_decides : (version : ℤ) (o : Option ℕ) (b : Bool) (bytes : List ℕ) → IsBytes bytes → (d : Decision) × MatchOption o (d ≡ Refuse (pos 3)) (λ part. MatchBool b (BatchDecides version part bytes d) (d ≡ Refuse (pos 21)))
-part_decides version None b bytes fits = (Refuse (pos 3), refl)
-part_decides version (Some part) b bytes fits = acks_decide version b part bytes fits
+part_decides : (version : ℤ) (least : ℕ → ℕ) (o : Option ℕ) (b : Bool) (bytes : List ℕ) → IsBytes bytes → (d : Decision) × MatchOption o (d ≡ Refuse (pos 3)) (λ part. MatchBool b (BatchDecides version (least part) part bytes d) (d ≡ Refuse (pos 21)))
+part_decides version least None b bytes fits = (Refuse (pos 3), refl)
+part_decides version least (Some part) b bytes fits = acks_decide version b (least part) part bytes fits
 
 produce_decides : (version : ℤ) (config : Configuration) (id : Option (List ℕ)) (acks : ℤ) (named : List ℕ × ProducePart) → HasBytes named → (d : Decision) × ProduceDecides config version id acks named d
 produce_decides version config (Some id) acks named fits = (Refuse (pos 42), refl)
-produce_decides version config None acks named fits = part_decides version (part_of config named.0 named.1.index) (is_acks acks) (unwrap_or named.1.records []) fits
+produce_decides version config None acks named fits = part_decides version (least_insync config acks) (part_of config named.0 named.1.index) (is_acks acks) (unwrap_or named.1.records []) fits
 
 all_decide : (version : ℤ) (config : Configuration) (id : Option (List ℕ)) (acks : ℤ) (named : List (List ℕ × ProducePart)) → AllByRecursion HasBytes named → (ds : List Decision) × AllZip (ProduceDecides config version id acks) named ds
 all_decide version config id acks [] all = ([], tt)

@@ -36,10 +36,10 @@ negative (pos n) e = absurd (grind (arith, ints))
 negative (negsuc n) e = (n, refl)
 
 -- the same outcome
-pub entered_alike : (by seq : ℕ) (outcome other : PartState → Outcome) (h after : History) (came : Entered) → outcome (state_of h) ≡ other (state_of h)
-    → HasEntered by seq outcome h after came → HasEntered by seq other h after came
-entered_alike by seq outcome other h after came same e = record {
-  history = e.history ∙ ap (λ (o : Outcome). entered h by seq o.entry) same;
+pub entered_alike : (by seq t : ℕ) (outcome other : PartState → Outcome) (h after : History) (came : Entered) → outcome (state_of h) ≡ other (state_of h)
+    → HasEntered by seq t outcome h after came → HasEntered by seq t other h after came
+entered_alike by seq t outcome other h after came same e = record {
+  history = e.history ∙ ap (λ (o : Outcome). entered h by seq t o.entry) same;
   became = e.became ∙ ap (λ (o : Outcome). o.result) same;
   place = e.place;
   carriable = e.carriable;
@@ -132,10 +132,10 @@ not_in_range part offset entry state never =
     ])
 
 -- a follower's fetch was entered
-pub followed_entered : (by seq part : ℕ) (replica : ℤ) (r : ℕ) (asked : FetchPart) (h after : History) (at start place : ℕ) → replica ≡ pos r → IsFollower replica h.followers → asked.offset ≡ pos at
-    → IsInRange asked.offset (log_end_of h.events) → start ≡ start_of at (state_of h) → place ≡ length h.events → after ≡ followed h by seq replica at
-    → HasEntered by seq (fetch_outcome h.followers replica asked part) h after (record { became = Seen part start; place = place })
-followed_entered by seq part replica r asked h after at start place is f off range starts placed follows =
+pub followed_entered : (by seq t part : ℕ) (replica : ℤ) (r : ℕ) (asked : FetchPart) (h after : History) (at start place : ℕ) → replica ≡ pos r → IsFollower replica h.followers → asked.offset ≡ pos at
+    → IsInRange asked.offset (log_end_of h.events) → start ≡ start_of at (state_of h) → place ≡ length h.events → after ≡ followed h by seq replica at t
+    → HasEntered by seq t (fetch_outcome h.followers replica asked part) h after (record { became = Seen part start; place = place })
+followed_entered by seq t part replica r asked h after at start place is f off range starts placed follows =
     let le : at ≤ log_end_of h.events = subst (λ (z : ℤ). IsInRange z (log_end_of h.events)) off range in
     let entry : Followed (pos r) (offset_of asked.offset) ≡ Followed replica at = ap (λ (z : ℤ). Followed (pos r) (offset_of z)) off ∙ ap (λ (z : ℤ). Followed z at) (sym is) in
     let outcome : fetch_outcome h.followers replica asked part (state_of h) ≡ record { result = Seen part start; entry = Followed replica at } =
@@ -143,7 +143,7 @@ followed_entered by seq part replica r asked h after at start place is f off ran
     ∙ in_range part asked.offset (Followed (pos r) (offset_of asked.offset)) (state_of h) (log_end_of h.events) at start refl off le starts
     ∙ ap (λ (x : Entry). let o : Outcome = record { result = Seen part start; entry = x } in o) entry in
     record {
-      history = follows ∙ sym (ap (λ (o : Outcome). entered h by seq o.entry) outcome);
+      history = follows ∙ sym (ap (λ (o : Outcome). entered h by seq t o.entry) outcome);
       became = sym (ap (λ (o : Outcome). o.result) outcome);
       place = placed;
       carriable = tt;

@@ -12,7 +12,7 @@ use Rattle.kwire.specs.declared.request.Ask.TheVariants.{Produce, Fetch, Metadat
 use Rattle.kwire.specs.declared.request.FetchPart.{FetchPart}
 use Rattle.kwire.specs.declared.request.ProducePart.{ProducePart}
 use Rattle.kwire.specs.Configuration.{Configuration, followers_of, part_of}
-use Rattle.kanswer.specs.Decisions.{Entry, Put, Looked, Followed, Outcome, Decision, Refuse, Decides, BatchDecides, ProduceDecides, fetch_decision, fetch_outcome, in_range_outcome, offset_of, look, full_code, is_acks, produce_parts, fetch_parts}
+use Rattle.kanswer.specs.Decisions.{Entry, Put, Looked, Followed, Outcome, Decision, Refuse, Decides, BatchDecides, ProduceDecides, fetch_decision, fetch_outcome, in_range_outcome, offset_of, look, full_code, is_acks, least_insync, produce_parts, fetch_parts}
 use Rattle.kanswer.specs.Deciding.{IsHonestAs, IsHonest, IsSound}
 
 pub sound : (part n : ℕ) (state : PartState) (result : Accepted) (entry : Entry) → part < n → IsHonestAs part state result entry → IsSound n result
@@ -26,24 +26,28 @@ either_honest : (part : ℕ) (state : PartState) (b : Bool) (x y : Outcome) → 
 either_honest part state true x y a c = a
 either_honest part state false x y a c = c
 
-batch_honest : (version : ℤ) (part : ℕ) (bytes : List ℕ) (decision : Decision) → BatchDecides version part bytes decision → IsHonest decision
-batch_honest version part bytes decision d =
+batch_honest : (version : ℤ) (least part : ℕ) (bytes : List ℕ) (decision : Decision) → BatchDecides version least part bytes decision → IsHonest decision
+batch_honest version least part bytes decision d =
     elim d [
       | inl fault ↦ subst IsHonest (sym fault.2) tt
-      | inr batch ↦ subst IsHonest (sym batch.2) (λ state. either_honest part state (nat_lt 67108864 ((gauges_of state).bytes + length bytes)) (look (Refused (full_code version))) (record { result = Appended part state.log_end (length batch.0); entry = Put (length batch.0) bytes }) tt (refl, refl, omega (arith, batch.1.some_record)))
+      | inr batch ↦ subst IsHonest (sym batch.2) (λ state.
+          let full = nat_lt 67108864 ((gauges_of state).bytes + length bytes) in
+          let put : Outcome = record { result = Appended part state.log_end (length batch.0); entry = Put (length batch.0) bytes } in
+          either_honest part state (nat_lt state.insync least) (look (Refused (pos 19))) (cond full (look (Refused (full_code version))) put) tt
+          (either_honest part state full (look (Refused (full_code version))) put tt (refl, refl, omega (arith, batch.1.some_record))))
     ]
 
-acks_honest : (version : ℤ) (b : Bool) (part : ℕ) (bytes : List ℕ) (decision : Decision) → MatchBool b (BatchDecides version part bytes decision) (decision ≡ Refuse (pos 21)) → IsHonest decision
-acks_honest version true part bytes decision d = batch_honest version part bytes decision d
-acks_honest version false part bytes decision d = subst IsHonest (sym d) tt
+acks_honest : (version : ℤ) (b : Bool) (least part : ℕ) (bytes : List ℕ) (decision : Decision) → MatchBool b (BatchDecides version least part bytes decision) (decision ≡ Refuse (pos 21)) → IsHonest decision
+acks_honest version true least part bytes decision d = batch_honest version least part bytes decision d
+acks_honest version false least part bytes decision d = subst IsHonest (sym d) tt
 
-part_honest : (version : ℤ) (o : Option ℕ) (b : Bool) (bytes : List ℕ) (decision : Decision) → MatchOption o (decision ≡ Refuse (pos 3)) (λ part. MatchBool b (BatchDecides version part bytes decision) (decision ≡ Refuse (pos 21))) → IsHonest decision
-part_honest version None b bytes decision d = subst IsHonest (sym d) tt
-part_honest version (Some part) b bytes decision d = acks_honest version b part bytes decision d
+part_honest : (version : ℤ) (least : ℕ → ℕ) (o : Option ℕ) (b : Bool) (bytes : List ℕ) (decision : Decision) → MatchOption o (decision ≡ Refuse (pos 3)) (λ part. MatchBool b (BatchDecides version (least part) part bytes decision) (decision ≡ Refuse (pos 21))) → IsHonest decision
+part_honest version least None b bytes decision d = subst IsHonest (sym d) tt
+part_honest version least (Some part) b bytes decision d = acks_honest version b (least part) part bytes decision d
 
 produce_honest : (version : ℤ) (config : Configuration) (id : Option (List ℕ)) (acks : ℤ) (named : List ℕ × ProducePart) (decision : Decision) → ProduceDecides config version id acks named decision → IsHonest decision
 produce_honest version config (Some id) acks named decision d = subst IsHonest (sym d) tt
-produce_honest version config None acks named decision d = part_honest version (part_of config named.0 named.1.index) (is_acks acks) (unwrap_or named.1.records []) decision d
+produce_honest version config None acks named decision d = part_honest version (least_insync config acks) (part_of config named.0 named.1.index) (is_acks acks) (unwrap_or named.1.records []) decision d
 
 produces_honest : (version : ℤ) (config : Configuration) (id : Option (List ℕ)) (acks : ℤ) (named : List (List ℕ × ProducePart)) (decisions : List Decision) → AllZip (ProduceDecides config version id acks) named decisions → AllByRecursion IsHonest decisions
 produces_honest version config id acks [] [] d = tt

@@ -17,7 +17,7 @@ use Rattle.kwire.specs.declared.request.ProduceTopic.{ProduceTopic}
 use Rattle.kwire.specs.declared.request.Request.{Request}
 use Rattle.kwire.specs.Configuration.{Configuration, part_from, part_of, partitions_of}
 use Rattle.kwire.specs.IsRequest.{IsRequest, Named, named_of}
-use Rattle.kanswer.specs.Decisions.{Decision, Refuse, AskLog, Decides, BatchDecides, ProduceDecides, fetch_decision, is_acks, produce_parts, fetch_parts}
+use Rattle.kanswer.specs.Decisions.{Decision, Refuse, AskLog, Decides, BatchDecides, ProduceDecides, fetch_decision, is_acks, least_insync, produce_parts, fetch_parts}
 use Rattle.kbytes.proofs.Laws.{some_is}
 use Rattle.kanswer.specs.Deciding.{AsksOther, AskOnce, AsksWithin}
 
@@ -99,20 +99,20 @@ Asks config named (AskLog part outcome) = part_of config named.topic named.index
 abbrev named_as : List ℕ → ℤ → Named
 named_as topic index = record { topic = topic; index = index }
 
-batch_asks : (version : ℤ) (config : Configuration) (name : List ℕ) (index : ℤ) (part : ℕ) (bytes : List ℕ) (decision : Decision) → part_of config name index ≡ Some part → BatchDecides version part bytes decision → Asks config (named_as name index) decision
-batch_asks version config name index part bytes decision is d =
+batch_asks : (version : ℤ) (least : ℕ) (config : Configuration) (name : List ℕ) (index : ℤ) (part : ℕ) (bytes : List ℕ) (decision : Decision) → part_of config name index ≡ Some part → BatchDecides version least part bytes decision → Asks config (named_as name index) decision
+batch_asks version least config name index part bytes decision is d =
     elim d [
       | inl fault ↦ subst (Asks config (named_as name index)) (sym fault.2) tt
       | inr batch ↦ subst (Asks config (named_as name index)) (sym batch.2) is
     ]
 
-acks_asks : (version : ℤ) (config : Configuration) (name : List ℕ) (index : ℤ) (b : Bool) (part : ℕ) (bytes : List ℕ) (decision : Decision) → part_of config name index ≡ Some part → MatchBool b (BatchDecides version part bytes decision) (decision ≡ Refuse (pos 21)) → Asks config (named_as name index) decision
-acks_asks version config name index true part bytes decision is d = batch_asks version config name index part bytes decision is d
-acks_asks version config name index false part bytes decision is d = subst (Asks config (named_as name index)) (sym d) tt
+acks_asks : (version : ℤ) (least : ℕ) (config : Configuration) (name : List ℕ) (index : ℤ) (b : Bool) (part : ℕ) (bytes : List ℕ) (decision : Decision) → part_of config name index ≡ Some part → MatchBool b (BatchDecides version least part bytes decision) (decision ≡ Refuse (pos 21)) → Asks config (named_as name index) decision
+acks_asks version least config name index true part bytes decision is d = batch_asks version least config name index part bytes decision is d
+acks_asks version least config name index false part bytes decision is d = subst (Asks config (named_as name index)) (sym d) tt
 
-part_asks : (version : ℤ) (config : Configuration) (name : List ℕ) (index : ℤ) (o : Option ℕ) (b : Bool) (bytes : List ℕ) (decision : Decision) → part_of config name index ≡ o → MatchOption o (decision ≡ Refuse (pos 3)) (λ part. MatchBool b (BatchDecides version part bytes decision) (decision ≡ Refuse (pos 21))) → Asks config (named_as name index) decision
-part_asks version config name index None b bytes decision is d = subst (Asks config (named_as name index)) (sym d) tt
-part_asks version config name index (Some part) b bytes decision is d = acks_asks version config name index b part bytes decision is d
+part_asks : (version : ℤ) (least : ℕ → ℕ) (config : Configuration) (name : List ℕ) (index : ℤ) (o : Option ℕ) (b : Bool) (bytes : List ℕ) (decision : Decision) → part_of config name index ≡ o → MatchOption o (decision ≡ Refuse (pos 3)) (λ part. MatchBool b (BatchDecides version (least part) part bytes decision) (decision ≡ Refuse (pos 21))) → Asks config (named_as name index) decision
+part_asks version least config name index None b bytes decision is d = subst (Asks config (named_as name index)) (sym d) tt
+part_asks version least config name index (Some part) b bytes decision is d = acks_asks version (least part) config name index b part bytes decision is d
 
 abbrev named_produce : List ℕ × ProducePart → Named
 named_produce named = named_as named.0 named.1.index
@@ -122,7 +122,7 @@ named_fetch named = named_as named.0 named.1.index
 
 produce_asks : (version : ℤ) (config : Configuration) (id : Option (List ℕ)) (acks : ℤ) (named : List ℕ × ProducePart) (decision : Decision) → ProduceDecides config version id acks named decision → Asks config (named_produce named) decision
 produce_asks version config (Some id) acks named decision d = subst (Asks config (named_produce named)) (sym d) tt
-produce_asks version config None acks named decision d = part_asks version config named.0 named.1.index (part_of config named.0 named.1.index) (is_acks acks) (unwrap_or named.1.records []) decision refl d
+produce_asks version config None acks named decision d = part_asks version (least_insync config acks) config named.0 named.1.index (part_of config named.0 named.1.index) (is_acks acks) (unwrap_or named.1.records []) decision refl d
 
 produces_ask : (version : ℤ) (config : Configuration) (id : Option (List ℕ)) (acks : ℤ) (named : List (List ℕ × ProducePart)) (decisions : List Decision) → AllZip (ProduceDecides config version id acks) named decisions → AllZip (Asks config) (map named_produce named) decisions
 produces_ask version config id acks [] [] d = tt

@@ -1,5 +1,5 @@
--- A batch is put into a log, where there is room.
-use Rattle.std.proofs.Common.{ℤ, ◌≡◌, ℕ, ◌+◌, ◌≤◌, ◌<◌, Bool, true, false, cond, ltb, List, [], length, Result, Ok, Err, sym, ap, ◌∙◌, arith, inl, inr}
+-- A batch is put into a log, where enough replicas are in sync and there is room.
+use Rattle.std.proofs.Common.{ℤ, pos, ◌≡◌, ℕ, ◌+◌, ◌≤◌, ◌<◌, Bool, true, false, cond, ltb, List, [], length, Result, Ok, Err, sym, ap, ◌∙◌, arith, inl, inr}
 use Rattle.std.proofs.lemmas.Bool.{le-ltb, lt-ltb}
 use Rattle.std.proofs.lemmas.Bool.Decides.{leb_tells}
 use Rattle.std.specs.Prelude.{IfOk}
@@ -26,38 +26,59 @@ if_ok (Err e) p f = tt
 pub log_bytes : (h : History) → IsKept h.log h.events → (gauges_of (state_of h)).bytes ≡ length h.log
 log_bytes h kept = bytes_in-batches [] h.events h.log (omega (arith, kept.whole)) ∙ kept.whole
 
-pub has_room : (version : ℤ) (part count : ℕ) (batch : List ℕ) (h : History) → IsKept h.log h.events → length h.log + length batch ≤ 67108864
-    → append_outcome version part count batch (state_of h) ≡ record { result = Appended part (state_of h).log_end count; entry = Put count batch }
-has_room version part count batch h kept room =
-    let no : ltb 67108864 ((gauges_of (state_of h)).bytes + length batch) ≡ false = le-ltb 67108864 ((gauges_of (state_of h)).bytes + length batch) (omega (arith, room, log_bytes h kept)) in
-    ap (λ (b : Bool). cond b (look (Refused (full_code version))) (record { result = Appended part (state_of h).log_end count; entry = Put count batch })) no
+-- ---- how many replicas are in sync
 
-pub has_no_room : (version : ℤ) (part count : ℕ) (batch : List ℕ) (h : History) → IsKept h.log h.events → 67108864 < length h.log + length batch
-    → append_outcome version part count batch (state_of h) ≡ look (Refused (full_code version))
-has_no_room version part count batch h kept full =
+-- what becomes of a batch where enough are
+abbrev with_enough : ℤ → ℕ → ℕ → List ℕ → PartState → Outcome
+with_enough version part count batch state =
+    cond (ltb 67108864 ((gauges_of state).bytes + length batch)) (look (Refused (full_code version))) (record { result = Appended part state.log_end count; entry = Put count batch })
+
+has_enough : (version : ℤ) (least part count : ℕ) (batch : List ℕ) (state : PartState) → least ≤ state.insync
+    → append_outcome version least part count batch state ≡ with_enough version part count batch state
+has_enough version least part count batch state enough =
+    ap (λ (b : Bool). cond b (look (Refused (pos 19))) (with_enough version part count batch state)) (le-ltb state.insync least enough)
+
+pub has_too_few : (version : ℤ) (least part count : ℕ) (batch : List ℕ) (state : PartState) → state.insync < least
+    → append_outcome version least part count batch state ≡ look (Refused (pos 19))
+has_too_few version least part count batch state few =
+    ap (λ (b : Bool). cond b (look (Refused (pos 19))) (with_enough version part count batch state)) (lt-ltb state.insync least few)
+
+-- ---- room
+
+has_room : (version : ℤ) (least part count : ℕ) (batch : List ℕ) (h : History) → IsKept h.log h.events → least ≤ (state_of h).insync → length h.log + length batch ≤ 67108864
+    → append_outcome version least part count batch (state_of h) ≡ record { result = Appended part (state_of h).log_end count; entry = Put count batch }
+has_room version least part count batch h kept enough room =
+    let no : ltb 67108864 ((gauges_of (state_of h)).bytes + length batch) ≡ false = le-ltb 67108864 ((gauges_of (state_of h)).bytes + length batch) (omega (arith, room, log_bytes h kept)) in
+    has_enough version least part count batch (state_of h) enough
+    ∙ ap (λ (b : Bool). cond b (look (Refused (full_code version))) (record { result = Appended part (state_of h).log_end count; entry = Put count batch })) no
+
+has_no_room : (version : ℤ) (least part count : ℕ) (batch : List ℕ) (h : History) → IsKept h.log h.events → least ≤ (state_of h).insync → 67108864 < length h.log + length batch
+    → append_outcome version least part count batch (state_of h) ≡ look (Refused (full_code version))
+has_no_room version least part count batch h kept enough full =
     let yes : ltb 67108864 ((gauges_of (state_of h)).bytes + length batch) ≡ true = lt-ltb 67108864 ((gauges_of (state_of h)).bytes + length batch) (omega (arith, full, log_bytes h kept)) in
-    ap (λ (b : Bool). cond b (look (Refused (full_code version))) (record { result = Appended part (state_of h).log_end count; entry = Put count batch })) yes
+    has_enough version least part count batch (state_of h) enough
+    ∙ ap (λ (b : Bool). cond b (look (Refused (full_code version))) (record { result = Appended part (state_of h).log_end count; entry = Put count batch })) yes
 
 pub not_above : (a b : ℕ) → (a < b → ⊥) → b ≤ a
 not_above a b never = elim (leb_tells b a) [ inl le ↦ le.1 | inr lt ↦ absurd (never lt.1) ]
 
 -- a batch was put
-pub put_entered : (version : ℤ) (by seq part base place count : ℕ) (h left : History) (batch : List ℕ) → IsKept h.log h.events → length h.log + length batch ≤ 67108864
+pub put_entered : (version : ℤ) (by seq t least part base place count : ℕ) (h left : History) (batch : List ℕ) → IsKept h.log h.events → least ≤ (state_of h).insync → length h.log + length batch ≤ 67108864
     → left ≡ appended h by seq batch → base ≡ log_end_of h.events → place ≡ length h.events → count ≡ count_of batch → IsCarriable (Appended part base count)
-    → HasEntered by seq (append_outcome version part (count_of batch) batch) h left (record { became = Appended part base count; place = place })
-put_entered version by seq part base place count h left batch kept room is_left is_base is_place is_count carriable =
-    let outcome = append_outcome version part (count_of batch) batch in
-    let found : outcome (state_of h) ≡ record { result = Appended part (state_of h).log_end (count_of batch); entry = Put (count_of batch) batch } = has_room version part (count_of batch) batch h kept room in
+    → HasEntered by seq t (append_outcome version least part (count_of batch) batch) h left (record { became = Appended part base count; place = place })
+put_entered version by seq t least part base place count h left batch kept enough room is_left is_base is_place is_count carriable =
+    let outcome = append_outcome version least part (count_of batch) batch in
+    let found : outcome (state_of h) ≡ record { result = Appended part (state_of h).log_end (count_of batch); entry = Put (count_of batch) batch } = has_room version least part (count_of batch) batch h kept enough room in
     record {
-      history = is_left ∙ ap (λ (o : Outcome). entered h by seq o.entry) (sym found);
+      history = is_left ∙ ap (λ (o : Outcome). entered h by seq t o.entry) (sym found);
       became = ap (λ (b : ℕ). Appended part b count) is_base ∙ ap (λ (k : ℕ). Appended part (log_end_of h.events) k) is_count ∙ ap (λ (o : Outcome). o.result) (sym found);
       place = is_place;
       carriable = carriable;
     }
 
 -- the log was full
-pub full_entered : (version : ℤ) (by seq part : ℕ) (h after : History) (batch : List ℕ) (came : Entered) → IsKept h.log h.events → 67108864 < length h.log + length batch
-    → ((outcome : PartState → Outcome) → outcome (state_of h) ≡ look (Refused (full_code version)) → HasEntered by seq outcome h after came)
-    → HasEntered by seq (append_outcome version part (count_of batch) batch) h after came
-full_entered version by seq part h after batch came kept full then =
-    then (append_outcome version part (count_of batch) batch) (has_no_room version part (count_of batch) batch h kept full)
+pub full_entered : (version : ℤ) (by seq t least part : ℕ) (h after : History) (batch : List ℕ) (came : Entered) → IsKept h.log h.events → least ≤ (state_of h).insync → 67108864 < length h.log + length batch
+    → ((outcome : PartState → Outcome) → outcome (state_of h) ≡ look (Refused (full_code version)) → HasEntered by seq t outcome h after came)
+    → HasEntered by seq t (append_outcome version least part (count_of batch) batch) h after came
+full_entered version by seq t least part h after batch came kept enough full then =
+    then (append_outcome version least part (count_of batch) batch) (has_no_room version least part (count_of batch) batch h kept enough full)

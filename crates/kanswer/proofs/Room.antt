@@ -18,7 +18,7 @@ use Rattle.kwire.specs.declared.request.Ask.TheVariants.{Produce, Fetch, Metadat
 use Rattle.kwire.specs.declared.request.FetchPart.{FetchPart}
 use Rattle.kwire.specs.declared.request.ProducePart.{ProducePart}
 use Rattle.kanswer.specs.declared.accepted.Accepted.TheVariants.{Refused, Appended, Seen}
-use Rattle.kanswer.specs.Decisions.{Entry, Put, Followed, Looked, Outcome, Decision, Refuse, AskLog, BatchDecides, Decides, ProduceDecides, append_outcome, full_code, fetch_decision, fetch_outcome, fetch_parts, in_range_outcome, is_acks, look, offset_of, produce_parts}
+use Rattle.kanswer.specs.Decisions.{Entry, Put, Followed, Looked, Outcome, Decision, Refuse, AskLog, BatchDecides, Decides, ProduceDecides, append_outcome, full_code, fetch_decision, fetch_outcome, fetch_parts, in_range_outcome, is_acks, least_insync, look, offset_of, produce_parts}
 use Rattle.kanswer.proofs.Stamped.{batch_sized}
 
 -- ---- fewer records than bytes
@@ -51,29 +51,33 @@ PutsWithRoom (AskLog part outcome) = (state : State) → HasRoom (outcome state)
 abbrev if_full : ℤ → Bool → ℕ → List ℕ → ℕ → State → Outcome
 if_full version full part bytes count state = cond full (look (Refused (full_code version))) (record { result = Appended part state.log_end count; entry = Put count bytes })
 
-appends_with_room : (version : ℤ) (part : ℕ) (bytes : List ℕ) (records : List Record) → IsBatch bytes records → (state : State) → HasRoom (append_outcome version part (length records) bytes state).entry state
-appends_with_room version part bytes records is state =
+appends_with_room : (version : ℤ) (least part : ℕ) (bytes : List ℕ) (records : List Record) → IsBatch bytes records → (state : State) → HasRoom (append_outcome version least part (length records) bytes state).entry state
+appends_with_room version least part bytes records is state =
     let Roomy : Bool → Type 0 = λ full. HasRoom (if_full version full part bytes (length records) state).entry state in
+    let enough : Roomy (nat_lt 67108864 ((gauges_of state).bytes + length bytes)) =
     elim (cases_lt 67108864 ((gauges_of state).bytes + length bytes)) [
       | inl full ↦ subst Roomy (sym (lt-ltb 67108864 ((gauges_of state).bytes + length bytes) full)) tt
       | inr room ↦ subst Roomy (sym (le-ltb 67108864 ((gauges_of state).bytes + length bytes) room)) (batch_dense bytes records is, room, batch_sized bytes records is)
     ]
+    in
+    let full = nat_lt 67108864 ((gauges_of state).bytes + length bytes) in
+    elim (nat_lt state.insync least) as (λ few. HasRoom (cond few (look (Refused (pos 19))) (if_full version full part bytes (length records) state)).entry state) [ true ↦ tt | false ↦ enough ]
 
-batch_room : (version : ℤ) (part : ℕ) (bytes : List ℕ) (d : Decision) → BatchDecides version part bytes d → PutsWithRoom d
-batch_room version part bytes d (inl f) = subst PutsWithRoom (sym f.2) tt
-batch_room version part bytes d (inr b) = subst PutsWithRoom (sym b.2) (appends_with_room version part bytes b.0 b.1)
+batch_room : (version : ℤ) (least part : ℕ) (bytes : List ℕ) (d : Decision) → BatchDecides version least part bytes d → PutsWithRoom d
+batch_room version least part bytes d (inl f) = subst PutsWithRoom (sym f.2) tt
+batch_room version least part bytes d (inr b) = subst PutsWithRoom (sym b.2) (appends_with_room version least part bytes b.0 b.1)
 
-acks_room : (version : ℤ) (known : Bool) (part : ℕ) (bytes : List ℕ) (d : Decision) → MatchBool known (BatchDecides version part bytes d) (d ≡ Refuse (pos 21)) → PutsWithRoom d
-acks_room version true part bytes d h = batch_room version part bytes d h
-acks_room version false part bytes d h = subst PutsWithRoom (sym h) tt
+acks_room : (version : ℤ) (known : Bool) (least part : ℕ) (bytes : List ℕ) (d : Decision) → MatchBool known (BatchDecides version least part bytes d) (d ≡ Refuse (pos 21)) → PutsWithRoom d
+acks_room version true least part bytes d h = batch_room version least part bytes d h
+acks_room version false least part bytes d h = subst PutsWithRoom (sym h) tt
 
-part_room : (version : ℤ) (o : Option ℕ) (known : Bool) (bytes : List ℕ) (d : Decision) → MatchOption o (d ≡ Refuse (pos 3)) (λ part. MatchBool known (BatchDecides version part bytes d) (d ≡ Refuse (pos 21))) → PutsWithRoom d
-part_room version None known bytes d h = subst PutsWithRoom (sym h) tt
-part_room version (Some part) known bytes d h = acks_room version known part bytes d h
+part_room : (version : ℤ) (least : ℕ → ℕ) (o : Option ℕ) (known : Bool) (bytes : List ℕ) (d : Decision) → MatchOption o (d ≡ Refuse (pos 3)) (λ part. MatchBool known (BatchDecides version (least part) part bytes d) (d ≡ Refuse (pos 21))) → PutsWithRoom d
+part_room version least None known bytes d h = subst PutsWithRoom (sym h) tt
+part_room version least (Some part) known bytes d h = acks_room version known (least part) part bytes d h
 
 produce_room : (version : ℤ) (config : Configuration) (id : Option (List ℕ)) (acks : ℤ) (named : List ℕ × ProducePart) (d : Decision) → ProduceDecides config version id acks named d → PutsWithRoom d
 produce_room version config (Some id) acks named d h = subst PutsWithRoom (sym h) tt
-produce_room version config None acks named d h = part_room version (part_of config named.0 named.1.index) (is_acks acks) (unwrap_or named.1.records []) d h
+produce_room version config None acks named d h = part_room version (least_insync config acks) (part_of config named.0 named.1.index) (is_acks acks) (unwrap_or named.1.records []) d h
 
 all_produced : (version : ℤ) (config : Configuration) (id : Option (List ℕ)) (acks : ℤ) (named : List (List ℕ × ProducePart)) (ds : List Decision) → AllZip (ProduceDecides config version id acks) named ds → AllByRecursion PutsWithRoom ds
 all_produced version config id acks named [] h = tt

@@ -54,23 +54,23 @@ module _ {T P : Type 0} (parts : T → List P) (named : T → P → Named) where
 
 -- ---- produces
 
-few_produced : (acks : ℤ) (parts : List ProducePart) (shown : List Shown) → length (produced_parts acks parts shown) ≤ length parts
-few_produced acks [] shown = omega arith
-few_produced acks (asked ∷ parts) [] = omega arith
-few_produced acks (asked ∷ parts) (s ∷ shown) = let rest = few_produced acks parts shown in omega arith
+few_produced : (config : Configuration) (acks : ℤ) (parts : List ProducePart) (shown : List Shown) → length (produced_parts config acks parts shown) ≤ length parts
+few_produced config acks [] shown = omega arith
+few_produced config acks (asked ∷ parts) [] = omega arith
+few_produced config acks (asked ∷ parts) (s ∷ shown) = let rest = few_produced config acks parts shown in omega arith
 
-produced_length : (acks : ℤ) (topics : List ProduceTopic) (shown : List Shown) → length (produced_topics acks topics shown) ≡ length topics
-produced_length acks [] shown = refl
-produced_length acks (topic ∷ topics) shown = let rest = produced_length acks topics (drop (length topic.parts) shown) in omega arith
+produced_length : (config : Configuration) (acks : ℤ) (topics : List ProduceTopic) (shown : List Shown) → length (produced_topics config acks topics shown) ≡ length topics
+produced_length config acks [] shown = refl
+produced_length config acks (topic ∷ topics) shown = let rest = produced_length config acks topics (drop (length topic.parts) shown) in omega arith
 
-produced_fine : (acks : ℤ) (topics : List ProduceTopic) (shown : List Shown) → sum_by (λ topic. length topic.parts) topics ≤ 64
-    → AllByRecursion FitsField (flat_map produce_topic_fields topics) → AllByRecursion IsProducedTopic (produced_topics acks topics shown)
-produced_fine acks [] shown few fits = tt
-produced_fine acks (topic ∷ topics) shown few fits =
+produced_fine : (config : Configuration) (acks : ℤ) (topics : List ProduceTopic) (shown : List Shown) → sum_by (λ topic. length topic.parts) topics ≤ 64
+    → AllByRecursion FitsField (flat_map produce_topic_fields topics) → AllByRecursion IsProducedTopic (produced_topics config acks topics shown)
+produced_fine config acks [] shown few fits = tt
+produced_fine config acks (topic ∷ topics) shown few fits =
     let count = sum_by-cons (λ (t : ProduceTopic). length t.parts) topic topics in
-    let here = few_produced acks topic.parts (take (length topic.parts) shown) in
+    let here = few_produced config acks topic.parts (take (length topic.parts) shown) in
     let rest = behind_fit (flat_map produce_part_fields topic.parts) (flat_map produce_topic_fields topics) fits.1.1 in
-    (record { name = fits.0; few = omega arith }, produced_fine acks topics (drop (length topic.parts) shown) (omega arith) rest)
+    (record { name = fits.0; few = omega arith }, produced_fine config acks topics (drop (length topic.parts) shown) (omega arith) rest)
 
 -- ---- fetches
 
@@ -191,8 +191,8 @@ told_spellable : (config : Configuration) (correlation : ℤ) (ask : Ask) (accep
     → IsSpellable (record { correlation = correlation; told = told_to config ask shown })
 told_spellable config correlation (Produce version transactional acks timeout topics) accepted readings shown declared fits few_topics few are room =
     let count = all_named (λ (t : ProduceTopic). t.parts) (λ (t : ProduceTopic) (p : ProducePart). record { topic = t.name; index = p.index }) topics in
-    let size = produced_length acks topics shown in
-    produced_spellable correlation version (produced_topics acks topics shown) (omega arith) (produced_fine acks topics shown (omega arith) fits.1.1.1.1)
+    let size = produced_length config acks topics shown in
+    produced_spellable correlation version (produced_topics config acks topics shown) (omega arith) (produced_fine config acks topics shown (omega arith) fits.1.1.1.1)
 told_spellable config correlation (Fetch version replica max_wait min_bytes max_bytes isolation topics) accepted readings shown declared fits few_topics few are room =
     let count = all_named (λ (t : FetchTopic). t.parts) (λ (t : FetchTopic) (p : FetchPart). record { topic = t.name; index = p.index }) topics in
     let size = fetched_length topics accepted readings in

@@ -5,10 +5,10 @@ use Rattle.std.specs.List.{find, flat_map, slice_get}
 use Rattle.std.specs.Cmp.Lexicographic.{pointwise}
 use Rattle.std.specs.Ordering.{int_eq}
 use Rattle.std.specs.Bool.{nat_eq}
-use Rattle.partlog.specs.State.{PartState as State, high_of}
+use Rattle.partlog.specs.State.{PartState as State}
 use Rattle.partlog.specs.Batches.{StoredBatch as Stored, next_offset}
 use Rattle.partlog.specs.Taken.{batches_past, taken, joined}
-use Rattle.kwire.specs.declared.codes.TheConstants.{NONE, UNKNOWN_TOPIC_OR_PARTITION, REQUEST_TIMED_OUT, UNSUPPORTED_VERSION}
+use Rattle.kwire.specs.declared.codes.TheConstants.{NONE, UNKNOWN_TOPIC_OR_PARTITION, REQUEST_TIMED_OUT, NOT_ENOUGH_REPLICAS_AFTER_APPEND, UNSUPPORTED_VERSION}
 use Rattle.kwire.specs.declared.config.Topic.{Topic}
 use Rattle.kwire.specs.declared.request.Request.{Request}
 use Rattle.kwire.specs.declared.request.Ask.{Ask}
@@ -29,36 +29,44 @@ use Rattle.kanswer.specs.declared.accepted.TheConstants.{LOG_START}
 use Rattle.kanswer.specs.declared.accepted.Accepted.{Accepted}
 use Rattle.kanswer.specs.declared.accepted.Accepted.TheVariants.{Refused, Appended, Seen}
 use Rattle.kanswer.specs.declared.accepted.Budget.{Budget}
-use Rattle.kwire.specs.Configuration.{Configuration}
+use Rattle.kwire.specs.Configuration.{Configuration, min_insync_at}
 use Rattle.kanswer.specs.Waiting.{Shown, at_least_zero, reply_limit, is_consumer}
 
--- with acks -1 every follower has to have the batch; else the time has run out, which is code 7
-abbrev pub produced_code : ℤ → ℕ → State → ℤ
-produced_code acks after state =
-    if int_eq acks (negsuc 0) then (if nat_le after (high_of state) then NONE else REQUEST_TIMED_OUT) else NONE
+-- With acks -1 every replica in sync has to have the batch; else the time has run out, which is code 7. And as many have to be in
+-- sync as the topic asks for at least; else it is code 20.
+abbrev pub produced_code : ℤ → ℕ → ℕ → State → ℤ
+produced_code acks least after state =
+    if int_eq acks (negsuc 0) then (if nat_lt state.high after then REQUEST_TIMED_OUT
+    else (if nat_lt state.insync least then NOT_ENOUGH_REPLICAS_AFTER_APPEND else NONE))
+    else NONE
 
 -- a refused partition has the base offset -1 and the log start -1
-abbrev pub produced_as : ℤ → ℤ → Accepted → State → ProducedPart
-produced_as acks index (Refused code) state = record { index = index; code = code; base = negsuc 0; start = negsuc 0 }
-produced_as acks index (Appended part base count) state =
-    record { index = index; code = produced_code acks (base + count) state; base = pos base; start = LOG_START }
-produced_as acks index (Seen part start) state = record { index = index; code = NONE; base = negsuc 0; start = negsuc 0 }
+abbrev pub produced_as : Configuration → ℤ → ℤ → Accepted → State → ProducedPart
+produced_as config acks index (Refused code) state = record { index = index; code = code; base = negsuc 0; start = negsuc 0 }
+produced_as config acks index (Appended part base count) state = record {
+  index = index;
+  code = produced_code acks (min_insync_at config.topics part) (base + count) state;
+  base = pos base;
+  start = LOG_START;
+}
+produced_as config acks index (Seen part start) state = record { index = index; code = NONE; base = negsuc 0; start = negsuc 0 }
 
-abbrev pub produced_parts : ℤ → List ProducePart → List Shown → List ProducedPart
-produced_parts acks [] shown = []
-produced_parts acks (asked ∷ parts) [] = []
-produced_parts acks (asked ∷ parts) (s ∷ shown) = produced_as acks asked.index s.result s.state ∷ produced_parts acks parts shown
+abbrev pub produced_parts : Configuration → ℤ → List ProducePart → List Shown → List ProducedPart
+produced_parts config acks [] shown = []
+produced_parts config acks (asked ∷ parts) [] = []
+produced_parts config acks (asked ∷ parts) (s ∷ shown) =
+    produced_as config acks asked.index s.result s.state ∷ produced_parts config acks parts shown
 
 -- what was shown stands in order over all topics
-abbrev pub produced_topics : ℤ → List ProduceTopic → List Shown → List ProducedTopic
-produced_topics acks [] shown = []
-produced_topics acks (topic ∷ topics) shown =
-    record { name = topic.name; parts = produced_parts acks topic.parts (take (length topic.parts) shown) }
-    ∷ produced_topics acks topics (drop (length topic.parts) shown)
+abbrev pub produced_topics : Configuration → ℤ → List ProduceTopic → List Shown → List ProducedTopic
+produced_topics config acks [] shown = []
+produced_topics config acks (topic ∷ topics) shown =
+    record { name = topic.name; parts = produced_parts config acks topic.parts (take (length topic.parts) shown) }
+    ∷ produced_topics config acks topics (drop (length topic.parts) shown)
 
 -- a consumer reads below the high watermark, a follower to the log's end
 abbrev pub is_readable : ℤ → State → Stored → Bool
-is_readable replica state batch = if is_consumer replica then nat_le (next_offset batch) (high_of state) else true
+is_readable replica state batch = if is_consumer replica then nat_le (next_offset batch) state.high else true
 
 -- the batches of one partition, within what is left to the reply
 abbrev pub read_of : ℤ → FetchPart → ℕ → State → Budget → List Stored
@@ -98,7 +106,7 @@ fetched_as asked (Refused code) state batches =
 fetched_as asked (Appended part base count) state batches =
     record { index = asked.index; code = NONE; high = negsuc 0; start = negsuc 0; records = [] }
 fetched_as asked (Seen part start) state batches =
-    record { index = asked.index; code = NONE; high = pos (high_of state); start = LOG_START; records = joined batches }
+    record { index = asked.index; code = NONE; high = pos state.high; start = LOG_START; records = joined batches }
 
 abbrev pub fetched_parts : ℤ → List FetchPart → List Shown → Budget → List FetchedPart
 fetched_parts replica [] shown budget = []
@@ -137,7 +145,7 @@ infos_of topics None = map (λ topic. info_as topic.name (Some topic)) topics
 infos_of topics (Some names) = map (info_of topics) names
 
 abbrev pub told_to : Configuration → Ask → List Shown → Told
-told_to config (ask.Produce version transactional acks timeout topics) shown = told.Produced version (produced_topics acks topics shown)
+told_to config (ask.Produce version transactional acks timeout topics) shown = told.Produced version (produced_topics config acks topics shown)
 told_to config (ask.Fetch version replica max_wait min_bytes max_bytes isolation topics) shown =
     told.Fetched version isolation (fetched_topics replica topics shown (first_budget max_bytes))
 told_to config (ask.Metadata topics) shown = told.Metadata config.port (infos_of config.topics topics)

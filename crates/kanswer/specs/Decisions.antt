@@ -11,8 +11,8 @@ use Rattle.kbatch.specs.declared.fault.BatchFault.TheVariants.{TooLarge, Short, 
 use Rattle.kbatch.specs.declared.record.Record.{Record}
 use Rattle.kbatch.specs.Batch.{IsBatch}
 use Rattle.kbatch.specs.Fault.{IsFirstFault}
-use Rattle.kwire.specs.declared.codes.TheConstants.{NONE, OFFSET_OUT_OF_RANGE, CORRUPT_MESSAGE, UNKNOWN_TOPIC_OR_PARTITION, NOT_LEADER_OR_FOLLOWER, KAFKA_STORAGE_ERROR, REPLICA_NOT_AVAILABLE, MESSAGE_TOO_LARGE, INVALID_REQUIRED_ACKS, INVALID_REQUEST, UNSUPPORTED_COMPRESSION_TYPE, INVALID_RECORD}
-use Rattle.kwire.specs.Configuration.{Configuration, followers_of, part_of}
+use Rattle.kwire.specs.declared.codes.TheConstants.{NONE, OFFSET_OUT_OF_RANGE, CORRUPT_MESSAGE, UNKNOWN_TOPIC_OR_PARTITION, NOT_LEADER_OR_FOLLOWER, KAFKA_STORAGE_ERROR, REPLICA_NOT_AVAILABLE, MESSAGE_TOO_LARGE, NOT_ENOUGH_REPLICAS, INVALID_REQUIRED_ACKS, INVALID_REQUEST, UNSUPPORTED_COMPRESSION_TYPE, INVALID_RECORD}
+use Rattle.kwire.specs.Configuration.{Configuration, followers_of, min_insync_at, part_of}
 use Rattle.kwire.specs.declared.request.Ask.{Ask}
 use Rattle.kwire.specs.declared.request.Ask.TheVariants.{Produce, Fetch, Metadata, Versions}
 use Rattle.kwire.specs.declared.request.ProducePart.{ProducePart}
@@ -58,26 +58,38 @@ look result = record { result = result; entry = Looked }
 abbrev pub full_code : ℤ → ℤ
 full_code version = if int_le STORAGE_ERROR_VERSION version then KAFKA_STORAGE_ERROR else NOT_LEADER_OR_FOLLOWER
 
--- a batch is put at the end, where the log can keep it
-abbrev pub append_outcome : ℤ → ℕ → ℕ → List ℕ → State → Outcome
-append_outcome version part count batch state =
-    if nat_lt MOST_LOG_BYTES ((gauges_of state).bytes + length batch) then look (Refused (full_code version))
-    else record { result = Appended part state.log_end count; entry = Put count batch }
+-- With acks -1 at least the topic's least number of replicas have to be in sync, the leader counted.
+abbrev pub needed_insync : ℤ → ℕ → ℕ
+needed_insync acks least = if int_eq acks (negsuc 0) then least else 0
+
+-- of the partition with this number
+abbrev pub least_insync : Configuration → ℤ → ℕ → ℕ
+least_insync config acks part = needed_insync acks (min_insync_at config.topics part)
+
+-- a batch is put at the end, where at least so many replicas are in sync and the log can keep it
+abbrev pub append_outcome : ℤ → ℕ → ℕ → ℕ → List ℕ → State → Outcome
+append_outcome version least part count batch state =
+    if nat_lt state.insync least then look (Refused NOT_ENOUGH_REPLICAS)
+    else (if nat_lt MOST_LOG_BYTES ((gauges_of state).bytes + length batch) then look (Refused (full_code version))
+    else record { result = Appended part state.log_end count; entry = Put count batch })
 
 abbrev pub is_acks : ℤ → Bool
 is_acks acks = int_eq acks (negsuc 0) || int_eq acks (pos 0) || int_eq acks (pos 1)
 
-abbrev pub BatchDecides : ℤ → ℕ → List ℕ → Decision → Type 0
-BatchDecides version part bytes decision =
+abbrev pub BatchDecides : ℤ → ℕ → ℕ → List ℕ → Decision → Type 0
+BatchDecides version least part bytes decision =
     ((fault : BatchFault) × IsFirstFault bytes fault × (decision ≡ Refuse (code_of fault)))
-    ⊎ ((records : List Record) × IsBatch bytes records × (decision ≡ AskLog part (append_outcome version part (length records) bytes)))
+    ⊎ ((records : List Record) × IsBatch bytes records × (decision ≡ AskLog part (append_outcome version least part (length records) bytes)))
 
--- the first cause that applies decides: a transactional id, no such partition, unknown acks, a fault of the batch
+-- The first cause that applies decides: a transactional id, no such partition, unknown acks, a fault of the batch; and once the
+-- log is asked, too few replicas in sync, a full log.
 abbrev pub ProduceDecides : Configuration → ℤ → Option (List ℕ) → ℤ → List ℕ × ProducePart → Decision → Type 0
 ProduceDecides config version (Some id) acks named decision = decision ≡ Refuse INVALID_REQUEST
 ProduceDecides config version None acks named decision =
     MatchOption (part_of config named.0 named.1.index) (decision ≡ Refuse UNKNOWN_TOPIC_OR_PARTITION) (λ part.
-    MatchBool (is_acks acks) (BatchDecides version part (unwrap_or named.1.records []) decision) (decision ≡ Refuse INVALID_REQUIRED_ACKS))
+    MatchBool (is_acks acks)
+    (BatchDecides version (least_insync config acks part) part (unwrap_or named.1.records []) decision)
+    (decision ≡ Refuse INVALID_REQUIRED_ACKS))
 
 abbrev pub in_range_outcome : ℕ → ℤ → Entry → State → Outcome
 in_range_outcome part (negsuc n) entry state = look (Refused OFFSET_OUT_OF_RANGE)

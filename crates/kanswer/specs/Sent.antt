@@ -7,4 +7,4 @@ use Rattle.kanswer.specs.Decisions.{Outcome, append_outcome}
 
 -- what becomes of it in the partition with this number
 abbrev pub sent_outcome : ℕ → SentBatch → State → Outcome
-sent_outcome part sent = append_outcome sent.version part (count_of sent.batch) sent.batch
+sent_outcome part sent = append_outcome sent.version sent.least part (count_of sent.batch) sent.batch

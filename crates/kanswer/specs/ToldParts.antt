@@ -1,7 +1,9 @@
 -- What is told of the named partitions, from what became of each and what was read of it.
-use Rattle.std.specs.Prelude.{ℕ, ◌+◌, ℤ, pos, negsuc, List, [], ◌∷◌, length, take, drop, nat_le, if◌then◌else◌}
+use Rattle.std.specs.Prelude.{ℕ, ◌+◌, ℤ, pos, negsuc, List, [], ◌∷◌, length, take, drop, nat_lt, if◌then◌else◌}
 use Rattle.std.specs.Ordering.{int_eq}
-use Rattle.kwire.specs.declared.codes.TheConstants.{NONE, REQUEST_TIMED_OUT}
+use Rattle.kwire.specs.declared.codes.TheConstants.{NONE, REQUEST_TIMED_OUT, NOT_ENOUGH_REPLICAS_AFTER_APPEND}
+use Rattle.kwire.specs.Configuration.{Configuration, min_insync_at}
+use Rattle.partlog.specs.declared.numbers.Numbers.{Numbers}
 use Rattle.kwire.specs.declared.request.ProducePart.{ProducePart}
 use Rattle.kwire.specs.declared.request.ProduceTopic.{ProduceTopic}
 use Rattle.kwire.specs.declared.request.FetchPart.{FetchPart}
@@ -15,16 +17,23 @@ use Rattle.kanswer.specs.declared.accepted.Accepted.TheVariants.{Refused, Append
 use Rattle.kanswer.specs.declared.accepted.Reading.{Reading}
 use Rattle.kanswer.specs.declared.accepted.TheConstants.{LOG_START}
 
--- with acks -1 a batch that every follower has, or else the time ran out
-abbrev pub code_at : ℤ → ℕ → ℕ → ℤ
-code_at acks after high = if int_eq acks (negsuc 0) then (if nat_le after high then NONE else REQUEST_TIMED_OUT) else NONE
+-- with acks -1 a batch that every replica in sync has, or else the time ran out; and as many of these as the topic asks for at least
+abbrev pub code_at : ℤ → ℕ → ℕ → Numbers → ℤ
+code_at acks least after numbers =
+    if int_eq acks (negsuc 0) then (if nat_lt numbers.high after then REQUEST_TIMED_OUT
+    else (if nat_lt numbers.insync least then NOT_ENOUGH_REPLICAS_AFTER_APPEND else NONE))
+    else NONE
 
-abbrev pub produced_part : ℤ → ProducePart → Accepted → Reading → ProducedPart
-produced_part acks asked (Refused code) reading =
+abbrev pub produced_part : Configuration → ℤ → ProducePart → Accepted → Reading → ProducedPart
+produced_part config acks asked (Refused code) reading =
     record { index = asked.index; code = code; base = negsuc 0; start = negsuc 0 }
-produced_part acks asked (Appended part base count) reading =
-    record { index = asked.index; code = code_at acks (base + count) reading.numbers.high; base = pos base; start = LOG_START }
-produced_part acks asked (Seen part start) reading =
+produced_part config acks asked (Appended part base count) reading = record {
+  index = asked.index;
+  code = code_at acks (min_insync_at config.topics part) (base + count) reading.numbers;
+  base = pos base;
+  start = LOG_START;
+}
+produced_part config acks asked (Seen part start) reading =
     record { index = asked.index; code = NONE; base = negsuc 0; start = negsuc 0 }
 
 abbrev pub fetched_part : FetchPart → Accepted → Reading → FetchedPart
@@ -49,15 +58,16 @@ topics_by size f (topic ∷ topics) results readings =
     f topic (take (size topic) results) (take (size topic) readings)
     ∷ topics_by size f topics (drop (size topic) results) (drop (size topic) readings)
 
-abbrev pub produced_topic : ℤ → ProduceTopic → List Accepted → List Reading → ProducedTopic
-produced_topic acks topic results readings =
-    record { name = topic.name; parts = parts_by (produced_part acks) topic.parts results readings }
+abbrev pub produced_topic : Configuration → ℤ → ProduceTopic → List Accepted → List Reading → ProducedTopic
+produced_topic config acks topic results readings =
+    record { name = topic.name; parts = parts_by (produced_part config acks) topic.parts results readings }
 
 abbrev pub fetched_topic : FetchTopic → List Accepted → List Reading → FetchedTopic
 fetched_topic topic results readings = record { name = topic.name; parts = parts_by fetched_part topic.parts results readings }
 
-abbrev pub produced_of : ℤ → List ProduceTopic → List Accepted → List Reading → List ProducedTopic
-produced_of acks topics results readings = topics_by (λ topic. length topic.parts) (produced_topic acks) topics results readings
+abbrev pub produced_of : Configuration → ℤ → List ProduceTopic → List Accepted → List Reading → List ProducedTopic
+produced_of config acks topics results readings =
+    topics_by (λ topic. length topic.parts) (produced_topic config acks) topics results readings
 
 abbrev pub fetched_of : List FetchTopic → List Accepted → List Reading → List FetchedTopic
 fetched_of topics results readings = topics_by (λ topic. length topic.parts) fetched_topic topics results readings

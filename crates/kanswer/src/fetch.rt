@@ -9,9 +9,10 @@ ghost use Rattle.kanswer.specs.Entered.{HasEntered};
 use crate::Accepted;
 use crate::entered::Entered;
 use crate::look::look_at;
+use crate::visitor::Visitor;
 use kbytes::NoMemory;
 use kwire::{FetchPart, codes};
-use partlog::{FollowFault, PartLog, Who};
+use partlog::{FollowFault, PartLog};
 
 // The offset, where it is between 0 and the log end.
 fn offset_within(asked: &FetchPart, end: u64) -> Option<u64>
@@ -26,22 +27,27 @@ fn offset_within(asked: &FetchPart, end: u64) -> Option<u64>
 }
 
 // A consumer's fetch only looks at the log.
-fn consume(log: &mut PartLog, who: Who, part: u32, asked: &FetchPart) -> Result<Entered, NoMemory>
+fn consume(
+    log: &mut PartLog,
+    visitor: Visitor,
+    part: u32,
+    asked: &FetchPart,
+) -> Result<Entered, NoMemory>
     ensures entered { IfOk result (λ entered.
-        HasEntered who.by who.seq (in_range_outcome part asked.now.offset Looked) log.old log.new entered) }
+        HasEntered visitor.who.by visitor.who.seq visitor.moment (in_range_outcome part asked.now.offset Looked) log.old log.new entered) }
     ensures refused { OnErr result (log.new ≡ log.old) }
 {
     let Some(offset) = offset_within(asked, log.numbers().end) else {
         return look_at(
             log,
-            who,
+            visitor,
             Accepted::Refused {
                 code: codes::OFFSET_OUT_OF_RANGE,
             },
         );
     };
     let start = log.locate(offset);
-    look_at(log, who, Accepted::Seen { part, start })
+    look_at(log, visitor, Accepted::Seen { part, start })
 }
 
 // The byte place where reading from an offset begins. An offset below 0 counts as 0.
@@ -57,32 +63,33 @@ fn start_at(log: &PartLog, offset: i64) -> u64
 // A replica's fetch is entered where the replica is a follower and the offset in range.
 fn follow(
     log: &mut PartLog,
-    who: Who,
+    visitor: Visitor,
     replica: i32,
     part: u32,
     asked: &FetchPart,
 ) -> Result<Entered, NoMemory>
     requires { pos 0 ≤ℤ replica }
     ensures entered { IfOk result (λ entered.
-        HasEntered who.by who.seq (fetch_outcome log.old.followers replica asked.now part) log.old log.new entered) }
+        HasEntered visitor.who.by visitor.who.seq visitor.moment (fetch_outcome log.old.followers replica asked.now part)
+        log.old log.new entered) }
     ensures refused { OnErr result (log.new ≡ log.old) }
 {
     let start = start_at(log, asked.offset);
-    match log.follow(who, replica, asked.offset) {
+    match log.follow(visitor.who, replica, asked.offset, visitor.moment) {
         Ok(place) => Ok(Entered {
             became: Accepted::Seen { part, start },
             place,
         }),
         Err(FollowFault::NoReplica) => look_at(
             log,
-            who,
+            visitor,
             Accepted::Refused {
                 code: codes::REPLICA_NOT_AVAILABLE,
             },
         ),
         Err(FollowFault::OutOfRange { .. }) => look_at(
             log,
-            who,
+            visitor,
             Accepted::Refused {
                 code: codes::OFFSET_OUT_OF_RANGE,
             },
@@ -91,23 +98,25 @@ fn follow(
     }
 }
 
-/// Enters the fetch of one partition. A follower's fetch in range moves the follower; every other fetch looks at the log. A
-/// replica of 0 or more that isn't a follower is refused with code 9, else an offset below 0 or above the log end with
-/// code 1. `part` is the partition's number, and a negative replica is a consumer. If memory runs out, the log is as it was.
+/// Enters the fetch of one partition. A follower's fetch in range is entered at the visitor's moment; every other fetch
+/// looks at the log. A replica of 0 or more that isn't a follower is refused with code 9, else an offset below 0 or above the
+/// log end with code 1. `part` is the partition's number, and a negative replica is a consumer. If memory runs out, the log
+/// is as it was.
 pub fn enter_fetch(
     log: &mut PartLog,
-    who: Who,
+    visitor: Visitor,
     replica: i32,
     part: u32,
     asked: &FetchPart,
 ) -> Result<Entered, NoMemory>
     ensures entered { IfOk result (λ entered.
-        HasEntered who.by who.seq (fetch_outcome log.old.followers replica asked.now part) log.old log.new entered) }
+        HasEntered visitor.who.by visitor.who.seq visitor.moment (fetch_outcome log.old.followers replica asked.now part)
+        log.old log.new entered) }
     ensures refused { OnErr result (log.new ≡ log.old) }
 {
     if replica >= 0 {
-        follow(log, who, replica, part, asked)
+        follow(log, visitor, replica, part, asked)
     } else {
-        consume(log, who, part, asked)
+        consume(log, visitor, part, asked)
     }
 }

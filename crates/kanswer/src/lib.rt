@@ -24,6 +24,7 @@ mod put;
 mod replies;
 mod reply;
 mod terms;
+mod visitor;
 mod waiting;
 
 pub use accepted::{Accepted, Budget, LOG_START, MOST_REPLY_BYTES, Reading};
@@ -40,4 +41,5 @@ pub use put::decide_put;
 pub use replies::answer;
 pub use reply::reply_frame;
 pub use terms::{STORAGE_ERROR_VERSION, SentBatch, Terms};
+pub use visitor::Visitor;
 pub use waiting::{is_quiet, needs_op, op_of};

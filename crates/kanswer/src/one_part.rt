@@ -138,7 +138,7 @@ pub fn read_numbers(alloc: Global, log: &PartLog) -> Reading
 
 /// The reading of a refused partition: nothing. It takes no memory.
 pub fn read_nothing(alloc: Global) -> Reading
-    ensures { result ≡ record { numbers = record { end = 0; high = 0; visible = 0; bytes = 0 }; records = [] } }
+    ensures { result ≡ record { numbers = record { end = 0; high = 0; visible = 0; bytes = 0; insync = 0 }; records = [] } }
 {
     Reading {
         numbers: Numbers {
@@ -146,6 +146,7 @@ pub fn read_nothing(alloc: Global) -> Reading
             high: 0,
             visible: 0,
             bytes: 0,
+            insync: 0,
         },
         records: Bytes::new(alloc),
     }

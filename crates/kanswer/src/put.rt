@@ -46,6 +46,7 @@ pub fn decide_put<'a>(
             number,
             SentBatch {
                 version: terms.version,
+                least: terms.needed_insync(config.min_insync_of(number)),
                 batch,
             },
         )),

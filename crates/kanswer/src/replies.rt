@@ -8,7 +8,7 @@ ghost use Rattle.kanswer.specs.LogReadings.{AreReadings, IsCarriable, HasCarriab
 use crate::accepted::{Accepted, Reading};
 use crate::described::described;
 use crate::fetched::fetched_topics;
-use crate::produced::produced_topics;
+use crate::produced::{Producing, produced_topics};
 use kbytes::NoMemory;
 use kwire::{AskView, Config, Reply, RequestView, Told, codes};
 use std::alloc::Global;
@@ -34,10 +34,16 @@ fn told_to(
             acks,
             topics,
             ..
-        } => Ok(Told::Produced {
-            version: *version,
-            topics: produced_topics(alloc, *acks, topics.as_slice(), accepted, readings)?,
-        }),
+        } => {
+            let produce = Producing {
+                config,
+                acks: *acks,
+            };
+            Ok(Told::Produced {
+                version: *version,
+                topics: produced_topics(alloc, &produce, topics.as_slice(), accepted, readings)?,
+            })
+        }
         AskView::Fetch {
             version,
             isolation,

@@ -1,5 +1,5 @@
 ghost use Rattle.std.specs.Prelude.{◌≡◌};
-ghost use Rattle.kanswer.specs.Decisions.{full_code, is_acks};
+ghost use Rattle.kanswer.specs.Decisions.{full_code, is_acks, needed_insync};
 
 use kbatch::BatchView;
 use kwire::codes;
@@ -22,12 +22,21 @@ impl Terms {
     {
         self.acks == -1 || self.acks == 0 || self.acks == 1
     }
+
+    // How many replicas have to be in sync, where the topic asks for so many at least: none without acks -1.
+    pub(crate) fn needed_insync(&self, least: u32) -> u32
+        ensures { result ≡ needed_insync self.now.acks least }
+    {
+        if self.acks == -1 { least } else { 0 }
+    }
 }
 
 /// A batch for a partition, as a produce in this version sent it.
 #[derive(Debug, Drop)]
 pub struct SentBatch<'a> {
     pub version: i16,
+    /// How many replicas have to be in sync for it to be taken, the leader counted.
+    pub least: u32,
     pub batch: BatchView<'a>,
 }
 

@@ -26,9 +26,9 @@ returns-in_ok-produced_topics-in-Produce c =
     let told : AreReadings (ask_of c.args.ask.now) results readings shown → Produced a.version topics ≡ told_to c.args.config.now (ask_of c.args.ask.now) shown =
     subst Tells (sym a.is) (λ are. ap (Produced a.version) (
     c.in_ok-produced_topics-in-Produce.ensures
-    ∙ ap (λ (acks : ℤ). produced_of acks c.as_slice.result.now results readings) (to_z-of_z w16 a.acks acks_fit)
-    ∙ ap (λ (ts : List ProduceTopic). produced_of a.acks ts results readings) c.as_slice.ensures
-    ∙ produced_is a.acks a.topics results readings shown are
+    ∙ ap (λ (acks : ℤ). produced_of c.args.config.now acks c.as_slice.result.now results readings) (to_z-of_z w16 a.acks acks_fit)
+    ∙ ap (λ (ts : List ProduceTopic). produced_of c.args.config.now a.acks ts results readings) c.as_slice.ensures
+    ∙ produced_is c.args.config.now a.acks a.topics results readings shown are
     ))
     in
     λ are. ap (λ (version : ℤ). Produced version topics) (to_z-of_z w16 a.version version_fits) ∙ told are

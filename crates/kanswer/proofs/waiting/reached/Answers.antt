@@ -7,7 +7,7 @@ use Rattle.kanswer.proofs.waiting.reached.Goals as goal
 
 pub loop-at-preserved : goal.loop-at-preserved
 loop-at-preserved c =
-    let none : Numbers = record { end = 0; high = 0; visible = 0; bytes = 0 } in
+    let none : Numbers = record { end = 0; high = 0; visible = 0; bytes = 0; insync = 0 } in
     let needs = needs_by_part (ask_of c.args.ask.now) c.args.accepted.now in
     let on = reached_on needs c.args.numbers.now c.loop-at.at c.need_at.result none c.need_at.ensures.need (omega (arith, c.loop-at-test.true, c.requires.numbers)) in
     let part = c.reached_at-reached.ensures in
