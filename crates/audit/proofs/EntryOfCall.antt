@@ -34,7 +34,7 @@ found {X} {G} test (x ∷ xs) each one = by_test (test x) refl (found test xs ea
         let none = ap {B = ℕ} (λ (b : Bool). cond b 1 0) is in
         later (omega (arith, one, rest, none))
 
-both_true : (a b : Bool) → (a && b) ≡ true → (a ≡ true) × (b ≡ true)
+pub both_true : (a b : Bool) → (a && b) ≡ true → (a ≡ true) × (b ≡ true)
 both_true true true e = (refl, refl)
 both_true true false e = absurd cc
 both_true false b e = absurd cc

@@ -10,6 +10,8 @@ pub mod Prints
 pub mod WorkedCalls
 -- a worked account that is lawful
 pub mod WorkedAccounts
+-- worked accounts with a follower that was taken out
+pub mod WorkedLeaves
 -- what a worked account prints
 pub mod WorkedPrints
 -- produces of one batch to one partition
@@ -22,7 +24,11 @@ pub mod WorkedRuns
 pub mod Ends
 -- each entry of a lawful account was left by a lawful call
 mod EntryOfCall
--- the logs of a lawful account are bounded
+-- followers alone fetch, and from no offset above the log end
+mod InRange
+-- an entry that the replicas are told of
+pub mod Tracking
+-- the logs of a lawful account are bounded, and the replicas can be told of their entries
 pub mod Bounded
 -- what became of the partitions of a request
 mod ResultsStand

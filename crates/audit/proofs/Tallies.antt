@@ -6,7 +6,7 @@ use Rattle.std.proofs.lemmas.List.{take_more, length-take}
 use Rattle.std.proofs.lemmas.Grind.{flat_map-append}
 use Rattle.std.specs.List.{flat_map}
 use Rattle.partlog.specs.declared.event.PartEvent.{PartEvent}
-use Rattle.partlog.specs.declared.event.PartEvent.TheVariants.{Append, Follow, Look}
+use Rattle.partlog.specs.declared.event.PartEvent.TheVariants.{Append, Follow, Look, Shrink}
 use Rattle.partlog.specs.Batches.{batches_after, batches_of}
 use Rattle.audit.specs.declared.account.PartAccount.{PartAccount}
 use Rattle.audit.specs.declared.account.Call.{Call}
@@ -15,16 +15,18 @@ use Rattle.audit.specs.Printed.{is_parked, parked_of, numbered}
 
 any_before : (before after : List PartEvent) (e : PartEvent) (log other : List ℕ) → length (batches_after before (e ∷ []) log) ≡ length (batches_after after (e ∷ []) other)
 any_before before after (Append by seq count len) log other = refl
-any_before before after (Follow by seq replica offset) log other = refl
+any_before before after (Follow by seq replica offset t) log other = refl
 any_before before after (Look by seq) log other = refl
+any_before before after (Shrink by replica t) log other = refl
 
 -- the batches of one entry more
 pub batches_more : (before events : List PartEvent) (e : PartEvent) (log : List ℕ) → length (batches_after before (events ++ e ∷ []) log) ≡ length (batches_after before events log) + length (batches_of (e ∷ []) log)
 batches_more before [] e log = any_before before [] e log log ∙ omega arith
 batches_more before (Append by seq count len ∷ events) e log =
     omega (arith, batches_more (before ++ Append by seq count len ∷ []) events e (drop len log), any_before [] [] e (drop len log) log)
-batches_more before (Follow by seq replica offset ∷ events) e log = batches_more (before ++ Follow by seq replica offset ∷ []) events e log
+batches_more before (Follow by seq replica offset t ∷ events) e log = batches_more (before ++ Follow by seq replica offset t ∷ []) events e log
 batches_more before (Look by seq ∷ events) e log = batches_more (before ++ Look by seq ∷ []) events e log
+batches_more before (Shrink by replica t ∷ events) e log = batches_more (before ++ Shrink by replica t ∷ []) events e log
 
 -- whether the last call is parked is said by the last alone
 pub parked_last : (calls : List Call) (call : Call) → slice_get calls (length calls - 1) ≡ Some call → parked_of calls ≡ cond (is_parked call.how) 1 0

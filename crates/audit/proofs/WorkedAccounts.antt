@@ -4,21 +4,23 @@ use Rattle.std.proofs.lemmas.Bool.{ne_eqb}
 use Rattle.std.specs.Prelude.{slice_get, count_by}
 use Rattle.std.specs.List.{AllByRecursion, flat_map}
 use Rattle.std.specs.List.Sorted.{IsStrictlyIncreasing}
+use Rattle.partlog.specs.declared.event.PartEvent.{PartEvent}
+use Rattle.partlog.specs.declared.event.PartEvent.TheVariants.{Append, Follow, Look, Shrink}
 use Rattle.audit.specs.declared.account.Account.{Account}
 use Rattle.audit.specs.declared.account.Call.{Call}
 use Rattle.audit.specs.declared.account.Point.{Point}
 use Rattle.audit.specs.LawfulCall.{IsLawfulCall}
-use Rattle.audit.specs.Histories.{Owner, owners_of, owners_in, clock_owner_of, calls_of, call_of, points_of, all_calls}
+use Rattle.audit.specs.Histories.{Owner, event_at, owners_of, owners_in, clock_owner_of, calls_of, call_of, points_of, all_calls}
 use Rattle.audit.specs.IsLawful.{IsLawful, is_point, is_won_by, places_in}
 use Rattle.kwire.specs.IsRequest.{IsRequest}
 use Rattle.audit.specs.Worked.{fetch_one, fetch_both, expired_call, parked_call, cut_call, three_waits}
 use Rattle.kbytes.proofs.Laws.{same_or_not, some_is}
 use Rattle.audit.proofs.WorkedCalls.{expired_lawful, parked_lawful, cut_lawful}
 
-abbrev owned_by : ℕ → ℕ → Option (Option Owner)
+abbrev pub owned_by : ℕ → ℕ → Option (Option Owner)
 owned_by by seq = Some (Some (record { by = by; seq = seq }))
 
-abbrev Found : Account → ℕ → ℕ → ℕ → ℕ → Type 0
+abbrev pub Found : Account → ℕ → ℕ → ℕ → ℕ → Type 0
 Found account part place by seq = (call : Call) × (call_of account by seq ≡ Some call) × (count_by (is_point part place) (points_of call) ≡ 1)
 
 same_pass : (a b by seq : ℕ) → owned_by a b ≡ owned_by by seq → a ≡ by
@@ -27,16 +29,37 @@ same_pass a b by seq e = ap (λ (o : Option (Option Owner)). (unwrap_or (unwrap_
 same_call : (a b by seq : ℕ) → owned_by a b ≡ owned_by by seq → b ≡ seq
 same_call a b by seq e = ap (λ (o : Option (Option Owner)). (unwrap_or (unwrap_or o None) (record { by = 0; seq = 0 })).seq) e
 
-found : (account : Account) (part place a b by seq : ℕ) (call : Call) → owned_by a b ≡ owned_by by seq → call_of account a b ≡ Some call → count_by (is_point part place) (points_of call) ≡ 1
+pub found : (account : Account) (part place a b by seq : ℕ) (call : Call) → owned_by a b ≡ owned_by by seq → call_of account a b ≡ Some call → count_by (is_point part place) (points_of call) ≡ 1
     → Found account part place by seq
 found account part place a b by seq call e there once =
     (call, subst (λ (n : ℕ). call_of account by n ≡ Some call) (same_call a b by seq e) (subst (λ (n : ℕ). call_of account n b ≡ Some call) (same_pass a b by seq e) there), once)
 
-nobody : (by seq : ℕ) → ◌≡◌ {A = Option (Option Owner)} None (owned_by by seq) → ⊥
+pub nobody : (by seq : ℕ) → ◌≡◌ {A = Option (Option Owner)} None (owned_by by seq) → ⊥
 nobody by seq e = absurd cc
 
-no_owner : (by seq : ℕ) → ◌≡◌ {A = Option (Option Owner)} (Some None) (owned_by by seq) → ⊥
+pub no_owner : (by seq : ℕ) → ◌≡◌ {A = Option (Option Owner)} (Some None) (owned_by by seq) → ⊥
 no_owner by seq e = absurd cc
+
+abbrev IsALook : PartEvent → Type 0
+IsALook (Append by seq count len) = ⊥
+IsALook (Follow by seq replica offset t) = ⊥
+IsALook (Look by seq) = Unit {0}
+IsALook (Shrink by replica t) = ⊥
+
+each_is : {X : Type 0} (P : X → Type 0) (xs : List X) (i : ℕ) (x : X) → AllByRecursion P xs → slice_get xs i ≡ Some x → P x
+each_is P [] i x all e = absurd cc
+each_is P (y ∷ xs) zero x all e = subst P (some_is y x e) all.0
+each_is P (y ∷ xs) (suc i) x all e = each_is P xs i x all.1 e
+
+pub rising_none : IsStrictlyIncreasing []
+rising_none k lt = absurd (omega (arith, lt))
+
+pub rising_one : (a : ℕ) → IsStrictlyIncreasing (a ∷ [])
+rising_one a k lt = absurd (omega (arith, lt))
+
+pub rising_two : (a b : ℕ) → a < b → IsStrictlyIncreasing (a ∷ b ∷ [])
+rising_two a b lt zero within = lt
+rising_two a b lt (suc k) within = absurd (omega (arith, within))
 
 module _ (one both : List ℕ) where
   abbrev waits : Account
@@ -79,6 +102,12 @@ module _ (one both : List ℕ) where
         | inr other ↦ absurd (in_none part place by seq other e)
       ]
 
+  -- all entries are looks
+  looks_alone : (part place : ℕ) (event : PartEvent) → event_at waits (record { part = part; place = place }) ≡ Some event → IsALook event
+  looks_alone zero place event e = each_is IsALook (Look 0 0 ∷ Look 2 0 ∷ Look 0 0 ∷ Look 2 0 ∷ Look 1 0 ∷ []) place event (tt, (tt, (tt, (tt, (tt, tt))))) e
+  looks_alone (suc zero) place event e = each_is IsALook (Look 2 0 ∷ []) place event (tt, tt) e
+  looks_alone (suc (suc part)) place event e = absurd cc
+
   abbrev IsOwned : ℕ → ℕ → Point → Type 0
   IsOwned pass seq point = slice_get (owners_of waits point.part) point.place ≡ owned_by pass seq
 
@@ -95,16 +124,6 @@ module _ (one both : List ℕ) where
   three P a b c (suc (suc zero)) zero call e = subst (P 2 0) (some_is (cut_call both) call e) c
   three P a b c (suc (suc zero)) (suc seq) call e = absurd (no_call call e)
   three P a b c (suc (suc (suc pass))) seq call e = absurd (no_call call e)
-
-  rising_none : IsStrictlyIncreasing []
-  rising_none k lt = absurd (omega (arith, lt))
-
-  rising_one : (a : ℕ) → IsStrictlyIncreasing (a ∷ [])
-  rising_one a k lt = absurd (omega (arith, lt))
-
-  rising_two : (a b : ℕ) → a < b → IsStrictlyIncreasing (a ∷ b ∷ [])
-  rising_two a b lt zero within = lt
-  rising_two a b lt (suc k) within = absurd (omega (arith, within))
 
   abbrev HasOrder : ℕ → ℕ → Type 0
   HasOrder pass part = IsStrictlyIncreasing (places_in part (flat_map points_of (calls_of waits pass)))
@@ -150,6 +169,9 @@ module _ (one both : List ℕ) where
       left = entry_left;
       points = three (λ pass seq call. AllByRecursion (IsOwned pass seq) (points_of call)) (refl, (refl, (refl, (refl, tt)))) (refl, (refl, tt)) (refl, (refl, (refl, (refl, (refl, tt)))));
       ticks = rising_two 0 100 (omega arith);
+      shrinks = λ part place by t replica e. absurd (looks_alone part place (Shrink by replica t) e);
+      follows = λ part place by seq offset t replica e. absurd (looks_alone part place (Follow by seq replica offset t) e);
+      earlier = λ part place by seq offset t replica e. absurd (looks_alone part place (Follow by seq replica offset t) e);
     };
     order = in_order;
     logs = record { followers = refl; whole = (refl, (refl, tt)) };

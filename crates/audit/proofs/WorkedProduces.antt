@@ -1,8 +1,8 @@
 -- Produces of one batch to one partition: each has the base offset at its own place, and no other.
-use Rattle.std.proofs.Common.{◌≡◌, ◌≢◌, ℕ, ◌+◌, ◌≤◌, pos, negsuc, List, [], ◌∷◌, ◌++◌, length, take, drop, Some, None, inl, inr, refl, sym, ap, subst, ◌∙◌, arith}
+use Rattle.std.proofs.Common.{◌≡◌, ◌≢◌, ℕ, ◌+◌, ◌≤◌, pos, negsuc, false, List, [], ◌∷◌, ◌++◌, length, take, drop, Some, None, inl, inr, refl, sym, ap, subst, ◌∙◌, arith}
 use Rattle.std.proofs.lemmas.Bool.{le-ltb}
 use Rattle.std.proofs.lemmas.List.{take_at, drop_at, take_all, length-append}
-use Rattle.std.specs.Prelude.{slice_index}
+use Rattle.std.specs.Prelude.{nat_lt, slice_index}
 use Rattle.std.specs.Fmt.{digits}
 use Rattle.hex.specs.Hex.{encode_with}
 use Rattle.std.specs.List.{flat_map}
@@ -25,11 +25,11 @@ use Rattle.audit.proofs.Prints.{print_once}
 use Rattle.audit.proofs.ReplyOnce.{completed_at, replies_once}
 
 -- what becomes of the produce that found the log end so
-abbrev put : ℕ → ℕ → Step
+abbrev pub put : ℕ → ℕ → Step
 put base place = record { result = Appended 0 base 1; point = Some (at 0 place) }
 
-abbrev asked : List ℕ → Decision
-asked batch = AskLog 0 (append_outcome (pos 3) 0 1 batch)
+abbrev pub asked : ℕ → List ℕ → Decision
+asked least batch = AskLog 0 (append_outcome (pos 3) least 0 1 batch)
 
 module _ (plain batch : List ℕ) (one : Record) (is_batch : IsBatch batch (one ∷ [])) where
   abbrev account : Account
@@ -46,8 +46,8 @@ module _ (plain batch : List ℕ) (one : Record) (is_batch : IsBatch batch (one 
 
   -- ---- the first append
 
-  first_room : append_outcome (pos 3) 0 1 batch (before_point account (at 0 0)) ≡ record { result = Appended 0 0 1; entry = Put 1 batch }
-  first_room = rw (le-ltb 67108864 (0 + length batch) (omega (arith, small))) refl
+  first_room : (least : ℕ) → nat_lt 2 least ≡ false → append_outcome (pos 3) least 0 1 batch (before_point account (at 0 0)) ≡ record { result = Appended 0 0 1; entry = Put 1 batch }
+  first_room least enough = rw (enough, le-ltb 67108864 (0 + length batch) (omega (arith, small))) refl
 
   first_bytes : take (length batch) (take (0 + length batch) log) ≡ stamped 0 batch
   first_bytes =
@@ -57,18 +57,18 @@ module _ (plain batch : List ℕ) (one : Record) (is_batch : IsBatch batch (one 
   first_entry : IsEntry account (at 0 0) (Put 1 batch)
   first_entry = ap (λ (bytes : List ℕ). record { base = 0; count = 1; bytes = bytes } ∷ []) first_bytes
 
-  first_step : AsksLog account 0 (append_outcome (pos 3) 0 1 batch) (put 0 0)
-  first_step = record {
+  first_step : (least : ℕ) → nat_lt 2 least ≡ false → AsksLog account 0 (append_outcome (pos 3) least 0 1 batch) (put 0 0)
+  first_step least enough = record {
     point = at 0 0;
     left = refl;
     there = refl;
-    result = ap (λ (o : Outcome). o.result) (sym first_room);
-    entry = subst (λ (o : Outcome). IsEntry account (at 0 0) o.entry) (sym first_room) first_entry;
+    result = ap (λ (o : Outcome). o.result) (sym (first_room least enough));
+    entry = subst (λ (o : Outcome). IsEntry account (at 0 0) o.entry) (sym (first_room least enough)) first_entry;
   }
 
   -- ---- the second
 
-  second_room : append_outcome (pos 3) 0 1 batch (before_point account (at 0 1)) ≡ record { result = Appended 0 1 1; entry = Put 1 batch }
+  second_room : append_outcome (pos 3) 0 0 1 batch (before_point account (at 0 1)) ≡ record { result = Appended 0 1 1; entry = Put 1 batch }
   second_room =
       let bytes = 0 + length (take (length batch) (take (0 + length batch) log)) in
       let long : bytes ≤ length batch = omega (arith, ap length first_bytes, sized 0) in
@@ -90,7 +90,7 @@ module _ (plain batch : List ℕ) (one : Record) (is_batch : IsBatch batch (one 
       ap (λ (bytes : List ℕ). record { base = 0; count = 1; bytes = bytes } ∷ record { base = 1; count = 1; bytes = take (length batch) (drop (length batch) (take (0 + length batch + length batch) log)) } ∷ []) second_front
       ∙ ap (λ (bytes : List ℕ). record { base = 0; count = 1; bytes = take (length batch) (take (0 + length batch) log) } ∷ record { base = 1; count = 1; bytes = bytes } ∷ []) second_bytes
 
-  second_step : AsksLog account 0 (append_outcome (pos 3) 0 1 batch) (put 1 1)
+  second_step : AsksLog account 0 (append_outcome (pos 3) 0 0 1 batch) (put 1 1)
   second_step = record {
     point = at 0 1;
     left = refl;
@@ -107,7 +107,7 @@ module _ (plain batch : List ℕ) (one : Record) (is_batch : IsBatch batch (one 
       request = produce_of (pos 1) batch;
       steps = put 0 0 ∷ [];
       looks = [];
-      accepted = record { asked = is; decisions = asked batch ∷ []; decided = (inr (one ∷ [], is_batch, refl), tt); each = (first_step, tt) };
+      accepted = record { asked = is; decisions = asked 0 batch ∷ []; decided = (inr (one ∷ [], is_batch, refl), tt); each = (first_step 0 refl, tt) };
       entries = record { points = refl; clock = refl };
     };
     shown = shown_as_accepted account (put 0 0 ∷ []);
@@ -121,7 +121,7 @@ module _ (plain batch : List ℕ) (one : Record) (is_batch : IsBatch batch (one 
       request = produce_of (pos 1) batch;
       steps = put 1 1 ∷ [];
       looks = [];
-      accepted = record { asked = is; decisions = asked batch ∷ []; decided = (inr (one ∷ [], is_batch, refl), tt); each = (second_step, tt) };
+      accepted = record { asked = is; decisions = asked 0 batch ∷ []; decided = (inr (one ∷ [], is_batch, refl), tt); each = (second_step, tt) };
       entries = record { points = refl; clock = refl };
     };
     shown = shown_as_accepted account (put 1 1 ∷ []);
@@ -136,7 +136,7 @@ module _ (plain batch : List ℕ) (one : Record) (is_batch : IsBatch batch (one 
     request = produce_of (negsuc 0) batch;
     steps = put 0 0 ∷ [];
     looks = at clock_part 0 ∷ [];
-    accepted = record { asked = is; decisions = asked batch ∷ []; decided = (inr (one ∷ [], is_batch, refl), tt); each = (first_step, tt) };
+    accepted = record { asked = is; decisions = asked 1 batch ∷ []; decided = (inr (one ∷ [], is_batch, refl), tt); each = (first_step 1 refl, tt) };
     entries = record { points = refl; clock = (at clock_part 0, refl, (refl, 0, 0, refl)) };
   }
 

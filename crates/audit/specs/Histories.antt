@@ -1,13 +1,14 @@
 -- The histories of an account: who left each entry, and the states at its points.
-use Rattle.std.specs.Prelude.{ℕ, ◌+◌, List, [], ◌∷◌, ◌++◌, map, take, ◌==◌, if◌then◌else◌, Option, Some, None, unwrap_or, slice_get}
-use Rattle.std.specs.List.{flat_map}
+use Rattle.std.specs.Prelude.{ℕ, ℤ, ◌+◌, ◌≡◌, ◌≤◌, ◌⊎◌, List, [], ◌∷◌, ◌++◌, Contains, map, take, ◌==◌, if◌then◌else◌, Option, Some, None, unwrap_or, slice_get}
+use Rattle.std.specs.List.{flat_map, AllByRecursion}
 use Rattle.partlog.specs.declared.event.PartEvent.{PartEvent}
-use Rattle.partlog.specs.declared.event.PartEvent.TheVariants.{Append, Follow, Look}
+use Rattle.partlog.specs.declared.event.PartEvent.TheVariants.{Append, Follow, Look, Shrink}
 use Rattle.partlog.specs.declared.clock_event.ClockEvent.{ClockEvent}
 use Rattle.partlog.specs.declared.clock_event.ClockEvent.TheVariants as clocks
 use Rattle.partlog.specs.History.{History}
 use Rattle.partlog.specs.State.{PartState as State, state_of, state_before, state_at}
 use Rattle.partlog.specs.Moment.{moment_of}
+use Rattle.partlog.specs.Lagging.{LagsAt}
 use Rattle.audit.specs.declared.account.TheConstants.{CLOCK_PART}
 use Rattle.audit.specs.declared.account.Account.{Account}
 use Rattle.audit.specs.declared.account.PartAccount.{PartAccount}
@@ -20,12 +21,14 @@ pub record Owner : Type 0 where
   pub by : ℕ
   pub seq : ℕ
 
+-- a follower's leave is no call's
 abbrev pub owner_of : PartEvent → Option Owner
 owner_of (Append by seq count len) = Some (record { by = by; seq = seq })
-owner_of (Follow by seq replica offset) = Some (record { by = by; seq = seq })
+owner_of (Follow by seq replica offset t) = Some (record { by = by; seq = seq })
 owner_of (Look by seq) = Some (record { by = by; seq = seq })
+owner_of (Shrink by replica t) = None
 
--- a tick is nobody's
+-- nor is a tick
 abbrev pub clock_owner_of : ClockEvent → Option Owner
 clock_owner_of (clocks.Tick t) = None
 clock_owner_of (clocks.Look by seq) = Some (record { by = by; seq = seq })
@@ -71,7 +74,7 @@ points_of call = call.accept ++ call.finish
 
 -- a partition of which nothing is known
 abbrev pub no_state : State
-no_state = record { batches = []; log_end = 0; positions = [] }
+no_state = record { batches = []; log_end = 0; high = 0; insync = 0 }
 
 abbrev pub history_of : PartAccount → History
 history_of part = record { log = part.log; followers = part.followers; events = part.events }
@@ -108,3 +111,17 @@ event_at account point = event_in (slice_get account.parts point.part) point.pla
 -- the clock's moment just after the entry at a place of its history
 abbrev pub moment_at : Account → Point → ℕ
 moment_at account point = moment_of (take (point.place + 1) account.clock)
+
+-- 0, or a moment that the clock was told
+abbrev pub IsToldMoment : List ClockEvent → ℕ → Type 0
+IsToldMoment clock t = (t ≡ 0) ⊎ Contains (ticks_of clock) t
+
+-- none of these points that are the clock's is at a later moment
+abbrev pub AreNotLater : List ClockEvent → ℕ → List Point → Type 0
+AreNotLater clock t points =
+    AllByRecursion (λ point. point.part ≡ clock_part → moment_of (take (point.place + 1) clock) ≤ t) points
+
+-- the replica lagged at this moment, by the history before this place
+abbrev pub HadLagged : Option PartAccount → ℕ → ℕ → ℤ → Type 0
+HadLagged None place t replica = ⊥
+HadLagged (Some part) place t replica = LagsAt part.followers (take place part.events) t replica

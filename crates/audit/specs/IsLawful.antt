@@ -1,7 +1,8 @@
 -- A lawful account: every entry is one of its call's and every call did what the states that it found asked of it.
-use Rattle.std.specs.Prelude.{ℕ, ◌+◌, ◌≡◌, ◌&&◌, Bool, false, List, [], ◌∷◌, length, map, filter, count_by, ◌==◌, Option, Some, None, unwrap_or, slice_get}
+use Rattle.std.specs.Prelude.{ℕ, ℤ, ◌+◌, ◌≡◌, ◌<◌, ◌&&◌, Contains, Bool, false, List, [], ◌∷◌, length, map, filter, count_by, ◌==◌, Option, Some, None, unwrap_or, slice_get}
 use Rattle.std.specs.List.{flat_map, AllByRecursion}
 use Rattle.std.specs.List.Sorted.{IsStrictlyIncreasing}
+use Rattle.partlog.specs.declared.event.PartEvent.TheVariants.{Follow, Shrink}
 use Rattle.partlog.specs.Added.{bytes_of}
 use Rattle.audit.specs.declared.account.Account.{Account}
 use Rattle.audit.specs.declared.account.PartAccount.{PartAccount}
@@ -13,7 +14,7 @@ use Rattle.audit.specs.declared.account.SessionEnd.{SessionEnd}
 use Rattle.audit.specs.declared.account.SessionEnd.TheVariants.{NoMemory}
 use Rattle.audit.specs.declared.account.Point.{Point}
 use Rattle.kwire.specs.Configuration.{followers_of}
-use Rattle.audit.specs.Histories.{owners_of, ticks_of, calls_of, call_of, all_calls, points_of}
+use Rattle.audit.specs.Histories.{AreNotLater, HadLagged, IsToldMoment, owners_of, ticks_of, calls_of, call_of, all_calls, event_at, points_of}
 use Rattle.audit.specs.LawfulCall.{IsLawfulCall}
 
 -- a point names this place
@@ -61,9 +62,9 @@ FollowOn before (transcript ∷ transcripts) =
     (transcript.first ≡ before) × EndWell transcript.calls transcript.end
     × FollowOn (before + length transcript.calls) transcripts
 
--- every entry is one of its call's, and every point is an entry of its call
+-- every entry is one of its call's, and every point is an entry of its call; followers left as they lagged
 pub record HasEntries (account : Account) : Type 0 where
-  -- every entry but a tick names a call that exists, and exactly one point of that call is its place
+  -- every entry but a tick and a follower's leave names a call that exists, and exactly one point of that call is its place
   pub left : (part place by seq : ℕ) → slice_get (owners_of account part) place ≡ Some (Some (record { by = by; seq = seq }))
       → (call : Call) × (call_of account by seq ≡ Some call) × (count_by (is_point part place) (points_of call) ≡ 1)
   -- every point is the place of an entry that names its own call
@@ -71,6 +72,15 @@ pub record HasEntries (account : Account) : Type 0 where
       → AllByRecursion (λ point. slice_get (owners_of account point.part) point.place ≡ Some (Some (record { by = pass; seq = seq }))) (points_of call)
   -- the ticks rise, and none is 0
   pub ticks : IsStrictlyIncreasing (0 ∷ ticks_of account.clock)
+  -- whoever was taken out lagged then, and the moment was told by the clock
+  pub shrinks : (part place by t : ℕ) (replica : ℤ) → event_at account (record { part = part; place = place }) ≡ Some (Shrink by replica t)
+      → HadLagged (slice_get account.parts part) place t replica × Contains (ticks_of account.clock) t
+  -- a follower fetched at the moment 0, or at one that was told by the clock
+  pub follows : (part place by seq offset t : ℕ) (replica : ℤ) → event_at account (record { part = part; place = place }) ≡ Some (Follow by seq replica offset t)
+      → IsToldMoment account.clock t
+  -- that moment is no earlier than any at which an earlier call of its pass saw the clock
+  pub earlier : (part place by seq offset t : ℕ) (replica : ℤ) → event_at account (record { part = part; place = place }) ≡ Some (Follow by seq replica offset t)
+      → (before : ℕ) (call : Call) → before < seq → call_of account by before ≡ Some call → AreNotLater account.clock t (points_of call)
 
 -- one part for each partition of the configuration, with its number of followers and the bytes of its appends
 pub record HasLogs (account : Account) : Type 0 where
@@ -78,7 +88,7 @@ pub record HasLogs (account : Account) : Type 0 where
   pub whole : AllByRecursion IsWholeLog account.parts
 
 pub record IsLawful (account : Account) : Type 0 where
-  -- every entry is one of its call's
+  -- every entry is one of its call's, and followers left as they lagged
   pub entries : HasEntries account
   -- along the calls of one pass the places in each single history rise
   pub order : (pass part : ℕ) → IsStrictlyIncreasing (places_in part (flat_map points_of (calls_of account pass)))

@@ -33,7 +33,8 @@ abbrev pub IsEntry : Account → Point → Entry → Type 0
 IsEntry account point (Put count batch) =
     (at_point account point).batches
     ≡ (before_point account point).batches ++ record { base = (before_point account point).log_end; count = count; bytes = stamped (before_point account point).log_end batch } ∷ []
-IsEntry account point (Followed replica offset) = (by : ℕ) × (seq : ℕ) × (event_at account point ≡ Some (Follow by seq replica offset))
+IsEntry account point (Followed replica offset) =
+    (by : ℕ) × (seq : ℕ) × (t : ℕ) × (event_at account point ≡ Some (Follow by seq replica offset t))
 IsEntry account point Looked = (by : ℕ) × (seq : ℕ) × (event_at account point ≡ Some (Look by seq))
 
 -- the outcome is that of the state which the entry found

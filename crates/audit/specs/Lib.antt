@@ -20,6 +20,8 @@ pub mod Printable
 pub mod Worked
 -- ==== the words of private functions
 
+-- entries of which the replicas can be told
+pub mod Trackable
 -- sums over sessions
 pub mod Totals
 -- transcripts that are lent

@@ -2,7 +2,7 @@
 use Rattle.std.specs.Prelude.{ℕ, ◌+◌, ◌≡◌, Bool, true, false, List, [], ◌∷◌, ◌++◌, length, sum_by, codes, if◌then◌else◌, Option, Some, None}
 use Rattle.std.specs.List.{flat_map, zip, AllZip}
 use Rattle.std.specs.Fmt.{decimal, signed_decimal}
-use Rattle.partlog.specs.State.{PartState as State, high_of, state_of}
+use Rattle.partlog.specs.State.{PartState as State, state_of}
 use Rattle.audit.specs.declared.account.Account.{Account}
 use Rattle.audit.specs.declared.account.PartAccount.{PartAccount}
 use Rattle.audit.specs.declared.account.Transcript.{Transcript}
@@ -47,7 +47,7 @@ last_state_of part = state_of (history_of part)
 -- `part P end E high H batches B bytes Y`
 abbrev pub part_line : ℕ × PartAccount → List ℕ
 part_line (number, part) =
-    line_of (codes "part" ∷ decimal number ∷ codes "end" ∷ decimal (last_state_of part).log_end ∷ codes "high" ∷ decimal (high_of (last_state_of part))
+    line_of (codes "part" ∷ decimal number ∷ codes "end" ∷ decimal (last_state_of part).log_end ∷ codes "high" ∷ decimal (last_state_of part).high
     ∷ codes "batches" ∷ decimal (length (last_state_of part).batches) ∷ codes "bytes" ∷ decimal (length part.log) ∷ [])
 
 -- the same without the high watermark

@@ -2,7 +2,8 @@
 -- shown of them.
 use Rattle.std.specs.Prelude.{ℕ, ℤ, pos, negsuc, List, [], ◌∷◌, ◌++◌, length, codes, Some, None}
 use Rattle.std.specs.List.{flat_map}
-use Rattle.partlog.specs.declared.event.PartEvent.TheVariants.{Append, Follow, Look}
+use Rattle.partlog.specs.declared.event.PartEvent.{PartEvent}
+use Rattle.partlog.specs.declared.event.PartEvent.TheVariants.{Append, Follow, Look, Shrink}
 use Rattle.partlog.specs.declared.clock_event.ClockEvent.TheVariants as clocks
 use Rattle.kbatch.specs.Stamp.{stamped}
 use Rattle.audit.specs.declared.account.Account.{Account}
@@ -167,7 +168,7 @@ replicated plain batch = record {
   parts = record {
     followers = 1;
     log = stamped 0 batch ++ stamped 1 batch;
-    events = Append 0 0 1 (length batch) ∷ Append 1 0 1 (length batch) ∷ Look 0 0 ∷ Follow 2 0 (pos 1) 1 ∷ Look 0 0 ∷ [];
+    events = Append 0 0 1 (length batch) ∷ Append 1 0 1 (length batch) ∷ Look 0 0 ∷ Follow 2 0 (pos 1) 1 0 ∷ Look 0 0 ∷ [];
   } ∷ [];
   clock = clocks.Look 0 0 ∷ [];
   passes = (produce_transcript plain 0 ∷ []) ∷ (produce_transcript plain 1 ∷ []) ∷ [];
@@ -179,6 +180,48 @@ abbrev pub swapped_print : List ℕ → List ℕ → List ℕ
 swapped_print plain batch =
     flat_map session_text ((produce_transcript plain 0, produced_reply 1 ∷ []) ∷ (produce_transcript plain 1, produced_reply 0 ∷ []) ∷ [])
     ++ summary_of (replicated plain batch)
+
+-- A pass put one batch of one record into the partition. Its follower fetched nothing, and was taken out after 30 seconds.
+abbrev pub left_alone : List ℕ → List ℕ → Account
+left_alone plain batch = record {
+  config = followed;
+  parts = record {
+    followers = 1;
+    log = stamped 0 batch;
+    events = Append 0 0 1 (length batch) ∷ Shrink 0 (pos 1) 30000 ∷ [];
+  } ∷ [];
+  clock = clocks.Tick 30000 ∷ [];
+  passes = (produce_transcript plain 0 ∷ []) ∷ [];
+  wins = [];
+}
+
+-- a call that left these entries as it was accepted
+abbrev pub call_at : List ℕ → List Point → Call
+call_at one points = record { frame = one; accept = points; finish = []; how = AtOnce }
+
+-- A record was put, and the clock told 29999 and 30000. Another pass looked at it after that. Then the partition had these two
+-- entries: the follower was taken out, and it fetched by that pass's second call.
+abbrev pub left_and_back : List ℕ → PartEvent → PartEvent → Account
+left_and_back one leave back = record {
+  config = followed;
+  parts = record { followers = 1; log = 9 ∷ []; events = Append 0 0 1 1 ∷ leave ∷ back ∷ [] } ∷ [];
+  clock = clocks.Tick 29999 ∷ clocks.Tick 30000 ∷ clocks.Look 1 0 ∷ [];
+  passes =
+      (record { number = 0; first = 0; calls = call_at one (at 0 0 ∷ []) ∷ []; end = None } ∷ [])
+      ∷ (record { number = 1; first = 0; calls = call_at one (at clock_part 2 ∷ []) ∷ call_at one (at 0 2 ∷ []) ∷ []; end = None } ∷ []) ∷ [];
+  wins = [];
+}
+
+-- the follower was taken out at this moment, or another replica was
+abbrev pub leave_at : ℕ → PartEvent
+leave_at t = Shrink 0 (pos 1) t
+
+abbrev pub other_leaves : PartEvent
+other_leaves = Shrink 0 (pos 2) 30000
+
+-- it fetched from the log end at this moment
+abbrev pub back_at : ℕ → PartEvent
+back_at t = Follow 1 1 (pos 1) 1 t
 
 -- a trace of one topic, whose one session is closed at once, and whose clock tells 5
 abbrev pub closed_lines : List Line

@@ -23,7 +23,8 @@ pub use input_end::end_of_input;
 pub use parts::part_accounts;
 pub use promises::{
     lawful_logs_are_bounded, looks_stand, one_print, one_reply, one_serve_print, results_stand,
-    worked_account, worked_calls, worked_prints, worked_replies, worked_requests, worked_run,
+    worked_account, worked_calls, worked_leaves, worked_prints, worked_replies, worked_requests,
+    worked_run,
 };
 pub use serve_print::print_serve;
 pub use storm_print::print_storm;

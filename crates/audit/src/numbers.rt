@@ -1,11 +1,18 @@
 //! The log end and the high watermark of a history, computed from all its entries. `summary` prints them; a `PartLog` would
 //! have them at hand, but the account has none.
 
-ghost use Rattle.std.specs.Prelude.{◌≡◌, ◌<◌, ◌^◌, pos, min, fold};
+ghost use Rattle.std.specs.Prelude.{◌≡◌, ◌<◌, ◌^◌, ◌∷◌, ◌++◌, [], ℕ, pos, List, IfOk, IfSome, IfNone};
+ghost use Rattle.in_sync.specs.InSync.{high_watermark_of};
+ghost use Rattle.in_sync.specs.Standings.{StandsFor};
 ghost use Rattle.partlog.specs.Added.{added_count, log_end_of};
-ghost use Rattle.partlog.specs.Position.{offset_by, position_of, positions_of};
+ghost use Rattle.partlog.specs.Replicas.{replica_events};
+ghost use Rattle.partlog.specs.declared.event.PartEvent.{PartEvent as Event};
+ghost use Rattle.audit.specs.Trackable.{CanEnter, IsTrackable};
 
+use in_sync::InSync;
+use kbytes::NoMemory;
 use partlog::PartEvent;
+use std::alloc::Global;
 
 // The number of records that an entry added.
 fn added_count(event: &PartEvent) -> u64
@@ -17,20 +24,6 @@ fn added_count(event: &PartEvent) -> u64
     }
 }
 
-// The offset from which this replica fetched, where the entry is a fetch of it.
-fn offset_by(event: &PartEvent, replica: u32) -> Option<u64>
-    ensures { result ≡ offset_by (pos replica) event.now }
-{
-    match event {
-        PartEvent::Follow {
-            replica: other,
-            offset,
-            ..
-        } => (i64::from(*other) == i64::from(replica)).then_some(*offset),
-        _ => None,
-    }
-}
-
 /// The log end offset of a history: the number of records that were added.
 pub fn log_end(events: &[PartEvent]) -> u64
     requires { log_end_of events.now < 2 ^ 64 }
@@ -39,25 +32,52 @@ pub fn log_end(events: &[PartEvent]) -> u64
     events.iter().map(|event| added_count(event)).sum()
 }
 
-// How far the replica has fetched.
-fn position(events: &[PartEvent], replica: u32) -> u64
-    ensures { result ≡ position_of events.now (pos replica) }
+// The number of a replica, where it isn't below 0.
+fn number_of(replica: i32) -> Option<u32>
+    ensures number { IfSome result (λ number. replica ≡ pos number) }
+    ensures none { IfNone result ((number : ℕ) → replica ≡ pos number → ⊥) }
 {
-    events
-        .iter()
-        .filter_map(|event| offset_by(event, replica))
-        .fold(0, |greatest, offset| greatest.max(offset))
+    if replica < 0 {
+        return None;
+    }
+    Some(replica as u32)
 }
 
-/// The high watermark of a history: the least of `end`, its log end, and the offsets that the replicas 1 to `followers` have
-/// fetched.
-#[tactic(auto, using(partlog::proofs::Laws::high_more))]
-pub fn high_watermark(events: &[PartEvent], followers: u32, end: u64) -> u64
-    ensures { result ≡ fold min end (positions_of followers events.now) }
+// Tells the replicas of an entry.
+fn enter(replicas: &mut InSync, event: &PartEvent)
+    requires { CanEnter replicas.old event.now }
+    ensures { (followers : ℕ) (events : List Event) → StandsFor replicas.old followers (replica_events events)
+        → StandsFor replicas.new followers (replica_events (events ++ event.now ∷ [])) }
 {
-    let mut high = end;
-    for below in 0..followers {
-        high = high.min(position(events, below + 1));
+    match *event {
+        PartEvent::Append { count, .. } => replicas.append(count),
+        PartEvent::Follow {
+            replica,
+            offset,
+            t,
+            ..
+        } => {
+            if let Some(number) = number_of(replica) {
+                replicas.fetch(number, offset, t);
+            }
+        }
+        PartEvent::Shrink { replica, t, .. } => {
+            if let Some(number) = number_of(replica) {
+                replicas.leave(number, t);
+            }
+        }
+        PartEvent::Look { .. } => {}
     }
-    high
+}
+
+/// The high watermark of a history: the least of its log end and the positions of the followers in sync.
+pub fn high_watermark(alloc: Global, events: &[PartEvent], followers: u32) -> Result<u64, NoMemory>
+    requires { IsTrackable followers events.now }
+    ensures { IfOk result (λ high. high ≡ high_watermark_of followers (replica_events events.now)) }
+{
+    let mut replicas = InSync::new(alloc, followers)?;
+    for event in events {
+        enter(&mut replicas, event);
+    }
+    Ok(replicas.high_watermark())
 }

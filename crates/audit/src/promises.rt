@@ -15,13 +15,13 @@ ghost use Rattle.partlog.specs.Added.{log_end_of};
 ghost use Rattle.partlog.specs.declared.part_log.TheConstants.{MOST_LOG_BYTES};
 ghost use Rattle.kwire.specs.Frames.{AreFramesOf, framed, IsFrameBody};
 ghost use Rattle.audit.specs.LawfulCall.{IsClockLook, IsLawfulCall, IsLook, IsStep, Step};
-ghost use Rattle.audit.specs.IsLawful.{IsLawful};
+ghost use Rattle.audit.specs.IsLawful.{HasEntries, IsLawful};
 ghost use Rattle.kwire.specs.IsRequest.{IsRequest, request_fields};
 ghost use Rattle.audit.specs.Printed.{IsPrintOf, link_line, session_text, storm_summary_of, summary_of};
 ghost use Rattle.audit.specs.RunOf.{IsRunOf};
 ghost use Rattle.audit.specs.ServePrint.{IsServePrint};
 ghost use Rattle.kwire.specs.Spelling.{spelling};
-ghost use Rattle.audit.specs.Worked.{astray_call, closed_lines, closed_run, cut_as_satisfied, cut_call, cut_unwon, expired_call, fetch_both, fetch_now, fetch_one, filled, lines_of, parked_call, produce_call, produce_of, produced_reply, read_call, replicated, replicated_call, reply_of, satisfied_call, swapped_print, three_waits, told_later, two_links};
+ghost use Rattle.audit.specs.Worked.{astray_call, back_at, closed_lines, closed_run, cut_as_satisfied, cut_call, cut_unwon, expired_call, fetch_both, fetch_now, fetch_one, filled, leave_at, left_alone, left_and_back, lines_of, other_leaves, parked_call, produce_call, produce_of, produced_reply, read_call, replicated, replicated_call, reply_of, satisfied_call, swapped_print, three_waits, told_later, two_links};
 ghost use Rattle.audit.specs.declared.account.Account.{Account as TheAccount};
 ghost use Rattle.audit.specs.declared.account.Call.{Call as TheCall};
 ghost use Rattle.audit.specs.declared.account.SessionEnd.TheVariants.{Closed, NoMemory};
@@ -110,6 +110,21 @@ pub fn worked_replies()
 pub fn worked_account()
     ensures lawful { (one both : List ℕ) → IsRequest one fetch_one → IsRequest both fetch_both → IsLawful (three_waits one both) }
     ensures miscounted { (one both : List ℕ) → IsLawful (record (three_waits one both) { wins = 1 ∷ [] }) → ⊥ }
+{}
+
+/// Law: worked accounts with a follower that was taken out after 30 seconds. One in which it stays out is lawful. In another it
+/// comes back by a call whose pass saw the clock at 30000, and the entries are right. They aren't where the follower was taken
+/// out at 29999, at which it didn't lag, or at 30001, which the clock wasn't told, or where another replica was; nor where the
+/// follower fetched at 29999, before the moment that its pass had seen, or at 30001.
+pub fn worked_leaves()
+    ensures lawful { (plain batch : List ℕ) (one : Record) → IsBatch batch (one ∷ []) → IsRequest plain (produce_of (pos 1) batch)
+        → IsLawful (left_alone plain batch) }
+    ensures entries { (one : List ℕ) → HasEntries (left_and_back one (leave_at 30000) (back_at 30000)) }
+    ensures left_early { (one : List ℕ) → HasEntries (left_and_back one (leave_at 29999) (back_at 30000)) → ⊥ }
+    ensures left_untold { (one : List ℕ) → HasEntries (left_and_back one (leave_at 30001) (back_at 30000)) → ⊥ }
+    ensures another_left { (one : List ℕ) → HasEntries (left_and_back one other_leaves (back_at 30000)) → ⊥ }
+    ensures fetched_early { (one : List ℕ) → HasEntries (left_and_back one (leave_at 30000) (back_at 29999)) → ⊥ }
+    ensures fetched_untold { (one : List ℕ) → HasEntries (left_and_back one (leave_at 30000) (back_at 30001)) → ⊥ }
 {}
 
 /// Law: what a worked account prints, where one thread plays a trace, where a storm runs and where links are served, the second of

@@ -89,7 +89,7 @@ pub fn print_serve(alloc: Global, account: &Account, out: &mut Bytes) -> Result<
     let links = rising_links(alloc, account)?;
     let mut text = Bytes::new(alloc);
     put_links(&mut text, links.as_slice())?;
-    put_parts(&mut text, account.parts.as_slice())?;
+    put_parts(alloc, &mut text, account.parts.as_slice())?;
     text.extend(b"done\n".as_slice())?;
     out.extend(text.as_slice())
 }

@@ -1,11 +1,11 @@
 //! Printing the summary of an account, after the `end` of a trace.
 
-ghost use Rattle.std.specs.Prelude.{◌≡◌, ◌<◌, ◌^◌, ◌∷◌, ◌++◌, [], codes, length, OnOk, OnErr};
+ghost use Rattle.std.specs.Prelude.{◌≡◌, ◌∷◌, ◌++◌, [], codes, length, OnOk, OnErr};
 ghost use Rattle.std.specs.Fmt.{decimal};
 ghost use Rattle.std.specs.List.{All, flat_map};
-ghost use Rattle.partlog.specs.Added.{log_end_of};
 ghost use Rattle.audit.specs.Printable.{IsPrintable};
 ghost use Rattle.audit.specs.Printed.{part_line, session_line, summary_of, numbered};
+ghost use Rattle.audit.specs.Trackable.{IsTrackable};
 
 use crate::account::{Account, PartAccount, Transcript};
 use crate::numbers::{high_watermark, log_end};
@@ -25,13 +25,18 @@ pub fn put_number(out: &mut Bytes, word: &[u8], number: u64) -> Result<(), NoMem
 }
 
 // Adds the line of a partition at the end.
-fn put_part(out: &mut Bytes, number: usize, part: &PartAccount) -> Result<(), NoMemory>
-    requires { log_end_of part.now.events < 2 ^ 64 }
+fn put_part(
+    alloc: Global,
+    out: &mut Bytes,
+    number: usize,
+    part: &PartAccount,
+) -> Result<(), NoMemory>
+    requires { IsTrackable part.now.followers part.now.events }
     ensures { OnOk result (out.new ≡ out.old ++ part_line (number, part.now)) }
 {
     let events = part.events.as_slice();
     let end = log_end(events);
-    let high = high_watermark(events, part.followers, end);
+    let high = high_watermark(alloc, events, part.followers)?;
     put_number(out, b"part ", number as u64)?;
     put_number(out, b" end ", end)?;
     put_number(out, b" high ", high)?;
@@ -53,12 +58,12 @@ fn put_session(out: &mut Bytes, transcript: &Transcript) -> Result<(), NoMemory>
 }
 
 /// Adds the line of each partition at the end, numbered from 0. If memory runs out, a part of them may be there.
-pub fn put_parts(out: &mut Bytes, parts: &[PartAccount]) -> Result<(), NoMemory>
-    requires { All (λ part. log_end_of part.events < 2 ^ 64) parts.now }
+pub fn put_parts(alloc: Global, out: &mut Bytes, parts: &[PartAccount]) -> Result<(), NoMemory>
+    requires { All (λ part. IsTrackable part.followers part.events) parts.now }
     ensures { OnOk result (out.new ≡ out.old ++ flat_map part_line (numbered 0 parts.now)) }
 {
     for (number, part) in parts.iter().enumerate() {
-        put_part(out, number, part)?;
+        put_part(alloc, out, number, part)?;
     }
     Ok(())
 }
@@ -93,7 +98,7 @@ pub fn print_replay(alloc: Global, account: &Account, out: &mut Bytes) -> Result
     // there are too few partitions for one to have the clock's number
     prove!(account.config.parts() <= MOST_PARTITIONS);
     let mut text = Bytes::new(alloc);
-    put_parts(&mut text, account.parts.as_slice())?;
+    put_parts(alloc, &mut text, account.parts.as_slice())?;
     put_passes(&mut text, account.passes.as_slice())?;
     text.extend(b"done\n".as_slice())?;
     out.extend(text.as_slice())

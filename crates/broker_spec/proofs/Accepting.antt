@@ -28,7 +28,7 @@ use Rattle.broker_spec.specs.Sound.{AllBelow}
 use Rattle.broker_spec.proofs.Growth.{event_of, entered_events, entered_whole, looked_state}
 use Rattle.broker_spec.proofs.Entries.{IsFair, IsWithin, event_owner, set_whole, accepted_shows}
 use Rattle.broker_spec.proofs.Going.{clock_point}
-use Rattle.broker_spec.proofs.Ledger.{put, kept_entry, kept_nobodys}
+use Rattle.broker_spec.proofs.Ledger.{put, kept_entry}
 
 -- ---- who left the entries
 
@@ -70,42 +70,35 @@ kept_look parts clock ledger by before points kept =
     (sym (length-map clock clock_owner_of)) (map-append clock_owner_of clock (event ∷ []))
     (λ q other. owners_clock parts clock (clock ++ event ∷ []) q other) kept
 
--- a tick
-pub kept_tick : (parts : List History) (clock : List ClockEvent) (ledger : ℕ → List (List Point)) (t : ℕ) → IsKept (owners_at parts clock) ledger → IsKept (owners_at parts (clock ++ clocks.Tick t ∷ [])) ledger
-kept_tick parts clock ledger t kept =
-    let event : ClockEvent = clocks.Tick t in
-    kept_nobodys (owners_at parts clock) (owners_at parts (clock ++ event ∷ [])) 64 None (map-append clock_owner_of clock (event ∷ []))
-    (λ q other. owners_clock parts clock (clock ++ event ∷ []) q other) ledger refl kept
-
 -- what was decided is carried out
-pub kept_accepted : (clock : List ClockEvent) (ledger : ℕ → List (List Point)) (by n : ℕ) (before : List (List Point)) (decisions : List Decision) (parts : List History) (points : List Point)
+pub kept_accepted : (clock : List ClockEvent) (ledger : ℕ → List (List Point)) (by t n : ℕ) (before : List (List Point)) (decisions : List Decision) (parts : List History) (points : List Point)
     → length parts ≡ n → n ≤ 64 → AllByRecursion (IsFair n) decisions → IsKept (owners_at parts clock) (put ledger by (before ++ points ∷ []))
-    → IsKept (owners_at (accept_all by (length before) decisions parts).1 clock)
-    (put ledger by (before ++ (points ++ step_points (steps_of (accept_all by (length before) decisions parts).0)) ∷ []))
-kept_accepted clock ledger by n before [] parts points size few fair kept =
+    → IsKept (owners_at (accept_all by (length before) t decisions parts).1 clock)
+    (put ledger by (before ++ (points ++ step_points (steps_of (accept_all by (length before) t decisions parts).0)) ∷ []))
+kept_accepted clock ledger by t n before [] parts points size few fair kept =
     subst (λ (ps : List Point). IsKept (owners_at parts clock) (put ledger by (before ++ ps ∷ []))) (sym (append-nil points)) kept
-kept_accepted clock ledger by n before (Refuse code ∷ decisions) parts points size few fair kept = kept_accepted clock ledger by n before decisions parts points size few fair.1 kept
-kept_accepted clock ledger by n before (AskLog part outcome ∷ decisions) parts points size few fair kept =
+kept_accepted clock ledger by t n before (Refuse code ∷ decisions) parts points size few fair kept = kept_accepted clock ledger by t n before decisions parts points size few fair.1 kept
+kept_accepted clock ledger by t n before (AskLog part outcome ∷ decisions) parts points size few fair kept =
     let seq = length before in
     let found = history_at parts part in
     let entry = (outcome (state_of found)).entry in
-    let left = entered found by seq entry in
+    let left = entered found by seq t entry in
     let within : part < length parts = omega (arith, size, fair.0.0) in
     let there : slice_get parts part ≡ Some found = get_there parts part (empty_history 0) within in
     let parts1 = set parts part left in
     let point : Point = record { part = part; place = length found.events } in
-    let one = kept_part parts clock ledger by part found left (event_of by seq entry) before points within (omega (arith, size, few)) there (entered_events found by seq entry) (event_owner by seq entry) kept in
-    let others = step_points (steps_of (accept_all by seq decisions parts1).0) in
-    subst (λ (ps : List Point). IsKept (owners_at (accept_all by seq decisions parts1).1 clock) (put ledger by (before ++ ps ∷ []))) (append_assoc points (point ∷ []) others)
-    (kept_accepted clock ledger by n before decisions parts1 (points ++ point ∷ []) (length-set parts part left ∙ size) few fair.1 one)
+    let one = kept_part parts clock ledger by part found left (event_of by seq t entry) before points within (omega (arith, size, few)) there (entered_events found by seq t entry) (event_owner by seq t entry) kept in
+    let others = step_points (steps_of (accept_all by seq t decisions parts1).0) in
+    subst (λ (ps : List Point). IsKept (owners_at (accept_all by seq t decisions parts1).1 clock) (put ledger by (before ++ ps ∷ []))) (append_assoc points (point ∷ []) others)
+    (kept_accepted clock ledger by t n before decisions parts1 (points ++ point ∷ []) (length-set parts part left ∙ size) few fair.1 one)
 
 -- the same where the call's number is told in another way
-pub kept_accepted_at : (clock : List ClockEvent) (ledger : ℕ → List (List Point)) (by seq n : ℕ) (before : List (List Point)) (decisions : List Decision) (parts : List History) (points : List Point)
+pub kept_accepted_at : (clock : List ClockEvent) (ledger : ℕ → List (List Point)) (by seq t n : ℕ) (before : List (List Point)) (decisions : List Decision) (parts : List History) (points : List Point)
     → seq ≡ length before → length parts ≡ n → n ≤ 64 → AllByRecursion (IsFair n) decisions → IsKept (owners_at parts clock) (put ledger by (before ++ points ∷ []))
-    → IsKept (owners_at (accept_all by seq decisions parts).1 clock) (put ledger by (before ++ (points ++ step_points (steps_of (accept_all by seq decisions parts).0)) ∷ []))
-kept_accepted_at clock ledger by seq n before decisions parts points is size few fair kept =
-    subst (λ (k : ℕ). IsKept (owners_at (accept_all by k decisions parts).1 clock) (put ledger by (before ++ (points ++ step_points (steps_of (accept_all by k decisions parts).0)) ∷ []))) (sym is)
-    (kept_accepted clock ledger by n before decisions parts points size few fair kept)
+    → IsKept (owners_at (accept_all by seq t decisions parts).1 clock) (put ledger by (before ++ (points ++ step_points (steps_of (accept_all by seq t decisions parts).0)) ∷ []))
+kept_accepted_at clock ledger by seq t n before decisions parts points is size few fair kept =
+    subst (λ (k : ℕ). IsKept (owners_at (accept_all by k t decisions parts).1 clock) (put ledger by (before ++ (points ++ step_points (steps_of (accept_all by k t decisions parts).0)) ∷ []))) (sym is)
+    (kept_accepted clock ledger by t n before decisions parts points size few fair kept)
 
 pub kept_look_at : (parts : List History) (clock : List ClockEvent) (ledger : ℕ → List (List Point)) (by seq : ℕ) (before : List (List Point)) (points : List Point)
     → seq ≡ length before → IsKept (owners_at parts clock) (put ledger by (before ++ points ∷ []))
@@ -121,14 +114,14 @@ one_within n (Refused code) ps here rest = rest
 one_within n (Appended part base count) ps here rest = (here, rest)
 one_within n (Seen part start) ps here rest = (here, rest)
 
-pub accepted_within : (by seq n : ℕ) (decisions : List Decision) (parts : List History) → AllByRecursion (IsFair n) decisions → AllBelow n (operation_parts (steps_of (accept_all by seq decisions parts).0))
-accepted_within by seq n [] parts fair = tt
-accepted_within by seq n (Refuse code ∷ decisions) parts fair = accepted_within by seq n decisions parts fair.1
-accepted_within by seq n (AskLog part outcome ∷ decisions) parts fair =
+pub accepted_within : (by seq t n : ℕ) (decisions : List Decision) (parts : List History) → AllByRecursion (IsFair n) decisions → AllBelow n (operation_parts (steps_of (accept_all by seq t decisions parts).0))
+accepted_within by seq t n [] parts fair = tt
+accepted_within by seq t n (Refuse code ∷ decisions) parts fair = accepted_within by seq t n decisions parts fair.1
+accepted_within by seq t n (AskLog part outcome ∷ decisions) parts fair =
     let found = history_at parts part in
     let came = outcome (state_of found) in
-    let parts1 = set parts part (entered found by seq came.entry) in
-    one_within n came.result (operation_parts (steps_of (accept_all by seq decisions parts1).0)) (fair.0.1 (state_of found)).1 (accepted_within by seq n decisions parts1 fair.1)
+    let parts1 = set parts part (entered found by seq t came.entry) in
+    one_within n came.result (operation_parts (steps_of (accept_all by seq t decisions parts1).0)) (fair.0.1 (state_of found)).1 (accepted_within by seq t n decisions parts1 fair.1)
 
 -- ---- looks are accepted as any entries
 
@@ -139,20 +132,20 @@ abbrev pub look_decisions : List ℕ → List Decision
 look_decisions ps = map look_decision ps
 
 abbrev pub look_points : ℕ → ℕ → List ℕ → List History → List Point
-look_points by seq ps parts = step_points (steps_of (accept_all by seq (look_decisions ps) parts).0)
+look_points by seq ps parts = step_points (steps_of (accept_all by seq 0 (look_decisions ps) parts).0)
 
 abbrev pub looked : ℕ → ℕ → List ℕ → List History → List History
-looked by seq ps parts = (accept_all by seq (look_decisions ps) parts).1
+looked by seq ps parts = (accept_all by seq 0 (look_decisions ps) parts).1
 
 pub looks_points : (by seq : ℕ) (ps : List ℕ) (parts : List History) → (look_all by seq ps parts).0 ≡ look_points by seq ps parts
 looks_points by seq [] parts = refl
 looks_points by seq (p ∷ ps) parts =
     let found = history_at parts p in
-    ap (λ (points : List Point). record { part = p; place = length found.events } ∷ points) (looks_points by seq ps (set parts p (entered found by seq Looked)))
+    ap (λ (points : List Point). record { part = p; place = length found.events } ∷ points) (looks_points by seq ps (set parts p (entered found by seq 0 Looked)))
 
 pub looks_parts : (by seq : ℕ) (ps : List ℕ) (parts : List History) → (look_all by seq ps parts).1 ≡ looked by seq ps parts
 looks_parts by seq [] parts = refl
-looks_parts by seq (p ∷ ps) parts = looks_parts by seq ps (set parts p (entered (history_at parts p) by seq Looked))
+looks_parts by seq (p ∷ ps) parts = looks_parts by seq ps (set parts p (entered (history_at parts p) by seq 0 Looked))
 
 pub looks_fair : (n : ℕ) (ps : List ℕ) → AllBelow n ps → AllByRecursion (IsFair n) (look_decisions ps)
 looks_fair n [] all = tt
@@ -160,10 +153,10 @@ looks_fair n (p ∷ ps) all = ((all.0, λ state. (tt, all.0)), looks_fair n ps a
 
 -- ---- they change no state
 
-one_look : (by seq p q : ℕ) (parts : List History) → p < length parts → state_of (history_at (set parts p (entered (history_at parts p) by seq Looked)) q) ≡ state_of (history_at parts q)
+one_look : (by seq p q : ℕ) (parts : List History) → p < length parts → state_of (history_at (set parts p (entered (history_at parts p) by seq 0 Looked)) q) ≡ state_of (history_at parts q)
 one_look by seq p q parts within =
     let found = history_at parts p in
-    let left = entered found by seq Looked in
+    let left = entered found by seq 0 Looked in
     let there = λ (o : Option History). state_of (unwrap_or o (empty_history 0)) in
     elim (same_or_not q p) [
       | inl same ↦
@@ -175,7 +168,7 @@ one_look by seq p q parts within =
 pub looks_states : (by seq n : ℕ) (ps : List ℕ) (parts : List History) → length parts ≡ n → AllBelow n ps → (q : ℕ) → state_of (history_at (looked by seq ps parts) q) ≡ state_of (history_at parts q)
 looks_states by seq n [] parts size all q = refl
 looks_states by seq n (p ∷ ps) parts size all q =
-    let left = entered (history_at parts p) by seq Looked in
+    let left = entered (history_at parts p) by seq 0 Looked in
     looks_states by seq n ps (set parts p left) (length-set parts p left ∙ size) all.1 q ∙ one_look by seq p q parts (omega (arith, size, all.0))
 
 pub present_alike : (parts later : List History) → ((q : ℕ) → state_of (history_at later q) ≡ state_of (history_at parts q)) → (o : Option ℕ) → present later o ≡ present parts o
@@ -216,8 +209,8 @@ module _ (account : Account) (by seq n : ℕ) (few : n ≤ 64) where
   pub looks_look : (steps : List Step) (parts : List History) → length parts ≡ n → AllWhole parts → AllBelow n (operation_parts steps) → Follows account (looked by seq (operation_parts steps) parts)
       → AreLooks account steps (look_points by seq (operation_parts steps) parts)
   looks_look steps parts size whole all follows =
-      looks_are account (operation_parts steps) (steps_of (accept_all by seq (look_decisions (operation_parts steps)) parts).0)
-      (accepted_shows by seq n (look_decisions (operation_parts steps)) parts account size few whole (looks_fair n (operation_parts steps) all) follows).steps
+      looks_are account (operation_parts steps) (steps_of (accept_all by seq 0 (look_decisions (operation_parts steps)) parts).0)
+      (accepted_shows by seq 0 n (look_decisions (operation_parts steps)) parts account size few whole (looks_fair n (operation_parts steps) all) follows).steps
 
   abbrev Shows : List Step → List ℕ → List History → Type 0
   Shows steps ps parts = length parts ≡ n → AllWhole parts → AllBelow n ps → Follows account (looked by seq ps parts) → shown_as_completed account steps (look_points by seq ps parts) ≡ shown_in parts steps
@@ -227,13 +220,13 @@ module _ (account : Account) (by seq n : ℕ) (few : n ≤ 64) where
   one_shown step steps p parts is on size whole all follows =
       let ps = operation_parts steps in
       let found = history_at parts p in
-      let left = entered found by seq Looked in
+      let left = entered found by seq 0 Looked in
       let point : Point = record { part = p; place = length found.events } in
       let within : p < length parts = omega (arith, size, all.0) in
       let parts1 = set parts p left in
       let size1 : length parts1 ≡ n = length-set parts p left ∙ size in
-      let whole1 : AllWhole parts1 = set_whole parts p left whole within (entered_whole found by seq Looked (whole p found (get_there parts p (empty_history 0) within)) tt) in
-      let shows = accepted_shows by seq n (look_decisions (p ∷ ps)) parts account size few whole (looks_fair n (p ∷ ps) all) follows in
+      let whole1 : AllWhole parts1 = set_whole parts p left whole within (entered_whole found by seq 0 Looked (whole p found (get_there parts p (empty_history 0) within)) tt) in
+      let shows = accepted_shows by seq 0 n (look_decisions (p ∷ ps)) parts account size few whole (looks_fair n (p ∷ ps) all) follows in
       let at : at_point account point ≡ state_of found = ap first_state shows.shown ∙ looked_state found by seq in
       let rest : shown_as_completed account steps (look_points by seq ps parts1) ≡ shown_in parts steps =
       on parts1 size1 whole1 all.1 follows ∙ shown_alike parts parts1 (λ q. one_look by seq p q parts within) steps in

@@ -18,12 +18,16 @@ use Rattle.broker_spec.specs.Board.{Board, Waiting, seat_at, transcript_at}
 use Rattle.broker_spec.specs.Completing.{look_all, finish_last, last_call, is_satisfied_now, is_overdue_now, is_answerable_now, completed_as, completed}
 use Rattle.broker_spec.specs.GoesOn.{HaveGrown}
 use Rattle.broker_spec.specs.Kept.{IsKept, owners_at}
-use Rattle.broker_spec.proofs.Entries.{IsFair, accepted_size}
+use Rattle.broker_spec.specs.Timely.{IsTimely}
+use Rattle.broker_spec.proofs.Entries.{IsFair, accepted_longer, accepted_size}
 use Rattle.broker_spec.proofs.Going.{grown_parts, grown_clock, clock_point}
 use Rattle.broker_spec.proofs.Ledger.{put, put_again, kept_alike}
 use Rattle.broker_spec.proofs.Accepting.{kept_accepted_at, kept_look_at, look_decisions, look_points, looked, looks_points, looks_parts, looks_fair}
 use Rattle.broker_spec.proofs.Acts.{ticks_looked, histories_on}
 use Rattle.broker_spec.proofs.Calls.{left_on, done_satisfied, done_expired}
+use Rattle.broker_spec.proofs.Late.{AllLate, late_more}
+use Rattle.broker_spec.proofs.NewEntries.{accepted_takes, looks_timely}
+use Rattle.broker_spec.proofs.Timely.{timely_changed}
 use Rattle.broker_spec.proofs.Boards.{IsDone, AreDone, WaitsLast, Stand, AreHistories, IsSound, ledger_of, waiting_of, all_done_on, seat_changed, waits_no_more, waits_still, without, alone_still, finished, waits_last, waits_there}
 
 module _ (board : Board) (w : Waiting) (h : IsSound board) (found : waiting_of board.waiting w.session ≡ Some w) where
@@ -52,9 +56,10 @@ module _ (board : Board) (w : Waiting) (h : IsSound board) (found : waiting_of b
 
   -- the last call is completed
   completed_as_sound : (behind : List ClockEvent) (finish : List Point) (how : CallHow) (later : List History) → HaveGrown board.parts board.clock later behind → length board.parts ≤ length later → AreHistories board.config later behind
-      → IsKept (owners_at later behind) (put (ledger_of (transcript_at board)) w.session (map points_of last.front ++ (last.call.accept ++ finish) ∷ []))
+      → IsKept (owners_at later behind) (put (ledger_of (transcript_at board)) w.session (map points_of last.front ++ (last.call.accept ++ finish) ∷ [])) → AllLate later
+      → ((r : ℕ) → IsTimely r later behind (put (ledger_of (transcript_at board)) w.session (map points_of last.front ++ (last.call.accept ++ finish) ∷ []) r))
       → IsDone board.config later behind (record last.call { finish = finish; how = how }) → IsSound (completed_as board w behind finish how later)
-  completed_as_sound behind finish how later grown longer histories kept done =
+  completed_as_sound behind finish how later grown longer histories kept late timely done =
       let call : Call = record last.call { finish = finish; how = how } in
       let calls : finish_last finish how t.calls ≡ last.front ++ call ∷ [] = ap (finish_last finish how) last.calls ∙ finished finish how last.front last.call in
       let rows : map points_of last.front ++ (last.call.accept ++ finish) ∷ [] ≡ map points_of (finish_last finish how t.calls) =
@@ -63,6 +68,8 @@ module _ (board : Board) (w : Waiting) (h : IsSound board) (found : waiting_of b
       seat_changed board later behind w.session (record (seat_at board w.session) { transcript = Some (record t { calls = finish_last finish how t.calls }) }) (record t { calls = finish_last finish how t.calls })
       (without board.waiting w.session) h lt refl grown longer histories
       (subst (λ (rs : List (List Point)). IsKept (owners_at later behind) (put (ledger_of (transcript_at board)) w.session rs)) rows kept)
+      late
+      (subst (λ (rs : List (List Point)). (r : ℕ) → IsTimely r later behind (put (ledger_of (transcript_at board)) w.session rs r)) rows timely)
       (λ r other. waits_still board.waiting w.session r other)
       (record {
         number = (h.sound.sessions w.session).number;
@@ -86,7 +93,22 @@ module _ (board : Board) (w : Waiting) (h : IsSound board) (found : waiting_of b
   fair = looks_fair (length board.parts) ps last.waits.within
 
   longer : length board.parts ≤ length left
-  longer = omega (arith, accepted_size w.session seq (length board.parts) (look_decisions ps) board.parts)
+  longer = omega (arith, accepted_size w.session seq 0 (length board.parts) (look_decisions ps) board.parts)
+
+  late_left : AllLate left
+  late_left =
+      late_more board.parts left (accepted_longer w.session seq 0 (length board.parts) (look_decisions ps) board.parts refl fair) (omega (arith, accepted_size w.session seq 0 (length board.parts) (look_decisions ps) board.parts))
+      (accepted_takes w.session seq 0 (length board.parts) (look_decisions ps) board.parts refl fair) h.sound.late
+
+  -- the looks are those of the last call
+  timely_left : (behind : List ClockEvent) (points : List Point) → HaveGrown board.parts board.clock left behind
+      → IsKept (owners_at left behind) (put (ledger_of (transcript_at board)) w.session (map points_of last.front ++ points ∷ [])) → (r : ℕ)
+      → IsTimely r left behind (put (ledger_of (transcript_at board)) w.session (map points_of last.front ++ points ∷ []) r)
+  timely_left behind points grown kept r =
+      let rows : ledger_of (transcript_at board) w.session ≡ map points_of last.front ++ points_of last.call ∷ [] = ap (map points_of) last.calls ∙ map-append points_of last.front (last.call ∷ []) in
+      timely_changed board.parts left board.clock behind (ledger_of (transcript_at board)) w.session (map points_of last.front) (points_of last.call ∷ []) (points ∷ []) rows (omega arith)
+      (omega (arith, few, accepted_size w.session seq 0 (length board.parts) (look_decisions ps) board.parts)) grown h.sound.kept kept
+      (λ q. looks_timely q w.session seq 0 (length board.parts) behind (ledger_of (transcript_at board) q) ps board.parts refl fair) h.sound.timely r
 
   kept_last : IsKept (owners_at board.parts board.clock) (put (ledger_of (transcript_at board)) w.session (map points_of last.front ++ points_of last.call ∷ []))
   kept_last =
@@ -101,11 +123,13 @@ module _ (board : Board) (w : Waiting) (h : IsSound board) (found : waiting_of b
 
   satisfied_sound : is_satisfied_now board w ≡ true → IsSound (completed_as board w board.clock looks (Satisfied 0) left)
   satisfied_sound enough =
-      let kept = kept_accepted_at board.clock (ledger_of (transcript_at board)) w.session seq (length board.parts) (map points_of last.front) (look_decisions ps) board.parts (points_of last.call) is_seq refl few fair kept_last in
-      completed_as_sound board.clock looks (Satisfied 0) left
-      (grown_parts board.parts left board.clock (left_on board.config board.parts board.clock w last.call w.session seq h.sound.histories.whole few last.waits)) longer
-      (histories_on board.config board.parts board.clock board.clock w.session seq (look_decisions ps) h.sound.histories fair refl)
-      (subst (λ (points : List Point). IsKept (owners_at left board.clock) (put (ledger_of (transcript_at board)) w.session (map points_of last.front ++ (points ++ looks) ∷ []))) no_finish kept)
+      let kept = kept_accepted_at board.clock (ledger_of (transcript_at board)) w.session seq 0 (length board.parts) (map points_of last.front) (look_decisions ps) board.parts (points_of last.call) is_seq refl few fair kept_last in
+      let grown : HaveGrown board.parts board.clock left board.clock = grown_parts board.parts left board.clock (left_on board.config board.parts board.clock w last.call w.session seq h.sound.histories.whole few last.waits) in
+      let kept1 : IsKept (owners_at left board.clock) (put (ledger_of (transcript_at board)) w.session (map points_of last.front ++ (last.call.accept ++ looks) ∷ [])) =
+      subst (λ (points : List Point). IsKept (owners_at left board.clock) (put (ledger_of (transcript_at board)) w.session (map points_of last.front ++ (points ++ looks) ∷ []))) no_finish kept in
+      completed_as_sound board.clock looks (Satisfied 0) left grown longer
+      (histories_on board.config board.parts board.clock board.clock w.session seq 0 (look_decisions ps) h.sound.histories fair refl)
+      kept1 late_left (timely_left board.clock (last.call.accept ++ looks) grown kept1)
       (done_satisfied board.config board.parts board.clock w last.call w.session seq h.sound.histories.whole few last.waits enough)
 
   abbrev behind : List ClockEvent
@@ -114,13 +138,15 @@ module _ (board : Board) (w : Waiting) (h : IsSound board) (found : waiting_of b
   expired_sound : is_overdue_now board w ≡ true → IsSound (completed_as board w behind (clock_point board.clock ∷ looks) (Expired 0) left)
   expired_sound overdue =
       let at_clock = kept_look_at board.parts board.clock (ledger_of (transcript_at board)) w.session seq (map points_of last.front) (points_of last.call) is_seq kept_last in
-      let kept = kept_accepted_at behind (ledger_of (transcript_at board)) w.session seq (length board.parts) (map points_of last.front) (look_decisions ps) board.parts (points_of last.call ++ clock_point board.clock ∷ []) is_seq refl few fair at_clock in
+      let kept = kept_accepted_at behind (ledger_of (transcript_at board)) w.session seq 0 (length board.parts) (map points_of last.front) (look_decisions ps) board.parts (points_of last.call ++ clock_point board.clock ∷ []) is_seq refl few fair at_clock in
       let points : (points_of last.call ++ clock_point board.clock ∷ []) ++ looks ≡ last.call.accept ++ clock_point board.clock ∷ looks =
       append_assoc (points_of last.call) (clock_point board.clock ∷ []) looks ∙ ap (λ (points : List Point). points ++ clock_point board.clock ∷ looks) no_finish in
-      completed_as_sound behind (clock_point board.clock ∷ looks) (Expired 0) left
-      (grown_clock board.parts left board.clock (clocks.Look w.session seq) (left_on board.config board.parts board.clock w last.call w.session seq h.sound.histories.whole few last.waits)) longer
-      (histories_on board.config board.parts board.clock behind w.session seq (look_decisions ps) h.sound.histories fair (ticks_looked board.clock w.session seq))
-      (subst (λ (points : List Point). IsKept (owners_at left behind) (put (ledger_of (transcript_at board)) w.session (map points_of last.front ++ points ∷ []))) points kept)
+      let grown : HaveGrown board.parts board.clock left behind = grown_clock board.parts left board.clock (clocks.Look w.session seq) (left_on board.config board.parts board.clock w last.call w.session seq h.sound.histories.whole few last.waits) in
+      let kept1 : IsKept (owners_at left behind) (put (ledger_of (transcript_at board)) w.session (map points_of last.front ++ (last.call.accept ++ clock_point board.clock ∷ looks) ∷ [])) =
+      subst (λ (points : List Point). IsKept (owners_at left behind) (put (ledger_of (transcript_at board)) w.session (map points_of last.front ++ points ∷ []))) points kept in
+      completed_as_sound behind (clock_point board.clock ∷ looks) (Expired 0) left grown longer
+      (histories_on board.config board.parts board.clock behind w.session seq 0 (look_decisions ps) h.sound.histories fair (ticks_looked board.clock w.session seq))
+      kept1 late_left (timely_left behind (last.call.accept ++ clock_point board.clock ∷ looks) grown kept1)
       (done_expired board.config board.parts board.clock w last.call w.session seq h.sound.histories.whole few last.waits overdue)
 
   -- with these looks, and these histories behind them

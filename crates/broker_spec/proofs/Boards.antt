@@ -20,9 +20,11 @@ use Rattle.broker_spec.specs.Board.{Board, Seat, Waiting, empty_seat, new_transc
 use Rattle.broker_spec.specs.Completing.{finish_last}
 use Rattle.broker_spec.specs.GoesOn.{HaveGrown}
 use Rattle.broker_spec.specs.Kept.{IsKept, owners_at}
+use Rattle.broker_spec.specs.Timely.{IsTimely}
 use Rattle.broker_spec.proofs.Going.{carried_on}
 use Rattle.broker_spec.proofs.Calls.{IsDelayedAs}
 use Rattle.broker_spec.proofs.Counting.{below_more}
+use Rattle.broker_spec.proofs.Late.{AllLate}
 use Rattle.broker_spec.proofs.Ledger.{put, put_same, put_other, kept_alike, all_on, push_get}
 use Rattle.audit.specs.LawfulCall.{IsWholeCall, operation_parts}
 pub use Rattle.broker_spec.specs.Sound.{IsDone, IsWaiting, AreDone, WaitsLast, Stand, IsSession, AreHistories, WaitAlone, AreSound, IsSound, ledger_of, waiting_of}
@@ -68,6 +70,8 @@ sound_alike config parts clock waiting t t1 same h = record {
   kept = kept_alike (owners_at parts clock) (ledger_of t) (ledger_of t1) (λ r. ap (λ (x : Transcript). map points_of x.calls) (same r)) h.kept;
   sessions = λ r. subst (IsSession config parts clock r (waiting_of waiting r)) (sym (same r)) (h.sessions r);
   alone = h.alone;
+  late = h.late;
+  timely = λ r. subst (λ (x : Transcript). IsTimely r parts clock (map points_of x.calls)) (sym (same r)) (h.timely r);
 }
 
 pub transcript_set : (board : Board) (s : ℕ) (seat : Seat) (t : Transcript) → s < length board.seats → seat.transcript ≡ Some t
@@ -86,23 +90,26 @@ module _ (board : Board) (later : List History) (behind : List ClockEvent) (s : 
   moved = record { config = board.config; parts = later; clock = behind; seats = set board.seats s seat; waiting = waiting }
 
   pub seat_changed : IsSound board → s < 64 → seat.transcript ≡ Some t → HaveGrown board.parts board.clock later behind → length board.parts ≤ length later → AreHistories board.config later behind
-      → IsKept (owners_at later behind) (put (ledger_of (transcript_at board)) s (map points_of t.calls)) → ((r : ℕ) → r ≢ s → waiting_of waiting r ≡ waiting_of board.waiting r)
+      → IsKept (owners_at later behind) (put (ledger_of (transcript_at board)) s (map points_of t.calls)) → AllLate later
+      → ((r : ℕ) → IsTimely r later behind (put (ledger_of (transcript_at board)) s (map points_of t.calls) r)) → ((r : ℕ) → r ≢ s → waiting_of waiting r ≡ waiting_of board.waiting r)
       → IsSession board.config later behind s (waiting_of waiting s) t → WaitAlone waiting → IsSound moved
-  seat_changed h lt is grown longer histories kept others here alone =
+  seat_changed h lt is grown longer histories kept late timely others here alone =
       let there : s < length board.seats = omega (arith, lt, h.count) in
       let at : transcript_at moved s ≡ t = transcript_set board s seat t there is in
+      let rows : (r : ℕ) → ledger_of (transcript_at moved) r ≡ put (ledger_of (transcript_at board)) s (map points_of t.calls) r =
+      λ r. elim (same_or_not r s) [
+        | inl same ↦
+            ap (λ (i : ℕ). ledger_of (transcript_at moved) i) same ∙ ap (λ (x : Transcript). map points_of x.calls) at
+            ∙ sym (put_same (ledger_of (transcript_at board)) s (map points_of t.calls) r same)
+        | inr other ↦
+            ap (λ (x : Transcript). map points_of x.calls) (transcript_else board s r seat other)
+            ∙ sym (put_other (ledger_of (transcript_at board)) s (map points_of t.calls) r other)
+      ] in
       record {
         count = length-set board.seats s seat ∙ h.count;
         sound = record {
           histories = histories;
-          kept = kept_alike (owners_at later behind) (put (ledger_of (transcript_at board)) s (map points_of t.calls)) (ledger_of (transcript_at moved)) (λ r. elim (same_or_not r s) [
-            | inl same ↦
-                ap (λ (i : ℕ). ledger_of (transcript_at moved) i) same ∙ ap (λ (x : Transcript). map points_of x.calls) at
-                ∙ sym (put_same (ledger_of (transcript_at board)) s (map points_of t.calls) r same)
-            | inr other ↦
-                ap (λ (x : Transcript). map points_of x.calls) (transcript_else board s r seat other)
-                ∙ sym (put_other (ledger_of (transcript_at board)) s (map points_of t.calls) r other)
-          ]) kept;
+          kept = kept_alike (owners_at later behind) (put (ledger_of (transcript_at board)) s (map points_of t.calls)) (ledger_of (transcript_at moved)) rows kept;
           sessions = λ r. elim (same_or_not r s) [
             | inl same ↦
                 subst (λ (i : ℕ). IsSession board.config later behind i (waiting_of waiting i) (transcript_at moved i)) (sym same)
@@ -113,6 +120,8 @@ module _ (board : Board) (later : List History) (behind : List ClockEvent) (s : 
                 (session_on board.config board.parts later board.clock behind grown longer r (waiting_of board.waiting r) (transcript_at board r) (h.sound.sessions r)))
           ];
           alone = alone;
+          late = late;
+          timely = λ r. subst (IsTimely r later behind) (sym (rows r)) (timely r);
         };
       }
 

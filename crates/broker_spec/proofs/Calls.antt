@@ -38,16 +38,16 @@ pub completes : (account : Account) (request : Request) (steps : List Step) (b :
 completes account request steps true quiet undelayed = (quiet, refl)
 completes account request steps false quiet undelayed = (quiet, undelayed, refl)
 
-module _ (config : Configuration) (parts : List History) (clock : List ClockEvent) (by seq : ℕ) (body : List ℕ) (request : Request) (decisions : List Decision) (whole : AllWhole parts) (few : length parts ≤ 64) (asked : IsRequest body request) (decided : Decides config request.ask decisions) (fair : AllByRecursion (IsFair (length parts)) decisions) where
+module _ (config : Configuration) (parts : List History) (clock : List ClockEvent) (by seq t : ℕ) (body : List ℕ) (request : Request) (decisions : List Decision) (whole : AllWhole parts) (few : length parts ≤ 64) (asked : IsRequest body request) (decided : Decides config request.ask decisions) (fair : AllByRecursion (IsFair (length parts)) decisions) where
   abbrev noted : List Noted
-  noted = (accept_all by seq decisions parts).0
+  noted = (accept_all by seq t decisions parts).0
 
   abbrev after : List History
-  after = (accept_all by seq decisions parts).1
+  after = (accept_all by seq t decisions parts).1
 
   -- every account shows it that goes on from there
   pub shows : (behind : List ClockEvent) (account : Account) → GoesOn config after behind account → ShowsAccepted by seq account decisions noted
-  shows behind account on = accepted_shows by seq (length parts) decisions parts account refl few whole fair on.follows
+  shows behind account on = accepted_shows by seq t (length parts) decisions parts account refl few whole fair on.follows
 
   pub acceptance : (behind : List ClockEvent) (account : Account) → GoesOn config after behind account → IsAcceptance account body request (steps_of noted)
   acceptance behind account on = record {
@@ -114,7 +114,7 @@ module _ (config : Configuration) (parts : List History) (clock : List ClockEven
     delayed = parked_as waits;
     unfinished = refl;
     how = refl;
-    within = subst (λ (n : ℕ). AllBelow n (operation_parts (steps_of noted))) (sym (accepted_size by seq (length parts) decisions parts)) (accepted_within by seq (length parts) decisions parts fair);
+    within = subst (λ (n : ℕ). AllBelow n (operation_parts (steps_of noted))) (sym (accepted_size by seq t (length parts) decisions parts)) (accepted_within by seq t (length parts) decisions parts fair);
   }
 
 -- ---- completed
@@ -127,7 +127,7 @@ module _ (config : Configuration) (parts : List History) (clock : List ClockEven
   left = looked by seq (operation_parts w.steps) parts
 
   pub left_on : AllLonger parts left
-  left_on = accepted_longer by seq (length parts) (look_decisions (operation_parts w.steps)) parts refl (looks_fair (length parts) (operation_parts w.steps) waits.within)
+  left_on = accepted_longer by seq 0 (length parts) (look_decisions (operation_parts w.steps)) parts refl (looks_fair (length parts) (operation_parts w.steps) waits.within)
 
   pub done_satisfied : nat_le w.operation.least (tally w.operation.needs (values_of w.request.ask (shown_in parts w.steps))) ≡ true
       → IsDone config left clock (record call { finish = looks; how = Satisfied 0 })

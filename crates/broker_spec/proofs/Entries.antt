@@ -40,10 +40,10 @@ abbrev pub IsFair : ℕ → Decision → Type 0
 IsFair n (Refuse code) = Unit {0}
 IsFair n (AskLog part outcome) = (part < n) × ((state : PartState) → IsFairOutcome n (outcome state))
 
-pub event_owner : (by seq : ℕ) (entry : Entry) → owner_of (event_of by seq entry) ≡ the_owner by seq
-event_owner by seq (Put count batch) = refl
-event_owner by seq (Followed replica offset) = refl
-event_owner by seq Looked = refl
+pub event_owner : (by seq t : ℕ) (entry : Entry) → owner_of (event_of by seq t entry) ≡ the_owner by seq
+event_owner by seq t (Put count batch) = refl
+event_owner by seq t (Followed replica offset) = refl
+event_owner by seq t Looked = refl
 
 -- the histories with one more entry are whole
 pub set_whole : (parts : List History) (part : ℕ) (h : History) → AllWhole parts → part < length parts → IsWhole h → AllWhole (set parts part h)
@@ -56,30 +56,30 @@ set_whole parts part h whole within w p k e =
     ]
 
 -- the histories go on as what was decided is carried out
-pub accepted_longer : (by seq n : ℕ) (decisions : List Decision) (parts : List History) → length parts ≡ n → AllByRecursion (IsFair n) decisions → AllLonger parts (accept_all by seq decisions parts).1
-accepted_longer by seq n [] parts size fair = all_longer_self parts
-accepted_longer by seq n (Refuse code ∷ decisions) parts size fair = accepted_longer by seq n decisions parts size fair.1
-accepted_longer by seq n (AskLog part outcome ∷ decisions) parts size fair =
+pub accepted_longer : (by seq t n : ℕ) (decisions : List Decision) (parts : List History) → length parts ≡ n → AllByRecursion (IsFair n) decisions → AllLonger parts (accept_all by seq t decisions parts).1
+accepted_longer by seq t n [] parts size fair = all_longer_self parts
+accepted_longer by seq t n (Refuse code ∷ decisions) parts size fair = accepted_longer by seq t n decisions parts size fair.1
+accepted_longer by seq t n (AskLog part outcome ∷ decisions) parts size fair =
     let found = history_at parts part in
     let entry = (outcome (state_of found)).entry in
-    let left = entered found by seq entry in
+    let left = entered found by seq t entry in
     let there : slice_get parts part ≡ Some found = get_there parts part (empty_history 0) (omega (arith, size, fair.0.0)) in
-    all_longer_on parts (set parts part left) (accept_all by seq decisions (set parts part left)).1 (set_longer parts part found left there (entered_longer found by seq entry))
-    (accepted_longer by seq n decisions (set parts part left) (length-set parts part left ∙ size) fair.1)
+    all_longer_on parts (set parts part left) (accept_all by seq t decisions (set parts part left)).1 (set_longer parts part found left there (entered_longer found by seq t entry))
+    (accepted_longer by seq t n decisions (set parts part left) (length-set parts part left ∙ size) fair.1)
 
-pub accepted_size : (by seq n : ℕ) (decisions : List Decision) (parts : List History) → length (accept_all by seq decisions parts).1 ≡ length parts
-accepted_size by seq n [] parts = refl
-accepted_size by seq n (Refuse code ∷ decisions) parts = accepted_size by seq n decisions parts
-accepted_size by seq n (AskLog part outcome ∷ decisions) parts =
+pub accepted_size : (by seq t n : ℕ) (decisions : List Decision) (parts : List History) → length (accept_all by seq t decisions parts).1 ≡ length parts
+accepted_size by seq t n [] parts = refl
+accepted_size by seq t n (Refuse code ∷ decisions) parts = accepted_size by seq t n decisions parts
+accepted_size by seq t n (AskLog part outcome ∷ decisions) parts =
     let found = history_at parts part in
-    let left = entered found by seq (outcome (state_of found)).entry in
-    accepted_size by seq n decisions (set parts part left) ∙ length-set parts part left
+    let left = entered found by seq t (outcome (state_of found)).entry in
+    accepted_size by seq t n decisions (set parts part left) ∙ length-set parts part left
 
 -- what an account shows at an entry
-pub record ShowsEntry (by seq : ℕ) (account : Account) (part : ℕ) (found : History) (entry : Entry) : Type 0 where
+pub record ShowsEntry (by seq t : ℕ) (account : Account) (part : ℕ) (found : History) (entry : Entry) : Type 0 where
   pub before : before_point account (record { part = part; place = length found.events }) ≡ state_of found
-  pub at : at_point account (record { part = part; place = length found.events }) ≡ state_of (entered found by seq entry)
-  pub event : event_at account (record { part = part; place = length found.events }) ≡ Some (event_of by seq entry)
+  pub at : at_point account (record { part = part; place = length found.events }) ≡ state_of (entered found by seq t entry)
+  pub event : event_at account (record { part = part; place = length found.events }) ≡ Some (event_of by seq t entry)
   pub owner : part < 64 → slice_get (owners_of account part) (length found.events) ≡ Some (the_owner by seq)
 
 slice_map : (es : List PartEvent) (k : ℕ) (e : PartEvent) → slice_get es k ≡ Some e → slice_get (map owner_of es) k ≡ Some (owner_of e)
@@ -87,43 +87,43 @@ slice_map [] k e is = absurd cc
 slice_map (x ∷ es) zero e is = ap (λ (y : PartEvent). Some (owner_of y)) (some_is x e is)
 slice_map (x ∷ es) (suc k) e is = slice_map es k e is
 
-pub shows_entry : (by seq : ℕ) (account : Account) (part : ℕ) (found : History) (entry : Entry) (pa : PartAccount) → IsWhole found → IsSized entry → slice_get account.parts part ≡ Some pa
-    → Longer (entered found by seq entry) (history_of pa) → ShowsEntry by seq account part found entry
-shows_entry by seq account part found entry pa whole sized there longer =
+pub shows_entry : (by seq t : ℕ) (account : Account) (part : ℕ) (found : History) (entry : Entry) (pa : PartAccount) → IsWhole found → IsSized entry → slice_get account.parts part ≡ Some pa
+    → Longer (entered found by seq t entry) (history_of pa) → ShowsEntry by seq t account part found entry
+shows_entry by seq t account part found entry pa whole sized there longer =
     let n = length found.events in
-    let event = event_of by seq entry in
+    let event = event_of by seq t entry in
     let events : pa.events ≡ found.events ++ event ∷ longer.more =
-    longer.events ∙ ap (λ (es : List PartEvent). es ++ longer.more) (entered_events found by seq entry) ∙ append_assoc found.events (event ∷ []) longer.more in
+    longer.events ∙ ap (λ (es : List PartEvent). es ++ longer.more) (entered_events found by seq t entry) ∙ append_assoc found.events (event ∷ []) longer.more in
     let here : slice_get pa.events n ≡ Some event = ap (λ (es : List PartEvent). slice_get es n) events ∙ get_seam found.events longer.more event in
     record {
-      before = ap (λ (o : Option PartAccount). before_in o n) there ∙ before_kept found (history_of pa) whole (longer_on found (entered found by seq entry) (history_of pa) (entered_longer found by seq entry) longer);
-      at = ap (λ (o : Option PartAccount). at_in o n) there ∙ at_kept found (history_of pa) by seq entry whole sized longer;
+      before = ap (λ (o : Option PartAccount). before_in o n) there ∙ before_kept found (history_of pa) whole (longer_on found (entered found by seq t entry) (history_of pa) (entered_longer found by seq t entry) longer);
+      at = ap (λ (o : Option PartAccount). at_in o n) there ∙ at_kept found (history_of pa) by seq t entry whole sized longer;
       event = ap (λ (o : Option PartAccount). event_in o n) there ∙ here;
       owner = λ lt.
           let no : eqb part 64 ≡ false = ne_eqb part 64 (λ e. omega (arith, lt, e)) in
-          rw (no, there) (slice_map pa.events n event here ∙ ap Some (event_owner by seq entry));
+          rw (no, there) (slice_map pa.events n event here ∙ ap Some (event_owner by seq t entry));
     }
 
-pub is_entry : (by seq : ℕ) (account : Account) (part : ℕ) (found : History) (entry : Entry) → IsWhole found → IsSized entry → ShowsEntry by seq account part found entry
+pub is_entry : (by seq t : ℕ) (account : Account) (part : ℕ) (found : History) (entry : Entry) → IsWhole found → IsSized entry → ShowsEntry by seq t account part found entry
     → IsEntry account (record { part = part; place = length found.events }) entry
-is_entry by seq account part found (Put count batch) whole sized s =
+is_entry by seq t account part found (Put count batch) whole sized s =
     let before = λ (state : PartState). state.batches ++ record { base = state.log_end; count = count; bytes = stamped state.log_end batch } ∷ [] in
-    ap (λ (state : PartState). state.batches) s.at ∙ put_batches found by seq count batch whole sized ∙ ap before (sym s.before)
-is_entry by seq account part found (Followed replica offset) whole sized s = (by, seq, s.event)
-is_entry by seq account part found Looked whole sized s = (by, seq, s.event)
+    ap (λ (state : PartState). state.batches) s.at ∙ put_batches found by seq t count batch whole sized ∙ ap before (sym s.before)
+is_entry by seq t account part found (Followed replica offset) whole sized s = (by, seq, t, s.event)
+is_entry by seq t account part found Looked whole sized s = (by, seq, s.event)
 
 -- The log of one partition was asked, whatever others did: what an account shows of it.
-pub record ShowsStep (by seq : ℕ) (account : Account) (part : ℕ) (outcome : PartState → Outcome) (found : History) : Type 0 where
+pub record ShowsStep (by seq t : ℕ) (account : Account) (part : ℕ) (outcome : PartState → Outcome) (found : History) : Type 0 where
   pub step : IsStep account (AskLog part outcome) (record { result = (outcome (state_of found)).result; point = Some (record { part = part; place = length found.events }) })
   pub owned : slice_get (owners_of account part) (length found.events) ≡ Some (the_owner by seq)
-  pub shown : at_point account (record { part = part; place = length found.events }) ≡ state_of (entered found by seq (outcome (state_of found)).entry)
+  pub shown : at_point account (record { part = part; place = length found.events }) ≡ state_of (entered found by seq t (outcome (state_of found)).entry)
 
 -- every account shows it whose part of this number goes on from there
-pub part_shows : (by seq : ℕ) (account : Account) (part : ℕ) (outcome : PartState → Outcome) (found : History) (pa : PartAccount) → part < 64 → IsWhole found → IsSized (outcome (state_of found)).entry
-    → slice_get account.parts part ≡ Some pa → Longer (entered found by seq (outcome (state_of found)).entry) (history_of pa) → ShowsStep by seq account part outcome found
-part_shows by seq account part outcome found pa lt whole sized there longer =
+pub part_shows : (by seq t : ℕ) (account : Account) (part : ℕ) (outcome : PartState → Outcome) (found : History) (pa : PartAccount) → part < 64 → IsWhole found → IsSized (outcome (state_of found)).entry
+    → slice_get account.parts part ≡ Some pa → Longer (entered found by seq t (outcome (state_of found)).entry) (history_of pa) → ShowsStep by seq t account part outcome found
+part_shows by seq t account part outcome found pa lt whole sized there longer =
     let entry = (outcome (state_of found)).entry in
-    let s = shows_entry by seq account part found entry pa whole sized there longer in
+    let s = shows_entry by seq t account part found entry pa whole sized there longer in
     let point : Point = record { part = part; place = length found.events } in
     record {
       step = record {
@@ -131,7 +131,7 @@ part_shows by seq account part outcome found pa lt whole sized there longer =
         left = refl;
         there = refl;
         result = ap (λ (state : PartState). (outcome state).result) (sym s.before);
-        entry = subst (λ (state : PartState). IsEntry account point (outcome state).entry) (sym s.before) (is_entry by seq account part found entry whole sized s);
+        entry = subst (λ (state : PartState). IsEntry account point (outcome state).entry) (sym s.before) (is_entry by seq t account part found entry whole sized s);
       };
       owned = s.owner lt;
       shown = s.at;
@@ -143,29 +143,29 @@ pub record ShowsAccepted (by seq : ℕ) (account : Account) (decisions : List De
   pub shown : shown_as_accepted account (steps_of noted) ≡ shown_of noted
   pub owned : AllByRecursion (λ point. slice_get (owners_of account point.part) point.place ≡ Some (the_owner by seq)) (step_points (steps_of noted))
 
-pub accepted_shows : (by seq n : ℕ) (decisions : List Decision) (parts : List History) (account : Account) → length parts ≡ n → n ≤ 64 → AllWhole parts → AllByRecursion (IsFair n) decisions
-    → Follows account (accept_all by seq decisions parts).1 → ShowsAccepted by seq account decisions (accept_all by seq decisions parts).0
-accepted_shows by seq n [] parts account size few whole fair follows = record { steps = tt; shown = refl; owned = tt }
-accepted_shows by seq n (Refuse code ∷ decisions) parts account size few whole fair follows =
-    let rest = accepted_shows by seq n decisions parts account size few whole fair.1 follows in
+pub accepted_shows : (by seq t n : ℕ) (decisions : List Decision) (parts : List History) (account : Account) → length parts ≡ n → n ≤ 64 → AllWhole parts → AllByRecursion (IsFair n) decisions
+    → Follows account (accept_all by seq t decisions parts).1 → ShowsAccepted by seq account decisions (accept_all by seq t decisions parts).0
+accepted_shows by seq t n [] parts account size few whole fair follows = record { steps = tt; shown = refl; owned = tt }
+accepted_shows by seq t n (Refuse code ∷ decisions) parts account size few whole fair follows =
+    let rest = accepted_shows by seq t n decisions parts account size few whole fair.1 follows in
     record { steps = (refl, rest.steps); shown = ap (λ (s : List Shown). record { result = Refused code; state = no_state } ∷ s) rest.shown; owned = rest.owned }
-accepted_shows by seq n (AskLog part outcome ∷ decisions) parts account size few whole fair follows =
+accepted_shows by seq t n (AskLog part outcome ∷ decisions) parts account size few whole fair follows =
     let found = history_at parts part in
     let came = outcome (state_of found) in
-    let left = entered found by seq came.entry in
+    let left = entered found by seq t came.entry in
     let within : part < length parts = omega (arith, size, fair.0.0) in
     let found_whole : IsWhole found = whole part found (get_there parts part (empty_history 0) within) in
     let sized : IsSized came.entry = (fair.0.1 (state_of found)).0 in
     let parts1 = set parts part left in
     let size1 : length parts1 ≡ n = length-set parts part left ∙ size in
-    let whole1 : AllWhole parts1 = set_whole parts part left whole within (entered_whole found by seq came.entry found_whole sized) in
-    let rest = accepted_shows by seq n decisions parts1 account size1 few whole1 fair.1 follows in
-    let later = accepted_longer by seq n decisions parts1 size1 fair.1 part left (get_set_same parts part left within) in
+    let whole1 : AllWhole parts1 = set_whole parts part left whole within (entered_whole found by seq t came.entry found_whole sized) in
+    let rest = accepted_shows by seq t n decisions parts1 account size1 few whole1 fair.1 follows in
+    let later = accepted_longer by seq t n decisions parts1 size1 fair.1 part left (get_set_same parts part left within) in
     let kept = follows part later.0 later.1 in
-    let s = part_shows by seq account part outcome found kept.0 (omega (arith, size, few, fair.0.0)) found_whole sized kept.1 (longer_on left later.0 (history_of kept.0) later.2 kept.2) in
+    let s = part_shows by seq t account part outcome found kept.0 (omega (arith, size, few, fair.0.0)) found_whole sized kept.1 (longer_on left later.0 (history_of kept.0) later.2 kept.2) in
     record {
       steps = (s.step, rest.steps);
-      shown = ap (λ (state : PartState). record { result = came.result; state = state } ∷ shown_as_accepted account (steps_of (accept_all by seq decisions parts1).0)) s.shown
+      shown = ap (λ (state : PartState). record { result = came.result; state = state } ∷ shown_as_accepted account (steps_of (accept_all by seq t decisions parts1).0)) s.shown
           ∙ ap (λ (ss : List Shown). record { result = came.result; state = state_of left } ∷ ss) rest.shown;
       owned = (s.owned, rest.owned);
     }
@@ -176,14 +176,14 @@ set_same {Y = Y} f (z ∷ xs) zero x y there same = ap (λ (v : Y). v ∷ map f 
 set_same {Y = Y} f (z ∷ xs) (suc i) x y there same = ap (λ (vs : List Y). f z ∷ vs) (set_same f xs i x y there same)
 
 -- the numbers of followers stay
-pub accepted_followers : (by seq n : ℕ) (decisions : List Decision) (parts : List History) → length parts ≡ n → AllByRecursion (IsFair n) decisions
-    → map (λ h. h.followers) (accept_all by seq decisions parts).1 ≡ map (λ h. h.followers) parts
-accepted_followers by seq n [] parts size fair = refl
-accepted_followers by seq n (Refuse code ∷ decisions) parts size fair = accepted_followers by seq n decisions parts size fair.1
-accepted_followers by seq n (AskLog part outcome ∷ decisions) parts size fair =
+pub accepted_followers : (by seq t n : ℕ) (decisions : List Decision) (parts : List History) → length parts ≡ n → AllByRecursion (IsFair n) decisions
+    → map (λ h. h.followers) (accept_all by seq t decisions parts).1 ≡ map (λ h. h.followers) parts
+accepted_followers by seq t n [] parts size fair = refl
+accepted_followers by seq t n (Refuse code ∷ decisions) parts size fair = accepted_followers by seq t n decisions parts size fair.1
+accepted_followers by seq t n (AskLog part outcome ∷ decisions) parts size fair =
     let found = history_at parts part in
     let entry = (outcome (state_of found)).entry in
-    let left = entered found by seq entry in
+    let left = entered found by seq t entry in
     let there : slice_get parts part ≡ Some found = get_there parts part (empty_history 0) (omega (arith, size, fair.0.0)) in
-    accepted_followers by seq n decisions (set parts part left) (length-set parts part left ∙ size) fair.1
-    ∙ set_same (λ (h : History). h.followers) parts part found left there (entered_followers found by seq entry)
+    accepted_followers by seq t n decisions (set parts part left) (length-set parts part left ∙ size) fair.1
+    ∙ set_same (λ (h : History). h.followers) parts part found left there (entered_followers found by seq t entry)

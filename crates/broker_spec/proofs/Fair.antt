@@ -18,8 +18,8 @@ use Rattle.kwire.specs.declared.request.Ask.TheVariants.{Produce, Fetch, Metadat
 use Rattle.kwire.specs.declared.request.ProducePart.{ProducePart}
 use Rattle.kwire.specs.declared.request.FetchPart.{FetchPart}
 use Rattle.kanswer.specs.declared.accepted.Accepted.TheVariants.{Refused, Appended, Seen}
-use Rattle.kwire.specs.Configuration.{Configuration, partitions_of, followers_of, part_from, part_of}
-use Rattle.kanswer.specs.Decisions.{Entry, Put, Followed, Looked, Decision, Refuse, Decides, ProduceDecides, BatchDecides, append_outcome, full_code, fetch_decision, fetch_outcome, in_range_outcome, offset_of, look, code_of, produce_parts, fetch_parts, is_acks}
+use Rattle.kwire.specs.Configuration.{Configuration, min_insync_at, partitions_of, followers_of, part_from, part_of}
+use Rattle.kanswer.specs.Decisions.{Entry, Put, Followed, Looked, Decision, Refuse, Decides, ProduceDecides, BatchDecides, append_outcome, full_code, needed_insync, fetch_decision, fetch_outcome, in_range_outcome, offset_of, look, code_of, produce_parts, fetch_parts, is_acks}
 use Rattle.kanswer.proofs.Laws.{batch_sized}
 use Rattle.kbytes.proofs.Laws.{some_is}
 use Rattle.broker_spec.proofs.Cases.{either_way}
@@ -55,9 +55,10 @@ followers_size (topic ∷ topics) =
 pub parts_size : (topics : List Topic) (parts : List History) → map (λ (h : History). h.followers) parts ≡ followers_of topics → length parts ≡ partitions_of topics
 parts_size topics parts e = sym (length-map parts (λ (h : History). h.followers)) ∙ ap length e ∙ followers_size topics
 
-append_fair : (version : ℤ) (n part count : ℕ) (batch : List ℕ) → part < n → ((base : ℕ) → length (stamped base batch) ≡ length batch) → (state : PartState) → IsFairOutcome n (append_outcome version part count batch state)
-append_fair version n part count batch within sized state =
-    either_way (IsFairOutcome n) (nat_lt 67108864 ((gauges_of state).bytes + length batch)) (look (Refused (full_code version))) (record { result = Appended part state.log_end count; entry = Put count batch }) (tt, tt) (sized, within)
+append_fair : (version : ℤ) (least n part count : ℕ) (batch : List ℕ) → part < n → ((base : ℕ) → length (stamped base batch) ≡ length batch) → (state : PartState) → IsFairOutcome n (append_outcome version least part count batch state)
+append_fair version least n part count batch within sized state =
+    either_way (IsFairOutcome n) (nat_lt state.insync least) (look (Refused (pos 19))) _ (tt, tt)
+    (either_way (IsFairOutcome n) (nat_lt 67108864 ((gauges_of state).bytes + length batch)) (look (Refused (full_code version))) (record { result = Appended part state.log_end count; entry = Put count batch }) (tt, tt) (sized, within))
 
 fair_refusal : (n : ℕ) (decision : Decision) (code : ℤ) → decision ≡ Refuse code → IsFair n decision
 fair_refusal n decision code e = subst (IsFair n) (sym e) tt
@@ -78,26 +79,26 @@ fetch_fair config replica named None n within = tt
 fetch_fair config replica named (Some part) n within =
     (within part refl, outcome_fair n (slice_index (followers_of config.topics) part) replica named.1 part (within part refl))
 
-batch_fair : (version : ℤ) (part n : ℕ) (bytes : List ℕ) (decision : Decision) → part < n → BatchDecides version part bytes decision → IsFair n decision
-batch_fair version part n bytes decision within d =
+batch_fair : (version : ℤ) (least part n : ℕ) (bytes : List ℕ) (decision : Decision) → part < n → BatchDecides version least part bytes decision → IsFair n decision
+batch_fair version least part n bytes decision within d =
     elim d [
       | inl fault ↦ fair_refusal n decision (code_of fault.0) fault.2
-      | inr batch ↦ subst (IsFair n) (sym batch.2) (within, append_fair version n part (length batch.0) bytes within (batch_sized bytes batch.0 batch.1))
+      | inr batch ↦ subst (IsFair n) (sym batch.2) (within, append_fair version least n part (length batch.0) bytes within (batch_sized bytes batch.0 batch.1))
     ]
 
-acks_fair : (version : ℤ) (b : Bool) (part n : ℕ) (bytes : List ℕ) (decision : Decision) → part < n → MatchBool b (BatchDecides version part bytes decision) (decision ≡ Refuse (pos 21)) → IsFair n decision
-acks_fair version true part n bytes decision within d = batch_fair version part n bytes decision within d
-acks_fair version false part n bytes decision within d = fair_refusal n decision (pos 21) d
+acks_fair : (version : ℤ) (b : Bool) (least part n : ℕ) (bytes : List ℕ) (decision : Decision) → part < n → MatchBool b (BatchDecides version least part bytes decision) (decision ≡ Refuse (pos 21)) → IsFair n decision
+acks_fair version true least part n bytes decision within d = batch_fair version least part n bytes decision within d
+acks_fair version false least part n bytes decision within d = fair_refusal n decision (pos 21) d
 
-part_fair : (version : ℤ) (o : Option ℕ) (b : Bool) (n : ℕ) (bytes : List ℕ) (decision : Decision) → ((part : ℕ) → o ≡ Some part → part < n)
-    → MatchOption o (decision ≡ Refuse (pos 3)) (λ part. MatchBool b (BatchDecides version part bytes decision) (decision ≡ Refuse (pos 21))) → IsFair n decision
-part_fair version None b n bytes decision within d = fair_refusal n decision (pos 3) d
-part_fair version (Some part) b n bytes decision within d = acks_fair version b part n bytes decision (within part refl) d
+part_fair : (version : ℤ) (least : ℕ → ℕ) (o : Option ℕ) (b : Bool) (n : ℕ) (bytes : List ℕ) (decision : Decision) → ((part : ℕ) → o ≡ Some part → part < n)
+    → MatchOption o (decision ≡ Refuse (pos 3)) (λ part. MatchBool b (BatchDecides version (least part) part bytes decision) (decision ≡ Refuse (pos 21))) → IsFair n decision
+part_fair version least None b n bytes decision within d = fair_refusal n decision (pos 3) d
+part_fair version least (Some part) b n bytes decision within d = acks_fair version b (least part) part n bytes decision (within part refl) d
 
 pub produce_fair : (version : ℤ) (config : Configuration) (transactional : Option (List ℕ)) (acks : ℤ) (named : List ℕ × ProducePart) (decision : Decision) (n : ℕ)
     → ((part : ℕ) → part_of config named.0 named.1.index ≡ Some part → part < n) → ProduceDecides config version transactional acks named decision → IsFair n decision
 produce_fair version config (Some id) acks named decision n within d = fair_refusal n decision (pos 42) d
-produce_fair version config None acks named decision n within d = part_fair version (part_of config named.0 named.1.index) (is_acks acks) n (unwrap_or named.1.records []) decision within d
+produce_fair version config None acks named decision n within d = part_fair version (λ part. needed_insync acks (min_insync_at config.topics part)) (part_of config named.0 named.1.index) (is_acks acks) n (unwrap_or named.1.records []) decision within d
 
 all_zip_fair : (version : ℤ) (config : Configuration) (transactional : Option (List ℕ)) (acks : ℤ) (named : List (List ℕ × ProducePart)) (decisions : List Decision) (n : ℕ)
     → ((name : List ℕ) (index : ℤ) (part : ℕ) → part_of config name index ≡ Some part → part < n) → AllZip (ProduceDecides config version transactional acks) named decisions → AllByRecursion (IsFair n) decisions

@@ -31,7 +31,7 @@ use Rattle.trace_file.specs.Contents.{bytes_in, names, shuts, input_of, is_named
 use Rattle.broker_spec.specs.Acting.{is_there, shows_work}
 use Rattle.broker_spec.specs.Board.{Board, Seat, empty_seat, new_transcript, seat_at, transcript_at, opening}
 use Rattle.broker_spec.specs.Completing.{finish_last}
-use Rattle.broker_spec.specs.Play.{brought}
+use Rattle.broker_spec.specs.Play.{brought, ticked}
 use Rattle.broker_spec.specs.Turns.{seat_with}
 use Rattle.broker_spec.proofs.Cases.{neither, no_end}
 use Rattle.broker_spec.proofs.Playing.{empty_there, ticks_more}
@@ -354,8 +354,10 @@ fed_line fed board (Feed session bytes) h may = let n = may.named session (eq-eq
 fed_line fed board (Shut session) h may = let n = may.named session (eq-eqb session session refl) in fed_shut fed board session h n.0 n.1
 fed_line fed board (Clock t) h may = by_test (nat_lt (moment_of board.clock) t) refl
   where
-    by_test : (b : Bool) → nat_lt (moment_of board.clock) t ≡ b → IsFedBy (fed ++ Clock t ∷ []) (cond b (record board { clock = board.clock ++ clocks.Tick t ∷ [] }) board)
-    by_test true is = fed_same fed board (Clock t) (board.clock ++ clocks.Tick t ∷ []) (λ s. refl) (λ s. refl) (λ s. refl) (ticks_told fed board.clock t is h.ticks) h
+    by_test : (b : Bool) → nat_lt (moment_of board.clock) t ≡ b → IsFedBy (fed ++ Clock t ∷ []) (cond b (ticked board t) board)
+    by_test true is =
+        let told = fed_same fed board (Clock t) (board.clock ++ clocks.Tick t ∷ []) (λ s. refl) (λ s. refl) (λ s. refl) (ticks_told fed board.clock t is h.ticks) h in
+        record { size = told.size; ticks = told.ticks; few = told.few; seats = told.seats }
     by_test false is = fed_same fed board (Clock t) board.clock (λ s. refl) (λ s. refl) (λ s. refl) (ticks_same fed board.clock t is h.ticks) h
 fed_line fed board End h may = fed_same fed board End board.clock (λ s. refl) (λ s. refl) (λ s. refl) (ticks_line fed board.clock End (λ m more. refl) h.ticks) h
 

@@ -1,5 +1,5 @@
 -- The account of a sound board is lawful, where nothing that waits is answerable.
-use Rattle.std.proofs.Common.{◌≡◌, ℕ, zero, suc, ◌+◌, ◌≤◌, ◌⊎◌, Bool, false, cond, eqb, List, [], ◌∷◌, ◌++◌, map, Option, Some, None, unwrap_or, refl, sym, ap, subst, ◌∙◌, arith, inl, inr, append-nil}
+use Rattle.std.proofs.Common.{◌≡◌, ℕ, zero, suc, ◌+◌, ◌≤◌, ◌⊎◌, Bool, false, cond, eqb, List, [], ◌∷◌, ◌++◌, map, take, Contains, ℤ, Option, Some, None, unwrap_or, refl, sym, ap, subst, ◌∙◌, arith, inl, inr, append-nil}
 use Rattle.std.proofs.lemmas.Bool.{ne_eqb, le-leb}
 use Rattle.std.proofs.lemmas.List.Sums.{sum_by-cons}
 use Rattle.std.proofs.lemmas.Option.{slice_get-map}
@@ -7,6 +7,8 @@ use Rattle.std.specs.Prelude.{slice_get, count_by, option_to_list, nat_le}
 use Rattle.std.specs.List.{AllByRecursion, flat_map}
 use Rattle.std.specs.List.Sorted.{IsStrictlyIncreasing}
 use Rattle.std.specs.Option.{option_map}
+use Rattle.partlog.specs.declared.event.PartEvent.{PartEvent}
+use Rattle.partlog.specs.declared.event.PartEvent.TheVariants.{Follow, Shrink}
 use Rattle.partlog.specs.History.{History}
 use Rattle.partlog.specs.Moment.{moment_of}
 use Rattle.partlog.specs.State.{PartState, state_of}
@@ -17,7 +19,7 @@ use Rattle.audit.specs.declared.account.CallHow.{CallHow}
 use Rattle.audit.specs.declared.account.CallHow.TheVariants.{Quiet, AtOnce, Satisfied, Expired, Parked, Cut}
 use Rattle.audit.specs.declared.account.SessionEnd.{SessionEnd}
 use Rattle.audit.specs.declared.account.Point.{Point}
-use Rattle.audit.specs.Histories.{Owner, clock_owner_of, owners_of, owners_in, points_of, calls_in, calls_of, call_of, all_calls, final_in}
+use Rattle.audit.specs.Histories.{HadLagged, Owner, clock_owner_of, event_at, event_in, owners_of, owners_in, points_of, calls_in, calls_of, call_of, all_calls, final_in, ticks_of}
 use Rattle.audit.specs.LawfulCall.{Step, IsLawfulCall, Completes, final_of, part_in, shown_at_last, operation_in}
 use Rattle.audit.specs.IsLawful.{IsLawful, IsWholeLog, places_in, is_point, is_won_by, is_won_as, EndsAs, EndWell, FollowOn}
 use Rattle.kbytes.proofs.Laws.{some_is, all_append}
@@ -35,6 +37,7 @@ use Rattle.broker_spec.proofs.Calls.{IsOver}
 use Rattle.broker_spec.proofs.Accepting.{shown_in}
 use Rattle.broker_spec.proofs.Boards.{IsDone, IsWaiting, AreDone, Stand, IsSound, waiting_of}
 use Rattle.broker_spec.proofs.Ledger.{push_get}
+use Rattle.broker_spec.proofs.Timely.{events_at, events_of_part}
 
 -- ---- lists
 
@@ -235,6 +238,31 @@ module _ (board : Board) (h : IsSound board) where
   points_owned pass seq call e =
       all_same pass seq (points_of call) (h.sound.kept.points pass seq (points_of call) (map_get points_of (transcript_at board pass).calls seq call (call_from pass seq call e)))
 
+  -- an entry of the account is one of the histories
+  event_here : (part place : ℕ) (event : PartEvent) → event_at (account_of board) (record { part = part; place = place }) ≡ Some event
+      → (k : History) × (slice_get board.parts part ≡ Some k) × (slice_get k.events place ≡ Some event)
+  event_here part place event e = by_parts board.parts part e
+    where
+      by_parts : (parts : List History) (p : ℕ) → event_in (slice_get (map part_account parts) p) place ≡ Some event → (k : History) × (slice_get parts p ≡ Some k) × (slice_get k.events place ≡ Some event)
+      by_parts [] p at = absurd cc
+      by_parts (k ∷ parts) zero at = (k, refl, at)
+      by_parts (k ∷ parts) (suc p) at = by_parts parts p at
+
+  entry_here : (part place : ℕ) (event : PartEvent) → event_at (account_of board) (record { part = part; place = place }) ≡ Some event → slice_get (events_at board.parts part) place ≡ Some event
+  entry_here part place event e =
+      let found = event_here part place event e in
+      ap (λ (es : List PartEvent). slice_get es place) (events_of_part board.parts part found.0 found.1) ∙ found.2
+
+  -- whoever was taken out lagged then, and the moment was told
+  left_late : (part place by t : ℕ) (replica : ℤ) → event_at (account_of board) (record { part = part; place = place }) ≡ Some (Shrink by replica t)
+      → HadLagged (slice_get (account_of board).parts part) place t replica × Contains (ticks_of board.clock) t
+  left_late part place by t replica e =
+      let found = event_here part place (Shrink by replica t) e in
+      (
+        subst (λ (o : Option PartAccount). HadLagged o place t replica) (sym (parts_get part found.0 found.1)) (h.sound.late part found.0 found.1 place by t replica found.2),
+        (h.sound.timely by).shrinks part place t replica (entry_here part place (Shrink by replica t) e),
+      )
+
   the_order : (pass part : ℕ) → IsStrictlyIncreasing (places_in part (flat_map points_of (calls_of (account_of board) pass)))
   the_order pass part =
       subst (λ (cs : List Call). IsStrictlyIncreasing (places_in part (flat_map points_of cs))) (sym (calls_at board pass))
@@ -283,7 +311,16 @@ module _ (board : Board) (h : IsSound board) where
 
   pub board_lawful : ((s : ℕ) → Still board s) → IsLawful (account_of board)
   board_lawful rests = record {
-    entries = record { left = entry_left; points = points_owned; ticks = h.sound.histories.ticks };
+    entries = record {
+      left = entry_left;
+      points = points_owned;
+      ticks = h.sound.histories.ticks;
+      shrinks = left_late;
+      follows = λ part place by seq offset t replica e. (h.sound.timely by).told part place seq offset t replica (entry_here part place (Follow by seq replica offset t) e);
+      earlier = λ part place by seq offset t replica e before call lt there.
+          (h.sound.timely by).late part place seq offset t replica (entry_here part place (Follow by seq replica offset t) e) before (points_of call) lt
+          (map_get points_of (transcript_at board by).calls before call (call_from by before call there));
+    };
     order = the_order;
     logs = record { followers = followers_map board.parts ∙ h.sound.histories.followers; whole = whole_logs board.parts h.sound.histories.whole };
     calls = λ pass seq call e. stands_lawful pass seq call (waiting_of board.waiting pass) (rests pass) (h.sound.sessions pass).stand (call_from pass seq call e);

@@ -25,8 +25,16 @@ pub use Rattle.broker_spec.proofs.Playing.{ticks_rise}
 -- what an account shows of histories that its parts are read off
 pub use Rattle.broker_spec.proofs.Lawful.{flat_points, followers_map, last_state, owned_here, whole_logs}
 -- who left the entries, as one more comes, or all of a request
-pub use Rattle.broker_spec.proofs.Ledger.{IsKept, put, put_same, put_other, kept_nobodys, kept_entry, kept_begun, kept_alike}
-pub use Rattle.broker_spec.proofs.Accepting.{owners_clock, owners_part, kept_part, kept_look, kept_tick, kept_accepted, accepted_within, look_decisions, look_points, looked, looks_points, looks_parts, looks_fair, looks_states, shown_in, shown_alike, looks_look, looks_shown}
+pub use Rattle.broker_spec.proofs.Ledger.{IsKept, put, put_same, put_other, HasNobodysMore, kept_grown, kept_entry, kept_begun, kept_alike}
+pub use Rattle.broker_spec.proofs.Accepting.{owners_clock, owners_part, kept_part, kept_look, kept_accepted, accepted_within, look_decisions, look_points, looked, looks_points, looks_parts, looks_fair, looks_states, shown_in, shown_alike, looks_look, looks_shown}
+-- what a pass's entries have to do with the clock: entry by entry, and as histories and the clock go on by others' entries, by those of
+-- its calls at the clock's moment, by a look, a tick, or leaves at a moment that was told
+pub use Rattle.broker_spec.proofs.Timely.{AreSeen, FollowsBelow, IsTimelyEvent, NewEvents, entry_timely, event_on, events_of_part, events_there, follows_below, moment_before, moment_grows, moment_told, none_later, others_timely, owner_there, rows_seen, set_new, tick_stays, tick_told, ticks_append, timely_begun, timely_clock, timely_entered, timely_event, timely_events, timely_more, timely_others, timely_rows, timely_shrunk, told_stays, was_there}
+pub use Rattle.broker_spec.proofs.NewEntries.{IsLeft, LeavesOnly, accepted_new, accepted_timely, looks_timely}
+-- whoever was taken out lagged then, as histories go on
+pub use Rattle.broker_spec.proofs.Late.{AllLate, TakesNobody, entry_takes, late_more}
+-- all who lagged left
+pub use Rattle.broker_spec.proofs.Playing.{shrunk_longer, shrunk_new, shrunk_whole}
 -- ---- calls
 
 -- accepted and answered at once, waiting, satisfied and expired

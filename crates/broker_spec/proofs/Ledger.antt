@@ -138,13 +138,32 @@ module _ (owners owners1 : ℕ → List (Option Owner)) (p : ℕ) (o : Option Ow
   pub still_owned : (by seq : ℕ) (points : List Point) → AllByRecursion (IsOwned owners by seq) points → AllByRecursion (IsOwned owners1 by seq) points
   still_owned by seq points owned = all_on (IsOwned owners by seq) (IsOwned owners1 by seq) (λ point e. still point.part point.place (the_owner by seq) e) points owned
 
-  -- that of nobody
-  pub kept_nobodys : (ledger : ℕ → List (List Point)) → o ≡ None → IsKept owners ledger → IsKept owners1 ledger
-  kept_nobodys ledger none kept = record {
-    left = λ q k by seq e. elim (was_or_new q k (the_owner by seq) e) [ inl old ↦ kept.left q k by seq old | inr new ↦ absurd (no_owner by seq (new.2 ∙ none)) ];
-    points = λ by seq points e. still_owned by seq points (kept.points by seq points e);
-    order = kept.order;
-  }
+-- ---- nobody's entries came, in all histories
+
+-- these owners, and then nobody's
+abbrev pub HasNobodysMore : List (Option Owner) → List (Option Owner) → Type 0
+HasNobodysMore os later = (more : List (Option Owner)) × (later ≡ os ++ more) × AllByRecursion (λ o. o ≡ None) more
+
+nobodys_at : (more : List (Option Owner)) (k by seq : ℕ) → AllByRecursion (λ o. o ≡ None) more → slice_get more k ≡ Some (the_owner by seq) → ⊥
+nobodys_at [] k by seq none e = absurd cc
+nobodys_at (o ∷ more) zero by seq none e = no_owner by seq (sym (some_is o (the_owner by seq) e) ∙ none.0)
+nobodys_at (o ∷ more) (suc k) by seq none e = nobodys_at more k by seq none.1 e
+
+owned_before : (os more : List (Option Owner)) (k by seq : ℕ) → AllByRecursion (λ o. o ≡ None) more → slice_get (os ++ more) k ≡ Some (the_owner by seq) → slice_get os k ≡ Some (the_owner by seq)
+owned_before [] more k by seq none e = absurd (nobodys_at more k by seq none e)
+owned_before (o ∷ os) more zero by seq none e = e
+owned_before (o ∷ os) more (suc k) by seq none e = owned_before os more k by seq none e
+
+pub kept_grown : (owners owners1 : ℕ → List (Option Owner)) (ledger : ℕ → List (List Point)) → ((q : ℕ) → HasNobodysMore (owners q) (owners1 q)) → IsKept owners ledger → IsKept owners1 ledger
+kept_grown owners owners1 ledger grown kept = record {
+  left = λ q k by seq e.
+      let g = grown q in
+      kept.left q k by seq (owned_before (owners q) g.0 k by seq g.2 (sym (ap (λ (os : List (Option Owner)). slice_get os k) g.1) ∙ e));
+  points = λ by seq points e. all_on (IsOwned owners by seq) (IsOwned owners1 by seq) (λ point owned.
+      let g = grown point.part in
+      ap (λ (os : List (Option Owner)). slice_get os point.place) g.1 ∙ get_front (owners point.part) g.0 point.place (the_owner by seq) owned) points (kept.points by seq points e);
+  order = kept.order;
+}
 
 -- ---- it is one of the last call of its pass
 

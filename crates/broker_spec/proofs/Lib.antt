@@ -16,6 +16,12 @@ mod Going
 mod Ledger
 -- a request is accepted, or completed by looks
 mod Accepting
+-- what a pass's entries have to do with the clock, as histories go on
+mod Timely
+-- whoever was taken out lagged then
+mod Late
+-- the entries that a request leaves
+mod NewEntries
 -- what holds of a call in every account that goes on
 mod Calls
 -- what holds of a board as one session changes

@@ -86,7 +86,7 @@ at_once_keeps board session body request came = refl
 
 handled_keeps : (board : Board) (session : ℕ) (body : List ℕ) (request : Request) (decisions : List Decision) → Keeps board.config (handled board session body request decisions)
 handled_keeps board session body request decisions =
-    let came = accept_all session (next_call board session) decisions board.parts in
+    let came = accept_all session (next_call board session) (moment_of board.clock) decisions board.parts in
     either_way (Keeps board.config) (becomes_delayed request.ask (shown_of came.0)) (left_waiting board session body request came) (answered_at_once board session body request came)
     (waiting_keeps board session body request came) (at_once_keeps board session body request came)
 

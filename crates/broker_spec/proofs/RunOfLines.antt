@@ -10,6 +10,7 @@ use Rattle.std.specs.Prelude.{slice_get, option_to_list, ◌==◌}
 use Rattle.std.specs.List.{AllByRecursion, AllPairs, find, flat_map, list_any, range_with_len}
 use Rattle.kbytes.specs.Octets.{IsBytes}
 use Rattle.partlog.specs.declared.clock_event.ClockEvent.TheVariants as clocks
+use Rattle.partlog.specs.Moment.{moment_of}
 use Rattle.audit.specs.declared.account.Account.{Account}
 use Rattle.audit.specs.declared.account.Transcript.{Transcript}
 use Rattle.audit.specs.declared.account.Call.{Call}
@@ -186,7 +187,7 @@ module _ (fed : List Line) (board : Board) (s : ℕ) (h : IsFedBy fed board) (se
 
   calls_fed : (body : List ℕ) (request : Request) (decisions : List Decision) → IsFrameBody body → inbox ≡ framed body ++ drop (4 + length body) inbox → IsFedBy fed (handled board s body request decisions).board
   calls_fed body request decisions small front =
-      let came = accept_all s (next_call board s) decisions board.parts in
+      let came = accept_all s (next_call board s) (moment_of board.clock) decisions board.parts in
       let seq = next_call board s in
       let looked = ticks_alike fed board.clock (board.clock ++ clocks.Look s seq ∷ []) (ticks_looked board.clock s seq) (looked_moment board.clock s seq) h.ticks in
       let done : Call = record { frame = body; accept = step_points (steps_of came.0); finish = []; how = how_at_once request.ask } in

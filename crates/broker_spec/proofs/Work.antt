@@ -7,6 +7,7 @@ use Rattle.std.specs.List.{AllByRecursion, find, list_any, range_with_len}
 use Rattle.kbytes.specs.Octets.{IsBytes}
 use Rattle.kbytes.proofs.Laws.{IsBytes-drop}
 use Rattle.partlog.specs.History.{History}
+use Rattle.partlog.specs.Moment.{moment_of}
 use Rattle.audit.specs.declared.account.Call.{Call}
 use Rattle.audit.specs.declared.account.SessionEnd.{SessionEnd}
 use Rattle.audit.specs.declared.account.Transcript.{Transcript}
@@ -194,7 +195,7 @@ module _ (board : Board) (session : ℕ) (goes_on : is_there (transcript_at boar
 
   handled_acts : (body : List ℕ) (request : Request) (decisions : List Decision) → 4 + length body ≤ length (seat_at board session).inbox → Acted (handled board session body request decisions)
   handled_acts body request decisions within =
-      let came = accept_all session (next_call board session) decisions board.parts in
+      let came = accept_all session (next_call board session) (moment_of board.clock) decisions board.parts in
       either_way Acted (becomes_delayed request.ask (shown_of came.0)) (left_waiting board session body request came) (answered_at_once board session body request came)
       (called_acts (left_waiting board session body request came).board body _ within refl) (called_acts (answered_at_once board session body request came).board body _ within refl)
 

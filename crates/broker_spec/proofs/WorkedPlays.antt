@@ -71,7 +71,7 @@ on board line others here rest p q = (here, rest, p, q, refl)
 
 -- what is decided of each of the three requests
 abbrev put_it : Decision
-put_it = AskLog 0 (append_outcome (pos 3) 0 1 batch)
+put_it = AskLog 0 (append_outcome (pos 3) 1 0 1 batch)
 
 abbrev fetched_by : ℤ → Decision
 fetched_by replica = AskLog 0 (fetch_outcome 1 replica (record { index = pos 0; offset = pos 1; log_start = negsuc 0; most = pos 1000 }) 0)

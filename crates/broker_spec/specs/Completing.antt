@@ -4,13 +4,13 @@ use Rattle.std.specs.List.{find, range_with_len}
 use Rattle.partlog.specs.declared.clock_event.ClockEvent.{ClockEvent}
 use Rattle.partlog.specs.declared.clock_event.ClockEvent.TheVariants as clocks
 use Rattle.partlog.specs.History.{History}
+use Rattle.partlog.specs.Looked.{looked}
 use Rattle.partlog.specs.Moment.{moment_of}
 use Rattle.partlog.specs.State.{PartState as State, state_of}
 use Rattle.audit.specs.declared.account.Call.{Call}
 use Rattle.audit.specs.declared.account.CallHow.{CallHow}
 use Rattle.audit.specs.declared.account.CallHow.TheVariants.{Satisfied, Expired}
 use Rattle.audit.specs.declared.account.Point.{Point}
-use Rattle.kanswer.specs.Decisions.{Looked}
 use Rattle.kanswer.specs.Answer.{answer}
 use Rattle.kanswer.specs.Waiting.{Shown, values_of}
 use Rattle.audit.specs.LawfulCall.{Step, operation_parts, part_in}
@@ -18,7 +18,6 @@ use Rattle.audit.specs.Histories.{clock_part, no_state}
 use Rattle.opcond.specs.Tally.{tally}
 use Rattle.trace_file.specs.PrintedLine.{reply_line}
 use Rattle.broker_spec.specs.Board.{Board, Waiting, history_at, most_sessions, seat_at, transcript_at, next_call}
-use Rattle.kanswer.specs.WithEntry.{entered}
 use Rattle.broker_spec.specs.Turns.{Turned}
 
 -- the present state of a partition of an operation
@@ -44,7 +43,7 @@ abbrev pub look_all : ℕ → ℕ → List ℕ → List History → List Point �
 look_all by seq [] parts = ([], parts)
 look_all by seq (part ∷ more) parts =
     let found = history_at parts part in
-    let rest = look_all by seq more (slice_set parts part (entered found by seq Looked)) in
+    let rest = look_all by seq more (slice_set parts part (looked found by seq)) in
     (record { part = part; place = length found.events } ∷ rest.0, rest.1)
 
 -- the last call came to its end so

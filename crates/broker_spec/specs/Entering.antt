@@ -15,17 +15,17 @@ pub record Noted : Type 0 where
   pub step : Step
   pub state : State
 
--- the decisions are carried out in order, each on the histories that those before it left
-abbrev pub accept_all : ℕ → ℕ → List Decision → List History → List Noted × List History
-accept_all by seq [] parts = ([], parts)
-accept_all by seq (Refuse code ∷ decisions) parts =
-    let rest = accept_all by seq decisions parts in
+-- the decisions are carried out in order at this moment, each on the histories that those before it left
+abbrev pub accept_all : ℕ → ℕ → ℕ → List Decision → List History → List Noted × List History
+accept_all by seq t [] parts = ([], parts)
+accept_all by seq t (Refuse code ∷ decisions) parts =
+    let rest = accept_all by seq t decisions parts in
     (record { step = record { result = Refused code; point = None }; state = no_state } ∷ rest.0, rest.1)
-accept_all by seq (AskLog part outcome ∷ decisions) parts =
+accept_all by seq t (AskLog part outcome ∷ decisions) parts =
     let found = history_at parts part in
     let came = outcome (state_of found) in
-    let left = entered found by seq came.entry in
-    let rest = accept_all by seq decisions (slice_set parts part left) in
+    let left = entered found by seq t came.entry in
+    let rest = accept_all by seq t decisions (slice_set parts part left) in
     (record { step = record { result = came.result; point = Some (record { part = part; place = length found.events }) }; state = state_of left } ∷ rest.0, rest.1)
 
 abbrev pub steps_of : List Noted → List Step

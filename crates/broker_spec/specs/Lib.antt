@@ -24,5 +24,7 @@ pub mod WorkedPlay
 pub mod GoesOn
 -- who left the entries of the histories
 pub mod Kept
+-- what a pass's entries have to do with the clock
+pub mod Timely
 -- what holds of a board between two steps
 pub mod Sound

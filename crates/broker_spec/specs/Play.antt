@@ -1,8 +1,9 @@
 -- The one-thread broker, line by line: what a trace comes to. After each line the waiting requests are scanned and the least
 -- session that can act acts once, until neither has anything left to do.
-use Rattle.std.specs.Prelude.{ℕ, zero, suc, ◌≡◌, Bool, true, List, [], ◌∷◌, ◌++◌, nat_lt, slice_set, if◌then◌else◌, Some, None}
+use Rattle.std.specs.Prelude.{ℕ, zero, suc, ◌≡◌, Bool, true, List, [], ◌∷◌, ◌++◌, map, nat_lt, slice_set, if◌then◌else◌, Some, None}
 use Rattle.partlog.specs.declared.clock_event.ClockEvent.TheVariants as clocks
 use Rattle.partlog.specs.Moment.{moment_of}
+use Rattle.partlog.specs.Shrunk.{all_shrunk}
 use Rattle.audit.specs.declared.account.Account.{Account}
 use Rattle.trace_file.specs.declared.line.Line.{Line}
 use Rattle.trace_file.specs.declared.line.Line.TheVariants.{Topic, Feed, Shut, Clock, End}
@@ -18,6 +19,10 @@ abbrev pub with_seat : Board → ℕ → List ℕ → Bool → Board
 with_seat board session inbox is_shut =
     record board { seats = slice_set board.seats session (record { inbox = inbox; is_shut = is_shut; transcript = Some (transcript_at board session) }) }
 
+-- the clock was told a moment, and then in each partition every follower that lags at it leaves, the least first
+abbrev pub ticked : Board → ℕ → Board
+ticked board t = record board { clock = board.clock ++ clocks.Tick t ∷ []; parts = map (λ h. all_shrunk h 0 t) board.parts }
+
 -- what a line brings, before anything is done with it; what comes for a session that ended is dropped
 abbrev pub brought : Board → Line → Board
 brought board (Topic name partitions followers least) = board
@@ -25,7 +30,7 @@ brought board (Feed session bytes) =
     let seat = seat_at board session in
     with_seat board session (if is_there (transcript_at board session).end then seat.inbox else seat.inbox ++ bytes) seat.is_shut
 brought board (Shut session) = with_seat board session (seat_at board session).inbox true
-brought board (Clock t) = if nat_lt (moment_of board.clock) t then record board { clock = board.clock ++ clocks.Tick t ∷ [] } else board
+brought board (Clock t) = if nat_lt (moment_of board.clock) t then ticked board t else board
 brought board End = board
 
 -- After so many acts the broker is at rest.

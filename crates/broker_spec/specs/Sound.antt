@@ -1,9 +1,11 @@
--- What holds of a board between two steps: every call is whole or waits, in every account that goes on from the histories.
+-- What holds of a board between two steps: every call is whole or waits, in every account that goes on from the histories; and
+-- followers left as they lagged.
 use Rattle.std.specs.Prelude.{ℕ, ◌≡◌, ◌<◌, ◌≤◌, true, List, [], ◌∷◌, ◌++◌, length, map, ◌==◌, Option, Some, None, slice_get}
 use Rattle.std.specs.List.{AllByRecursion, find}
 use Rattle.std.specs.List.Sorted.{IsStrictlyIncreasing}
 use Rattle.partlog.specs.declared.clock_event.ClockEvent.{ClockEvent}
 use Rattle.partlog.specs.History.{History}
+use Rattle.partlog.specs.Lagging.{LeftLate}
 use Rattle.audit.specs.declared.account.Account.{Account}
 use Rattle.audit.specs.declared.account.Call.{Call}
 use Rattle.audit.specs.declared.account.CallHow.{CallHow}
@@ -18,6 +20,7 @@ use Rattle.trace_file.specs.declared.line.TheConstants.{MOST_SESSIONS}
 use Rattle.broker_spec.specs.Board.{Board, Waiting, transcript_at}
 use Rattle.broker_spec.specs.GoesOn.{Carried, AllWhole}
 use Rattle.broker_spec.specs.Kept.{IsKept, owners_at}
+use Rattle.broker_spec.specs.Timely.{IsTimely}
 
 abbrev pub AllBelow : ℕ → List ℕ → Type 0
 AllBelow n xs = AllByRecursion (λ x. x < n) xs
@@ -98,6 +101,10 @@ pub record AreSound (config : Configuration) (parts : List History) (clock : Lis
   pub kept : IsKept (owners_at parts clock) (ledger_of transcripts)
   pub sessions : (s : ℕ) → IsSession config parts clock s (waiting_of waiting s) (transcripts s)
   pub alone : WaitAlone waiting
+  -- whoever was taken out lagged then
+  pub late : (p : ℕ) (h : History) → slice_get parts p ≡ Some h → LeftLate h.followers h.events
+  -- each pass's own entries are as the clock's history allows
+  pub timely : (by : ℕ) → IsTimely by parts clock (ledger_of transcripts by)
 
 pub record IsSound (board : Board) : Type 0 where
   pub count : length board.seats ≡ MOST_SESSIONS

@@ -80,7 +80,7 @@ left_waiting board session body request (noted, parts) =
 -- a request that was decided so is accepted, and is answered at once or waits
 abbrev pub handled : Board → ℕ → List ℕ → Request → List Decision → Turned
 handled board session body request decisions =
-    let came = accept_all session (next_call board session) decisions board.parts in
+    let came = accept_all session (next_call board session) (moment_of board.clock) decisions board.parts in
     if becomes_delayed request.ask (shown_of came.0) then left_waiting board session body request came
     else answered_at_once board session body request came
 

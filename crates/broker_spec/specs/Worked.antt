@@ -43,7 +43,7 @@ board_with all batch events ticks = record {
 
 -- the follower fetched behind the record, or only the record itself
 abbrev pub fetched_behind : List PartEvent
-fetched_behind = Follow 1 0 (pos 1) 1 ∷ []
+fetched_behind = Follow 1 0 (pos 1) 1 0 ∷ []
 
 abbrev pub fetched_it : List PartEvent
-fetched_it = Follow 1 0 (pos 1) 0 ∷ []
+fetched_it = Follow 1 0 (pos 1) 0 0 ∷ []

@@ -1,6 +1,7 @@
-use Rattle.std.proofs.Common.{◌≡◌, min, fold}
-use Rattle.partlog.specs.Position.{positions_of}
+use Rattle.std.proofs.Common.{take}
+use Rattle.in_sync.specs.Standings.{StandsFor}
+use Rattle.partlog.specs.Replicas.{replica_events}
 use Rattle.audit.proofs.numbers.high_watermark.Given as goal
 
-abbrev pub invariant-loop-below : goal.invariant-loop-below
-invariant-loop-below l = l.high ≡ fold min l.end (positions_of l.below l.events)
+abbrev pub invariant-loop-event : goal.invariant-loop-event
+invariant-loop-event l = StandsFor l.replicas l.followers (replica_events (take l.event-index l.events))

@@ -1,7 +1,7 @@
 use Rattle.std.proofs.Common.{arith}
-use Rattle.audit.proofs.Bounded.{logs_short}
+use Rattle.audit.proofs.Bounded.{logs_trackable}
 use Rattle.audit.proofs.summary.print_replay.Goals as goal
 
 pub put_parts-requires : goal.put_parts-requires
 put_parts-requires c =
-    rw c.as_slice.ensures (logs_short c.args.account.now c.requires.lawful (omega (arith, c.parts.ensures.count, c.parts.ensures.few)))
+    rw c.as_slice.ensures (logs_trackable c.args.account.now c.requires.lawful (omega (arith, c.parts.ensures.count, c.parts.ensures.few)))
