@@ -82,7 +82,7 @@ pub record ShowsEntry (by seq t : ℕ) (account : Account) (part : ℕ) (found :
   pub event : event_at account (record { part = part; place = length found.events }) ≡ Some (event_of by seq t entry)
   pub owner : part < 64 → slice_get (owners_of account part) (length found.events) ≡ Some (the_owner by seq)
 
-slice_map : (es : List PartEvent) (k : ℕ) (e : PartEvent) → slice_get es k ≡ Some e → slice_get (map owner_of es) k ≡ Some (owner_of e)
+pub slice_map : (es : List PartEvent) (k : ℕ) (e : PartEvent) → slice_get es k ≡ Some e → slice_get (map owner_of es) k ≡ Some (owner_of e)
 slice_map [] k e is = absurd cc
 slice_map (x ∷ es) zero e is = ap (λ (y : PartEvent). Some (owner_of y)) (some_is x e is)
 slice_map (x ∷ es) (suc k) e is = slice_map es k e is

@@ -1,10 +1,10 @@
 -- The account of a sound board is lawful, where nothing that waits is answerable.
-use Rattle.std.proofs.Common.{◌≡◌, ℕ, zero, suc, ◌+◌, ◌≤◌, ◌⊎◌, Bool, false, cond, eqb, List, [], ◌∷◌, ◌++◌, map, take, Contains, ℤ, Option, Some, None, unwrap_or, refl, sym, ap, subst, ◌∙◌, arith, inl, inr, append-nil}
+use Rattle.std.proofs.Common.{◌≡◌, ℕ, zero, suc, ◌+◌, ◌<◌, ◌≤◌, ◌⊎◌, Bool, false, cond, eqb, List, [], ◌∷◌, ◌++◌, length, map, take, Contains, ℤ, Option, Some, None, unwrap_or, refl, sym, ap, subst, ◌∙◌, arith, inl, inr, append-nil}
 use Rattle.std.proofs.lemmas.Bool.{ne_eqb, le-leb}
 use Rattle.std.proofs.lemmas.List.Sums.{sum_by-cons}
 use Rattle.std.proofs.lemmas.Option.{slice_get-map}
 use Rattle.std.specs.Prelude.{slice_get, count_by, option_to_list, nat_le}
-use Rattle.std.specs.List.{AllByRecursion, flat_map}
+use Rattle.std.specs.List.{AllByRecursion, cons_option, flat_map}
 use Rattle.std.specs.List.Sorted.{IsStrictlyIncreasing}
 use Rattle.std.specs.Option.{option_map}
 use Rattle.partlog.specs.declared.event.PartEvent.{PartEvent}
@@ -12,6 +12,7 @@ use Rattle.partlog.specs.declared.event.PartEvent.TheVariants.{Follow, Shrink}
 use Rattle.partlog.specs.History.{History}
 use Rattle.partlog.specs.Moment.{moment_of}
 use Rattle.partlog.specs.State.{PartState, state_of}
+use Rattle.audit.specs.declared.account.Account.{Account}
 use Rattle.audit.specs.declared.account.PartAccount.{PartAccount}
 use Rattle.audit.specs.declared.account.Transcript.{Transcript}
 use Rattle.audit.specs.declared.account.Call.{Call}
@@ -19,8 +20,8 @@ use Rattle.audit.specs.declared.account.CallHow.{CallHow}
 use Rattle.audit.specs.declared.account.CallHow.TheVariants.{Quiet, AtOnce, Satisfied, Expired, Parked, Cut}
 use Rattle.audit.specs.declared.account.SessionEnd.{SessionEnd}
 use Rattle.audit.specs.declared.account.Point.{Point}
-use Rattle.audit.specs.Histories.{HadLagged, Owner, clock_owner_of, event_at, event_in, owners_of, owners_in, points_of, calls_in, calls_of, call_of, all_calls, final_in, ticks_of}
-use Rattle.audit.specs.LawfulCall.{Step, IsLawfulCall, Completes, final_of, part_in, shown_at_last, operation_in}
+use Rattle.audit.specs.Histories.{HadLagged, Owner, clock_owner_of, event_at, event_in, owners_of, owners_in, points_of, calls_in, calls_of, call_of, all_calls, final_in, no_state, ticks_of}
+use Rattle.audit.specs.LawfulCall.{Step, IsLawfulCall, Completes, final_of, part_in, shown_at_last, operation_in, operation_parts}
 use Rattle.audit.specs.IsLawful.{IsLawful, IsWholeLog, places_in, is_point, is_won_by, is_won_as, EndsAs, EndWell, FollowOn}
 use Rattle.kbytes.proofs.Laws.{some_is, all_append}
 use Rattle.kanswer.specs.Waiting.{Shown, values_of}
@@ -31,6 +32,7 @@ use Rattle.broker_spec.specs.Board.{Board, Seat, Waiting, empty_seat, history_at
 use Rattle.broker_spec.specs.Completing.{present, is_answerable_now, is_satisfied_now, is_overdue_now}
 use Rattle.broker_spec.specs.GoesOn.{the_owner, AllWhole, GoesOn}
 use Rattle.broker_spec.specs.Kept.{owners_here, owners_at}
+use Rattle.broker_spec.specs.Sound.{AllBelow}
 use Rattle.broker_spec.proofs.Cases.{neither}
 use Rattle.broker_spec.proofs.Growth.{longer_self}
 use Rattle.broker_spec.proofs.Calls.{IsOver}
@@ -116,10 +118,29 @@ pub whole_logs : (parts : List History) → AllWhole parts → AllByRecursion Is
 whole_logs [] whole = tt
 whole_logs (k ∷ parts) whole = (sym (whole 0 k refl), whole_logs parts (λ p x e. whole (suc p) x e))
 
-pub last_state : (parts : List History) (p : ℕ) → final_in (slice_get (map part_account parts) p) ≡ state_of (history_at parts p)
-last_state [] p = refl
-last_state (k ∷ parts) zero = refl
-last_state (k ∷ parts) (suc p) = last_state parts p
+last_state : (parts : List History) (p : ℕ) → p < length parts → final_in (slice_get (map part_account parts) p) ≡ state_of (history_at parts p)
+last_state [] p lt = absurd (omega (arith, lt))
+last_state (k ∷ parts) zero lt = refl
+last_state (k ∷ parts) (suc p) lt = last_state parts p (omega (arith, lt))
+
+-- what the account shows at last of partitions that are there
+pub last_shown : (account : Account) (parts : List History) → account.parts ≡ map part_account parts → (steps : List Step) → AllBelow (length parts) (operation_parts steps)
+    → shown_at_last account steps ≡ shown_in parts steps
+last_shown account parts is [] within = refl
+last_shown account parts is (step ∷ steps) within = by_part (part_in step.result) refl (last_shown account parts is steps) within
+  where
+    as_shown : PartState → List Shown → List Shown
+    as_shown state shown = record { result = step.result; state = state } ∷ shown
+
+    by_part : (o : Option ℕ) → part_in step.result ≡ o → (AllBelow (length parts) (operation_parts steps) → shown_at_last account steps ≡ shown_in parts steps)
+        → AllBelow (length parts) (cons_option o (operation_parts steps)) → as_shown (final_of account (part_in step.result)) (shown_at_last account steps) ≡ as_shown (present parts (part_in step.result)) (shown_in parts steps)
+    by_part None same rest within =
+        ap (λ (o : Option ℕ). as_shown (final_of account o) (shown_at_last account steps)) same ∙ ap (as_shown no_state) (rest within)
+        ∙ sym (ap (λ (o : Option ℕ). as_shown (present parts o) (shown_in parts steps)) same)
+    by_part (Some p) same rest within =
+        let here : final_of account (Some p) ≡ present parts (Some p) = ap (λ (ps : List PartAccount). final_in (slice_get ps p)) is ∙ last_state parts p within.0 in
+        ap (λ (o : Option ℕ). as_shown (final_of account o) (shown_at_last account steps)) same ∙ ap (λ (state : PartState). as_shown state (shown_at_last account steps)) here
+        ∙ ap (as_shown (present parts (Some p))) (rest within.1) ∙ sym (ap (λ (o : Option ℕ). as_shown (present parts o) (shown_in parts steps)) same)
 
 -- ---- how calls came to their ends
 
@@ -257,8 +278,7 @@ module _ (board : Board) (h : IsSound board) where
   left_late : (part place by t : ℕ) (replica : ℤ) → event_at (account_of board) (record { part = part; place = place }) ≡ Some (Shrink by replica t)
       → HadLagged (slice_get (account_of board).parts part) place t replica × Contains (ticks_of board.clock) t
   left_late part place by t replica e =
-      let found = event_here part place (Shrink by replica t) e in
-      (
+      let found = event_here part place (Shrink by replica t) e in (
         subst (λ (o : Option PartAccount). HadLagged o place t replica) (sym (parts_get part found.0 found.1)) (h.sound.late part found.0 found.1 place by t replica found.2),
         (h.sound.timely by).shrinks part place t replica (entry_here part place (Shrink by replica t) e),
       )
@@ -269,16 +289,6 @@ module _ (board : Board) (h : IsSound board) where
       (subst (λ (points : List Point). IsStrictlyIncreasing (places_in part points)) (flat_points (transcript_at board pass).calls) (h.sound.kept.order pass part))
 
   -- ---- calls
-
-  last_present : (o : Option ℕ) → final_of (account_of board) o ≡ present board.parts o
-  last_present None = refl
-  last_present (Some p) = last_state board.parts p
-
-  last_shown : (steps : List Step) → shown_at_last (account_of board) steps ≡ shown_in board.parts steps
-  last_shown [] = refl
-  last_shown (step ∷ steps) =
-      ap (λ (s : PartState). record { result = step.result; state = s } ∷ shown_at_last (account_of board) steps) (last_present (part_in step.result))
-      ∙ ap (λ (ss : List Shown). record { result = step.result; state = present board.parts (part_in step.result) } ∷ ss) (last_shown steps)
 
   le_and_not : (a b : ℕ) → a ≤ b → nat_le a b ≡ false → ⊥
   le_and_not a b le not_now = absurd (cc (le-leb a b le, not_now))
@@ -293,7 +303,7 @@ module _ (board : Board) (h : IsSound board) where
       let account = account_of board in
       let d = waits.delayed account account_goes in
       let still : IsAnswerable (operation_in account w.request w.steps d.looks) (values_of w.request.ask (shown_at_last account w.steps)) (moment_of account.clock) → ⊥ =
-      λ answerable. not_answerable w not_now (subst (λ (ss : List Shown). IsAnswerable w.operation (values_of w.request.ask ss) (moment_of board.clock)) (last_shown w.steps)
+      λ answerable. not_answerable w not_now (subst (λ (ss : List Shown). IsAnswerable w.operation (values_of w.request.ask ss) (moment_of board.clock)) (last_shown account board.parts refl w.steps waits.within)
       (subst (λ (op : Operation). IsAnswerable op (values_of w.request.ask (shown_at_last account w.steps)) (moment_of board.clock)) d.operation answerable)) in
       inl (record {
         whole = record { request = w.request; steps = w.steps; looks = d.looks; accepted = d.accepted; entries = d.entries };

@@ -23,7 +23,7 @@ pub use Rattle.broker_spec.proofs.Going.{AllLonger, HaveGrown, GoesOn, Carried, 
 pub use Rattle.broker_spec.proofs.Acts.{histories_on, ticks_looked}
 pub use Rattle.broker_spec.proofs.Playing.{ticks_rise}
 -- what an account shows of histories that its parts are read off
-pub use Rattle.broker_spec.proofs.Lawful.{flat_points, followers_map, last_state, owned_here, whole_logs}
+pub use Rattle.broker_spec.proofs.Lawful.{flat_points, followers_map, last_shown, owned_here, whole_logs}
 -- who left the entries, as one more comes, or all of a request
 pub use Rattle.broker_spec.proofs.Ledger.{IsKept, put, put_same, put_other, HasNobodysMore, kept_grown, kept_entry, kept_begun, kept_alike}
 pub use Rattle.broker_spec.proofs.Accepting.{owners_clock, owners_part, kept_part, kept_look, kept_accepted, accepted_within, look_decisions, look_points, looked, looks_points, looks_parts, looks_fair, looks_states, shown_in, shown_alike, looks_look, looks_shown}

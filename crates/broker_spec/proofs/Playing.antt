@@ -98,7 +98,7 @@ opening_sound config few = record {
     kept = none_kept (followers_of config.topics);
     sessions = λ s. record { number = refl; first = refl; stand = tt };
     alone = λ i w e. absurd cc;
-    late = λ p h e place by t replica there. absurd (no_event (followers_of config.topics) p place (Shrink by replica t) (sym (ap (λ (es : List PartEvent). slice_get es place) (events_of_part (opening config).parts p h e)) ∙ there));
+    late = λ p h e place by t replica there. absurd (no_event (followers_of config.topics) p place (Shrink by replica t) (ap (λ (es : List PartEvent). slice_get es place) (events_of_part (opening config).parts p h e) ∙ there));
     timely = λ by. timely_events by (opening config).parts [] [] (λ p place event e. absurd (no_event (followers_of config.topics) p place event e));
   });
 }

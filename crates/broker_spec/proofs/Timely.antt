@@ -96,29 +96,31 @@ AreSeen clock rows = (seq : ℕ) (points : List Point) → slice_get rows seq �
 
 not_later_on : (clock more : List ClockEvent) (t : ℕ) (points : List Point) → AllByRecursion (IsSeen clock) points → AreNotLater clock t points → AreNotLater (clock ++ more) t points
 not_later_on clock more t [] seen before = tt
-not_later_on clock more t (point ∷ points) seen before =
-    (λ is.
-        let n : ℕ = point.place + 1 in
-        let same : take n (clock ++ more) ≡ take n clock = take-append-le n clock more (omega (arith, seen.0 is)) in
-        subst (λ (events : List ClockEvent). moment_of events ≤ t) (sym same) (before.0 is),
-    not_later_on clock more t points seen.1 before.1)
+not_later_on clock more t (point ∷ points) seen before = (
+  λ is.
+      let n : ℕ = point.place + 1 in
+      let same : take n (clock ++ more) ≡ take n clock = take-append-le n clock more (omega (arith, seen.0 is)) in
+      subst (λ (events : List ClockEvent). moment_of events ≤ t) (sym same) (before.0 is),
+  not_later_on clock more t points seen.1 before.1,
+)
 
 -- so it is with points that are entries of their calls
 pub rows_seen : (number : ℕ) (parts : List History) (clock : List ClockEvent) (rows : List (List Point))
     → ((seq : ℕ) (points : List Point) → slice_get rows seq ≡ Some points
-        → AllByRecursion (λ point. slice_get (owners_at parts clock point.part) point.place ≡ Some (the_owner number seq)) points)
+    → AllByRecursion (λ point. slice_get (owners_at parts clock point.part) point.place ≡ Some (the_owner number seq)) points)
     → AreSeen clock rows
 rows_seen number parts clock rows owned seq points e = all_seen points (owned seq points e)
   where
     all_seen : (points : List Point) → AllByRecursion (λ point. slice_get (owners_at parts clock point.part) point.place ≡ Some (the_owner number seq)) points → AllByRecursion (IsSeen clock) points
     all_seen [] all = tt
-    all_seen (point ∷ points) all =
-        (λ is.
-            let there : slice_get (owners_at parts clock 64) point.place ≡ Some (the_owner number seq) =
-            subst (λ (part : ℕ). slice_get (owners_at parts clock part) point.place ≡ Some (the_owner number seq)) is all.0 in
-            let lt : point.place < length (map clock_owner_of clock) = slice_get_within (map clock_owner_of clock) point.place (the_owner number seq) there in
-            omega (arith, lt, length-map clock clock_owner_of),
-        all_seen points all.1)
+    all_seen (point ∷ points) all = (
+      λ is.
+          let there : slice_get (owners_at parts clock 64) point.place ≡ Some (the_owner number seq) =
+          subst (λ (part : ℕ). slice_get (owners_at parts clock part) point.place ≡ Some (the_owner number seq)) is all.0 in
+          let lt : point.place < length (map clock_owner_of clock) = slice_get_within (map clock_owner_of clock) point.place (the_owner number seq) there in
+          omega (arith, lt, length-map clock clock_owner_of),
+      all_seen points all.1,
+    )
 
 -- ---- one entry
 
@@ -143,11 +145,11 @@ entry_timely number by seq clock rows (Put count batch) = tt
 entry_timely number by seq clock rows (Followed replica offset) = λ own. (moment_told clock, λ earlier points lt e. none_later clock points)
 entry_timely number by seq clock rows Looked = tt
 
-event_on : (number : ℕ) (clock more : List ClockEvent) (rows : List (List Point)) (event : PartEvent) → AreSeen clock rows → IsTimelyEvent number clock rows event → IsTimelyEvent number (clock ++ more) rows event
+pub event_on : (number : ℕ) (clock more : List ClockEvent) (rows : List (List Point)) (event : PartEvent) → AreSeen clock rows → IsTimelyEvent number clock rows event → IsTimelyEvent number (clock ++ more) rows event
 event_on number clock more rows (Append by seq count len) seen was = tt
 event_on number clock more rows (Follow by seq replica offset t) seen was = λ own. (
-    told_stays clock more t (was own).0,
-    λ earlier points lt e. not_later_on clock more t points (seen earlier points e) ((was own).1 earlier points lt e)
+  told_stays clock more t (was own).0,
+  λ earlier points lt e. not_later_on clock more t points (seen earlier points e) ((was own).1 earlier points lt e),
 )
 event_on number clock more rows (Look by seq) seen was = tt
 event_on number clock more rows (Shrink by replica t) seen was = λ own. tick_stays clock more t (was own)

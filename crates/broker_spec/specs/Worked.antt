@@ -1,6 +1,6 @@
--- Small boards, written out: a produce that waits for its follower, before that one fetched, after it, and about its deadline. A
--- wrong word among those that scan a board would break what is shown of them.
-use Rattle.std.specs.Prelude.{ℕ, pos, negsuc, false, List, [], ◌∷◌, replicate, Some, None}
+-- Small boards, written out: a produce that waits for its follower, before that one fetched, after it, about its deadline, and as
+-- the follower leaves. A wrong word among those that scan a board, or tell it the time, would break what is shown of them.
+use Rattle.std.specs.Prelude.{ℕ, ℤ, pos, negsuc, false, List, [], ◌∷◌, codes, replicate, Some, None}
 use Rattle.partlog.specs.declared.event.PartEvent.{PartEvent}
 use Rattle.partlog.specs.declared.event.PartEvent.TheVariants.{Append, Follow}
 use Rattle.partlog.specs.declared.clock_event.ClockEvent.{ClockEvent}
@@ -11,6 +11,8 @@ use Rattle.audit.specs.declared.account.CallHow.TheVariants.{Parked}
 use Rattle.audit.specs.declared.account.Point.{Point}
 use Rattle.audit.specs.Histories.{clock_part}
 use Rattle.audit.specs.Worked.{at, followed, produce_of}
+use Rattle.kwire.specs.declared.reply.Reply.{Reply}
+use Rattle.kwire.specs.declared.reply.Told.TheVariants.{Produced}
 use Rattle.kanswer.specs.declared.accepted.Accepted.TheVariants.{Appended}
 use Rattle.kanswer.specs.Waiting.{operation_of}
 use Rattle.broker_spec.specs.Board.{Board, Seat, Waiting, empty_seat}
@@ -47,3 +49,16 @@ fetched_behind = Follow 1 0 (pos 1) 1 0 ∷ []
 
 abbrev pub fetched_it : List PartEvent
 fetched_it = Follow 1 0 (pos 1) 0 0 ∷ []
+
+-- nobody fetched it, and the topic asks for so many replicas in sync at least
+abbrev pub asking_for : ℕ → List ℕ → List ℕ → Board
+asking_for least all batch = record (board_with all batch [] []) {
+  config = record { port = 9092; topics = record { name = codes "t"; partitions = 1; followers = 1; min_insync = least } ∷ [] };
+}
+
+-- its reply, with this code
+abbrev pub produced_with : ℤ → Reply
+produced_with code = record {
+  correlation = pos 7;
+  told = Produced (pos 3) (record { name = codes "t"; parts = record { index = pos 0; code = code; base = pos 0; start = pos 0 } ∷ [] } ∷ []);
+}

@@ -9,5 +9,5 @@
 mod promises;
 
 pub use promises::{
-    lines_play, play_is_lawful, play_is_run, play_rests, worked_play, worked_scans,
+    lines_play, play_is_lawful, play_is_run, play_rests, worked_play, worked_scans, worked_ticks,
 };

@@ -1,6 +1,6 @@
 //! Laws of playing lines. They do nothing.
 
-ghost use Rattle.std.specs.Prelude.{◌≡◌, ◌∷◌, [], ℕ, List};
+ghost use Rattle.std.specs.Prelude.{◌≡◌, ◌∷◌, [], ℕ, pos, List, map};
 ghost use Rattle.kbytes.specs.Octets.{IsBytes};
 ghost use Rattle.audit.specs.declared.account.Account.{Account};
 ghost use Rattle.audit.specs.IsLawful.{IsLawful};
@@ -12,9 +12,13 @@ ghost use Rattle.broker_spec.specs.AtRest.{IsAtRest};
 ghost use Rattle.broker_spec.specs.Board.{opening, transcript_at};
 ghost use Rattle.broker_spec.specs.Completing.{scanned};
 ghost use Rattle.kwire.specs.DeclaredTopics.{AreDeclared};
-ghost use Rattle.broker_spec.specs.Play.{IsPlay, Plays};
+ghost use Rattle.broker_spec.specs.Play.{IsPlay, Plays, brought};
 ghost use Rattle.broker_spec.specs.Turns.{Turned};
-ghost use Rattle.broker_spec.specs.Worked.{board_with, fetched_behind, fetched_it, produced};
+ghost use Rattle.broker_spec.specs.Worked.{asking_for, board_with, fetched_behind, fetched_it, produced, produced_with};
+ghost use Rattle.kwire.specs.declared.codes.TheConstants.{NONE, NOT_ENOUGH_REPLICAS_AFTER_APPEND, REQUEST_TIMED_OUT};
+ghost use Rattle.partlog.specs.declared.event.PartEvent.TheVariants.{Append, Shrink};
+ghost use Rattle.trace_file.specs.PrintedLine.{reply_line};
+ghost use Rattle.trace_file.specs.declared.line.Line.TheVariants.{Clock};
 ghost use Rattle.partlog.specs.declared.clock_event.ClockEvent.TheVariants.{Tick};
 ghost use Rattle.audit.specs.declared.account.CallHow.TheVariants.{Expired, Satisfied};
 ghost use Rattle.audit.specs.Histories.{calls_of, clock_part};
@@ -64,6 +68,21 @@ pub fn worked_scans()
     ensures both { (all batch : List ℕ) → (transcript_at (scanned (board_with all batch fetched_behind (Tick 100 ∷ []))).board 0).calls
         ≡ produced all (at 0 2 ∷ []) (Satisfied 0) ∷ [] }
     ensures once { (all batch : List ℕ) → (scanned (board_with all batch fetched_behind [])).board.waiting ≡ [] }
+{}
+
+/// Law: worked clock lines of a produce that waits for its follower, which fetches nothing. At 29999 the follower stays in sync, and
+/// the produce expires. At 30000 the follower leaves, and the produce is satisfied by the leader alone: with an error where the
+/// topic asks for two in sync.
+pub fn worked_ticks()
+    ensures stays { (all batch : List ℕ) → (brought (asking_for 2 all batch) (Clock 29999)).parts ≡ (asking_for 2 all batch).parts }
+    ensures leaves { (all batch : List ℕ) → map (λ h. h.events) (brought (asking_for 2 all batch) (Clock 30000)).parts
+        ≡ (Append 0 0 1 1 ∷ Shrink 0 (pos 1) 30000 ∷ []) ∷ [] }
+    ensures expires { (all batch : List ℕ) → (scanned (brought (asking_for 2 all batch) (Clock 29999))).text
+        ≡ reply_line 0 (produced_with REQUEST_TIMED_OUT) }
+    ensures too_few { (all batch : List ℕ) → (scanned (brought (asking_for 2 all batch) (Clock 30000))).text
+        ≡ reply_line 0 (produced_with NOT_ENOUGH_REPLICAS_AFTER_APPEND) }
+    ensures enough { (all batch : List ℕ) → (scanned (brought (asking_for 1 all batch) (Clock 30000))).text
+        ≡ reply_line 0 (produced_with NONE) }
 {}
 
 /// Law: a worked trace. A produce for all replicas waits, and is satisfied when its follower fetches past its record; a

@@ -8,6 +8,7 @@ use Rattle.std.specs.List.{AllByRecursion, AllZip}
 use Rattle.partlog.specs.declared.clock_event.ClockEvent.{ClockEvent}
 use Rattle.partlog.specs.declared.clock_event.ClockEvent.TheVariants as clocks
 use Rattle.partlog.specs.History.{History}
+use Rattle.partlog.specs.Moment.{moment_of}
 use Rattle.audit.specs.declared.account.Account.{Account}
 use Rattle.audit.specs.declared.account.Call.{Call}
 use Rattle.audit.specs.declared.account.CallHow.{CallHow}
@@ -26,20 +27,19 @@ use Rattle.kwire.specs.declared.request.Request.{Request}
 use Rattle.broker_spec.specs.Board.{Waiting}
 use Rattle.broker_spec.specs.Entering.{Noted, accept_all, shown_of, steps_of}
 use Rattle.broker_spec.specs.GoesOn.{GoesOn, HaveGrown}
-use Rattle.broker_spec.specs.Kept.{owners_at}
 use Rattle.broker_spec.specs.Sound.{AllBelow, AreHistories, IsDelayedAs}
 use Rattle.broker_spec.specs.Turns.{how_at_once}
 use Rattle.broker_spec.proofs.Laws.{IsFair, ShowsAccepted, accepted_longer, accepted_shows, accepted_size, accepted_within, all_get, all_longer_self, carried_on, clock_looked, clock_moment, clock_point, completes, decides_fair, goes_back, grown_clock, grown_parts, histories_on, parts_size, ticks_looked}
 use Rattle.pass_books.specs.Book.{Book}
 use Rattle.pass_books.specs.IsBook.{IsBook}
-use Rattle.pass_books.specs.Owned.{AreOwn, OwnWithin}
+use Rattle.pass_books.specs.Owned.{OwnWithin}
 use Rattle.pass_books.specs.Told.{last_is_cut}
 use Rattle.pass_books.specs.Underway.{Underway, begun_amid, book_amid, earlier_calls, seq_of, with_end}
 use Rattle.pass_books.specs.Accepting.{IsAccepting, carried_out, clock_seen, left_waiting, noted_next}
 use Rattle.pass_books.specs.Finishing.{IsDelayed}
 use Rattle.pass_books.proofs.Growing.{as_many}
 use Rattle.pass_books.proofs.Lists.{zip_append}
-use Rattle.pass_books.proofs.Owning.{own_carried, own_look}
+use Rattle.pass_books.proofs.Timing.{OwnsInTime, in_time_carried, in_time_look}
 use Rattle.pass_books.proofs.Underways.{amid_book, called, is_seq, others_underway, underway_as, underway_on}
 
 -- ---- lists
@@ -58,11 +58,11 @@ parts_append xs ys = filter_map-append (λ (step : Step). part_in step.result) x
 -- ---- histories
 
 pub histories_looked : (config : Configuration) (parts : List History) (clock : List ClockEvent) (by seq : ℕ) → AreHistories config parts clock → AreHistories config parts (clock ++ clocks.Look by seq ∷ [])
-histories_looked config parts clock by seq h = histories_on config parts clock (clock ++ clocks.Look by seq ∷ []) by seq [] h tt (ticks_looked clock by seq)
+histories_looked config parts clock by seq h = histories_on config parts clock (clock ++ clocks.Look by seq ∷ []) by seq 0 [] h tt (ticks_looked clock by seq)
 
-pub histories_carried : (config : Configuration) (parts : List History) (clock : List ClockEvent) (by seq : ℕ) (decision : Decision) → AreHistories config parts clock → IsFair (length parts) decision
-    → AreHistories config (accept_all by seq (decision ∷ []) parts).1 clock
-histories_carried config parts clock by seq decision h fair = histories_on config parts clock clock by seq (decision ∷ []) h (fair, tt) refl
+pub histories_carried : (config : Configuration) (parts : List History) (clock : List ClockEvent) (by seq t : ℕ) (decision : Decision) → AreHistories config parts clock → IsFair (length parts) decision
+    → AreHistories config (accept_all by seq t (decision ∷ []) parts).1 clock
+histories_carried config parts clock by seq t decision h fair = histories_on config parts clock clock by seq t (decision ∷ []) h (fair, tt) refl
 
 -- ---- others' entries came
 
@@ -119,8 +119,9 @@ module _ (u : Underway) (request : Request) (decisions : List Decision) (reached
   no_finish : points_of u.call ≡ u.call.accept
   no_finish = ap (λ (ps : List Point). u.call.accept ++ ps) h.unfinished ∙ append-nil u.call.accept
 
-  own_accept : AreOwn (owners_at u.parts u.clock) u.number (map points_of (earlier_calls u) ++ u.call.accept ∷ [])
-  own_accept = subst (λ (ps : List Point). AreOwn (owners_at u.parts u.clock) u.number (map points_of (earlier_calls u) ++ ps ∷ [])) no_finish h.underway.own
+  own_accept : OwnsInTime u.number u.parts u.clock (map points_of (earlier_calls u) ++ u.call.accept ∷ [])
+  own_accept =
+      subst (λ (ps : List Point). OwnsInTime u.number u.parts u.clock (map points_of (earlier_calls u) ++ ps ∷ [])) no_finish (record { own = h.underway.own; timely = h.underway.timely })
 
   -- the call with these points more
   abbrev with_points : List Point → Call
@@ -129,15 +130,15 @@ module _ (u : Underway) (request : Request) (decisions : List Decision) (reached
   points_with : (points : List Point) → u.call.accept ++ points ≡ points_of (with_points points)
   points_with points = sym (ap (λ (ps : List Point). (u.call.accept ++ points) ++ ps) h.unfinished ∙ append-nil (u.call.accept ++ points))
 
-  own_more : (later : List History) (behind : List ClockEvent) (points : List Point) → AreOwn (owners_at later behind) u.number (map points_of (earlier_calls u) ++ (u.call.accept ++ points) ∷ [])
-      → AreOwn (owners_at later behind) u.number (map points_of (earlier_calls u) ++ points_of (with_points points) ∷ [])
-  own_more later behind points own = subst (λ (ps : List Point). AreOwn (owners_at later behind) u.number (map points_of (earlier_calls u) ++ ps ∷ [])) (points_with points) own
+  own_more : (later : List History) (behind : List ClockEvent) (points : List Point) → OwnsInTime u.number later behind (map points_of (earlier_calls u) ++ (u.call.accept ++ points) ∷ [])
+      → OwnsInTime u.number later behind (map points_of (earlier_calls u) ++ points_of (with_points points) ∷ [])
+  own_more later behind points entries = subst (λ (ps : List Point). OwnsInTime u.number later behind (map points_of (earlier_calls u) ++ ps ∷ [])) (points_with points) entries
 
   -- ---- one decision more
 
   module _ (decision : Decision) (next : slice_get decisions reached ≡ Some decision) where
     abbrev later : List History
-    later = (accept_all u.number (seq_of u) (decision ∷ []) u.parts).1
+    later = (accept_all u.number (seq_of u) (moment_of u.clock) (decision ∷ []) u.parts).1
 
     abbrev new : List Noted
     new = noted_next u decision
@@ -146,7 +147,7 @@ module _ (u : Underway) (request : Request) (decisions : List Decision) (reached
     one_fair = all_get (IsFair (length u.parts)) decisions reached decision fair next
 
     grown : HaveGrown u.parts u.clock later u.clock
-    grown = grown_parts u.parts later u.clock (accepted_longer u.number (seq_of u) (length u.parts) (decision ∷ []) u.parts refl (one_fair, tt))
+    grown = grown_parts u.parts later u.clock (accepted_longer u.number (seq_of u) (moment_of u.clock) (length u.parts) (decision ∷ []) u.parts refl (one_fair, tt))
 
     next_taken : take (reached + 1) decisions ≡ take reached decisions ++ decision ∷ []
     next_taken = let one : reached + 1 ≡ suc reached = omega arith in ap (λ (n : ℕ). take n decisions) one ∙ take_next decisions reached decision next
@@ -155,7 +156,7 @@ module _ (u : Underway) (request : Request) (decisions : List Decision) (reached
     back account on = goes_back u.config u.parts later u.clock u.clock account grown on
 
     one_shows : (account : Account) → GoesOn u.config later u.clock account → ShowsAccepted u.number (seq_of u) account (decision ∷ []) new
-    one_shows account on = accepted_shows u.number (seq_of u) (length u.parts) (decision ∷ []) u.parts account refl few h.underway.histories.whole (one_fair, tt) on.follows
+    one_shows account on = accepted_shows u.number (seq_of u) (moment_of u.clock) (length u.parts) (decision ∷ []) u.parts account refl few h.underway.histories.whole (one_fair, tt) on.follows
 
     steps_on : (account : Account) → GoesOn u.config later u.clock account → AllZip (IsStep account) (take (reached + 1) decisions) (steps_of (noted ++ new))
     steps_on account on =
@@ -177,14 +178,14 @@ module _ (u : Underway) (request : Request) (decisions : List Decision) (reached
 
     still_within : AllBelow (length later) (operation_parts (steps_of (noted ++ new)))
     still_within =
-        subst (λ (n : ℕ). AllBelow n (operation_parts (steps_of (noted ++ new)))) (sym (accepted_size u.number (seq_of u) (length u.parts) (decision ∷ []) u.parts))
+        subst (λ (n : ℕ). AllBelow n (operation_parts (steps_of (noted ++ new)))) (sym (accepted_size u.number (seq_of u) (moment_of u.clock) (length u.parts) (decision ∷ []) u.parts))
         (subst (AllBelow (length u.parts)) (sym (ap operation_parts (steps_append noted new) ∙ parts_append (steps_of noted) (steps_of new)))
-        (all_append (λ (x : ℕ). x < length u.parts) (operation_parts (steps_of noted)) (operation_parts (steps_of new)) h.within (accepted_within u.number (seq_of u) (length u.parts) (decision ∷ []) u.parts (one_fair, tt))))
+        (all_append (λ (x : ℕ). x < length u.parts) (operation_parts (steps_of noted)) (operation_parts (steps_of new)) h.within (accepted_within u.number (seq_of u) (moment_of u.clock) (length u.parts) (decision ∷ []) u.parts (one_fair, tt))))
 
     pub accepting_on : IsAccepting (carried_out u decision) request decisions (reached + 1) (noted ++ noted_next u decision)
     accepting_on = record {
-      underway = underway_on u later u.clock (with_points (step_points (steps_of new))) h.underway grown (histories_carried u.config u.parts u.clock u.number (seq_of u) decision h.underway.histories one_fair)
-          (own_more later u.clock (step_points (steps_of new)) (own_carried u.parts u.clock u.number (seq_of u) decision (map points_of (earlier_calls u)) u.call.accept (is_seq u) few one_fair own_accept));
+      underway = underway_on u later u.clock (with_points (step_points (steps_of new))) h.underway grown (histories_carried u.config u.parts u.clock u.number (seq_of u) (moment_of u.clock) decision h.underway.histories one_fair)
+          (own_more later u.clock (step_points (steps_of new)) (in_time_carried u.parts u.clock u.number (seq_of u) decision (map points_of (earlier_calls u)) u.call.accept (is_seq u) few one_fair own_accept));
       asked = h.asked;
       decided = h.decided;
       each = steps_on;
@@ -295,7 +296,8 @@ module _ (u : Underway) (request : Request) (decisions : List Decision) (noted :
     underway = underway_on u u.parts behind (with_points u request decisions (length decisions) noted h (clock_point u.clock ∷ [])) h.underway looked_grown
         (histories_looked u.config u.parts u.clock u.number (seq_of u) h.underway.histories)
         (own_more u request decisions (length decisions) noted h u.parts behind (clock_point u.clock ∷ [])
-        (own_look u.parts u.clock u.number (seq_of u) (map points_of (earlier_calls u)) u.call.accept (is_seq u) (own_accept u request decisions (length decisions) noted h)));
+        (in_time_look u.parts u.clock u.number (seq_of u) (map points_of (earlier_calls u)) u.call.accept (is_seq u) (few u request decisions (length decisions) noted h)
+        (own_accept u request decisions (length decisions) noted h)));
     delayed = delayed_as waits;
     within = h.within;
     own = refl;

@@ -1,5 +1,5 @@
 -- What comes to one history between two turns of a pass is others', and what is known of all histories then.
-use Rattle.std.proofs.Common.{◌≡◌, ◌≢◌, ℕ, zero, suc, ◌+◌, ◌-◌, ◌≤◌, ◌<◌, Bool, true, false, cond, eqb, List, [], ◌∷◌, ◌++◌, length, map, filter, set, Option, Some, None, refl, sym, ap, subst, ◌∙◌, arith, inl, inr, append-nil, length-append, eq-eqb}
+use Rattle.std.proofs.Common.{◌≡◌, ◌≢◌, ℕ, zero, suc, ◌+◌, ◌-◌, ◌≤◌, ◌<◌, Bool, true, false, cond, eqb, List, [], ◌∷◌, ◌++◌, length, map, filter, set, Option, Some, None, unwrap_or, refl, sym, ap, subst, ◌∙◌, arith, inl, inr, append-nil, length-append, eq-eqb}
 use Rattle.std.proofs.lemmas.Bool.{cases_lt}
 use Rattle.std.proofs.lemmas.List.{length-set, map-append}
 use Rattle.std.proofs.lemmas.List.Elements.{filter-append}
@@ -10,16 +10,18 @@ use Rattle.std.specs.List.Sorted.{IsStrictlyIncreasing}
 use Rattle.partlog.specs.declared.clock_event.ClockEvent.{ClockEvent}
 use Rattle.partlog.specs.declared.clock_event.ClockEvent.TheVariants as clocks
 use Rattle.partlog.specs.declared.event.PartEvent.{PartEvent}
-use Rattle.partlog.specs.declared.event.PartEvent.TheVariants.{Append, Follow, Look}
+use Rattle.partlog.specs.declared.event.PartEvent.TheVariants.{Append, Follow, Look, Shrink}
 use Rattle.partlog.specs.History.{History}
 use Rattle.audit.specs.Histories.{Owner, owner_of, clock_owner_of, ticks_of}
 use Rattle.kbytes.proofs.Laws.{same_or_not, get_behind, get_set_same, get_set_other, some_is}
 use Rattle.kwire.specs.Configuration.{Configuration}
 use Rattle.broker_spec.specs.GoesOn.{HaveGrown, IsWhole, Longer, the_owner}
-use Rattle.broker_spec.specs.Kept.{owners_here}
+use Rattle.broker_spec.specs.Board.{empty_history}
+use Rattle.broker_spec.specs.Kept.{owners_here, owners_at}
 use Rattle.broker_spec.specs.Sound.{AreHistories}
+use Rattle.broker_spec.specs.Timely.{events_at, pass_of}
 use Rattle.broker_spec.proofs.Laws.{all_get, all_on, set_same, set_whole}
-use Rattle.pass_books.specs.Owned.{NotOf, OthersAlone, OwnWithin, pass_of}
+use Rattle.pass_books.specs.Owned.{NotOf, OthersAlone, OwnWithin}
 
 -- ---- entries of others
 
@@ -47,8 +49,9 @@ same_pass by seq number s e = ap (λ (x : Owner). x.by) (some_is (record { by = 
 
 not_of : (number : ℕ) (event : PartEvent) → pass_of event ≢ number → NotOf number (owner_of event)
 not_of number (Append by seq count len) other s e = other (same_pass by seq number s e)
-not_of number (Follow by seq replica offset) other s e = other (same_pass by seq number s e)
+not_of number (Follow by seq replica offset t) other s e = other (same_pass by seq number s e)
 not_of number (Look by seq) other s e = other (same_pass by seq number s e)
+not_of number (Shrink by replica t) other s e = absurd cc
 
 -- entries that name other passes are others'
 pub events_of_others : (number : ℕ) (events : List PartEvent) → AllByRecursion (λ event. pass_of event ≢ number) events → AllByRecursion (λ event. NotOf number (owner_of event)) events
@@ -94,8 +97,9 @@ none_past [] i none = omega arith
 none_past (h ∷ hs) zero none = absurd cc
 none_past (h ∷ hs) (suc i) none = omega (arith, none_past hs i none)
 
-pub others_within : (number : ℕ) (parts later : List History) (clock behind : List ClockEvent) → OthersAlone number parts clock later behind → length later ≡ length parts → OwnWithin number parts clock later behind
-others_within number parts later clock behind came size part place seq e = by_test (eqb part 64) (slice_get parts part) refl e
+calls_within : (number : ℕ) (parts later : List History) (clock behind : List ClockEvent) → OthersAlone number parts clock later behind → length later ≡ length parts
+    → (part place seq : ℕ) → slice_get (owners_at later behind part) place ≡ Some (the_owner number seq) → place < length (owners_at parts clock part)
+calls_within number parts later clock behind came size part place seq e = by_test (eqb part 64) (slice_get parts part) refl e
   where
     by_test : (b : Bool) (o : Option History) → slice_get parts part ≡ o → slice_get (cond b (map clock_owner_of behind) (owners_here (slice_get later part))) place ≡ Some (the_owner number seq)
         → place < length (cond b (map clock_owner_of clock) (owners_here o))
@@ -111,8 +115,40 @@ others_within number parts later clock behind came size part place seq e = by_te
     by_test false (Some h) is f =
         let l = came.each part h is in
         let all : map owner_of l.0.events ≡ map owner_of h.events ++ map owner_of l.2.more = ap (map owner_of) l.2.events ∙ map-append owner_of h.events l.2.more in
-        within_front number (map owner_of h.events) (map owner_of l.2.more) (owners_of_others owner_of number l.2.more l.3) place seq
+        within_front number (map owner_of h.events) (map owner_of l.2.more) (owners_of_others owner_of number l.2.more (events_of_others number l.2.more l.3)) place seq
         (sym (ap (λ (os : List (Option Owner)). slice_get os place) all) ∙ sym (ap (λ (o : Option History). slice_get (owners_here o) place) l.1) ∙ f)
+
+-- nor does one that names the pass stand behind them
+entry_front : (number : ℕ) (seen more : List PartEvent) → AllByRecursion (λ event. pass_of event ≢ number) more → (place : ℕ) (event : PartEvent) → slice_get (seen ++ more) place ≡ Some event → pass_of event ≡ number → place < length seen
+entry_front number seen more others place event e whose =
+    elim (cases_lt place (length seen)) [
+      | inl lt ↦ lt
+      | inr past ↦
+          let at : length seen + (place - length seen) ≡ place = omega (arith, past) in
+          let behind : slice_get more (place - length seen) ≡ Some event = sym (get_behind seen more (place - length seen)) ∙ ap (slice_get (seen ++ more)) at ∙ e in
+          absurd (all_get (λ (event : PartEvent). pass_of event ≢ number) more (place - length seen) event others behind whose)
+    ]
+
+entries_within : (number : ℕ) (parts later : List History) (clock behind : List ClockEvent) → OthersAlone number parts clock later behind → length later ≡ length parts
+    → (part place : ℕ) (event : PartEvent) → slice_get (events_at later part) place ≡ Some event → pass_of event ≡ number → place < length (events_at parts part)
+entries_within number parts later clock behind came size part place event e whose = by_case (slice_get parts part) refl
+  where
+    by_case : (o : Option History) → slice_get parts part ≡ o → place < length ((unwrap_or o (empty_history 0)).events)
+    by_case None is =
+        let past : length parts ≤ part = none_past parts part is in
+        let none : slice_get later part ≡ None = slice_get_past later part (omega (arith, past, size)) in
+        let nothing : slice_get [] place ≡ Some event = sym (ap (λ (o : Option History). slice_get ((unwrap_or o (empty_history 0)).events) place) none) ∙ e in
+        absurd cc
+    by_case (Some h) is =
+        let l = came.each part h is in
+        let all : events_at later part ≡ h.events ++ l.2.more = ap (λ (o : Option History). (unwrap_or o (empty_history 0)).events) l.1 ∙ l.2.events in
+        entry_front number h.events l.2.more l.3 place event (sym (ap (λ (events : List PartEvent). slice_get events place) all) ∙ e) whose
+
+pub others_within : (number : ℕ) (parts later : List History) (clock behind : List ClockEvent) → OthersAlone number parts clock later behind → length later ≡ length parts → OwnWithin number parts clock later behind
+others_within number parts later clock behind came size = record {
+  calls = calls_within number parts later clock behind came size;
+  entries = entries_within number parts later clock behind came size;
+}
 
 -- ---- the turn of one partition, or of the clock
 
@@ -122,13 +158,13 @@ as_it_was h = record { followers = refl; more = []; bytes = []; events = sym (ap
 
 -- one partition's history went on by others' entries
 pub part_came : (number : ℕ) (parts : List History) (clock : List ClockEvent) (p : ℕ) (h later : History) → slice_get parts p ≡ Some h → (longer : Longer h later)
-    → AllByRecursion (λ event. NotOf number (owner_of event)) longer.more → OthersAlone number parts clock (set parts p later) clock
+    → AllByRecursion (λ event. pass_of event ≢ number) longer.more → OthersAlone number parts clock (set parts p later) clock
 part_came number parts clock p h later there longer others = record {
   each = λ q k e. elim (same_or_not q p) [
     | inl same ↦
         let is : h ≡ k = some_is h k (sym there ∙ sym (ap (slice_get parts) same) ∙ e) in
         let at : slice_get (set parts p later) q ≡ Some later = ap (slice_get (set parts p later)) same ∙ get_set_same parts p later (slice_get_within parts p h there) in
-        subst (λ (x : History). (l : History) × (slice_get (set parts p later) q ≡ Some l) × (longer : Longer x l) × AllByRecursion (λ event. NotOf number (owner_of event)) longer.more) is (later, at, longer, others)
+        subst (λ (x : History). (l : History) × (slice_get (set parts p later) q ≡ Some l) × (longer : Longer x l) × AllByRecursion (λ event. pass_of event ≢ number) longer.more) is (later, at, longer, others)
     | inr other ↦ (k, get_set_other parts p q later other ∙ e, as_it_was k, tt)
   ];
   more = [];

@@ -27,18 +27,17 @@ use Rattle.audit.specs.Histories.{part_account}
 use Rattle.broker_spec.specs.Board.{Waiting, history_at}
 use Rattle.kanswer.specs.WithEntry.{entered}
 use Rattle.broker_spec.specs.GoesOn.{GoesOn, HaveGrown}
-use Rattle.broker_spec.specs.Kept.{owners_at}
 use Rattle.broker_spec.specs.Sound.{AllBelow, AreHistories, IsDelayedAs}
 use Rattle.broker_spec.proofs.Laws.{IsFair, accepted_longer, accepted_shows, all_get, all_longer_self, carried_on, clock_looked, clock_moment, clock_point, goes_back, grown_clock, grown_parts, looked_moment, looked_state}
 use Rattle.pass_books.specs.IsBook.{IsBook, IsFinished}
-use Rattle.pass_books.specs.Owned.{AreOwn, OwnWithin}
+use Rattle.pass_books.specs.Owned.{OwnWithin}
 use Rattle.pass_books.specs.Underway.{Underway, book_amid, earlier_calls, seq_of, with_end}
 use Rattle.pass_books.specs.Finishing.{IsDelayed, IsDue, IsFinishing, late_seen, part_seen, shown_with}
 use Rattle.pass_books.proofs.Acceptings.{histories_carried, histories_looked, take_next}
 use Rattle.pass_books.proofs.Asking.{delayed_asks}
 use Rattle.pass_books.proofs.Growing.{account_goes_on, as_many}
 use Rattle.pass_books.proofs.Lists.{zip_append}
-use Rattle.pass_books.proofs.Owning.{own_carried, own_look}
+use Rattle.pass_books.proofs.Timing.{OwnsInTime, in_time_carried, in_time_look}
 use Rattle.pass_books.proofs.Underways.{amid_book, amid_waits, is_seq, others_underway, underway_as, underway_on, waits_call, waits_underway}
 
 -- ---- delayed
@@ -75,10 +74,10 @@ delayed_as u w how h = record {
 
 -- with more last entries, in histories that go on
 delayed_on : (u : Underway) (w : Waiting) (later : List History) (behind : List ClockEvent) (finish : List Point) → IsDelayed u w → HaveGrown u.parts u.clock later behind → AreHistories u.config later behind
-    → AreOwn (owners_at later behind) u.number (map points_of (earlier_calls u) ++ (u.call.accept ++ finish) ∷ [])
+    → OwnsInTime u.number later behind (map points_of (earlier_calls u) ++ (u.call.accept ++ finish) ∷ [])
     → IsDelayed (record u { parts = later; clock = behind; call = record u.call { finish = finish } }) w
-delayed_on u w later behind finish h grown histories own = record {
-  underway = underway_on u later behind (record u.call { finish = finish }) h.underway grown histories own;
+delayed_on u w later behind finish h grown histories entries = record {
+  underway = underway_on u later behind (record u.call { finish = finish }) h.underway grown histories entries;
   delayed = λ account on.
       let d = h.delayed account (goes_back u.config u.parts later u.clock behind account grown on) in
       record { accepted = d.accepted; looks = d.looks; entries = d.entries; delayed = d.delayed; operation = d.operation };
@@ -162,8 +161,9 @@ finishing_late u w h unfinished overdue =
     let points : points_of u.call ++ clock_point u.clock ∷ [] ≡ u.call.accept ++ (u.call.finish ++ clock_point u.clock ∷ []) = append_assoc u.call.accept u.call.finish (clock_point u.clock ∷ []) in
     record {
       delayed = delayed_on u w u.parts behind (u.call.finish ++ clock_point u.clock ∷ []) h grown (histories_looked u.config u.parts u.clock u.number (seq_of u) h.underway.histories)
-          (subst (λ (ps : List Point). AreOwn (owners_at u.parts behind) u.number (map points_of (earlier_calls u) ++ ps ∷ [])) points
-          (own_look u.parts u.clock u.number (seq_of u) (map points_of (earlier_calls u)) (points_of u.call) (is_seq u) h.underway.own));
+          (subst (λ (ps : List Point). OwnsInTime u.number u.parts behind (map points_of (earlier_calls u) ++ ps ∷ [])) points
+          (in_time_look u.parts u.clock u.number (seq_of u) (map points_of (earlier_calls u)) (points_of u.call) (is_seq u) (omega (arith, h.underway.histories.few))
+          (record { own = h.underway.own; timely = h.underway.timely })));
       looks = [];
       finish = ap (λ (ps : List Point). ps ++ clock_point u.clock ∷ []) unfinished;
       each = λ account on. tt;
@@ -180,7 +180,7 @@ module _ (u : Underway) (w : Waiting) (late : Option Point) (states : List State
   found = history_at u.parts part
 
   abbrev looked : List History
-  looked = set u.parts part (entered found u.number (seq_of u) Looked)
+  looked = set u.parts part (entered found u.number (seq_of u) (moment_of u.clock) Looked)
 
   abbrev point : Point
   point = record { part = part; place = length found.events }
@@ -198,7 +198,7 @@ module _ (u : Underway) (w : Waiting) (late : Option Point) (states : List State
   fair = (there, λ state. (tt, there))
 
   grown : HaveGrown u.parts u.clock looked u.clock
-  grown = grown_parts u.parts looked u.clock (accepted_longer u.number (seq_of u) (length u.parts) (decision ∷ []) u.parts refl (fair, tt))
+  grown = grown_parts u.parts looked u.clock (accepted_longer u.number (seq_of u) (moment_of u.clock) (length u.parts) (decision ∷ []) u.parts refl (fair, tt))
 
   next_taken : take (length (states ++ state_of found ∷ [])) (operation_parts w.steps) ≡ take (length states) (operation_parts w.steps) ++ part ∷ []
   next_taken =
@@ -208,7 +208,7 @@ module _ (u : Underway) (w : Waiting) (late : Option Point) (states : List State
   -- what every account shows of it
   looks_at : (account : Account) → GoesOn u.config looked u.clock account → IsLook account part point × (at_point account point ≡ state_of found)
   looks_at account on =
-      let shows = accepted_shows u.number (seq_of u) (length u.parts) (decision ∷ []) u.parts account refl few h.delayed.underway.histories.whole (fair, tt) on.follows in
+      let shows = accepted_shows u.number (seq_of u) (moment_of u.clock) (length u.parts) (decision ∷ []) u.parts account refl few h.delayed.underway.histories.whole (fair, tt) on.follows in
       let asks = shows.steps.0 in
       let is : asks.point ≡ point = first_point asks.left in (
         subst (IsLook account part) is (asks.there, asks.entry.0, asks.entry.1, asks.entry.2),
@@ -227,9 +227,10 @@ module _ (u : Underway) (w : Waiting) (late : Option Point) (states : List State
   finishing_on enough =
       let points : points_of u.call ++ point ∷ [] ≡ u.call.accept ++ (u.call.finish ++ point ∷ []) = append_assoc u.call.accept u.call.finish (point ∷ []) in
       record {
-        delayed = delayed_on u w looked u.clock (u.call.finish ++ point ∷ []) h.delayed grown (histories_carried u.config u.parts u.clock u.number (seq_of u) decision h.delayed.underway.histories fair)
-            (subst (λ (ps : List Point). AreOwn (owners_at looked u.clock) u.number (map points_of (earlier_calls u) ++ ps ∷ [])) points
-            (own_carried u.parts u.clock u.number (seq_of u) decision (map points_of (earlier_calls u)) (points_of u.call) (is_seq u) few fair h.delayed.underway.own));
+        delayed = delayed_on u w looked u.clock (u.call.finish ++ point ∷ []) h.delayed grown (histories_carried u.config u.parts u.clock u.number (seq_of u) (moment_of u.clock) decision h.delayed.underway.histories fair)
+            (subst (λ (ps : List Point). OwnsInTime u.number looked u.clock (map points_of (earlier_calls u) ++ ps ∷ [])) points
+            (in_time_carried u.parts u.clock u.number (seq_of u) decision (map points_of (earlier_calls u)) (points_of u.call) (is_seq u) few fair
+            (record { own = h.delayed.underway.own; timely = h.delayed.underway.timely })));
         looks = h.looks ++ point ∷ [];
         finish = ap (λ (ps : List Point). ps ++ point ∷ []) h.finish ∙ append_assoc (option_to_list late) h.looks (point ∷ []);
         each = λ account on.

@@ -4,7 +4,7 @@
 
 -- that of a pass that has done nothing, and how it goes on between calls
 pub use Rattle.pass_books.proofs.Opening.{opened}
-pub use Rattle.pass_books.proofs.Underways.{begun, ended, others_came}
+pub use Rattle.pass_books.proofs.Underways.{begun, ended, others_came, taken_out}
 -- what comes between two turns of a pass is others'
 pub use Rattle.pass_books.proofs.Coming.{clock_came, clock_histories, events_of_others, ticks_of_others, others_behind, others_grown, others_within, part_came, part_histories}
 -- and changes nothing that it knows, between its calls or amid one
@@ -28,5 +28,5 @@ pub use Rattle.pass_books.proofs.Winning.{won_all, won_amid, won_begun, won_ende
 -- ---- all books
 
 -- one goes with final histories that others alone left behind what it saw, and every entry is of a pass that there is
-pub use Rattle.pass_books.proofs.Passing.{all_known, goes_with}
+pub use Rattle.pass_books.proofs.Passing.{all_entries_known, all_known, goes_with}
 pub use Rattle.pass_books.proofs.Closing.{books_lawful, calls_with}

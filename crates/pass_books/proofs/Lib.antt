@@ -10,6 +10,8 @@ mod Ending
 mod Closing
 -- which entries are a pass's own, as entries come
 mod Owning
+-- the moments of a pass's own entries
+mod Timing
 -- the book of a pass that has done nothing
 mod Opening
 -- what comes between two turns of a pass
@@ -34,3 +36,5 @@ mod Winning
 mod WorkedBooks
 -- the books of three passes that waited
 mod WorkedWaits
+-- the book of a pass that took a follower out
+mod WorkedLeaves

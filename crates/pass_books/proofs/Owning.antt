@@ -23,7 +23,7 @@ use Rattle.broker_spec.specs.Entering.{accept_all, steps_of}
 use Rattle.broker_spec.specs.GoesOn.{HaveGrown, the_owner}
 use Rattle.broker_spec.specs.Kept.{IsKept, owners_here, owners_at}
 use Rattle.broker_spec.proofs.Laws.{IsFair, all_on, clock_point, entered_events, event_of, event_owner, get_map, kept_entry, map_get, owners_clock, owners_part, push_get, put, put_other, put_same}
-use Rattle.pass_books.specs.Owned.{AreOwn, OwnWithin}
+use Rattle.pass_books.specs.Owned.{AreOwn}
 use Rattle.pass_books.proofs.Growing.{owner_seen, owner_stands}
 
 abbrev IsOf : (ℕ → List (Option Owner)) → ℕ → ℕ → Point → Type 0
@@ -34,7 +34,12 @@ in_rows rows = flat_map (λ points. points) rows
 
 -- ---- others' entries, and a call that begins
 
-pub own_others : (number : ℕ) (rows : List (List Point)) (parts later : List History) (clock behind : List ClockEvent) → HaveGrown parts clock later behind → OwnWithin number parts clock later behind
+-- no call of the pass left an entry behind what it saw
+abbrev pub CallsWithin : ℕ → List History → List ClockEvent → List History → List ClockEvent → Type 0
+CallsWithin number parts clock later behind =
+    (part place seq : ℕ) → slice_get (owners_at later behind part) place ≡ Some (the_owner number seq) → place < length (owners_at parts clock part)
+
+pub own_others : (number : ℕ) (rows : List (List Point)) (parts later : List History) (clock behind : List ClockEvent) → HaveGrown parts clock later behind → CallsWithin number parts clock later behind
     → AreOwn (owners_at parts clock) number rows → AreOwn (owners_at later behind) number rows
 own_others number rows parts later clock behind grown within own = record {
   left = λ part place seq e. own.left part place seq (owner_seen parts later clock behind grown part place (the_owner number seq) (within part place seq e) e);
@@ -161,13 +166,13 @@ own_look parts clock number seq before points is own =
     (λ q other. owners_clock parts clock (clock ++ event ∷ []) q other) own
 
 -- what was decided of one partition is carried out
-pub own_carried : (parts : List History) (clock : List ClockEvent) (number seq : ℕ) (decision : Decision) (before : List (List Point)) (points : List Point) → seq ≡ length before → length parts ≤ 64 → IsFair (length parts) decision
+pub own_carried : (parts : List History) (clock : List ClockEvent) (number seq t : ℕ) (decision : Decision) (before : List (List Point)) (points : List Point) → seq ≡ length before → length parts ≤ 64 → IsFair (length parts) decision
     → AreOwn (owners_at parts clock) number (before ++ points ∷ [])
-    → AreOwn (owners_at (accept_all number seq (decision ∷ []) parts).1 clock) number (before ++ (points ++ step_points (steps_of (accept_all number seq (decision ∷ []) parts).0)) ∷ [])
-own_carried parts clock number seq (Refuse code) before points is few fair own =
+    → AreOwn (owners_at (accept_all number seq t (decision ∷ []) parts).1 clock) number (before ++ (points ++ step_points (steps_of (accept_all number seq t (decision ∷ []) parts).0)) ∷ [])
+own_carried parts clock number seq t (Refuse code) before points is few fair own =
     subst (λ (ps : List Point). AreOwn (owners_at parts clock) number (before ++ ps ∷ [])) (sym (append-nil points)) own
-own_carried parts clock number seq (AskLog part outcome) before points is few fair own =
+own_carried parts clock number seq t (AskLog part outcome) before points is few fair own =
     let found = history_at parts part in
     let entry = (outcome (state_of found)).entry in
-    own_part parts clock number part found (entered found number seq entry) (event_of number seq entry) before points fair.0 few (get_there parts part (empty_history 0) fair.0)
-    (entered_events found number seq entry) (event_owner number seq entry ∙ ap (the_owner number) is) own
+    own_part parts clock number part found (entered found number seq t entry) (event_of number seq t entry) before points fair.0 few (get_there parts part (empty_history 0) fair.0)
+    (entered_events found number seq t entry) (event_owner number seq t entry ∙ ap (the_owner number) is) own

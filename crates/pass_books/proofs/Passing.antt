@@ -1,9 +1,10 @@
 -- What others do changes nothing that a pass knows, between its calls and amid one.
-use Rattle.std.proofs.Common.{◌≡◌, ℕ, ◌<◌, Bool, true, false, cond, eqb, List, map, Option, Some, None, refl, subst, [], ◌∷◌, ◌++◌}
+use Rattle.std.proofs.Common.{◌≡◌, ℕ, ◌<◌, Bool, true, false, cond, eqb, List, map, Option, Some, None, unwrap_or, refl, subst, [], ◌∷◌, ◌++◌}
 use Rattle.std.specs.Prelude.{slice_get}
 use Rattle.std.specs.List.{AllByRecursion}
 use Rattle.partlog.specs.declared.clock_event.ClockEvent.{ClockEvent}
 use Rattle.partlog.specs.declared.clock_event.ClockEvent.TheVariants as clocks
+use Rattle.partlog.specs.declared.event.PartEvent.{PartEvent}
 use Rattle.partlog.specs.History.{History}
 use Rattle.partlog.specs.Moment.{moment_of}
 use Rattle.partlog.specs.State.{PartState as State}
@@ -12,11 +13,12 @@ use Rattle.audit.specs.Histories.{Owner, owner_of, clock_owner_of}
 use Rattle.kanswer.specs.Decisions.{Decision}
 use Rattle.kwire.specs.Configuration.{Configuration}
 use Rattle.kwire.specs.declared.request.Request.{Request}
-use Rattle.broker_spec.specs.Board.{Waiting}
+use Rattle.broker_spec.specs.Board.{Waiting, empty_history}
 use Rattle.broker_spec.specs.Entering.{Noted}
 use Rattle.broker_spec.specs.GoesOn.{the_owner}
 use Rattle.broker_spec.specs.Kept.{owners_here, owners_at}
 use Rattle.broker_spec.specs.Sound.{AreHistories}
+use Rattle.broker_spec.specs.Timely.{events_at, pass_of}
 use Rattle.broker_spec.proofs.Laws.{all_get, get_map, ticks_rise}
 use Rattle.pass_books.specs.Accepting.{IsAccepting}
 use Rattle.pass_books.specs.Book.{Book}
@@ -96,3 +98,12 @@ all_known finals clock n parts ticks part place by seq e = by_test (eqb part 64)
     by_test true o is f = owner_known clock_owner_of n clock place by seq ticks f
     by_test false None is f = absurd cc
     by_test false (Some h) is f = owner_known owner_of n h.events place by seq (parts part h is) f
+
+-- every entry of a partition names one of so many passes, whether a call left it or not
+pub all_entries_known : (finals : List History) (n : ℕ) → ((p : ℕ) (h : History) → slice_get finals p ≡ Some h → AllByRecursion (λ event. pass_of event < n) h.events)
+    → (part place : ℕ) (event : PartEvent) → slice_get (events_at finals part) place ≡ Some event → pass_of event < n
+all_entries_known finals n parts part place event e = by_case (slice_get finals part) refl e
+  where
+    by_case : (o : Option History) → slice_get finals part ≡ o → slice_get ((unwrap_or o (empty_history 0)).events) place ≡ Some event → pass_of event < n
+    by_case None is f = absurd cc
+    by_case (Some h) is f = all_get (λ (event : PartEvent). pass_of event < n) h.events place event (parts part h is) f

@@ -3,6 +3,7 @@ use Rattle.std.proofs.Common.{◌≡◌, ℕ, zero, suc, ◌+◌, List, [], ◌�
 use Rattle.std.proofs.lemmas.Option.{slice_get_within}
 use Rattle.std.specs.Prelude.{slice_get}
 use Rattle.partlog.specs.History.{History}
+use Rattle.partlog.specs.Moment.{moment_of}
 use Rattle.partlog.specs.State.{PartState as State, state_of}
 use Rattle.audit.specs.declared.account.Point.{Point}
 use Rattle.audit.specs.LawfulCall.{operation_parts}
@@ -54,7 +55,7 @@ module _ (u : Underway) (part : ℕ) (found : History) (finds : Finds u part fou
       let here =
       subst (λ (x : History). IsAccepting (accepted_there later part x (outcome (state_of x))) request decisions (reached + 1) (noted ++ noted_there later part x (outcome (state_of x)) ∷ [])) found_there on in
       subst (λ (parts : List History). IsAccepting (record (accepted_there u part found (outcome (state_of found))) { parts = parts }) request decisions (reached + 1) (noted ++ noted_there u part found (outcome (state_of found)) ∷ []))
-      (set_again u.parts part found (entered found u.number (seq_of u) (outcome (state_of found)).entry)) here
+      (set_again u.parts part found (entered found u.number (seq_of u) (moment_of u.clock) (outcome (state_of found)).entry)) here
 
   -- a look at the next partition, whose state is that which is found
   pub finishing_turn : (w : Waiting) (late : Option Point) (states : List State) → IsFinishing u w late states → slice_get (operation_parts w.steps) (length states) ≡ Some part
@@ -65,4 +66,4 @@ module _ (u : Underway) (part : ℕ) (found : History) (finds : Finds u part fou
       let on = finishing_on later w late states (others_amid_finishing u w late states behind u.clock came (histories h.delayed.underway.histories) h) part next
       (subst (λ (x : History). late ≡ None → length (states ++ state_of x ∷ []) ≡ length (operation_parts w.steps) → IsSatisfied w.operation (values_of w.request.ask (shown_with w.steps (states ++ state_of x ∷ [])))) (sym found_there) enough) in
       let here = subst (λ (x : History). IsFinishing (looked_there later part x) w late (states ++ state_of x ∷ [])) found_there on in
-      subst (λ (parts : List History). IsFinishing (record (looked_there u part found) { parts = parts }) w late (states ++ state_of found ∷ [])) (set_again u.parts part found (entered found u.number (seq_of u) Looked)) here
+      subst (λ (parts : List History). IsFinishing (record (looked_there u part found) { parts = parts }) w late (states ++ state_of found ∷ [])) (set_again u.parts part found (entered found u.number (seq_of u) (moment_of u.clock) Looked)) here

@@ -3,6 +3,7 @@
 use Rattle.std.proofs.Common.{◌≡◌, ℕ, ◌+◌, true, false, List, [], ◌∷◌, ◌++◌, length, map, Option, Some, None, refl, sym, ap, subst, ◌∙◌, arith, append-nil, length-append}
 use Rattle.std.proofs.lemmas.Grind.{flat_map-append}
 use Rattle.std.proofs.lemmas.List.{length-map, map-append}
+use Rattle.std.specs.Prelude.{Contains}
 use Rattle.std.specs.List.{AllByRecursion}
 use Rattle.partlog.specs.declared.clock_event.ClockEvent.{ClockEvent}
 use Rattle.partlog.specs.History.{History}
@@ -12,7 +13,7 @@ use Rattle.audit.specs.declared.account.CallHow.TheVariants.{Parked}
 use Rattle.audit.specs.declared.account.SessionEnd.{SessionEnd}
 use Rattle.audit.specs.declared.account.SessionEnd.TheVariants.{NoMemory}
 use Rattle.audit.specs.declared.account.Transcript.{Transcript}
-use Rattle.audit.specs.Histories.{calls_in, points_of}
+use Rattle.audit.specs.Histories.{calls_in, points_of, ticks_of}
 use Rattle.audit.specs.IsLawful.{EndWell}
 use Rattle.audit.specs.LawfulCall.{IsLawfulCall}
 use Rattle.kbytes.proofs.Laws.{all_append}
@@ -21,17 +22,19 @@ use Rattle.broker_spec.specs.Board.{Waiting}
 use Rattle.broker_spec.specs.GoesOn.{HaveGrown}
 use Rattle.broker_spec.specs.Kept.{owners_at}
 use Rattle.broker_spec.specs.Sound.{AreHistories, IsWaiting}
-use Rattle.broker_spec.proofs.Laws.{all_on, carried_on, waiting_on}
+use Rattle.broker_spec.specs.Timely.{IsTimely}
+use Rattle.broker_spec.proofs.Laws.{all_on, carried_on, grown_parts, waiting_on}
 use Rattle.pass_books.specs.Book.{Book, begun_behind}
 use Rattle.pass_books.specs.IsBook.{AreFinished, IsBook, IsFinished, Stand}
 use Rattle.pass_books.specs.Owned.{AreOwn, OwnWithin}
+use Rattle.pass_books.specs.TakenOut.{HasTakenOut}
 use Rattle.pass_books.specs.Told.{last_is_cut, told_end}
 use Rattle.pass_books.specs.Underway.{Underway, IsUnderway, begun_amid, book_amid, earlier_calls, seq_of, with_end}
 use Rattle.pass_books.proofs.Closing.{calls_with}
 use Rattle.pass_books.proofs.Ending.{all_past, ended_well, follow_call, follow_last, last_follows, past_before}
 use Rattle.pass_books.proofs.Growing.{as_many}
 use Rattle.pass_books.proofs.Lists.{all_behind, push_same}
-use Rattle.pass_books.proofs.Owning.{own_begun, own_others}
+use Rattle.pass_books.proofs.Timing.{OwnsInTime, in_time_begun, in_time_others, in_time_taken}
 
 -- ---- what holds of calls holds on
 
@@ -60,12 +63,32 @@ stand_on book later behind (Some w) grown size stand = record {
 
 pub others_came : (book : Book) (waits : Option Waiting) (later : List History) (behind : List ClockEvent) → HaveGrown book.parts book.clock later behind → OwnWithin book.number book.parts book.clock later behind
     → AreHistories book.config later behind → IsBook book waits → IsBook (record book { parts = later; clock = behind }) waits
-others_came book waits later behind grown within histories h = record {
-  histories = histories;
-  own = own_others book.number (map points_of (calls_in book.transcripts)) book.parts later book.clock behind grown within h.own;
-  calls = stand_on book later behind waits grown (as_many book.config book.parts later book.clock behind h.histories histories) h.calls;
-  ends = h.ends;
-}
+others_came book waits later behind grown within histories h =
+    let rows = map points_of (calls_in book.transcripts) in
+    let entries = in_time_others book.number rows book.parts later book.clock behind grown within (record { own = h.own; timely = h.timely }) in
+    record {
+      histories = histories;
+      own = entries.own;
+      timely = entries.timely;
+      calls = stand_on book later behind waits grown (as_many book.config book.parts later book.clock behind h.histories histories) h.calls;
+      ends = h.ends;
+    }
+
+-- ---- the pass took followers out, at a moment that the clock was told
+
+pub taken_out : (book : Book) (waits : Option Waiting) (t : ℕ) (later : List History) → HasTakenOut book.number t book.parts later → Contains (ticks_of book.clock) t → AreHistories book.config later book.clock → IsBook book waits
+    → IsBook (record book { parts = later }) waits
+taken_out book waits t later out told histories h =
+    let rows = map points_of (calls_in book.transcripts) in
+    let size = as_many book.config book.parts later book.clock book.clock h.histories histories in
+    let entries = in_time_taken book.number t rows book.parts later book.clock out told size (record { own = h.own; timely = h.timely }) in
+    record {
+      histories = histories;
+      own = entries.own;
+      timely = entries.timely;
+      calls = stand_on book later book.clock waits (grown_parts book.parts later book.clock out.grown) size h.calls;
+      ends = h.ends;
+    }
 
 -- ---- a transcript is begun, and ended
 
@@ -78,6 +101,7 @@ begun book number h =
     record {
       histories = h.histories;
       own = subst (λ (cs : List Call). AreOwn (owners_at book.parts book.clock) book.number (map points_of cs)) (sym calls) h.own;
+      timely = subst (λ (cs : List Call). IsTimely book.number book.parts book.clock (map points_of cs)) (sym calls) h.timely;
       calls = subst (AreFinished book.config book.parts book.clock) (sym calls) h.calls;
       ends = follow_last book.transcripts new h.ends refl tt;
     }
@@ -104,6 +128,7 @@ ended book front last end going cut h =
     record {
       histories = h.histories;
       own = subst (λ (cs : List Call). AreOwn (owners_at book.parts book.clock) book.number (map points_of cs)) (sym calls) h.own;
+      timely = subst (λ (cs : List Call). IsTimely book.number book.parts book.clock (map points_of cs)) (sym calls) h.timely;
       calls = subst (AreFinished book.config book.parts book.clock) (sym calls) h.calls;
       ends = follow_last front closed follows.0 follows.1
           (ended_well last.calls end (subst (λ (o : Option SessionEnd). EndWell last.calls (told_end (last_is_cut last.calls) o)) going follows.2) (last_unparked book front last h) cut);
@@ -116,10 +141,14 @@ pub called : (book : Book) (front : List Transcript) (transcript : Transcript) (
 called book front transcript frame going uncut h =
     let follows = last_follows front transcript h.ends in
     let calls = calls_behind front transcript in
+    let entries = in_time_begun book.number (map points_of (calls_in front ++ transcript.calls)) book.parts book.clock (omega (arith, h.histories.few)) (record {
+      own = subst (λ (cs : List Call). AreOwn (owners_at book.parts book.clock) book.number (map points_of cs)) calls h.own;
+      timely = subst (λ (cs : List Call). IsTimely book.number book.parts book.clock (map points_of cs)) calls h.timely;
+    }) in
     record {
       histories = h.histories;
-      own = own_begun (owners_at book.parts book.clock) book.number (map points_of (calls_in front ++ transcript.calls))
-          (subst (λ (cs : List Call). AreOwn (owners_at book.parts book.clock) book.number (map points_of cs)) calls h.own);
+      own = entries.own;
+      timely = entries.timely;
       earlier = subst (AreFinished book.config book.parts book.clock) calls h.calls;
       past = all_past transcript.calls (told_end (last_is_cut transcript.calls) transcript.end) follows.2 (last_unparked book front transcript h) uncut;
       follow = follows.0;
@@ -130,10 +159,11 @@ called book front transcript frame going uncut h =
 -- ---- the call goes on
 
 pub underway_on : (u : Underway) (later : List History) (behind : List ClockEvent) (call : Call) → IsUnderway u → HaveGrown u.parts u.clock later behind → AreHistories u.config later behind
-    → AreOwn (owners_at later behind) u.number (map points_of (earlier_calls u) ++ points_of call ∷ []) → IsUnderway (record u { parts = later; clock = behind; call = call })
-underway_on u later behind call h grown histories own = record {
+    → OwnsInTime u.number later behind (map points_of (earlier_calls u) ++ points_of call ∷ []) → IsUnderway (record u { parts = later; clock = behind; call = call })
+underway_on u later behind call h grown histories entries = record {
   histories = histories;
-  own = own;
+  own = entries.own;
+  timely = entries.timely;
   earlier = all_finished_on u.config u.parts later u.clock behind grown (earlier_calls u) h.earlier;
   past = h.past;
   follow = h.follow;
@@ -144,11 +174,13 @@ underway_on u later behind call h grown histories own = record {
 pub others_underway : (u : Underway) (later : List History) (behind : List ClockEvent) → HaveGrown u.parts u.clock later behind → OwnWithin u.number u.parts u.clock later behind
     → AreHistories u.config later behind → IsUnderway u → IsUnderway (record u { parts = later; clock = behind })
 others_underway u later behind grown within histories h =
-    underway_on u later behind u.call h grown histories (own_others u.number (map points_of (earlier_calls u) ++ points_of u.call ∷ []) u.parts later u.clock behind grown within h.own)
+    let rows = map points_of (earlier_calls u) ++ points_of u.call ∷ [] in
+    underway_on u later behind u.call h grown histories
+    (in_time_others u.number rows u.parts later u.clock behind grown within (record { own = h.own; timely = h.timely }))
 
 -- with its end told otherwise
 pub underway_as : (u : Underway) (how : CallHow) → IsUnderway u → IsUnderway (with_end u how)
-underway_as u how h = record { histories = h.histories; own = h.own; earlier = h.earlier; past = h.past; follow = h.follow; first = h.first; going = h.going }
+underway_as u how h = record { histories = h.histories; own = h.own; timely = h.timely; earlier = h.earlier; past = h.past; follow = h.follow; first = h.first; going = h.going }
 
 -- the call's number is that of its rows
 pub is_seq : (u : Underway) → seq_of u ≡ length (map points_of (earlier_calls u))
@@ -165,10 +197,14 @@ rows_with u = ap (map points_of) (calls_with u.front u.transcript u.call) ∙ ma
 own_amid : (u : Underway) → IsUnderway u → AreOwn (owners_at u.parts u.clock) u.number (map points_of (calls_in (book_amid u).transcripts))
 own_amid u h = subst (AreOwn (owners_at u.parts u.clock) u.number) (sym (rows_with u)) h.own
 
+timely_amid : (u : Underway) → IsUnderway u → IsTimely u.number u.parts u.clock (map points_of (calls_in (book_amid u).transcripts))
+timely_amid u h = subst (IsTimely u.number u.parts u.clock) (sym (rows_with u)) h.timely
+
 pub amid_book : (u : Underway) → IsUnderway u → IsFinished u.config u.parts u.clock u.call → IsBook (book_amid u) None
 amid_book u h finished = record {
   histories = h.histories;
   own = own_amid u h;
+  timely = timely_amid u h;
   calls = subst (AreFinished u.config u.parts u.clock) (sym (calls_with u.front u.transcript u.call))
       (all_append (IsFinished u.config u.parts u.clock) (earlier_calls u) (u.call ∷ []) h.earlier (finished, tt));
   ends = follow_call u.front u.transcript u.call h.follow h.first h.going h.past;
@@ -178,6 +214,7 @@ pub amid_waits : (u : Underway) (w : Waiting) → IsUnderway u → IsWaiting u.c
 amid_waits u w h waits own = record {
   histories = h.histories;
   own = own_amid u h;
+  timely = timely_amid u h;
   calls = record {
     front = u.front;
     transcript = u.transcript;
@@ -213,6 +250,7 @@ module _ (u : Underway) (w : Waiting) (h : IsBook (book_amid u) (Some w)) where
       record {
         histories = h.histories;
         own = subst (AreOwn (owners_at u.parts u.clock) u.number) (rows_with u) h.own;
+        timely = subst (IsTimely u.number u.parts u.clock) (rows_with u) h.timely;
         earlier = subst (λ (calls : List Call). AreFinished u.config u.parts u.clock (calls_in u.front ++ calls)) same_calls.0
             (subst (λ (front : List Transcript). AreFinished u.config u.parts u.clock (calls_in front ++ h.calls.transcript.calls)) same_front h.calls.earlier);
         past = past_before u.transcript.calls u.call (told_end (last_is_cut last.calls) last.end) follows.2;

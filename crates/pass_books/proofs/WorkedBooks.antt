@@ -1,11 +1,13 @@
 -- The worked books: each comes of the moves of its pass, and the two go together.
-use Rattle.std.proofs.Common.{negsuc, ◌≡◌, ◌≢◌, ℕ, zero, suc, ◌≤◌, ◌<◌, pos, Bool, true, false, cond, eqb, List, [], ◌∷◌, length, map, Option, Some, None, unwrap_or, refl, sym, ap, subst, arith, inl, inr}
+use Rattle.std.proofs.Common.{negsuc, ◌≡◌, ◌≢◌, ℕ, ℤ, zero, suc, ◌≤◌, ◌<◌, pos, Bool, true, false, cond, eqb, List, [], ◌∷◌, length, map, Option, Some, None, unwrap_or, refl, sym, ap, subst, arith, inl, inr}
 use Rattle.std.proofs.lemmas.Bool.{ne_eqb}
 use Rattle.std.proofs.lemmas.Option.{slice_get_within}
 use Rattle.std.specs.Prelude.{slice_get, count_by}
 use Rattle.std.specs.List.{AllByRecursion}
-use Rattle.partlog.specs.declared.event.PartEvent.TheVariants.{Append, Look}
+use Rattle.partlog.specs.declared.event.PartEvent.{PartEvent}
+use Rattle.partlog.specs.declared.event.PartEvent.TheVariants.{Append, Look, Shrink}
 use Rattle.partlog.specs.History.{History}
+use Rattle.partlog.specs.Lagging.{LeftLate}
 use Rattle.partlog.specs.State.{state_of}
 use Rattle.kbatch.specs.Batch.{IsBatch}
 use Rattle.kbatch.specs.Stamp.{stamped}
@@ -24,9 +26,10 @@ use Rattle.broker_spec.specs.Board.{Waiting, empty_history}
 use Rattle.broker_spec.specs.GoesOn.{Longer, the_owner}
 use Rattle.broker_spec.specs.Kept.{owners_at}
 use Rattle.broker_spec.specs.Sound.{AreHistories}
+use Rattle.broker_spec.specs.Timely.{events_at, pass_of}
 use Rattle.broker_spec.specs.Worked.{waits_for_all}
 use Rattle.broker_spec.specs.WorkedPlay.{batch, follow, produce}
-use Rattle.broker_spec.proofs.Laws.{grown_self}
+use Rattle.broker_spec.proofs.Laws.{all_get, grown_self}
 use Rattle.pass_books.specs.Book.{Book, opening_book}
 use Rattle.pass_books.specs.IsBook.{IsBook}
 use Rattle.pass_books.specs.Owned.{NotOf, OthersAlone}
@@ -40,6 +43,7 @@ use Rattle.pass_books.proofs.Closing.{books_lawful}
 use Rattle.pass_books.proofs.Coming.{others_grown, others_within, part_came, part_histories}
 use Rattle.pass_books.proofs.Finishings.{delayed_as, delayed_cut, delayed_parked, finishing_as, finishing_on, finishing_satisfied, finishing_won, waits_delayed}
 use Rattle.pass_books.proofs.Opening.{opened}
+use Rattle.pass_books.proofs.Passing.{all_entries_known}
 use Rattle.pass_books.proofs.Underways.{begun, ended, others_came}
 
 -- ---- others' entries
@@ -49,20 +53,20 @@ another number by seq other s e =
     let o : ◌≡◌ {A = Owner} (record { by = by; seq = seq }) (record { by = number; seq = s }) = some_is (record { by = by; seq = seq }) (record { by = number; seq = s }) e in
     other (ap (λ (x : Owner). x.by) o)
 
-zero_one : ◌≢◌ {A = ℕ} 0 1
+pub zero_one : ◌≢◌ {A = ℕ} 0 1
 zero_one e = absurd (omega (arith, e))
 
-one_zero : ◌≢◌ {A = ℕ} 1 0
+pub one_zero : ◌≢◌ {A = ℕ} 1 0
 one_zero e = absurd (omega (arith, e))
 
-small : 1 ≤ 64
+pub small : 1 ≤ 64
 small = omega arith
 
 -- ---- the pass that produces
 
 module _ (all : List ℕ) (one : Record) (is_batch : IsBatch batch (one ∷ [])) (is_request : IsRequest all produce) where
   abbrev asked : Decision
-  asked = AskLog 0 (append_outcome (pos 3) 0 1 batch)
+  asked = AskLog 0 (append_outcome (pos 3) 1 0 1 batch)
 
   abbrev transcript : Transcript
   transcript = record { number = 7; first = 0; calls = []; end = None }
@@ -99,7 +103,7 @@ module _ (all : List ℕ) (one : Record) (is_batch : IsBatch batch (one ∷ []))
 
   -- the follower fetches
   follower_came : OthersAlone 0 (one_put [] ∷ []) clock_looked (one_put fetched ∷ []) clock_looked
-  follower_came = part_came 0 (one_put [] ∷ []) clock_looked 0 (one_put []) (one_put fetched) refl (record { followers = refl; more = fetched; bytes = []; events = refl; log = refl }) (another 0 1 0 one_zero, tt)
+  follower_came = part_came 0 (one_put [] ∷ []) clock_looked 0 (one_put []) (one_put fetched) refl (record { followers = refl; more = fetched; bytes = []; events = refl; log = refl }) (one_zero, tt)
 
   later_histories : AreHistories followed (one_put fetched ∷ []) clock_looked
   later_histories = part_histories followed (one_put [] ∷ []) clock_looked 0 (one_put []) (one_put fetched) refl refl refl producer_waits.histories
@@ -139,7 +143,7 @@ module _ (frame : List ℕ) (is_request : IsRequest frame follow) where
   producer_came : OthersAlone 1 (empty_history 1 ∷ []) [] (one_put [] ∷ []) []
   producer_came =
       part_came 1 (empty_history 1 ∷ []) [] 0 (empty_history 1) (one_put []) refl
-      (record { followers = refl; more = Append 0 0 1 (length batch) ∷ []; bytes = stamped 0 batch; events = refl; log = refl }) (another 1 0 0 zero_one, tt)
+      (record { followers = refl; more = Append 0 0 1 (length batch) ∷ []; bytes = stamped 0 batch; events = refl; log = refl }) (zero_one, tt)
 
   begun_behind : IsBook (record (opening_book followed 1) { parts = one_put [] ∷ []; transcripts = fetching.transcript ∷ [] }) None
   begun_behind =
@@ -197,6 +201,31 @@ first_known zero zero by seq e = owner_below 0 0 by seq 1 (omega arith) e
 first_known zero (suc place) by seq e = absurd cc
 first_known (suc part) place by seq e = in_none 1 place by seq (eqb (suc part) 64) (omega arith) e
 
+entries_known : (p : ℕ) (h : History) → slice_get finals p ≡ Some h → AllByRecursion (λ event. pass_of event < 2) h.events
+entries_known zero h e = subst (λ (x : History). AllByRecursion (λ event. pass_of event < 2) x.events) (some_is (one_put looked) h e) (omega arith, (omega arith, (omega arith, tt)))
+entries_known (suc p) h e = absurd cc
+
+first_entries_known : (p : ℕ) (h : History) → slice_get (one_put [] ∷ []) p ≡ Some h → AllByRecursion (λ event. pass_of event < 1) h.events
+first_entries_known zero h e = subst (λ (x : History). AllByRecursion (λ event. pass_of event < 1) x.events) (some_is (one_put []) h e) (omega arith, tt)
+first_entries_known (suc p) h e = absurd cc
+
+-- nobody was taken out
+abbrev pub IsNoLeave : PartEvent → Type 0
+IsNoLeave event = (by t : ℕ) (replica : ℤ) → event ≡ Shrink by replica t → ⊥
+
+pub nobody_left : (followers : ℕ) (events : List PartEvent) → AllByRecursion IsNoLeave events → LeftLate followers events
+nobody_left followers events none place by t replica e = absurd (all_get IsNoLeave events place (Shrink by replica t) none e by t replica refl)
+
+nobody_left_finals : (p : ℕ) (h : History) → slice_get finals p ≡ Some h → LeftLate h.followers h.events
+nobody_left_finals zero h e =
+    subst (λ (x : History). LeftLate x.followers x.events) (some_is (one_put looked) h e)
+    (nobody_left 1 (one_put looked).events ((λ by t replica is. absurd cc), ((λ by t replica is. absurd cc), ((λ by t replica is. absurd cc), tt))))
+nobody_left_finals (suc p) h e = absurd cc
+
+nobody_left_first : (p : ℕ) (h : History) → slice_get (one_put [] ∷ []) p ≡ Some h → LeftLate h.followers h.events
+nobody_left_first zero h e = subst (λ (x : History). LeftLate x.followers x.events) (some_is (one_put []) h e) (nobody_left 1 (one_put []).events ((λ by t replica is. absurd cc), tt))
+nobody_left_first (suc p) h e = absurd cc
+
 -- behind what the follower saw the producer looked at its partition, and at the clock before that
 looked_since : OthersAlone 1 (one_put fetched ∷ []) [] finals clock_looked
 looked_since = record {
@@ -207,22 +236,25 @@ looked_since = record {
 }
   where
     in_first : (p : ℕ) (h : History) → slice_get (one_put fetched ∷ []) p ≡ Some h
-        → (l : History) × (slice_get finals p ≡ Some l) × (longer : Longer h l) × AllByRecursion (λ event. NotOf 1 (owner_of event)) longer.more
+        → (l : History) × (slice_get finals p ≡ Some l) × (longer : Longer h l) × AllByRecursion (λ event. pass_of event ≢ 1) longer.more
     in_first zero h e =
-        subst (λ (x : History). (l : History) × (slice_get finals 0 ≡ Some l) × (longer : Longer x l) × AllByRecursion (λ event. NotOf 1 (owner_of event)) longer.more) (some_is (one_put fetched) h e)
-        (one_put looked, refl, record { followers = refl; more = Look 0 0 ∷ []; bytes = []; events = refl; log = refl }, (another 1 0 0 zero_one, tt))
+        subst (λ (x : History). (l : History) × (slice_get finals 0 ≡ Some l) × (longer : Longer x l) × AllByRecursion (λ event. pass_of event ≢ 1) longer.more) (some_is (one_put fetched) h e)
+        (one_put looked, refl, record { followers = refl; more = Look 0 0 ∷ []; bytes = []; events = refl; log = refl }, (zero_one, tt))
     in_first (suc p) h e = absurd cc
 
-no_waits : (k : ℕ) (w : Waiting) → none_waits k ≡ Some w → ⊥
+pub no_waits : (k : ℕ) (w : Waiting) → none_waits k ≡ Some w → ⊥
 no_waits k w e = absurd cc
 
 -- a pass that saw everything
-saw_all : (config : Configuration) (k : ℕ) (book : Book) → book.number ≡ k → book.config ≡ config → GoesWith config book.parts book.clock k book None
+pub saw_all : (config : Configuration) (k : ℕ) (book : Book) → book.number ≡ k → book.config ≡ config → GoesWith config book.parts book.clock k book None
 saw_all config k book number same = record {
   number = number;
   same = same;
   grown = grown_self book.parts book.clock;
-  within = λ part place seq e. slice_get_within (owners_at book.parts book.clock part) place (the_owner k seq) e;
+  within = record {
+    calls = λ part place seq e. slice_get_within (owners_at book.parts book.clock part) place (the_owner k seq) e;
+    entries = λ part place event e whose. slice_get_within (events_at book.parts part) place event e;
+  };
   still = λ w none. absurd (no_waits k w none);
 }
 
@@ -251,6 +283,8 @@ module _ (all frame : List ℕ) where
     histories = (producer_satisfied all one is_batch is_request).histories;
     each = each_with;
     known = known;
+    known_entries = all_entries_known finals 2 entries_known;
+    late = nobody_left_finals;
     counts = counted;
   }
 
@@ -270,7 +304,7 @@ module _ (all frame : List ℕ) where
   -- a look of the first pass stands behind what it saw
   pub unseen_apart : (waits : ℕ → Option Waiting) (wins : List ℕ) → AreTogether followed (waiting_books all frame) waits finals clock_looked wins → ⊥
   unseen_apart waits wins together =
-      let within : 2 < 2 = (together.each 0 (producer all fetched [] Parked) refl).within 0 2 0 refl in
+      let within : 2 < 2 = (together.each 0 (producer all fetched [] Parked) refl).within.calls 0 2 0 refl in
       absurd (omega (arith, within))
 
   -- what waits is answerable, since the follower fetched
@@ -296,7 +330,10 @@ module _ (all : List ℕ) (one : Record) (is_batch : IsBatch batch (one ∷ []))
         number = refl;
         same = refl;
         grown = grown_self first.parts first.clock;
-        within = λ part place seq there. slice_get_within (owners_at first.parts first.clock part) place (the_owner 0 seq) there;
+        within = record {
+          calls = λ part place seq there. slice_get_within (owners_at first.parts first.clock part) place (the_owner 0 seq) there;
+          entries = λ part place event there whose. slice_get_within (events_at first.parts part) place event there;
+        };
         still = λ w is answerable. waits_unanswered (subst (IsAnswerableIn (one_put [] ∷ []) clock_looked) (sym (some_is (waits_for_all 0 batch) w is)) answerable);
       })
   first_with (suc k) book e = absurd cc
@@ -308,7 +345,14 @@ module _ (all : List ℕ) (one : Record) (is_batch : IsBatch batch (one ∷ []))
   pub waits_lawful : IsLawful (account_of followed (books_before all Parked) (one_put [] ∷ []) clock_looked [])
   waits_lawful =
       books_lawful followed (books_before all Parked) first_waits (one_put [] ∷ []) clock_looked []
-      (record { histories = (producer_waits all one is_batch is_request).histories; each = first_with; known = first_known; counts = λ winner. refl }) first_each
+      (record {
+        histories = (producer_waits all one is_batch is_request).histories;
+        each = first_with;
+        known = first_known;
+        known_entries = all_entries_known (one_put [] ∷ []) 1 first_entries_known;
+        late = nobody_left_first;
+        counts = λ winner. refl;
+      }) first_each
 
   -- it was cut off, and nobody has ended the transcript
   cut_with : (k : ℕ) (book : Book) → slice_get (books_before all (Cut None)) k ≡ Some book → GoesWith followed (one_put [] ∷ []) clock_looked k book (none_waits k)
@@ -323,4 +367,11 @@ module _ (all : List ℕ) (one : Record) (is_batch : IsBatch batch (one ∷ []))
   pub cut_lawful : IsLawful (account_of followed (books_before all (Cut None)) (one_put [] ∷ []) clock_looked [])
   cut_lawful =
       books_lawful followed (books_before all (Cut None)) none_waits (one_put [] ∷ []) clock_looked []
-      (record { histories = (producer_waits all one is_batch is_request).histories; each = cut_with; known = first_known; counts = λ winner. refl }) cut_each
+      (record {
+        histories = (producer_waits all one is_batch is_request).histories;
+        each = cut_with;
+        known = first_known;
+        known_entries = all_entries_known (one_put [] ∷ []) 1 first_entries_known;
+        late = nobody_left_first;
+        counts = λ winner. refl;
+      }) cut_each

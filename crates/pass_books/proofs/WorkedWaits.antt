@@ -9,6 +9,7 @@ use Rattle.partlog.specs.declared.clock_event.ClockEvent.{ClockEvent}
 use Rattle.partlog.specs.declared.clock_event.ClockEvent.TheVariants as clocks
 use Rattle.partlog.specs.declared.event.PartEvent.TheVariants.{Look}
 use Rattle.partlog.specs.History.{History}
+use Rattle.partlog.specs.Lagging.{LeftLate}
 use Rattle.partlog.specs.State.{state_of}
 use Rattle.audit.specs.declared.account.CallHow.TheVariants.{Cut, Expired, Parked}
 use Rattle.audit.specs.Histories.{owner_of, clock_owner_of, clock_part}
@@ -21,6 +22,7 @@ use Rattle.broker_spec.specs.Board.{Waiting}
 use Rattle.broker_spec.specs.Entering.{Noted}
 use Rattle.broker_spec.specs.GoesOn.{Longer, the_owner}
 use Rattle.broker_spec.specs.Sound.{AreHistories}
+use Rattle.broker_spec.specs.Timely.{pass_of}
 use Rattle.pass_books.specs.Accepting.{IsAccepting, clock_seen, left_waiting}
 use Rattle.pass_books.specs.Book.{Book, opening_book}
 use Rattle.pass_books.specs.Finishing.{IsDelayed, late_seen}
@@ -35,10 +37,10 @@ use Rattle.pass_books.proofs.Closing.{books_lawful}
 use Rattle.pass_books.proofs.Coming.{clock_came, clock_histories, part_histories}
 use Rattle.pass_books.proofs.Finishings.{delayed_as, delayed_parked, finishing_as, finishing_cut, finishing_expired, finishing_late}
 use Rattle.pass_books.proofs.Opening.{opened}
-use Rattle.pass_books.proofs.Passing.{IsOfSome, all_known, goes_with, others_amid_accepting, others_amid_delayed}
+use Rattle.pass_books.proofs.Passing.{IsOfSome, all_entries_known, all_known, goes_with, others_amid_accepting, others_amid_delayed}
 use Rattle.pass_books.proofs.Turning.{accepting_turn, finishing_turn}
 use Rattle.pass_books.proofs.Underways.{begun}
-use Rattle.pass_books.proofs.WorkedBooks.{another, owner_below}
+use Rattle.pass_books.proofs.WorkedBooks.{IsNoLeave, another, nobody_left, owner_below}
 
 differ : (a b : ℕ) → eqb a b ≡ false → a ≢ b
 differ a b apart same = let equal : eqb a b ≡ true = eq-eqb a b same in absurd (cc (equal, apart))
@@ -46,7 +48,7 @@ differ a b apart same = let equal : eqb a b ≡ true = eq-eqb a b same in absurd
 no_tick : (number t : ℕ) → NotOf number (clock_owner_of (clocks.Tick t))
 no_tick number t seq e = absurd cc
 
-rises_none : IsStrictlyIncreasing (0 ∷ [])
+pub rises_none : IsStrictlyIncreasing (0 ∷ [])
 rises_none k lt = absurd (omega (arith, lt))
 
 rises_once : IsStrictlyIncreasing (0 ∷ 100 ∷ [])
@@ -107,7 +109,7 @@ module _ (one : List ℕ) (is_request : IsRequest one fetch_one) where
         seen = looks_by (0 ∷ []);
         there = refl;
         longer = record { followers = refl; more = Look 2 0 ∷ []; bytes = []; events = refl; log = refl };
-        others = (another 0 2 0 (differ 2 0 refl), tt);
+        others = (differ 2 0 refl, tt);
         whole = refl;
       }) w (Some (at clock_part 3)) [] late refl (λ none all. absurd cc) in
       let end = looked_there (late_seen told_first) 0 seen in
@@ -120,8 +122,8 @@ module _ (one : List ℕ) (is_request : IsRequest one fetch_one) where
   abbrev four : History
   four = looks_by (0 ∷ 2 ∷ 0 ∷ 2 ∷ [])
 
-  others_four : AllByRecursion (λ event. NotOf 1 (owner_of event)) four.events
-  others_four = (another 1 0 0 (differ 0 1 refl), (another 1 2 0 (differ 2 1 refl), (another 1 0 0 (differ 0 1 refl), (another 1 2 0 (differ 2 1 refl), tt))))
+  others_four : AllByRecursion (λ event. pass_of event ≢ 1) four.events
+  others_four = (differ 0 1 refl, (differ 2 1 refl, (differ 0 1 refl, (differ 2 1 refl, tt))))
 
   abbrev asked_second : Underway
   asked_second = accepted_there (started 1 one) 0 four (outcome_at 0 four)
@@ -184,7 +186,7 @@ module _ (both : List ℕ) (is_request : IsRequest both fetch_both) where
         seen = looks_by [];
         there = refl;
         longer = record { followers = refl; more = Look 0 0 ∷ []; bytes = []; events = refl; log = refl };
-        others = (another 2 0 0 (differ 0 2 refl), tt);
+        others = (differ 0 2 refl, tt);
         whole = refl;
       })
       fetch_both ask_both 0 [] (fetch_outcome 0 (negsuc 0) (from_start 0) 0)
@@ -227,7 +229,7 @@ module _ (both : List ℕ) (is_request : IsRequest both fetch_both) where
         seen = looks_by (0 ∷ 2 ∷ []);
         there = refl;
         longer = record { followers = refl; more = Look 0 0 ∷ []; bytes = []; events = refl; log = refl };
-        others = (another 2 0 0 (differ 0 2 refl), tt);
+        others = (differ 0 2 refl, tt);
         whole = refl;
       }) w (Some (at clock_part 4)) [] late refl (λ none all. absurd cc) in
       let end = looked_there (late_seen told_both) 0 found in
@@ -235,9 +237,9 @@ module _ (both : List ℕ) (is_request : IsRequest both fetch_both) where
 
 -- ---- they go together
 
-as_others : (number : ℕ) (later : List ℕ) → AllByRecursion (λ by. by ≢ number) later → AllByRecursion (λ event. NotOf number (owner_of event)) (map (λ by. Look by 0) later)
+as_others : (number : ℕ) (later : List ℕ) → AllByRecursion (λ by. by ≢ number) later → AllByRecursion (λ event. pass_of event ≢ number) (map (λ by. Look by 0) later)
 as_others number [] apart = tt
-as_others number (by ∷ later) apart = (another number by 0 apart.0, as_others number later apart.1)
+as_others number (by ∷ later) apart = (apart.0, as_others number later apart.1)
 
 clock_others : (number : ℕ) (later : List ℕ) → AllByRecursion (λ by. by ≢ number) later → AllByRecursion (λ event. NotOf number (clock_owner_of event)) (map (λ by. clocks.Look by 0) later)
 clock_others number [] apart = tt
@@ -249,26 +251,26 @@ looked_on : (number : ℕ) (first more second others : List ℕ) (clock behind :
     → OthersAlone number (looks_by first ∷ looks_by second ∷ []) clock (looks_by (first ++ more) ∷ looks_by (second ++ others) ∷ []) (clock ++ behind)
 looked_on number first more second others clock behind a b c = record { each = λ p h e. by_part p h e; more = behind; events = refl; others = c }
   where
-    one : (xs ys : List ℕ) → AllByRecursion (λ by. by ≢ number) ys → (longer : Longer (looks_by xs) (looks_by (xs ++ ys))) × AllByRecursion (λ event. NotOf number (owner_of event)) longer.more
+    one : (xs ys : List ℕ) → AllByRecursion (λ by. by ≢ number) ys → (longer : Longer (looks_by xs) (looks_by (xs ++ ys))) × AllByRecursion (λ event. pass_of event ≢ number) longer.more
     one xs ys apart =
         (record { followers = refl; more = map (λ by. Look by 0) ys; bytes = []; events = map-append (λ (by : ℕ). Look by 0) xs ys; log = refl }, as_others number ys apart)
 
     by_part : (p : ℕ) (h : History) → slice_get (looks_by first ∷ looks_by second ∷ []) p ≡ Some h
-        → (l : History) × (slice_get (looks_by (first ++ more) ∷ looks_by (second ++ others) ∷ []) p ≡ Some l) × (longer : Longer h l) × AllByRecursion (λ event. NotOf number (owner_of event)) longer.more
+        → (l : History) × (slice_get (looks_by (first ++ more) ∷ looks_by (second ++ others) ∷ []) p ≡ Some l) × (longer : Longer h l) × AllByRecursion (λ event. pass_of event ≢ number) longer.more
     by_part zero h e =
         let l = one first more a in
-        subst (λ (x : History). (y : History) × (Some (looks_by (first ++ more)) ≡ Some y) × (longer : Longer x y) × AllByRecursion (λ event. NotOf number (owner_of event)) longer.more) (some_is (looks_by first) h e)
+        subst (λ (x : History). (y : History) × (Some (looks_by (first ++ more)) ≡ Some y) × (longer : Longer x y) × AllByRecursion (λ event. pass_of event ≢ number) longer.more) (some_is (looks_by first) h e)
         (looks_by (first ++ more), refl, l.0, l.1)
     by_part (suc zero) h e =
         let l = one second others b in
-        subst (λ (x : History). (y : History) × (Some (looks_by (second ++ others)) ≡ Some y) × (longer : Longer x y) × AllByRecursion (λ event. NotOf number (owner_of event)) longer.more) (some_is (looks_by second) h e)
+        subst (λ (x : History). (y : History) × (Some (looks_by (second ++ others)) ≡ Some y) × (longer : Longer x y) × AllByRecursion (λ event. pass_of event ≢ number) longer.more) (some_is (looks_by second) h e)
         (looks_by (second ++ others), refl, l.0, l.1)
     by_part (suc (suc p)) h e = absurd cc
 
-of_some : (a n : ℕ) → a < n → IsOfSome n (the_owner a 0)
+pub of_some : (a n : ℕ) → a < n → IsOfSome n (the_owner a 0)
 of_some a n lt by seq e = owner_below a 0 by seq n lt (ap Some e)
 
-of_nobody : (n : ℕ) → IsOfSome n None
+pub of_nobody : (n : ℕ) → IsOfSome n None
 of_nobody n by seq e = absurd cc
 
 module _ (one both : List ℕ) (first : IsRequest one fetch_one) (second : IsRequest both fetch_both) where
@@ -305,6 +307,25 @@ module _ (one both : List ℕ) (first : IsRequest one fetch_one) (second : IsReq
   each_known (suc zero) h e = subst (λ (x : History). AllByRecursion (λ event. IsOfSome 3 (owner_of event)) x.events) (some_is (looks_by (2 ∷ [])) h e) (of_some 2 3 (omega arith), tt)
   each_known (suc (suc p)) h e = absurd cc
 
+  each_entry : (p : ℕ) (h : History) → slice_get last_parts p ≡ Some h → AllByRecursion (λ event. pass_of event < 3) h.events
+  each_entry zero h e =
+      subst (λ (x : History). AllByRecursion (λ event. pass_of event < 3) x.events) (some_is (looks_by (0 ∷ 2 ∷ 0 ∷ 2 ∷ 1 ∷ [])) h e)
+      (omega arith, (omega arith, (omega arith, (omega arith, (omega arith, tt)))))
+  each_entry (suc zero) h e = subst (λ (x : History). AllByRecursion (λ event. pass_of event < 3) x.events) (some_is (looks_by (2 ∷ [])) h e) (omega arith, tt)
+  each_entry (suc (suc p)) h e = absurd cc
+
+  -- nobody left
+  no_leaves : (passes : List ℕ) → AllByRecursion IsNoLeave (looks_by passes).events
+  no_leaves [] = tt
+  no_leaves (by ∷ passes) = ((λ b t replica is. absurd cc), no_leaves passes)
+
+  none_left : (p : ℕ) (h : History) → slice_get last_parts p ≡ Some h → LeftLate h.followers h.events
+  none_left zero h e =
+      let looks : List ℕ = 0 ∷ 2 ∷ 0 ∷ 2 ∷ 1 ∷ [] in
+      subst (λ (x : History). LeftLate x.followers x.events) (some_is (looks_by looks) h e) (nobody_left 0 (looks_by looks).events (no_leaves looks))
+  none_left (suc zero) h e = subst (λ (x : History). LeftLate x.followers x.events) (some_is (looks_by (2 ∷ [])) h e) (nobody_left 0 (looks_by (2 ∷ [])).events (no_leaves (2 ∷ [])))
+  none_left (suc (suc p)) h e = absurd cc
+
   clock_known : AllByRecursion (λ event. IsOfSome 3 (clock_owner_of event)) last_clock
   clock_known =
       (of_some 0 3 (omega arith), (of_some 2 3 (omega arith), (of_nobody 3, (of_some 0 3 (omega arith), (of_some 2 3 (omega arith), (of_some 1 3 (omega arith), tt))))))
@@ -314,7 +335,14 @@ module _ (one both : List ℕ) (first : IsRequest one fetch_one) (second : IsReq
   counted (suc winner) = rw (ne_eqb 0 (suc winner) (λ e. omega (arith, e))) refl
 
   pub three_together : AreTogether two_parts (three_books one both) second_waits last_parts last_clock (2 ∷ [])
-  three_together = record { histories = last_histories; each = each_with; known = all_known last_parts last_clock 3 each_known clock_known; counts = counted }
+  three_together = record {
+    histories = last_histories;
+    each = each_with;
+    known = all_known last_parts last_clock 3 each_known clock_known;
+    known_entries = all_entries_known last_parts 3 each_entry;
+    late = none_left;
+    counts = counted;
+  }
 
   pub three_each : (k : ℕ) (book : Book) → slice_get (three_books one both) k ≡ Some book → IsBook book (second_waits k)
   three_each zero book e = subst (λ (b : Book). IsBook b None) (some_is (expired_book one) book e) (expired one first)

@@ -29,11 +29,11 @@ pub record IsAccepting (u : Underway) (request : Request) (decisions : List Deci
 
 -- one decision more is carried out: an entry of the partition whose log is asked and its point, or nothing where it is refused
 abbrev pub noted_next : Underway → Decision → List Noted
-noted_next u decision = (accept_all u.number (seq_of u) (decision ∷ []) u.parts).0
+noted_next u decision = (accept_all u.number (seq_of u) (moment_of u.clock) (decision ∷ []) u.parts).0
 
 abbrev pub carried_out : Underway → Decision → Underway
 carried_out u decision = record u {
-  parts = (accept_all u.number (seq_of u) (decision ∷ []) u.parts).1;
+  parts = (accept_all u.number (seq_of u) (moment_of u.clock) (decision ∷ []) u.parts).1;
   call = record u.call { accept = u.call.accept ++ step_points (steps_of (noted_next u decision)) };
 }
 

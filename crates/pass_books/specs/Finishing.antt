@@ -2,6 +2,7 @@
 use Rattle.std.specs.Prelude.{ℕ, ◌≡◌, List, [], ◌∷◌, ◌++◌, length, map, take, Option, Some, None, option_to_list, slice_set}
 use Rattle.std.specs.List.{AllZip}
 use Rattle.partlog.specs.declared.clock_event.ClockEvent.TheVariants as clocks
+use Rattle.partlog.specs.Moment.{moment_of}
 use Rattle.partlog.specs.State.{PartState as State}
 use Rattle.audit.specs.declared.account.Point.{Point}
 use Rattle.audit.specs.Histories.{at_point, clock_part, moment_at, no_state}
@@ -58,6 +59,6 @@ late_seen u = record u {
 -- this partition is looked at
 abbrev pub part_seen : Underway → ℕ → Underway
 part_seen u part = record u {
-  parts = slice_set u.parts part (entered (history_at u.parts part) u.number (seq_of u) Looked);
+  parts = slice_set u.parts part (entered (history_at u.parts part) u.number (seq_of u) (moment_of u.clock) Looked);
   call = record u.call { finish = u.call.finish ++ record { part = part; place = length (history_at u.parts part).events } ∷ [] };
 }

@@ -1,5 +1,5 @@
--- What holds of a book: the entries that name its pass are those of its calls, and each call is lawful in every account that goes on
--- from what the pass saw, or waits.
+-- What holds of a book: the entries that name its pass are those of its calls, or took a replica out, at moments that the pass knew of;
+-- and each call is lawful in every account that goes on from what the pass saw, or waits.
 use Rattle.std.specs.Prelude.{◌≡◌, List, [], ◌∷◌, ◌++◌, map, Option, Some, None}
 use Rattle.std.specs.List.{AllByRecursion}
 use Rattle.partlog.specs.declared.clock_event.ClockEvent.{ClockEvent}
@@ -15,6 +15,7 @@ use Rattle.broker_spec.specs.Board.{Waiting}
 use Rattle.broker_spec.specs.GoesOn.{Carried}
 use Rattle.broker_spec.specs.Kept.{owners_at}
 use Rattle.broker_spec.specs.Sound.{AreHistories, IsWaiting}
+use Rattle.broker_spec.specs.Timely.{IsTimely}
 use Rattle.pass_books.specs.Book.{Book}
 use Rattle.pass_books.specs.Owned.{AreOwn}
 use Rattle.pass_books.specs.Told.{told}
@@ -50,6 +51,8 @@ Stand book (Some w) = WaitsLast book w
 pub record IsBook (book : Book) (waits : Option Waiting) : Type 0 where
   pub histories : AreHistories book.config book.parts book.clock
   pub own : AreOwn (owners_at book.parts book.clock) book.number (map points_of (calls_in book.transcripts))
+  -- the moments of its entries are those of the clock, as the pass had seen it
+  pub timely : IsTimely book.number book.parts book.clock (map points_of (calls_in book.transcripts))
   pub calls : Stand book waits
   -- the calls are numbered through, and each transcript ends as its last call says, which running out of memory may have cut off just now
   pub ends : FollowOn 0 (map told book.transcripts)

@@ -8,12 +8,16 @@ pub mod Told
 pub mod Owned
 -- what holds of a book
 pub mod IsBook
+-- a pass took followers out
+pub mod TakenOut
 -- the books of all passes, and the account that they come to
 pub mod Together
 -- two passes, written out
 pub mod Worked
 -- three passes that waited, written out
 pub mod WorkedWaits
+-- a pass that took a follower out, written out
+pub mod WorkedLeaves
 -- ==== the words of lemmas that the crates above may cite
 
 -- a pass amid a call

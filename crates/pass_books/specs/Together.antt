@@ -2,7 +2,9 @@
 use Rattle.std.specs.Prelude.{ℕ, ◌≡◌, ◌<◌, List, map, length, count_by, Option, Some, unwrap_or, slice_get}
 use Rattle.std.specs.List.{flat_map}
 use Rattle.partlog.specs.declared.clock_event.ClockEvent.{ClockEvent}
+use Rattle.partlog.specs.declared.event.PartEvent.{PartEvent}
 use Rattle.partlog.specs.History.{History}
+use Rattle.partlog.specs.Lagging.{LeftLate}
 use Rattle.partlog.specs.Moment.{moment_of}
 use Rattle.audit.specs.declared.account.Account.{Account}
 use Rattle.audit.specs.declared.account.Call.{Call}
@@ -18,6 +20,7 @@ use Rattle.broker_spec.specs.Completing.{present}
 use Rattle.broker_spec.specs.GoesOn.{HaveGrown, the_owner}
 use Rattle.broker_spec.specs.Kept.{owners_at}
 use Rattle.broker_spec.specs.Sound.{AreHistories}
+use Rattle.broker_spec.specs.Timely.{events_at, pass_of}
 use Rattle.pass_books.specs.Book.{Book}
 use Rattle.pass_books.specs.Owned.{OwnWithin}
 use Rattle.pass_books.specs.Told.{told}
@@ -52,8 +55,11 @@ pub record AreTogether (config : Configuration) (books : List Book) (waits : ℕ
     (finals : List History) (clock : List ClockEvent) (wins : List ℕ) : Type 0 where
   pub histories : AreHistories config finals clock
   pub each : (k : ℕ) (book : Book) → slice_get books k ≡ Some book → GoesWith config finals clock k book (waits k)
-  -- every entry names a pass that there is
+  -- every entry names a pass that there is, whether a call left it or not
   pub known : (part place by seq : ℕ) → slice_get (owners_at finals clock part) place ≡ Some (the_owner by seq) → by < length books
+  pub known_entries : (part place : ℕ) (event : PartEvent) → slice_get (events_at finals part) place ≡ Some event → pass_of event < length books
+  -- whoever was taken out lagged then
+  pub late : (part : ℕ) (h : History) → slice_get finals part ≡ Some h → LeftLate h.followers h.events
   -- each winner's number is that of the calls that it completed
   pub counts : (winner : ℕ) → unwrap_or (slice_get wins winner) 0 ≡ count_by (is_won_by winner) (all_calls_in books)
 

@@ -12,6 +12,7 @@ use Rattle.audit.specs.IsLawful.{FollowOn}
 use Rattle.kwire.specs.Configuration.{Configuration}
 use Rattle.broker_spec.specs.Kept.{owners_at}
 use Rattle.broker_spec.specs.Sound.{AreHistories}
+use Rattle.broker_spec.specs.Timely.{IsTimely}
 use Rattle.pass_books.specs.Book.{Book}
 use Rattle.pass_books.specs.IsBook.{AreFinished, with_call}
 use Rattle.pass_books.specs.Owned.{AreOwn}
@@ -72,6 +73,7 @@ IsPast (Cut won) = ⊥
 pub record IsUnderway (u : Underway) : Type 0 where
   pub histories : AreHistories u.config u.parts u.clock
   pub own : AreOwn (owners_at u.parts u.clock) u.number (map points_of (earlier_calls u) ++ points_of u.call ∷ [])
+  pub timely : IsTimely u.number u.parts u.clock (map points_of (earlier_calls u) ++ points_of u.call ∷ [])
   pub earlier : AreFinished u.config u.parts u.clock (earlier_calls u)
   pub past : AllByRecursion (λ call. IsPast call.how) u.transcript.calls
   pub follow : FollowOn 0 (map told u.front)

@@ -23,10 +23,10 @@ one_put events = record { log = stamped 0 batch; followers = 1; events = Append 
 
 -- the follower fetched behind the batch, and that was seen
 abbrev pub fetched : List PartEvent
-fetched = Follow 1 0 (pos 1) 1 ∷ []
+fetched = Follow 1 0 (pos 1) 1 0 ∷ []
 
 abbrev pub looked : List PartEvent
-looked = Follow 1 0 (pos 1) 1 ∷ Look 0 0 ∷ []
+looked = Follow 1 0 (pos 1) 1 0 ∷ Look 0 0 ∷ []
 
 abbrev pub clock_looked : List ClockEvent
 clock_looked = clocks.Look 0 0 ∷ []

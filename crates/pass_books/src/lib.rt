@@ -9,5 +9,5 @@ mod promises;
 
 pub use promises::{
     books_are_lawful, books_go_on, calls_are_accepted, calls_are_completed, replies_stay,
-    winners_are_counted, worked_books, worked_waits,
+    winners_are_counted, worked_books, worked_leaves, worked_waits,
 };

@@ -1,6 +1,6 @@
 //! Laws of books. They do nothing.
 
-ghost use Rattle.std.specs.Prelude.{◌≡◌, ◌<◌, ◌≤◌, ◌+◌, ◌∷◌, ◌++◌, [], ℕ, ℤ, count_by, if◌then◌else◌, length, sum_by, false, true, List, None, Option, Some, slice_get};
+ghost use Rattle.std.specs.Prelude.{◌≡◌, ◌<◌, ◌≤◌, ◌+◌, ◌∷◌, ◌++◌, [], ℕ, ℤ, Contains, count_by, if◌then◌else◌, length, sum_by, false, true, List, None, Option, Some, slice_get};
 ghost use Rattle.kbatch.specs.Batch.{IsBatch};
 ghost use Rattle.kbatch.specs.declared.record.Record.{Record};
 ghost use Rattle.partlog.specs.declared.clock_event.ClockEvent.{ClockEvent};
@@ -15,7 +15,7 @@ ghost use Rattle.audit.specs.declared.account.SessionEnd.{SessionEnd};
 ghost use Rattle.audit.specs.declared.account.SessionEnd.TheVariants.{NoMemory};
 ghost use Rattle.audit.specs.declared.account.Transcript.{Transcript};
 ghost use Rattle.audit.specs.Fits.{IsReplyOf};
-ghost use Rattle.audit.specs.Histories.{no_state};
+ghost use Rattle.audit.specs.Histories.{no_state, ticks_of};
 ghost use Rattle.audit.specs.IsLawful.{is_won_as, is_won_by, IsLawful};
 ghost use Rattle.audit.specs.LawfulCall.{operation_parts};
 ghost use Rattle.audit.specs.Worked.{at, fetch_both, fetch_one, followed, three_waits, two_parts};
@@ -41,10 +41,12 @@ ghost use Rattle.pass_books.specs.Finishing.{IsDelayed, IsFinishing, late_seen, 
 ghost use Rattle.pass_books.specs.IsBook.{IsBook};
 ghost use Rattle.pass_books.specs.Owned.{OthersAlone};
 ghost use Rattle.pass_books.specs.Together.{account_of, all_calls_in, AreTogether, won_by};
+ghost use Rattle.pass_books.specs.TakenOut.{HasTakenOut};
 ghost use Rattle.pass_books.specs.Told.{last_is_cut};
 ghost use Rattle.pass_books.specs.Turns.{accepted_there, Finds, looked_there, noted_there};
 ghost use Rattle.pass_books.specs.Underway.{begun_amid, book_amid, earlier_calls, Underway, with_end};
 ghost use Rattle.pass_books.specs.Worked.{books_before, clock_looked, fetched, first_waits, follower, looked, none_waits, one_put, producer, satisfied_books, waiting_books};
+ghost use Rattle.pass_books.specs.WorkedLeaves.{clock_told, leave_books, left_at, ticker};
 ghost use Rattle.pass_books.specs.WorkedWaits.{cut_book, expired_book, fetch_waits, last_clock, last_parts, parked_book, second_waits, three_books};
 
 /// Law: the books of all passes give a lawful account, in whatever order the passes acted. Each pass knows only the prefixes of
@@ -57,7 +59,8 @@ pub fn books_are_lawful()
 {}
 
 /// Law: a book between two calls. A pass that has done nothing has one. It stays a book whatever others do, when the pass ticks
-/// the clock, and when it begins or ends a transcript. Where the last call was cut off, the transcript ends as out of memory.
+/// the clock, when it takes followers out at a moment that the clock was told, and when it begins or ends a transcript. Where the last
+/// call was cut off, the transcript ends as out of memory.
 pub fn books_go_on()
     ensures opened { (config : Configuration) (number : ℕ) → partitions_of config.topics ≤ MOST_PARTITIONS
         → IsBook (opening_book config number) None }
@@ -66,6 +69,9 @@ pub fn books_go_on()
         → IsBook (record book { parts = later; clock = behind }) waits }
     ensures ticked { (book : Book) (waits : Option Waiting) (t : ℕ) → moment_of book.clock < t → IsBook book waits
         → IsBook (record book { clock = book.clock ++ Tick t ∷ [] }) waits }
+    ensures taken_out { (book : Book) (waits : Option Waiting) (t : ℕ) (later : List History) → HasTakenOut book.number t book.parts later
+        → Contains (ticks_of book.clock) t → AreHistories book.config later book.clock → IsBook book waits
+        → IsBook (record book { parts = later }) waits }
     ensures begun { (book : Book) (number : ℕ) → IsBook book None
         → IsBook (record book { transcripts = book.transcripts ++ begun_behind book.transcripts number ∷ [] }) None }
     ensures ended { (book : Book) (front : List Transcript) (last : Transcript) (end : SessionEnd) → last.end ≡ None
@@ -203,4 +209,21 @@ pub fn worked_waits()
         → AreTogether two_parts (three_books one both) second_waits last_parts last_clock (2 ∷ []) }
     ensures same { (one both : List ℕ) → account_of two_parts (three_books one both) last_parts last_clock (2 ∷ []) ≡ three_waits one both }
     ensures lawful { (one both : List ℕ) → IsRequest one fetch_one → IsRequest both fetch_both → IsLawful (three_waits one both) }
+{}
+
+/// Law: worked books of a pass that took a follower out. One pass put a batch and was cut off. Another told the clock a moment, 30,000
+/// milliseconds after the follower had caught up, and took it out. The two books go together, and give a lawful account. Books don't go
+/// together where the follower didn't lag yet, nor where the pass doesn't know what it took out; and a pass has no book in which it took a
+/// follower out at a moment that the clock wasn't told.
+pub fn worked_leaves()
+    ensures taken_out { IsBook (ticker 30000 (left_at 30000)) None }
+    ensures together { (all : List ℕ)
+        → AreTogether followed (leave_books all (ticker 30000 (left_at 30000))) none_waits (one_put (left_at 30000) ∷ []) (clock_told 30000) [] }
+    ensures lawful { (all : List ℕ) (one : Record) → IsBatch batch (one ∷ []) → IsRequest all produce
+        → IsLawful (account_of followed (leave_books all (ticker 30000 (left_at 30000))) (one_put (left_at 30000) ∷ []) (clock_told 30000) []) }
+    ensures early { (all : List ℕ) (waits : ℕ → Option Waiting) (wins : List ℕ)
+        → AreTogether followed (leave_books all (ticker 29999 (left_at 29999))) waits (one_put (left_at 29999) ∷ []) (clock_told 29999) wins → ⊥ }
+    ensures unseen { (all : List ℕ) (waits : ℕ → Option Waiting) (wins : List ℕ)
+        → AreTogether followed (leave_books all (ticker 30000 [])) waits (one_put (left_at 30000) ∷ []) (clock_told 30000) wins → ⊥ }
+    ensures untold { (waits : Option Waiting) → IsBook (ticker 30001 (left_at 30000)) waits → ⊥ }
 {}

@@ -8,8 +8,9 @@ use Rattle.std.proofs.lemmas.List.Elements.{All-head, All-tail}
 use Rattle.partlog.specs.declared.clock_event.ClockEvent.{ClockEvent}
 use Rattle.partlog.specs.History.{History}
 use Rattle.partlog.specs.Kept.{IsKept}
-use Rattle.audit.specs.Histories.{clock_owner_of, owner_of}
+use Rattle.audit.specs.Histories.{clock_owner_of}
 use Rattle.broker_spec.specs.GoesOn.{Longer}
+use Rattle.broker_spec.specs.Timely.{pass_of}
 use Rattle.pass_books.specs.Owned.{NotOf, OthersAlone}
 use Rattle.pass_books.proofs.Laws.{others_behind}
 use Rattle.turn_lock.specs.declared.pass.TurnPass.{TurnPass}
@@ -27,7 +28,7 @@ use Rattle.shared_logs.specs.Gone.{AreTold, IsTold}
 use Rattle.shared_logs.specs.Locked.{IsHand, seen_part}
 use Rattle.shared_logs.specs.Turned.{HasFound, moment_entries}
 use Rattle.shared_logs.proofs.Passes.{came_of}
-use Rattle.shared_logs.proofs.Telling.{clock_found, clock_others, owned_by_others}
+use Rattle.shared_logs.proofs.Telling.{clock_found, clock_others, left_by_others}
 
 module _ {T E : Type 0} (by : E → ℕ) (number : ℕ) (entries : List E) (pass : TurnPass T E) (hand : IsHand by number pass) (told : IsTold by entries pass) where
   -- what stands behind what the pass saw is others'
@@ -38,7 +39,7 @@ module _ {T E : Type 0} (by : E → ℕ) (number : ℕ) (entries : List E) (pass
 
 -- a partition's log goes on from what a pass saw of it
 part_told : (number : ℕ) (h : History) (pass : TurnPass PartView LogEntry) → IsHand entry_by number pass → IsTold entry_by (log_entries h) pass → IsKept h.log h.events → h.followers ≡ slice_index (known pass).name 0
-    → (longer : Longer (seen_part pass) h) × AllByRecursion (λ event. NotOf number (owner_of event)) longer.more
+    → (longer : Longer (seen_part pass) h) × AllByRecursion (λ event. pass_of event ≢ number) longer.more
 part_told number h pass hand told kept followers = (
   record {
     followers = followers;
@@ -47,7 +48,7 @@ part_told number h pass hand told kept followers = (
     events = sym (entries_events h.events h.log) ∙ ap (map event_in) told.seen.1 ∙ map-append event_in (known pass).seen told.seen.0;
     log = sym (entries_bytes h.events h.log kept.whole) ∙ ap (flat_map bytes_in) told.seen.1 ∙ flat_map-append bytes_in (known pass).seen told.seen.0;
   },
-  owned_by_others number told.seen.0 (told_others entry_by number (log_entries h) pass hand told),
+  left_by_others number told.seen.0 (told_others entry_by number (log_entries h) pass hand told),
 )
 
 first_or : ℕ → List ℕ → ℕ
@@ -62,7 +63,7 @@ rest_of (n ∷ ns) = ns
 parts_told : (number : ℕ) (logs : List History) (passes : List (TurnPass PartView LogEntry)) → AreTold logs passes → All (IsHand entry_by number) passes → All (λ (h : History). IsKept h.log h.events) logs
     → map (λ (h : History). h.followers) logs ≡ map (λ (pass : TurnPass PartView LogEntry). slice_index (known pass).name 0) passes
     → (p : ℕ) (h : History) → slice_get (map seen_part passes) p ≡ Some h
-    → (l : History) × (slice_get logs p ≡ Some l) × (longer : Longer h l) × AllByRecursion (λ event. NotOf number (owner_of event)) longer.more
+    → (l : History) × (slice_get logs p ≡ Some l) × (longer : Longer h l) × AllByRecursion (λ event. pass_of event ≢ number) longer.more
 unfolding first_or rest_of
 parts_told number [] [] told hands kept names p h at = absurd cc
 parts_told number [] (pass ∷ passes) told hands kept names p h at = absurd told
@@ -70,7 +71,7 @@ parts_told number (l ∷ logs) [] told hands kept names p h at = absurd told
 parts_told number (l ∷ logs) (pass ∷ passes) told hands kept names zero h at =
     let K : History → Type 0 = λ x. IsKept x.log x.events in
     let here = part_told number l pass (All-head (IsHand entry_by number) pass passes hands) told.0 (All-head K l logs kept) (ap (first_or 0) names) in
-    subst (λ (x : History). (m : History) × (Some l ≡ Some m) × (longer : Longer x m) × AllByRecursion (λ event. NotOf number (owner_of event)) longer.more) (ap (λ o. unwrap_or o h) at) (l, refl, here.0, here.1)
+    subst (λ (x : History). (m : History) × (Some l ≡ Some m) × (longer : Longer x m) × AllByRecursion (λ event. pass_of event ≢ number) longer.more) (ap (λ o. unwrap_or o h) at) (l, refl, here.0, here.1)
 parts_told number (l ∷ logs) (pass ∷ passes) told hands kept names (suc p) h at =
     let K : History → Type 0 = λ x. IsKept x.log x.events in
     parts_told number logs passes told.1 (All-tail (IsHand entry_by number) pass passes hands) (All-tail K l logs kept) (ap rest_of names) p h at

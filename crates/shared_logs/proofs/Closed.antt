@@ -1,5 +1,5 @@
 -- Logs that were closed.
-use Rattle.std.proofs.Common.{◌≡◌, ◌∙◌, ℕ, ◌+◌, ◌*◌, ◌<◌, ◌≤◌, Bool, true, false, cond, eqb, List, [], ◌∷◌, ◌++◌, Option, Some, None, append-nil, length, length-append, map, ap, refl, subst, sym, arith}
+use Rattle.std.proofs.Common.{◌≡◌, ◌∙◌, ℕ, ◌+◌, ◌*◌, ◌<◌, ◌≤◌, Bool, true, false, cond, eqb, List, [], ◌∷◌, ◌++◌, Option, Some, None, unwrap_or, append-nil, length, length-append, map, ap, refl, subst, sym, arith}
 use Rattle.std.specs.Prelude.{◌↔◌, All, Any, Contains, count_by, slice_get, slice_index, sum_by, ◌==◌}
 use Rattle.std.specs.List.Sorted.{IsStrictlyIncreasing}
 use Rattle.std.proofs.lemmas.List.{length-map}
@@ -7,12 +7,16 @@ use Rattle.std.proofs.lemmas.List.Elements.{All-get_or, All-head, All-nil, All-p
 use Rattle.std.proofs.lemmas.List.Sums.{sum_by-cons}
 use Rattle.std.proofs.lemmas.Option.{get_or_from_slice_get, slice_get_within}
 use Rattle.partlog.specs.declared.clock_event.ClockEvent.{ClockEvent}
+use Rattle.partlog.specs.declared.event.PartEvent.{PartEvent}
 use Rattle.partlog.specs.History.{History}
 use Rattle.partlog.specs.Kept.{IsKept}
+use Rattle.partlog.specs.Lagging.{LeftLate}
 use Rattle.partlog.specs.Moment.{moment_of}
 use Rattle.audit.specs.Histories.{clock_owner_of, ticks_of}
+use Rattle.broker_spec.specs.Board.{empty_history}
 use Rattle.broker_spec.specs.GoesOn.{AllWhole, the_owner}
 use Rattle.broker_spec.specs.Kept.{owners_here}
+use Rattle.broker_spec.specs.Timely.{events_at, pass_of}
 use Rattle.turn_lock.specs.declared.lock.TurnLock.{TurnLock}
 use Rattle.turn_lock.specs.declared.pass.TurnPass.{TurnPass}
 use Rattle.turn_lock.specs.Locks.{known}
@@ -23,7 +27,7 @@ use Rattle.shared_logs.specs.Desks.{MomentView, PartView}
 use Rattle.shared_logs.specs.Entries.{clock_by, clock_entries, entry_by, log_entries}
 use Rattle.shared_logs.specs.Histories.{events_of}
 use Rattle.shared_logs.proofs.Beside.{clock_events}
-use Rattle.shared_logs.proofs.Owners.{clock_named, named}
+use Rattle.shared_logs.proofs.Owners.{clock_named, entry_at, named}
 use Rattle.room_core.specs.declared.parts.Stage.{Stage}
 use Rattle.room_core.specs.Described.{operation_of}
 use Rattle.room_table.specs.Seats.{CallerView, TableView, caller_now}
@@ -128,6 +132,24 @@ module _ (room : RoomView) (parts : List (TurnLock PartView LogEntry)) (clock : 
       let every = subst W (get_or_from_slice_get logs part h h is) (All-get_or W logs part h less out.out.whose) in
       subst (λ k. k < length hands) n.2 (entry_below entry_by (length hands) (log_entries h) every place n.0 n.1)
 
+  -- every entry of a partition names a pass that there is
+  entry_known : (part place : ℕ) (event : PartEvent) → slice_get (events_at logs part) place ≡ Some event → pass_of event < length hands
+  entry_known part place event at = by_case (slice_get logs part) refl at
+    where
+      by_case : (o : Option History) → slice_get logs part ≡ o → slice_get ((unwrap_or o (empty_history 0)).events) place ≡ Some event → pass_of event < length hands
+      by_case None is e = absurd cc
+      by_case (Some h) is e =
+          let n = entry_at h.events h.log place event e in
+          let W : History → Type 0 = λ x. All (λ (e : LogEntry). entry_by e < length hands) (log_entries x) in
+          let less = slice_get_within logs part h is in
+          let every = subst W (get_or_from_slice_get logs part h h is) (All-get_or W logs part h less out.out.whose) in
+          subst (λ k. k < length hands) (ap pass_of n.2) (entry_below entry_by (length hands) (log_entries h) every place n.0 n.1)
+
+  left_late : (part : ℕ) (h : History) → slice_get logs part ≡ Some h → LeftLate h.followers h.events
+  left_late part h at =
+      let L : History → Type 0 = λ x. LeftLate x.followers x.events in
+      subst L (get_or_from_slice_get logs part h h at) (All-get_or L logs part h (slice_get_within logs part h at) out.out.late)
+
   owner_known : (b : Bool) (part place by seq : ℕ) → slice_get (cond b (map clock_owner_of events) (owners_here (slice_get logs part))) place ≡ Some (the_owner by seq) → by < length hands
   owner_known true part place by seq at =
       let n = clock_named events out.clock.tickers place by seq at in
@@ -167,6 +189,8 @@ module _ (room : RoomView) (parts : List (TurnLock PartView LogEntry)) (clock : 
             (λ seat hand. OthersCame hand.number (map seen_part hand.parts.items) (events_of (known hand.clock).seen) logs events) seats hands
             (came_pairs seats hands out.rests pairs out.gone out.clock.told) (λ seat hand is. is);
         known = λ part place by seq at. subst (λ n. by < n) (sym counts.1) (owner_known (eqb part 64) part place by seq at);
+        known_entries = λ part place event at. subst (λ n. pass_of event < n) (sym counts.1) (entry_known part place event at);
+        late = left_late;
         one = λ number less. one number (subst (λ n. number < n) counts.1 less);
         still = seats_unmet;
         size = out.closed.size ∙ ap winners table;

@@ -1,7 +1,6 @@
 -- The histories that a turn finds are the configuration's, and what came to its partition is others'.
-use Rattle.std.proofs.Common.{◌≡◌, ℕ, ◌+◌, ◌<◌, Bool, false, cond, eqb, List, length, map, Option, Some, refl, sym, ap, subst, ◌∙◌, arith, inl, inr, length-append}
+use Rattle.std.proofs.Common.{◌≡◌, ◌≢◌, ℕ, ◌+◌, ◌<◌, List, length, map, Some, refl, sym, ap, subst, ◌∙◌, arith, inl, inr, length-append}
 use Rattle.std.proofs.lemmas.List.{length-map}
-use Rattle.std.proofs.lemmas.Bool.{ne_eqb}
 use Rattle.std.proofs.lemmas.List.Sums.{sum_by_push}
 use Rattle.std.specs.Prelude.{slice_get}
 use Rattle.std.specs.List.{AllByRecursion}
@@ -12,21 +11,20 @@ use Rattle.partlog.specs.declared.numbers.Numbers.{Numbers}
 use Rattle.partlog.specs.Added.{added_bytes, log_end_of}
 use Rattle.partlog.specs.History.{History}
 use Rattle.partlog.specs.Looked.{looked}
+use Rattle.partlog.specs.Moment.{moment_of}
 use Rattle.partlog.specs.State.{PartState as State, state_of}
 use Rattle.audit.specs.declared.account.Call.{Call}
 use Rattle.audit.specs.declared.account.Transcript.{Transcript}
-use Rattle.audit.specs.Histories.{Owner, clock_owner_of, owner_of}
 use Rattle.kbytes.proofs.Laws.{get_behind, get_set_other, get_set_same, get_there, same_or_not, some_is}
 use Rattle.kanswer.specs.Decisions.{AskLog, Entry, Outcome, Put, Followed, Looked}
 use Rattle.kwire.specs.Configuration.{Configuration}
 use Rattle.kanswer.specs.declared.entered.Entered.{Entered}
 use Rattle.broker_spec.specs.Board.{empty_history, history_at}
 use Rattle.kanswer.specs.WithEntry.{entered}
-use Rattle.broker_spec.specs.GoesOn.{AllWhole, IsWhole, Longer, the_owner}
-use Rattle.broker_spec.specs.Kept.{owners_at, owners_here}
+use Rattle.broker_spec.specs.GoesOn.{AllWhole, IsWhole, Longer}
 use Rattle.broker_spec.specs.Sound.{AreHistories}
-use Rattle.broker_spec.proofs.Laws.{IsFair, IsSized, all_from_get, entered_followers, map_get, set_same}
-use Rattle.pass_books.specs.Owned.{NotOf}
+use Rattle.broker_spec.specs.Timely.{pass_of}
+use Rattle.broker_spec.proofs.Laws.{IsFair, IsSized, all_from_get, entered_followers, set_same}
 use Rattle.pass_books.specs.Turns.{Finds}
 use Rattle.shared_logs.specs.Asked.{HasAsked, HasLooked, LeftOne}
 use Rattle.shared_logs.specs.Seen.{HasSeen}
@@ -36,15 +34,15 @@ use Rattle.shared_logs.proofs.Leaving.{found_within}
 
 -- ---- the bytes of what stood before an entry
 
-whole_before : (h : History) (number seq : ℕ) (entry : Entry) → IsSized entry → IsWhole (entered h number seq entry) → IsWhole h
-whole_before h number seq (Put count batch) sized whole =
+whole_before : (h : History) (number seq t : ℕ) (entry : Entry) → IsSized entry → IsWhole (entered h number seq t entry) → IsWhole h
+whole_before h number seq t (Put count batch) sized whole =
     let e : PartEvent = Append number seq count (length batch) in
     let base = log_end_of h.events in
     omega (arith, sum_by_push added_bytes h.events e, length-append h.log (stamped base batch), sized base, whole)
-whole_before h number seq (Followed replica offset) sized whole =
-    let e : PartEvent = Follow number seq replica offset in
+whole_before h number seq t (Followed replica offset) sized whole =
+    let e : PartEvent = Follow number seq replica offset t in
     omega (arith, sum_by_push added_bytes h.events e, whole)
-whole_before h number seq Looked sized whole =
+whole_before h number seq t Looked sized whole =
     let e : PartEvent = Look number seq in
     omega (arith, sum_by_push added_bytes h.events e, whole)
 
@@ -97,27 +95,17 @@ module _ (config : Configuration) (part : ℕ) (old new : LogPassView) (found : 
   seen_there : slice_get old.parts part ≡ Some seen
   seen_there = get_there old.parts part (empty_history 0) inside
 
-  not_clock : eqb part 64 ≡ false
-  not_clock = ne_eqb part 64 (λ e. omega (arith, inside, histories.few, e))
-
-  owners_are : (parts : List History) (h : History) → slice_get parts part ≡ Some h → owners_at parts old.clock part ≡ map owner_of h.events
-  owners_are parts h e =
-      ap (λ (b : Bool). cond b (map clock_owner_of old.clock) (owners_here (slice_get parts part))) not_clock ∙ ap owners_here e
-
   longer : Longer seen here
   longer =
       let l = turn.others.grown.each part seen seen_there in
       subst (Longer seen) (some_is l.0 here (sym l.1 ∙ found_there)) l.2
 
-  others : AllByRecursion (λ event. NotOf old.number (owner_of event)) longer.more
-  others = all_from_get (λ (event : PartEvent). NotOf old.number (owner_of event)) longer.more (λ i event e seq is.
+  others : AllByRecursion (λ event. pass_of event ≢ old.number) longer.more
+  others = all_from_get (λ (event : PartEvent). pass_of event ≢ old.number) longer.more (λ i event e whose.
       let at : slice_get here.events (length seen.events + i) ≡ Some event =
       ap (λ (events : List PartEvent). slice_get events (length seen.events + i)) longer.events ∙ get_behind seen.events longer.more i ∙ e in
-      let own : slice_get (owners_at found old.clock part) (length seen.events + i) ≡ Some (the_owner old.number seq) =
-      ap (λ (os : List (Option Owner)). slice_get os (length seen.events + i)) (owners_are found here found_there)
-      ∙ map_get owner_of here.events (length seen.events + i) event at ∙ ap Some is in
-      let size : length (owners_at old.parts old.clock part) ≡ length seen.events = ap length (owners_are old.parts seen seen_there) ∙ length-map seen.events owner_of in
-      absurd (omega (arith, turn.others.within part (length seen.events + i) seq own, size)))
+      let less : length seen.events + i < length seen.events = turn.others.within.entries part (length seen.events + i) event at whose in
+      absurd (omega (arith, less)))
 
   pub found_finds : (front : List Transcript) (transcript : Transcript) (call : Call) → Finds (amid config front transcript old call) part here
   found_finds front transcript call = record {
@@ -136,10 +124,10 @@ module _ (config : Configuration) (part seq : ℕ) (outcome : State → Outcome)
   found_here = history_at h.found part
 
   followers_kept : h.left.followers ≡ found_here.followers
-  followers_kept = ap (λ (x : History). x.followers) h.entry.history ∙ entered_followers found_here old.number seq (outcome (state_of found_here)).entry
+  followers_kept = ap (λ (x : History). x.followers) h.entry.history ∙ entered_followers found_here old.number seq (moment_of old.clock) (outcome (state_of found_here)).entry
 
   whole_here : IsWhole h.left → IsWhole found_here
-  whole_here whole = whole_before found_here old.number seq (outcome (state_of found_here)).entry (fair.1 (state_of found_here)).0 (subst IsWhole h.entry.history whole)
+  whole_here whole = whole_before found_here old.number seq (moment_of old.clock) (outcome (state_of found_here)).entry (fair.1 (state_of found_here)).0 (subst IsWhole h.entry.history whole)
 
   pub asked_histories : AreHistories config h.found old.clock
   asked_histories = found_histories config part old new h.found h.left h.turn before after fair.0 histories followers_kept whole_here
@@ -150,7 +138,7 @@ module _ (config : Configuration) (part seq : ℕ) (outcome : State → Outcome)
 module _ (config : Configuration) (part seq gauge least : ℕ) (old new : LogPassView) (place : ℕ) (numbers : Numbers) (h : HasLooked part seq gauge least old new place numbers) (before : HasSeen old) (after : HasSeen new)
     (inside : part < length old.parts) (histories : AreHistories config old.parts old.clock) where
   pub looked_histories : AreHistories config h.found old.clock
-  looked_histories = found_histories config part old new h.found (looked (history_at h.found part) old.number seq) h.turn before after inside histories refl (whole_before (history_at h.found part) old.number seq Looked tt)
+  looked_histories = found_histories config part old new h.found (looked (history_at h.found part) old.number seq) h.turn before after inside histories refl (whole_before (history_at h.found part) old.number seq (moment_of old.clock) Looked tt)
 
   pub looked_finds : (front : List Transcript) (transcript : Transcript) (call : Call) → Finds (amid config front transcript old call) part (history_at h.found part)
-  looked_finds = found_finds config part old new h.found (looked (history_at h.found part) old.number seq) h.turn before after inside histories refl (whole_before (history_at h.found part) old.number seq Looked tt)
+  looked_finds = found_finds config part old new h.found (looked (history_at h.found part) old.number seq) h.turn before after inside histories refl (whole_before (history_at h.found part) old.number seq (moment_of old.clock) Looked tt)

@@ -8,6 +8,7 @@ use Rattle.partlog.specs.declared.clock_event.ClockEvent.{ClockEvent}
 use Rattle.partlog.specs.Gauges.{numbers_of}
 use Rattle.partlog.specs.History.{History}
 use Rattle.partlog.specs.Kept.{IsKept}
+use Rattle.partlog.specs.Lagging.{LeftLate}
 use Rattle.partlog.specs.State.{state_of}
 use Rattle.turn_lock.specs.declared.lock.TurnLock.{TurnLock}
 use Rattle.turn_lock.specs.declared.pass.TurnPass.{TurnPass}
@@ -207,13 +208,16 @@ module _ (lock : TurnLock PartView LogEntry) (desk : PartView) (name : part_name
       (All-weaker (λ (p : TurnPass PartView LogEntry). StartsWith (log_entries desk.history) (known p).seen × (of_pass entry_by (known p).number (log_entries desk.history) ≡ (known p).mine)) (IsTold entry_by (log_entries desk.history))
       (λ p is. record { seen = is.0; mine = is.1 }) firsts each)
 
-  pub out_more : (n : ℕ) (logs more : List History) → more ≡ logs ++ h ∷ [] → lock_passes lock ≡ n → All (λ (e : LogEntry). entry_by e < lock_passes lock) (log_entries desk.history) → AreOut n logs → AreOut n more
-  out_more n logs more m passes whose out =
+  pub out_more : (n : ℕ) (logs more : List History) → more ≡ logs ++ h ∷ [] → lock_passes lock ≡ n → All (λ (e : LogEntry). entry_by e < lock_passes lock) (log_entries desk.history)
+      → LeftLate desk.history.followers desk.history.events → AreOut n logs → AreOut n more
+  out_more n logs more m passes whose late out =
       let K : History → Type 0 = λ x. IsKept x.log x.events in
       let W : History → Type 0 = λ x. All (λ (e : LogEntry). entry_by e < n) (log_entries x) in
+      let L : History → Type 0 = λ x. LeftLate x.followers x.events in
       record {
         kept = subst (All K) (sym m) (All-push K logs h out.kept (subst K (sym h_is) keeps.kept));
         whose = subst (All W) (sym m) (All-push W logs h out.whose (subst W (sym h_is) (subst (λ k. All (λ (e : LogEntry). entry_by e < k) (log_entries desk.history)) passes whose)));
+        late = subst (All L) (sym m) (All-push L logs h out.late (subst L (sym h_is) late));
       }
 
   pub followers_more : (logs more : List History) (locks : List (TurnLock PartView LogEntry)) (all : List ℕ) → more ≡ logs ++ h ∷ [] → map (λ (x : History). x.followers) logs ++ followers_named (lock ∷ locks) ≡ all

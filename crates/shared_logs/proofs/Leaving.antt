@@ -8,6 +8,7 @@ use Rattle.partlog.specs.declared.event.PartEvent.TheVariants.{Look}
 use Rattle.partlog.specs.declared.numbers.Numbers.{Numbers}
 use Rattle.partlog.specs.History.{History}
 use Rattle.partlog.specs.Looked.{looked}
+use Rattle.partlog.specs.Moment.{moment_of}
 use Rattle.partlog.specs.State.{PartState as State, state_of}
 use Rattle.kbytes.proofs.Laws.{get_set_other, get_set_same, get_there, same_or_not}
 use Rattle.kanswer.specs.Decisions.{Entry, Outcome}
@@ -24,12 +25,12 @@ use Rattle.shared_logs.proofs.Same.{grown_on}
 
 -- ---- one entry
 
-pub ends_entered : (number seq : ℕ) (h : History) (entry : Entry) → EndsOwn number seq (entered h number seq entry)
-ends_entered number seq h entry = record {
+pub ends_entered : (number seq t : ℕ) (h : History) (entry : Entry) → EndsOwn number seq (entered h number seq t entry)
+ends_entered number seq t h entry = record {
   front = h.events;
-  last = event_of number seq entry;
-  events = entered_events h number seq entry;
-  own = event_owner number seq entry;
+  last = event_of number seq t entry;
+  events = entered_events h number seq t entry;
+  own = event_owner number seq t entry;
 }
 
 pub ends_looked : (number seq : ℕ) (h : History) → EndsOwn number seq (looked h number seq)
@@ -65,7 +66,7 @@ found_within part old new found left turn inside =
 pub asked_left : (part seq : ℕ) (outcome : State → Outcome) (old new : LogPassView) (came : Entered) (numbers : Numbers) → HasAsked part seq outcome old new came numbers → part < length old.parts → AreLeft seq old new
 asked_left part seq outcome old new came numbers h inside =
     left_one seq part old new h.found h.left h.turn (found_within part old new h.found h.left h.turn inside)
-    (subst (EndsOwn old.number seq) (sym h.entry.history) (ends_entered old.number seq (history_at h.found part) (outcome (state_of (history_at h.found part))).entry))
+    (subst (EndsOwn old.number seq) (sym h.entry.history) (ends_entered old.number seq (moment_of old.clock) (history_at h.found part) (outcome (state_of (history_at h.found part))).entry))
 
 pub looked_left : (part seq gauge least : ℕ) (old new : LogPassView) (place : ℕ) (numbers : Numbers) → HasLooked part seq gauge least old new place numbers → part < length old.parts → AreLeft seq old new
 looked_left part seq gauge least old new place numbers h inside =
@@ -97,7 +98,7 @@ pub asked_grown : (part seq : ℕ) (outcome : State → Outcome) (old new : LogP
 asked_grown part seq outcome old new came numbers h inside =
     let here : History = history_at h.found part in
     one_grown part old new h.found h.left h.turn (found_within part old new h.found h.left h.turn inside)
-    (subst (Longer here) (sym h.entry.history) (entered_longer here old.number seq (outcome (state_of here)).entry))
+    (subst (Longer here) (sym h.entry.history) (entered_longer here old.number seq (moment_of old.clock) (outcome (state_of here)).entry))
 
 pub looked_grown : (part seq gauge least : ℕ) (old new : LogPassView) (place : ℕ) (numbers : Numbers) → HasLooked part seq gauge least old new place numbers → part < length old.parts
     → HaveGrown old.parts old.clock new.parts new.clock

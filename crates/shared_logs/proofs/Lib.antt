@@ -14,6 +14,8 @@ pub mod TickedClock
 pub mod Telling
 -- what a pass knows of a lock, as its turn goes on
 pub mod Keys
+-- followers that a pass took out
+pub mod Shrinking
 -- a pass after a turn of a lock
 pub mod Passes
 -- numbers that rise

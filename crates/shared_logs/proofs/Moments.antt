@@ -6,7 +6,7 @@ use Rattle.std.proofs.lemmas.List.{drop-map, map-append}
 use Rattle.std.proofs.lemmas.List.Elements.{filter_map-append}
 use Rattle.std.proofs.lemmas.List.Sums.{fold_push}
 use Rattle.std.specs.List.{AllByRecursion, filter_map, fold}
-use Rattle.std.specs.Prelude.{IsTrue}
+use Rattle.std.specs.Prelude.{◌↔◌, IsTrue}
 use Rattle.std.specs.List.Sorted.{IsStrictlyIncreasing}
 use Rattle.partlog.specs.declared.clock_event.ClockEvent.{ClockEvent}
 use Rattle.partlog.specs.declared.clock_event.ClockEvent.TheVariants.{Look, Tick}
@@ -273,6 +273,11 @@ module _ (number : ℕ) (room after : PassView) (parts : List (TurnPass PartView
           reached = subst (λ (es : List ClockEvent). t ≤ moment_of es) (sym at) (reaches d.found.events t);
         }
 
+    -- and whether that was above the moment that it found
+    pub clock_told : (told : HasTicked t was now) × (IsTrue rose ↔ (moment_of told.found < t))
+    unfolding clock_ticked
+    clock_told = (clock_ticked, d.told.rose_is)
+
 -- nothing came
 abbrev as_it_was : (h : History) → Longer h h
 as_it_was h = record { followers = refl; more = []; bytes = []; events = sym (append-nil h.events); log = sym (append-nil h.log) }
@@ -295,6 +300,11 @@ told_before v t past = record {
   stood = λ most. refl;
   reached = past;
 }
+
+-- it isn't above the clock's
+pub told_nothing : (v : LogPassView) (t : ℕ) → t ≤ moment_of v.clock → (told : HasTicked t v v) × (IsTrue false ↔ (moment_of told.found < t))
+unfolding told_before
+told_nothing v t past = (told_before v t past, ((λ up. absurd cc), (λ less. absurd (omega (arith, less, past)))))
 
 -- what the clock's lock tells of a pass beside the logs
 pub clock_step : (number : ℕ) (room : PassView) (parts : List (TurnPass PartView LogEntry)) (old : TurnPass MomentView ClockEntry) (moment ticked : ℕ) → IsLogPass number room parts old moment ticked

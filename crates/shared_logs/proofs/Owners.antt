@@ -5,15 +5,16 @@ use Rattle.std.specs.Prelude.{slice_get}
 use Rattle.partlog.specs.declared.clock_event.ClockEvent.{ClockEvent}
 use Rattle.partlog.specs.declared.clock_event.ClockEvent.TheVariants as clocks
 use Rattle.partlog.specs.declared.event.PartEvent.{PartEvent}
-use Rattle.partlog.specs.declared.event.PartEvent.TheVariants.{Append, Follow, Look}
+use Rattle.partlog.specs.declared.event.PartEvent.TheVariants.{Append, Follow, Look, Shrink}
 use Rattle.partlog.specs.Added.{added_bytes}
 use Rattle.partlog.specs.History.{History}
 use Rattle.audit.specs.Histories.{Owner, clock_owner_of, owner_of}
 use Rattle.turn_lock.specs.OfPass.{of_pass}
 use Rattle.broker_spec.specs.GoesOn.{the_owner}
+use Rattle.broker_spec.specs.Timely.{pass_of}
 use Rattle.shared_logs.specs.declared.entries.ClockEntry.{ClockEntry}
 use Rattle.shared_logs.specs.declared.entries.LogEntry.{LogEntry}
-use Rattle.shared_logs.specs.Entries.{clock_by, clock_entries, entries_from, entry_by, event_by, log_entries}
+use Rattle.shared_logs.specs.Entries.{clock_by, clock_entries, entries_from, entry_by, log_entries}
 
 abbrev by_or : ℕ → Option (Option Owner) → ℕ
 by_or n (Some (Some owner)) = owner.by
@@ -35,16 +36,23 @@ is_owned None = false
 nobody : {A : Type 0} → false ≡ true → A
 nobody e = absurd cc
 
-event_named : (e : PartEvent) (by seq : ℕ) → Some (owner_of e) ≡ Some (the_owner by seq) → event_by e ≡ by
+event_named : (e : PartEvent) (by seq : ℕ) → Some (owner_of e) ≡ Some (the_owner by seq) → pass_of e ≡ by
 event_named (Append b s count len) by seq e = ap (by_or 0) e
-event_named (Follow b s replica offset) by seq e = ap (by_or 0) e
+event_named (Follow b s replica offset t) by seq e = ap (by_or 0) e
 event_named (Look b s) by seq e = ap (by_or 0) e
+event_named (Shrink b replica t) by seq e = nobody (ap is_owned e)
 
 pub named : (es : List PartEvent) (log : List ℕ) (place by seq : ℕ) → slice_get (map owner_of es) place ≡ Some (the_owner by seq)
     → (entry : LogEntry) × (slice_get (entries_from es log) place ≡ Some entry) × (entry_by entry ≡ by)
 named [] log place by seq e = nobody (ap is_there e)
 named (event ∷ es) log zero by seq e = (_, refl, event_named event by seq e)
 named (event ∷ es) log (suc place) by seq e = named es (drop (added_bytes event) log) place by seq e
+
+-- the entry of an event
+pub entry_at : (es : List PartEvent) (log : List ℕ) (place : ℕ) (event : PartEvent) → slice_get es place ≡ Some event → (entry : LogEntry) × (slice_get (entries_from es log) place ≡ Some entry) × (entry.event ≡ event)
+entry_at [] log place event e = nobody (ap is_there e)
+entry_at (x ∷ es) log zero event e = (_, refl, ap (value_or x) e)
+entry_at (x ∷ es) log (suc place) event e = entry_at es (drop (added_bytes x) log) place event e
 
 pub clock_named : (es : List ClockEvent) (ps : List ℕ) (place by seq : ℕ) → slice_get (map clock_owner_of es) place ≡ Some (the_owner by seq)
     → (entry : ClockEntry) × (slice_get (clock_entries es ps) place ≡ Some entry) × (clock_by entry ≡ by)

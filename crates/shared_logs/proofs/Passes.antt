@@ -1,5 +1,5 @@
 -- A pass after a turn of a lock.
-use Rattle.std.proofs.Common.{◌≡◌, ℕ, zero, suc, ◌*◌, ◌≤◌, ◌<◌, List, [], ◌∷◌, length, map, set, get_or, Option, Some, refl, sym, ap, subst, ◌∙◌, inl, inr, arith}
+use Rattle.std.proofs.Common.{◌≡◌, ◌≢◌, ℕ, zero, suc, ◌*◌, ◌≤◌, ◌<◌, List, [], ◌∷◌, length, map, set, get_or, Option, Some, refl, sym, ap, subst, ◌∙◌, inl, inr, arith}
 use Rattle.std.proofs.lemmas.List.{get_or-map, length-map, length-set, map-set}
 use Rattle.std.proofs.lemmas.List.Elements.{All-set}
 use Rattle.std.proofs.lemmas.Option.{slice_get-map, slice_get_read}
@@ -11,12 +11,12 @@ use Rattle.partlog.specs.Gauges.{numbers_of}
 use Rattle.partlog.specs.History.{History}
 use Rattle.partlog.specs.Kept.{IsKept}
 use Rattle.partlog.specs.Looked.{looked}
+use Rattle.partlog.specs.Moment.{moment_of}
 use Rattle.partlog.specs.State.{PartState, state_of}
 use Rattle.kanswer.specs.Decisions.{Outcome}
 use Rattle.kanswer.specs.Waiting.{gauge_value}
 use Rattle.kanswer.specs.declared.entered.Entered.{Entered}
 use Rattle.kanswer.specs.Entered.{HasEntered}
-use Rattle.audit.specs.Histories.{owner_of}
 use Rattle.kbytes.proofs.Laws.{get_set_other, get_set_same, same_or_not}
 use Rattle.room_core.specs.Gauges.{IsPass}
 use Rattle.room_table.specs.Seats.{TableView, caller_now}
@@ -24,7 +24,9 @@ use Rattle.room_scans.specs.Desks.{desk_name}
 use Rattle.broker_spec.specs.Board.{empty_history, history_at}
 use Rattle.broker_spec.specs.GoesOn.{AllWhole}
 use Rattle.broker_spec.proofs.Laws.{set_same, set_whole}
-use Rattle.pass_books.specs.Owned.{NotOf, OthersAlone}
+use Rattle.broker_spec.specs.Timely.{pass_of}
+use Rattle.pass_books.specs.Owned.{OthersAlone}
+use Rattle.pass_books.specs.TakenOut.{HasTakenOut}
 use Rattle.pass_books.proofs.Laws.{others_grown, others_within, part_came}
 use Rattle.turn_lock.specs.declared.pass.TurnPass.{TurnPass}
 use Rattle.turn_lock.specs.declared.lock.TurnLock.{TurnLock}
@@ -42,7 +44,10 @@ use Rattle.shared_logs.specs.Coming.{HasCaughtUp, IsSamePass, OthersCame}
 use Rattle.shared_logs.specs.Locked.{IsHand, IsLogPass, lock_of, moment_lock, part_lock, pass_view, seen_part, shared_view}
 use Rattle.shared_logs.specs.Seen.{HasSeen}
 use Rattle.shared_logs.specs.Shared.{AreShared, LogPassView, SharedView, followers_in}
+use Rattle.shared_logs.specs.Shrinking.{HasShrunkOne}
+use Rattle.shared_logs.specs.Shrunk.{HasShrunkSome}
 use Rattle.shared_logs.specs.Turned.{HasLeft, OpensClock, OpensPart, SawPart, WasPartTurn, part_entries}
+use Rattle.shared_logs.proofs.Shrinking.{one_taken}
 use Rattle.shared_logs.proofs.Telling.{followers_are, found_longer, found_others, left_seen, name_after, number_after, own_after}
 
 -- ---- lists
@@ -151,7 +156,7 @@ module _ (number : ℕ) (room after : PassView) (parts : List (TurnPass PartView
       let others = found_others (known old) found turn.turn.found_is turn.name_found turn.kept_found (own_of entry_by number old hand) in
       came_of number histories (set histories part found.history) before_view.clock before_view.clock
       (part_came number histories before_view.clock part (seen_part old) found.history there_seen longer
-      (subst (λ (n : ℕ). AllByRecursion (λ event. NotOf n (owner_of event)) longer.more) hand.number_is others))
+      (subst (λ (n : ℕ). AllByRecursion (λ event. pass_of event ≢ n) longer.more) hand.number_is others))
       (length-set histories part found.history)
 
   pub parts_after : after_view.parts ≡ set histories part left.history
@@ -207,16 +212,35 @@ module _ (number : ℕ) (room after : PassView) (parts : List (TurnPass PartView
   found_there = at_set histories part found.history less_seen
 
   -- a call that asked the log
-  pub part_asked : (seq : ℕ) (outcome : PartState → Outcome) (entered : Entered) (numbers : Numbers) → HasEntered (known old).number seq outcome found.history left.history entered
+  pub part_asked : (seq : ℕ) (outcome : PartState → Outcome) (entered : Entered) (numbers : Numbers) → HasEntered (known old).number seq moment outcome found.history left.history entered
       → numbers ≡ numbers_of (state_of left.history) → HasAsked part seq outcome before_view after_view entered numbers
   part_asked seq outcome entered numbers entry numbers_are = record {
     found = set histories part found.history;
     left = left.history;
     turn = part_left;
-    entry = subst (λ (h : History). HasEntered number seq outcome h left.history entered) (sym found_there)
-        (subst (λ (n : ℕ). HasEntered n seq outcome found.history left.history entered) hand.number_is entry);
+    entry = subst (λ (h : History). HasEntered number seq (moment_of before_view.clock) outcome h left.history entered) (sym found_there)
+        (subst (λ (n : ℕ). HasEntered n seq (moment_of before_view.clock) outcome found.history left.history entered) hand.number_is
+        (subst (λ (t : ℕ). HasEntered (known old).number seq t outcome found.history left.history entered) step.is.moment_is entry));
     numbers_are = numbers_are;
   }
+
+  -- followers were taken out of it
+  pub part_shrunk : (t : ℕ) → HasShrunkSome (known old).number t found.history left.history → HasShrunkOne part t before_view after_view
+  part_shrunk t some =
+      let longer = found_longer (known old) found turn.turn.found_is turn.name_found turn.kept_found in
+      let others =
+      subst (λ (n : ℕ). AllByRecursion (λ event. pass_of event ≢ n) longer.more) hand.number_is
+      (found_others (known old) found turn.turn.found_is turn.name_found turn.kept_found (own_of entry_by number old hand)) in
+      let own : HasShrunkSome number t found.history left.history = subst (λ (n : ℕ). HasShrunkSome n t found.history left.history) hand.number_is some in
+      record {
+        shrunk = record {
+          same = part_same;
+          taken = subst (HasTakenOut number t histories) (sym parts_after) (one_taken number t histories part (seen_part old) found.history left.history there_seen longer others own);
+          clock = refl;
+          ticked = refl;
+        };
+        alone = λ p ne. ap (λ (hs : List History). slice_get hs p) parts_after ∙ get_set_other histories part p left.history ne;
+      }
 
   -- a call that looked at it
   pub part_looked : (seq gauge least place : ℕ) (numbers : Numbers) → left.history ≡ looked found.history (known old).number seq → place ≡ length found.history.events

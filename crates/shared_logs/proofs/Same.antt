@@ -10,6 +10,7 @@ use Rattle.room_table.specs.Seats.{CallerView, caller_now}
 use Rattle.purgatory.specs.Going.{GoesOn, KeepsOperation}
 use Rattle.broker_spec.specs.GoesOn.{HaveGrown}
 use Rattle.broker_spec.specs.Kept.{owners_at}
+use Rattle.broker_spec.specs.Timely.{events_at}
 use Rattle.broker_spec.proofs.Laws.{all_longer_on, grown_self}
 use Rattle.shared_logs.specs.Coming.{HasCaughtUp, HasStepped, IsSamePass, OthersCame}
 use Rattle.shared_logs.specs.Shared.{LogPassView}
@@ -77,7 +78,10 @@ same_stepped a b step kept = record { number = step.number; made = step.made; we
 pub none_came : (number : ℕ) (parts : List History) (clock : List ClockEvent) → OthersCame number parts clock parts clock
 none_came number parts clock = record {
   grown = grown_self parts clock;
-  within = λ part place seq e. slice_get_within (owners_at parts clock part) place _ e;
+  within = record {
+    calls = λ part place seq e. slice_get_within (owners_at parts clock part) place _ e;
+    entries = λ part place event e whose. slice_get_within (events_at parts part) place event e;
+  };
 }
 
 pub caught_up_self : (a : LogPassView) → HasCaughtUp a a

@@ -9,10 +9,10 @@ use Rattle.std.specs.Prelude.{All, IfOk, OnErr, OnOk, slice_index}
 use Rattle.partlog.specs.declared.clock_event.ClockEvent.{ClockEvent}
 use Rattle.partlog.specs.declared.clock_event.ClockEvent.TheVariants as clocks
 use Rattle.partlog.specs.declared.event.PartEvent.{PartEvent}
-use Rattle.partlog.specs.declared.event.PartEvent.TheVariants.{Append, Follow, Look}
 use Rattle.partlog.specs.Kept.{IsKept}
-use Rattle.audit.specs.Histories.{Owner, clock_owner_of, owner_of}
+use Rattle.audit.specs.Histories.{Owner, clock_owner_of}
 use Rattle.broker_spec.specs.GoesOn.{Longer, the_owner}
+use Rattle.broker_spec.specs.Timely.{pass_of}
 use Rattle.pass_books.specs.Owned.{NotOf}
 use Rattle.pass_books.proofs.Laws.{others_behind}
 use Rattle.room_table.specs.Seats.{TableView}
@@ -23,7 +23,7 @@ use Rattle.turn_lock.specs.OfPass.{of_pass}
 use Rattle.shared_logs.specs.declared.entries.ClockEntry.{ClockEntry}
 use Rattle.shared_logs.specs.declared.entries.LogEntry.{LogEntry}
 use Rattle.shared_logs.specs.Desks.{MomentView, PartView, moment_name, part_name}
-use Rattle.shared_logs.specs.Entries.{clock_by, clock_entries, entry_by, event_by}
+use Rattle.shared_logs.specs.Entries.{clock_by, clock_entries, entry_by}
 use Rattle.shared_logs.specs.Histories.{events_of, history_of}
 use Rattle.shared_logs.proofs.Beside.{bytes_in, clock_events, entries_bytes, entries_events, event_in, history_told}
 use Rattle.shared_logs.specs.Turned.{HasFound, HasLeft, WasClockTurn, WasPartTurn, moment_entries, part_entries}
@@ -131,14 +131,9 @@ abbrev by_or : ℕ → Option Owner → ℕ
 by_or n (Some owner) = owner.by
 by_or n None = n
 
-owner_named : (e : PartEvent) (by seq : ℕ) → owner_of e ≡ the_owner by seq → event_by e ≡ by
-owner_named (Append b s count len) by seq is = ap (by_or 0) is
-owner_named (Follow b s replica offset) by seq is = ap (by_or 0) is
-owner_named (Look b s) by seq is = ap (by_or 0) is
-
-pub owned_by_others : (number : ℕ) (es : List LogEntry) → AllByRecursion (λ e. entry_by e ≢ number) es → AllByRecursion (λ event. NotOf number (owner_of event)) (map event_in es)
-owned_by_others number [] all = tt
-owned_by_others number (e ∷ es) all = ((λ seq is. all.0 (owner_named e.event number seq is)), owned_by_others number es all.1)
+pub left_by_others : (number : ℕ) (es : List LogEntry) → AllByRecursion (λ e. entry_by e ≢ number) es → AllByRecursion (λ event. pass_of event ≢ number) (map event_in es)
+left_by_others number [] all = tt
+left_by_others number (e ∷ es) all = (all.0, left_by_others number es all.1)
 
 module _ (before : Known LogEntry) (found : PartView) (is : HasFound part_entries entry_by before found) (named : part_name found ≡ before.name) (kept : IsKept found.history.log found.history.events) where
   -- the history that was found goes on from what the pass had seen
@@ -152,9 +147,9 @@ module _ (before : Known LogEntry) (found : PartView) (is : HasFound part_entrie
         log = sym (entries_bytes h.events h.log kept.whole) ∙ ap (flat_map bytes_in) is.seen.1 ∙ flat_map-append bytes_in before.seen is.seen.0;
       }
 
-  pub found_others : of_pass entry_by before.number before.seen ≡ before.mine → AllByRecursion (λ event. NotOf before.number (owner_of event)) found_longer.more
+  pub found_others : of_pass entry_by before.number before.seen ≡ before.mine → AllByRecursion (λ event. pass_of event ≢ before.number) found_longer.more
   unfolding found_longer
-  found_others own = owned_by_others before.number is.seen.0 (others_came part_entries entry_by before found is own)
+  found_others own = left_by_others before.number is.seen.0 (others_came part_entries entry_by before found is own)
 
 -- the history that was left is what the pass has seen then
 pub left_seen : (before after : Known LogEntry) (found left : PartView) → WasPartTurn before after found left → history_of (slice_index after.name 0) after.seen ≡ left.history

@@ -33,12 +33,12 @@ pub record LeftOne (part : ℕ) (old new : LogPassView) (found : List History) (
   pub clock : new.clock ≡ old.clock
   pub ticked : new.ticked ≡ old.ticked
 
--- the partition's log was asked, this became of it, and its numbers are now these
+-- the partition's log was asked, at the moment of the clock that the pass has seen; this became of it, and its numbers are now these
 pub record HasAsked (part seq : ℕ) (outcome : State → Outcome) (old new : LogPassView) (entered : Entered) (numbers : Numbers) : Type 0 where
   pub found : List History
   pub left : History
   pub turn : LeftOne part old new found left
-  pub entry : HasEntered old.number seq outcome (history_at found part) left entered
+  pub entry : HasEntered old.number seq (moment_of old.clock) outcome (history_at found part) left entered
   pub numbers_are : numbers ≡ numbers_of (state_of left)
 
 -- what the reply takes of a partition was read in that state, and the budget is lowered by it

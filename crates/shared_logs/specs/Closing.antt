@@ -3,7 +3,9 @@ use Rattle.std.specs.Prelude.{◌≡◌, ℕ, ◌<◌, ◌≤◌, ◌/◌, ◌==
 use Rattle.std.specs.List.{flat_map}
 use Rattle.std.specs.List.Sorted.{IsStrictlyIncreasing}
 use Rattle.partlog.specs.declared.clock_event.ClockEvent.{ClockEvent}
+use Rattle.partlog.specs.declared.event.PartEvent.{PartEvent}
 use Rattle.partlog.specs.History.{History}
+use Rattle.partlog.specs.Lagging.{LeftLate}
 use Rattle.partlog.specs.Moment.{moment_of}
 use Rattle.partlog.specs.State.{state_of}
 use Rattle.opcond.specs.declared.need.Need.{Need}
@@ -14,6 +16,7 @@ use Rattle.kanswer.specs.Waiting.{gauge_value}
 use Rattle.broker_spec.specs.Board.{history_at, gauge_now}
 use Rattle.broker_spec.specs.GoesOn.{AllWhole, the_owner}
 use Rattle.broker_spec.specs.Kept.{owners_at}
+use Rattle.broker_spec.specs.Timely.{events_at, pass_of}
 use Rattle.room_core.specs.declared.parts.Stage.{Stage}
 use Rattle.room_core.specs.Described.{operation_of}
 use Rattle.room_table.specs.Seats.{CallerView, caller_now}
@@ -42,7 +45,10 @@ pub record AreClosed (shared : SharedView) (passes : List LogPassView) (parts : 
   pub each : All (λ (pass : LogPassView). OthersCame pass.number pass.parts pass.clock parts clock) passes
   -- each entry names a pass that there is, and of each there is one
   pub known : (part place by seq : ℕ) → slice_get (owners_at parts clock part) place ≡ Some (the_owner by seq) → by < length passes
+  pub known_entries : (part place : ℕ) (event : PartEvent) → slice_get (events_at parts part) place ≡ Some event → pass_of event < length passes
   pub one : (number : ℕ) → number < length passes → count_by (λ (pass : LogPassView). pass.number == number) passes ≡ 1
+  -- whoever was taken out lagged then
+  pub late : (part : ℕ) (h : History) → slice_get parts part ≡ Some h → LeftLate h.followers h.events
   -- what waits isn't answerable
   pub still : All (λ (pass : LogPassView). (caller_now pass.seat).stage ≡ Stage.Waiting → IsUnanswerable parts clock (operation_of (caller_now pass.seat).description)) passes
   -- each winner's number is that of the ends that the passes have taken from it

@@ -3,9 +3,9 @@ use Rattle.std.specs.Prelude.{ℕ, List, [], ◌∷◌, take, drop, slice_index}
 use Rattle.partlog.specs.declared.clock_event.ClockEvent.{ClockEvent}
 use Rattle.partlog.specs.declared.clock_event.ClockEvent.TheVariants as clocks
 use Rattle.partlog.specs.declared.event.PartEvent.{PartEvent}
-use Rattle.partlog.specs.declared.event.PartEvent.TheVariants.{Append, Follow, Look}
 use Rattle.partlog.specs.Added.{added_bytes}
 use Rattle.partlog.specs.History.{History}
+use Rattle.broker_spec.specs.Timely.{pass_of}
 use Rattle.shared_logs.specs.declared.entries.LogEntry.{LogEntry}
 use Rattle.shared_logs.specs.declared.entries.ClockEntry.{ClockEntry}
 
@@ -19,14 +19,9 @@ entries_from (event ∷ events) log =
 abbrev pub log_entries : History → List LogEntry
 log_entries h = entries_from h.events h.log
 
--- the pass that left an event
-abbrev pub event_by : PartEvent → ℕ
-event_by (Append by seq count len) = by
-event_by (Follow by seq replica offset) = by
-event_by (Look by seq) = by
-
+-- the pass that left it
 abbrev pub entry_by : LogEntry → ℕ
-entry_by entry = event_by entry.event
+entry_by entry = pass_of entry.event
 
 -- one for each event of the clock, in order: a look names its own pass, and the ticks name these passes
 abbrev pub clock_entries : List ClockEvent → List ℕ → List ClockEntry

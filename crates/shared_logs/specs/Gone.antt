@@ -6,6 +6,7 @@ use Rattle.partlog.specs.declared.numbers.Numbers.{Numbers}
 use Rattle.partlog.specs.Gauges.{numbers_of}
 use Rattle.partlog.specs.History.{History}
 use Rattle.partlog.specs.Kept.{IsKept}
+use Rattle.partlog.specs.Lagging.{LeftLate}
 use Rattle.partlog.specs.Moment.{moment_of}
 use Rattle.partlog.specs.State.{state_of}
 use Rattle.audit.specs.Histories.{ticks_of}
@@ -72,6 +73,7 @@ TellOf logs sources = (source : ℕ → Source) → All (λ (seat : SourceView).
 pub record AreOut (passes : ℕ) (logs : List History) : Type 0 where
   pub kept : All (λ (h : History). IsKept h.log h.events) logs
   pub whose : All (λ (h : History). All (λ (entry : LogEntry). entry_by entry < passes) (log_entries h)) logs
+  pub late : All (λ (h : History). LeftLate h.followers h.events) logs
 
 pub record AreSourcesOf (table : TableView) (logs : List History) (sources : List SourceView) : Type 0 where
   pub count : length sources ≡ 3 * length logs

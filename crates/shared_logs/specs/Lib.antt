@@ -10,6 +10,8 @@ pub mod Histories
 pub mod Keeps
 -- the clock's desk was told a moment
 pub mod Ticked
+-- at a partition's desk followers were taken out
+pub mod Shrunk
 -- what a clause sees of the logs that threads share, and of what a thread has of them
 pub mod Shared
 -- what is so of a pass between any two calls
@@ -18,6 +20,8 @@ pub mod Seen
 pub mod Coming
 -- a turn in which a call left its entry
 pub mod Asked
+-- the clock was told a moment, and who lagged then was taken out
+pub mod Shrinking
 -- the passes of new logs
 pub mod Making
 -- a pass amid a call

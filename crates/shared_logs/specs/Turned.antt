@@ -27,6 +27,7 @@ use Rattle.shared_logs.specs.declared.entries.LogEntry.{LogEntry}
 use Rattle.shared_logs.specs.Desks.{MomentView, PartView, moment_name, part_name}
 use Rattle.shared_logs.specs.Entries.{clock_by, clock_entries, entry_by, log_entries}
 use Rattle.shared_logs.specs.Keeps.{MomentKeeps}
+use Rattle.shared_logs.specs.Shrunk.{HasShrunkSome}
 use Rattle.shared_logs.specs.Ticked.{HasTicked}
 
 abbrev pub part_entries : PartView → List LogEntry
@@ -82,12 +83,12 @@ pub record WasPartTurn (before after : Known LogEntry) (found left : PartView) :
 abbrev pub SawPart : Known LogEntry → Known LogEntry → Type 0
 SawPart before after = (found : PartView) × WasPartTurn before after found found
 
--- one in which the log was asked
-pub record AskedPart (seq : ℕ) (outcome : State → Outcome) (before after : Known LogEntry) (entered : Entered) (numbers : Numbers) : Type 0 where
+-- one in which the log was asked, at this moment
+pub record AskedPart (seq moment : ℕ) (outcome : State → Outcome) (before after : Known LogEntry) (entered : Entered) (numbers : Numbers) : Type 0 where
   pub found : PartView
   pub left : PartView
   pub turn : WasPartTurn before after found left
-  pub entry : HasEntered before.number seq outcome found.history left.history entered
+  pub entry : HasEntered before.number seq moment outcome found.history left.history entered
   pub numbers_are : numbers ≡ numbers_of (state_of left.history)
 
 -- one in which it was looked at
@@ -99,6 +100,13 @@ pub record LookedAtPart (seq gauge least : ℕ) (before after : Known LogEntry) 
   pub place_is : place ≡ length found.history.events
   pub numbers_are : numbers ≡ numbers_of (state_of found.history)
   pub late : least ≤ gauge_value gauge (state_of found.history)
+
+-- one in which followers were taken out that lagged at this moment, some of the first of them or all
+pub record ShrunkPart (t : ℕ) (before after : Known LogEntry) : Type 0 where
+  pub found : PartView
+  pub left : PartView
+  pub turn : WasPartTurn before after found left
+  pub taken : HasShrunkSome before.number t found.history left.history
 
 -- a whole turn of the clock's lock
 pub record WasClockTurn (before after : Known ClockEntry) (found left : MomentView) : Type 0 where

@@ -59,12 +59,12 @@ pub(crate) fn put_at(
 ) -> Result<Put, NoMemory>
     requires pass { IsOfRoom visit.now.room.now pass.old }
     requires desk { IsSourceOf visit.now.room.now desk.old.sources.high }
-    ensures entered { IfOk result (λ put. HasEntered visit.now.who.by visit.now.who.seq (sent_outcome desk.old.part sent.now)
+    ensures entered { IfOk result (λ put. HasEntered visit.now.visitor.who.by visit.now.visitor.who.seq visit.now.visitor.moment (sent_outcome desk.old.part sent.now)
         desk.old.history desk.new.history put.entered) }
     ensures numbers { IfOk result (λ put. put.numbers ≡ numbers_of (state_of desk.new.history)) }
     ensures refused { OnErr result (desk.new ≡ desk.old) }
     ensures name { part_name desk.new ≡ part_name desk.old }
-    ensures added { AddedBy entry_by visit.now.who.by (log_entries desk.old.history) (log_entries desk.new.history) }
+    ensures added { AddedBy entry_by visit.now.visitor.who.by (log_entries desk.old.history) (log_entries desk.new.history) }
     ensures whole { IsKept desk.new.history.log desk.new.history.events }
     ensures made { IsOfRoom visit.now.room.now pass.new }
     ensures went { GoesOn pass.old.seat pass.new.seat }
@@ -88,7 +88,7 @@ pub(crate) fn fetch_at(
 ) -> Result<Fetched, NoMemory>
     requires pass { IsOfRoom visit.now.room.now pass.old }
     requires desk { IsSourceOf visit.now.room.now desk.old.sources.high }
-    ensures entered { IfOk result (λ fetched. HasEntered visit.now.who.by visit.now.who.seq
+    ensures entered { IfOk result (λ fetched. HasEntered visit.now.visitor.who.by visit.now.visitor.who.seq visit.now.visitor.moment
         (fetch_outcome desk.old.history.followers wanted.now.replica wanted.now.asked.now desk.old.part) desk.old.history desk.new.history fetched.entered) }
     ensures numbers { IfOk result (λ fetched. fetched.numbers ≡ numbers_of (state_of desk.new.history)) }
     ensures bounded { IfOk result (λ fetched. fetched.numbers.high ≤ MOST_LOG_BYTES) }
@@ -96,7 +96,7 @@ pub(crate) fn fetch_at(
         HasRead wanted.now.replica wanted.now.asked.now fetched.entered.became (state_of desk.new.history) fetched.numbers records budget.old budget.new)) }
     ensures refused { OnErr result (desk.new ≡ desk.old) }
     ensures name { part_name desk.new ≡ part_name desk.old }
-    ensures added { AddedBy entry_by visit.now.who.by (log_entries desk.old.history) (log_entries desk.new.history) }
+    ensures added { AddedBy entry_by visit.now.visitor.who.by (log_entries desk.old.history) (log_entries desk.new.history) }
     ensures whole { IsKept desk.new.history.log desk.new.history.events }
     ensures made { IsOfRoom visit.now.room.now pass.new }
     ensures went { GoesOn pass.old.seat pass.new.seat }

@@ -2,8 +2,8 @@
 //! wait for them.
 //!
 //! Each thread has a `LogPass`. Of each history the pass has seen a prefix, and every turn that it takes begins with that prefix: others
-//! may have added to it, and nobody takes anything away. In a turn the pass leaves one entry of its own at most, and raises the gauges
-//! that rose; `settle` then pays the scans that it owes. What a pass waits for it registers in the room, and polls. `call_turns` has the
+//! may have added to it, and nobody takes anything away. In a turn the pass leaves one entry of its own at most, or several by which it takes
+//! out who lags, and raises the gauges that rose; `settle` then pays the scans that it owes. What a pass waits for it registers in the room, and polls. `call_turns` has the
 //! turns of one call, each with the point of its entry.
 //!
 //! So the layer above needs to know of locks and gauges nothing but this: between two of its own entries others' entries came, and none
@@ -14,7 +14,7 @@
 //!
 //! A desk is a log with the sources of its gauges: `PartDesk` is a partition's, `MomentDesk` the clock's. Between any two calls the
 //! gauges are at the numbers of the log's whole history. So the thread that has the desk's turn finds both alike, and one that waits in
-//! the room for a gauge misses no change. Each call enters one entry, raises the gauges that changed and no other, and leaves it to the
+//! the room for a gauge misses no change. Each call enters its entries, raises the gauges that changed and no other, and leaves it to the
 //! pass to settle what it then owes, once its turn is over.
 //!
 //! # What a lock sees

@@ -1,9 +1,13 @@
-//! What is behind a partition's lock: `desk_calls` enters batches, fetches and looks here, in a turn, and the gauges rise with the log.
+//! What is behind a partition's lock: `desk_calls` enters batches, fetches and looks here, in a turn, `part_turns` takes out who lags, and the
+//! gauges rise with the log.
 ghost use Rattle.std.specs.Prelude.{◌≡◌, [], IfOk, OnOk, OnErr, length};
 ghost use Rattle.kanswer.specs.Decisions.{fetch_outcome};
 ghost use Rattle.kanswer.specs.Sent.{sent_outcome};
 ghost use Rattle.partlog.specs.Gauges.{numbers_of};
+ghost use Rattle.partlog.specs.Kept.{IsKept};
+ghost use Rattle.partlog.specs.Lagging.{LeftLate, NoneLags};
 ghost use Rattle.partlog.specs.Looked.{looked};
+ghost use Rattle.partlog.specs.Shrunk.{all_shrunk};
 ghost use Rattle.partlog.specs.State.{state_of};
 ghost use Rattle.kanswer.specs.Entered.{HasEntered};
 ghost use Rattle.turn_lock.specs.AddedBy.{AddedBy};
@@ -13,6 +17,7 @@ ghost use Rattle.purgatory.specs.Rooms.{IsOfRoom, IsSourceOf};
 ghost use Rattle.shared_logs.specs.Desks.{part_name};
 ghost use Rattle.shared_logs.specs.Entries.{entry_by, log_entries};
 ghost use Rattle.shared_logs.specs.Keeps.{AreAt, AreOfPart, AreStill, PartKeeps};
+ghost use Rattle.shared_logs.specs.Shrunk.{HasShrunkSome};
 
 use crate::sources::PartSources;
 use crate::visit::Visit;
@@ -70,9 +75,9 @@ impl PartDesk {
         Ok(PartDesk { log, part, sources })
     }
 
-    /// Puts a batch at the end of the log for the call that visits, where there is room, and raises the gauges that rose. The pass
-    /// of the room then owes their scans, which `settle` pays once the turn is over. Where there is no room, the log is looked at and
-    /// the partition is refused for a full log. If memory runs out, all is as it was.
+    /// Puts a batch at the end of the log for the call that visits, where enough replicas are in sync and there is room, and raises the
+    /// gauges that rose. The pass of the room then owes their scans, which `settle` pays once the turn is over. Where too few are in sync
+    /// or there is no room, the log is looked at and the partition is refused. If memory runs out, all is as it was.
     pub fn put(
         &mut self,
         visit: &Visit<'_, '_, impl Wait>,
@@ -81,26 +86,26 @@ impl PartDesk {
     ) -> Result<Entered, NoMemory>
         requires pass { IsOfRoom visit.now.room.now pass.old }
         requires desk { IsSourceOf visit.now.room.now self.old.sources.high }
-        ensures entered { IfOk result (λ entered. HasEntered visit.now.who.by visit.now.who.seq (sent_outcome self.old.part sent.now) self.old.history self.new.history entered) }
+        ensures entered { IfOk result (λ entered. HasEntered visit.now.visitor.who.by visit.now.visitor.who.seq visit.now.visitor.moment (sent_outcome self.old.part sent.now) self.old.history self.new.history entered) }
         ensures refused { OnErr result ((self.new ≡ self.old) × (pass.new ≡ pass.old)) }
         ensures still { AreStill (numbers_of (state_of self.old.history)) (numbers_of (state_of self.new.history)) self.old.sources self.new.sources }
         ensures untouched { numbers_of (state_of self.new.history) ≡ numbers_of (state_of self.old.history) → pass.new ≡ pass.old }
         ensures name { part_name self.new ≡ part_name self.old }
-        ensures added { AddedBy entry_by visit.now.who.by (log_entries self.old.history) (log_entries self.new.history) }
+        ensures added { AddedBy entry_by visit.now.visitor.who.by (log_entries self.old.history) (log_entries self.new.history) }
         ensures made { IsOfRoom visit.now.room.now pass.new }
         ensures went { GoesOn pass.old.seat pass.new.seat }
         ensures kept { KeepsOperation (caller_now pass.old.seat) (caller_now pass.new.seat) }
     {
         numbers_never_fall();
         let before = self.log.numbers();
-        let entered = enter_batch(&mut self.log, visit.who, self.part, sent)?;
+        let entered = enter_batch(&mut self.log, visit.visitor, self.part, sent)?;
         let after = self.log.numbers();
         self.sources.tell(visit, pass, &before, &after);
         Ok(entered)
     }
 
-    /// Enters what a fetch asks of the partition for the call that visits: a follower's fetch in range moves the follower, and the
-    /// gauges that rose are raised, as in `put`; every other fetch looks at the log. A negative replica is a consumer. If memory runs
+    /// Enters what a fetch asks of the partition for the call that visits: a follower's fetch in range moves the follower, at the visitor's
+    /// moment, and the gauges that rose are raised, as in `put`; every other fetch looks at the log. A negative replica is a consumer. If memory runs
     /// out, all is as it was.
     pub fn fetch(
         &mut self,
@@ -110,12 +115,12 @@ impl PartDesk {
     ) -> Result<Entered, NoMemory>
         requires pass { IsOfRoom visit.now.room.now pass.old }
         requires desk { IsSourceOf visit.now.room.now self.old.sources.high }
-        ensures entered { IfOk result (λ entered. HasEntered visit.now.who.by visit.now.who.seq (fetch_outcome self.old.history.followers wanted.now.replica wanted.now.asked.now self.old.part) self.old.history self.new.history entered) }
+        ensures entered { IfOk result (λ entered. HasEntered visit.now.visitor.who.by visit.now.visitor.who.seq visit.now.visitor.moment (fetch_outcome self.old.history.followers wanted.now.replica wanted.now.asked.now self.old.part) self.old.history self.new.history entered) }
         ensures refused { OnErr result ((self.new ≡ self.old) × (pass.new ≡ pass.old)) }
         ensures still { AreStill (numbers_of (state_of self.old.history)) (numbers_of (state_of self.new.history)) self.old.sources self.new.sources }
         ensures untouched { numbers_of (state_of self.new.history) ≡ numbers_of (state_of self.old.history) → pass.new ≡ pass.old }
         ensures name { part_name self.new ≡ part_name self.old }
-        ensures added { AddedBy entry_by visit.now.who.by (log_entries self.old.history) (log_entries self.new.history) }
+        ensures added { AddedBy entry_by visit.now.visitor.who.by (log_entries self.old.history) (log_entries self.new.history) }
         ensures made { IsOfRoom visit.now.room.now pass.new }
         ensures went { GoesOn pass.old.seat pass.new.seat }
         ensures kept { KeepsOperation (caller_now pass.old.seat) (caller_now pass.new.seat) }
@@ -124,7 +129,7 @@ impl PartDesk {
         let before = self.log.numbers();
         let entered = enter_fetch(
             &mut self.log,
-            visit.who,
+            visit.visitor,
             wanted.replica,
             self.part,
             wanted.asked,
@@ -132,6 +137,36 @@ impl PartDesk {
         let after = self.log.numbers();
         self.sources.tell(visit, pass, &before, &after);
         Ok(entered)
+    }
+
+    /// Takes out of the in-sync set, for the pass that visits, every follower that lags at this moment, the least first, and raises the
+    /// gauges that rose, as in `put`. If memory runs out, some of the first of them may have left; the gauges are raised then too.
+    pub fn shrink(
+        &mut self,
+        visit: &Visit<'_, '_, impl Wait>,
+        pass: &mut RoomPass,
+        t: u64,
+    ) -> Result<(), NoMemory>
+        requires pass { IsOfRoom visit.now.room.now pass.old }
+        requires desk { IsSourceOf visit.now.room.now self.old.sources.high }
+        ensures shrunk { OnOk result (self.new.history ≡ all_shrunk self.old.history visit.now.visitor.who.by t) }
+        ensures none_lags { OnOk result (NoneLags self.new.history.followers self.new.history.events t) }
+        ensures some { HasShrunkSome visit.now.visitor.who.by t self.old.history self.new.history }
+        ensures still { AreStill (numbers_of (state_of self.old.history)) (numbers_of (state_of self.new.history)) self.old.sources self.new.sources }
+        ensures untouched { numbers_of (state_of self.new.history) ≡ numbers_of (state_of self.old.history) → pass.new ≡ pass.old }
+        ensures name { part_name self.new ≡ part_name self.old }
+        ensures added { AddedBy entry_by visit.now.visitor.who.by (log_entries self.old.history) (log_entries self.new.history) }
+        ensures whole { IsKept self.new.history.log self.new.history.events }
+        ensures made { IsOfRoom visit.now.room.now pass.new }
+        ensures went { GoesOn pass.old.seat pass.new.seat }
+        ensures kept { KeepsOperation (caller_now pass.old.seat) (caller_now pass.new.seat) }
+    {
+        numbers_never_fall();
+        let before = self.log.numbers();
+        let shrunk = self.log.shrink_all(visit.visitor.who.by, t);
+        let after = self.log.numbers();
+        self.sources.tell(visit, pass, &before, &after);
+        shrunk
     }
 
     /// Enters a look at the log for a call of a pass, and answers the place of the entry. No gauge changes. If memory runs out, all is
@@ -173,7 +208,9 @@ impl PartDesk {
         ensures log { result.0 ≡ self.history }
         ensures sources { result.1 ≡ self.sources }
         ensures keeps { PartKeeps self }
+        ensures late { LeftLate self.history.followers self.history.events }
     {
+        self.log.numbers();
         (self.log, self.sources)
     }
 }

@@ -1,10 +1,11 @@
 //! One turn of a partition's lock, for `turns`: by the lock and a pass's key of it, it says what the pass knew before and knows after.
-ghost use Rattle.std.specs.Prelude.{◌≡◌, ◌/◌, ◌≤◌, IfOk, OnErr, OnOk, slice_index};
+ghost use Rattle.std.specs.Prelude.{◌≡◌, ◌/◌, ◌≤◌, ℕ, IfOk, OnErr, OnOk, slice_index};
 ghost use Rattle.kanswer.specs.declared.accepted.Accepted.TheVariants.{Seen};
 ghost use Rattle.kanswer.specs.Decisions.{fetch_outcome};
 ghost use Rattle.kanswer.specs.Sent.{sent_outcome};
 ghost use Rattle.kanswer.specs.Waiting.{gauge_value};
 ghost use Rattle.partlog.specs.declared.part_log.TheConstants.{MOST_LOG_BYTES};
+ghost use Rattle.partlog.specs.Lagging.{NoneLags};
 ghost use Rattle.partlog.specs.State.{state_of};
 ghost use Rattle.room_table.specs.Seats.{caller_now};
 ghost use Rattle.turn_lock.specs.Locks.{IsPassOf, IsReady, known, lock_name};
@@ -17,7 +18,7 @@ ghost use Rattle.shared_logs.specs.Entries.{entry_by};
 ghost use Rattle.shared_logs.specs.Keeps.{PartKeeps};
 ghost use Rattle.shared_logs.specs.Asked.{HasRead};
 ghost use Rattle.shared_logs.specs.Locked.{seen_part};
-ghost use Rattle.shared_logs.specs.Turned.{AskedPart, HasFound, LookedAtPart, OpensPart, SawPart, part_entries};
+ghost use Rattle.shared_logs.specs.Turned.{AskedPart, HasFound, LookedAtPart, OpensPart, SawPart, ShrunkPart, part_entries};
 
 use crate::PartDesk;
 use crate::desk_calls::{fetch_at, look_at, put_at, read_at};
@@ -85,12 +86,12 @@ pub(crate) fn put_into(
     sent: &SentBatch<'_>,
 ) -> Result<Put, NoMemory>
     requires room { IsOfRoom visit.now.room.now pass.old }
-    requires key { OpensPart visit.now.room.now.table part visit.now.who.by lock.now key.old }
+    requires key { OpensPart visit.now.room.now.table part visit.now.visitor.who.by lock.now key.old }
     ensures room { IsOfRoom visit.now.room.now pass.new }
     ensures went { GoesOn pass.old.seat pass.new.seat }
     ensures kept { KeepsOperation (caller_now pass.old.seat) (caller_now pass.new.seat) }
-    ensures key { OpensPart visit.now.room.now.table part visit.now.who.by lock.now key.new }
-    ensures asked { IfOk result (λ put. AskedPart visit.now.who.seq (sent_outcome part sent.now) (known key.old) (known key.new) put.entered put.numbers) }
+    ensures key { OpensPart visit.now.room.now.table part visit.now.visitor.who.by lock.now key.new }
+    ensures asked { IfOk result (λ put. AskedPart visit.now.visitor.who.seq visit.now.visitor.moment (sent_outcome part sent.now) (known key.old) (known key.new) put.entered put.numbers) }
     ensures refused { OnErr result (SawPart (known key.old) (known key.new)) }
 {
     let mut turn = part_turn(visit.rt, lock, key);
@@ -109,12 +110,12 @@ pub(crate) fn fetch_from(
     budget: &mut Budget,
 ) -> Result<Fetched, NoMemory>
     requires room { IsOfRoom visit.now.room.now pass.old }
-    requires key { OpensPart visit.now.room.now.table wanted.now.part visit.now.who.by lock.now key.old }
+    requires key { OpensPart visit.now.room.now.table wanted.now.part visit.now.visitor.who.by lock.now key.old }
     ensures room { IsOfRoom visit.now.room.now pass.new }
     ensures went { GoesOn pass.old.seat pass.new.seat }
     ensures kept { KeepsOperation (caller_now pass.old.seat) (caller_now pass.new.seat) }
-    ensures key { OpensPart visit.now.room.now.table wanted.now.part visit.now.who.by lock.now key.new }
-    ensures asked { IfOk result (λ fetched. AskedPart visit.now.who.seq
+    ensures key { OpensPart visit.now.room.now.table wanted.now.part visit.now.visitor.who.by lock.now key.new }
+    ensures asked { IfOk result (λ fetched. AskedPart visit.now.visitor.who.seq visit.now.visitor.moment
         (fetch_outcome (slice_index (lock_name part_name lock.now) 0) wanted.now.replica wanted.now.asked.now wanted.now.part)
         (known key.old) (known key.new) fetched.entered fetched.numbers) }
     ensures read { IfOk result (λ fetched. IfOk fetched.records (λ records.
@@ -126,6 +127,29 @@ pub(crate) fn fetch_from(
     let fetched = fetch_at(visit, turn.value_mut(), pass, wanted, budget);
     lock.end(key, turn);
     fetched
+}
+
+/// Takes out of the partition's in-sync set every follower that lags at this moment. If memory runs out, some of them may have left.
+pub(crate) fn shrink_in(
+    visit: &Visit<'_, '_, impl Wait>,
+    lock: &TurnLock<PartDesk>,
+    key: &mut TurnPass<PartDesk>,
+    pass: &mut RoomPass,
+    t: u64,
+) -> Result<(), NoMemory>
+    requires room { IsOfRoom visit.now.room.now pass.old }
+    requires key { (part : ℕ) × OpensPart visit.now.room.now.table part visit.now.visitor.who.by lock.now key.old }
+    ensures room { IsOfRoom visit.now.room.now pass.new }
+    ensures went { GoesOn pass.old.seat pass.new.seat }
+    ensures kept { KeepsOperation (caller_now pass.old.seat) (caller_now pass.new.seat) }
+    ensures key { IsPassOf part_name lock.now key.new × IsReady key.new }
+    ensures shrunk { ShrunkPart t (known key.old) (known key.new) }
+    ensures none_lags { OnOk result (NoneLags (seen_part key.new).followers (seen_part key.new).events t) }
+{
+    let mut turn = part_turn(visit.rt, lock, key);
+    let shrunk = turn.value_mut().shrink(visit, pass, t);
+    lock.end(key, turn);
+    shrunk
 }
 
 /// Looks at the partition, once its gauge is at least at the value.
@@ -156,9 +180,9 @@ pub(crate) fn read_from(
     rest: &Rest<'_>,
     budget: &mut Budget,
 ) -> Result<Read, NoMemory>
-    requires key { IsPassOf part_name lock.now key.old × IsReady key.old × ((known key.old).number ≡ visit.now.who.by) }
+    requires key { IsPassOf part_name lock.now key.old × IsReady key.old × ((known key.old).number ≡ visit.now.visitor.who.by) }
     ensures key { IsPassOf part_name lock.now key.new × IsReady key.new }
-    ensures looked { IfOk result (λ read. LookedAtPart visit.now.who.seq rest.now.late.gauge rest.now.late.value (known key.old) (known key.new)
+    ensures looked { IfOk result (λ read. LookedAtPart visit.now.visitor.who.seq rest.now.late.gauge rest.now.late.value (known key.old) (known key.new)
         read.looked.place read.looked.numbers) }
     ensures read { IfOk result (λ read. IfOk read.records (λ records.
         HasRead rest.now.replica rest.now.asked.now (Seen (rest.now.late.gauge / 3) rest.now.start) (state_of (seen_part key.new)) read.looked.numbers
@@ -167,7 +191,13 @@ pub(crate) fn read_from(
     ensures refused { OnErr result (SawPart (known key.old) (known key.new)) }
 {
     let mut turn = late_turn(visit.rt, lock, key, rest.late);
-    let read = read_at(visit.alloc, turn.value_mut(), visit.who, rest, budget);
+    let read = read_at(
+        visit.alloc,
+        turn.value_mut(),
+        visit.visitor.who,
+        rest,
+        budget,
+    );
     lock.end(key, turn);
     read
 }

@@ -5,19 +5,21 @@ ghost use Rattle.kanswer.specs.declared.accepted.Accepted.TheVariants.{Seen};
 ghost use Rattle.kanswer.specs.Decisions.{fetch_outcome};
 ghost use Rattle.kanswer.specs.Sent.{sent_outcome};
 ghost use Rattle.partlog.specs.declared.part_log.TheConstants.{MOST_LOG_BYTES};
+ghost use Rattle.partlog.specs.Lagging.{NoneLags};
 ghost use Rattle.partlog.specs.State.{state_of};
 ghost use Rattle.broker_spec.specs.Board.{history_at};
 ghost use Rattle.shared_logs.specs.Asked.{HasAsked, HasLooked, HasRead};
 ghost use Rattle.shared_logs.specs.Coming.{HasCaughtUp};
 ghost use Rattle.shared_logs.specs.Seen.{HasSeen};
 ghost use Rattle.shared_logs.specs.Shared.{followers_in};
+ghost use Rattle.shared_logs.specs.Shrinking.{HasShrunkOne};
 
 use crate::logs::SharedLogs;
-use crate::part_turns::{fetch_from, look_into, put_into, read_from};
+use crate::part_turns::{fetch_from, look_into, put_into, read_from, shrink_in};
 use crate::pass::LogPass;
 use crate::visit::Visit;
 use crate::wanted::{AtLeast, Rest, Wanted};
-use kanswer::{Budget, Entered, SentBatch};
+use kanswer::{Budget, Entered, SentBatch, Visitor};
 use kbytes::{Bytes, NoMemory};
 use partlog::{Numbers, Who};
 use std::sync::Wait;
@@ -76,7 +78,10 @@ impl SharedLogs {
             rt,
             alloc: self.alloc,
             room: &self.room,
-            who,
+            visitor: Visitor {
+                who,
+                moment: pass.moment,
+            },
         };
         put_into(
             &visit,
@@ -117,7 +122,10 @@ impl SharedLogs {
             rt,
             alloc: self.alloc,
             room: &self.room,
-            who,
+            visitor: Visitor {
+                who,
+                moment: pass.moment,
+            },
         };
         fetch_from(
             &visit,
@@ -178,8 +186,46 @@ impl SharedLogs {
             rt,
             alloc: self.alloc,
             room: &self.room,
-            who,
+            visitor: Visitor {
+                who,
+                moment: pass.moment,
+            },
         };
         read_from(&visit, &self.parts[at], &mut pass.parts[at], rest, budget)
+    }
+    /// Takes out of a partition's in-sync set every follower that lags at this moment, in a turn of its lock. The pass may then owe scans. If
+    /// memory runs out, some of them may have left.
+    pub(crate) fn shrink(
+        &self,
+        rt: &impl Wait,
+        pass: &mut LogPass,
+        at: usize,
+        t: u64,
+    ) -> Result<(), NoMemory>
+        requires made { pass.old.made ≡ self.now }
+        requires there { at < length self.now.parts }
+        ensures made { pass.new.made ≡ self.now }
+        ensures seen { HasSeen pass.new }
+        ensures shrunk { HasShrunkOne at t pass.old pass.new }
+        ensures none_lags { OnOk result (NoneLags (history_at pass.new.parts at).followers (history_at pass.new.parts at).events t) }
+    {
+        // a replica that leaves is of no call
+        let who = Who {
+            by: pass.number,
+            seq: 0,
+        };
+        let visit = Visit {
+            rt,
+            alloc: self.alloc,
+            room: &self.room,
+            visitor: Visitor { who, moment: t },
+        };
+        shrink_in(
+            &visit,
+            &self.parts[at],
+            &mut pass.parts[at],
+            &mut pass.room,
+            t,
+        )
     }
 }

@@ -1,6 +1,6 @@
 use Rattle.pass_books.proofs.Passing.{others_between, ticked}
 use Rattle.pass_books.proofs.Opening.{opened}
-use Rattle.pass_books.proofs.Underways.{begun, ended}
+use Rattle.pass_books.proofs.Underways.{begun, ended, taken_out}
 use Rattle.pass_books.proofs.promises.books_go_on.Goals as goal
 
 pub returns-clause-opened : goal.returns-clause-opened
@@ -17,3 +17,6 @@ returns-clause-ended c = ended
 
 pub returns-clause-ticked : goal.returns-clause-ticked
 returns-clause-ticked c = ticked
+
+pub returns-clause-taken_out : goal.returns-clause-taken_out
+returns-clause-taken_out c = taken_out

@@ -64,7 +64,7 @@ loop-lock-preserved c =
       count = of.3 ∙ i.count;
       hands = of.1;
       passes = All-tail P lock next passes;
-      out = out_more lock desk e.name parts.keeps log parts.log three parts.sources (length c.args.hands) logs _ more (All-head P lock next passes) e.whose i.out;
+      out = out_more lock desk e.name parts.keeps log parts.log three parts.sources (length c.args.hands) logs _ more (All-head P lock next passes) e.whose parts.late i.out;
       followers = followers_more lock desk e.name parts.keeps log parts.log three parts.sources logs _ next _ more
           (subst (λ (ls : List (TurnLock PartView LogEntry)). map (λ (x : History). x.followers) logs ++ followers_named ls ≡ followers_named c.args.locks.items) steps i.followers);
       sources = λ table named.

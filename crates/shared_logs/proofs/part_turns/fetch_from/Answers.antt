@@ -17,7 +17,8 @@ pub returns-clause-asked : goal.returns-clause-asked
 returns-clause-asked g c =
     let k = c.requires.key in
     let d = c.fetch_at-fetched.ensures in
-    let who = c.args.visit.now.who in
+    let who = c.args.visit.now.visitor.who in
+    let moment = c.args.visit.now.visitor.moment in
     let before = known c.args.key.now in
     let key = known c.part_turn-turn.new.key in
     let name = lock_name part_name c.args.lock.now in
@@ -26,19 +27,19 @@ returns-clause-asked g c =
     let t = c.part_turn-turn.ensures in
     let began : BeganPart before key name c.part_turn-turn.result.ticket found =
     subst (BeganPart before key name c.part_turn-turn.result.ticket) (sym c.value_mut.ensures.value) (record { found_is = t.found; begun_is = t.begun; named = t.name; keeps = t.keeps }) in
-    let turn = part_turned before key (known c.end.new.pass) name c.args.visit.now.who.by c.part_turn-turn.result.ticket found left began c.end.ensures.seen k.number_is k.of_lock.1 d.added d.name d.whole in
+    let turn = part_turned before key (known c.end.new.pass) name c.args.visit.now.visitor.who.by c.part_turn-turn.result.ticket found left began c.end.ensures.seen k.number_is k.of_lock.1 d.added d.name d.whole in
     let asked = c.args.wanted.now.asked.now in
     let part = part_is found c.args.visit.now.room.now.table (slice_index name 0) c.args.wanted.now.part (began.named ∙ k.name) in
     let followers = followers_are found name began.named in
-    let entered : IfOk c.fetch_at-fetched.result (λ (f : Fetched). HasEntered who.by who.seq (fetch_outcome found.history.followers c.args.wanted.now.replica asked found.part) found.history left.history f.entered) = search rules in
+    let entered : IfOk c.fetch_at-fetched.result (λ (f : Fetched). HasEntered who.by who.seq moment (fetch_outcome found.history.followers c.args.wanted.now.replica asked found.part) found.history left.history f.entered) = search rules in
     if_ok_both c.fetch_at-fetched.result entered d.numbers
-    (λ (f : Fetched) (e : HasEntered who.by who.seq (fetch_outcome found.history.followers c.args.wanted.now.replica asked found.part) found.history left.history f.entered) (n : f.numbers ≡ numbers_of (state_of left.history)). record {
+    (λ (f : Fetched) (e : HasEntered who.by who.seq moment (fetch_outcome found.history.followers c.args.wanted.now.replica asked found.part) found.history left.history f.entered) (n : f.numbers ≡ numbers_of (state_of left.history)). record {
       found = found;
       left = left;
       turn = turn;
-      entry = subst (λ (by : ℕ). HasEntered by who.seq (fetch_outcome (slice_index name 0) c.args.wanted.now.replica asked c.args.wanted.now.part) found.history left.history f.entered) (sym k.number_is)
-          (subst (λ (p : ℕ). HasEntered who.by who.seq (fetch_outcome (slice_index name 0) c.args.wanted.now.replica asked p) found.history left.history f.entered) part
-          (subst (λ (m : ℕ). HasEntered who.by who.seq (fetch_outcome m c.args.wanted.now.replica asked found.part) found.history left.history f.entered) followers e));
+      entry = subst (λ (by : ℕ). HasEntered by who.seq moment (fetch_outcome (slice_index name 0) c.args.wanted.now.replica asked c.args.wanted.now.part) found.history left.history f.entered) (sym k.number_is)
+          (subst (λ (p : ℕ). HasEntered who.by who.seq moment (fetch_outcome (slice_index name 0) c.args.wanted.now.replica asked p) found.history left.history f.entered) part
+          (subst (λ (m : ℕ). HasEntered who.by who.seq moment (fetch_outcome m c.args.wanted.now.replica asked found.part) found.history left.history f.entered) followers e));
       numbers_are = n;
     })
 
@@ -46,7 +47,7 @@ pub returns-clause-read : goal.returns-clause-read
 returns-clause-read g c =
     let k = c.requires.key in
     let d = c.fetch_at-fetched.ensures in
-    let who = c.args.visit.now.who in
+    let who = c.args.visit.now.visitor.who in
     let before = known c.args.key.now in
     let key = known c.part_turn-turn.new.key in
     let name = lock_name part_name c.args.lock.now in
@@ -55,7 +56,7 @@ returns-clause-read g c =
     let t = c.part_turn-turn.ensures in
     let began : BeganPart before key name c.part_turn-turn.result.ticket found =
     subst (BeganPart before key name c.part_turn-turn.result.ticket) (sym c.value_mut.ensures.value) (record { found_is = t.found; begun_is = t.begun; named = t.name; keeps = t.keeps }) in
-    let turn = part_turned before key (known c.end.new.pass) name c.args.visit.now.who.by c.part_turn-turn.result.ticket found left began c.end.ensures.seen k.number_is k.of_lock.1 d.added d.name d.whole in
+    let turn = part_turned before key (known c.end.new.pass) name c.args.visit.now.visitor.who.by c.part_turn-turn.result.ticket found left began c.end.ensures.seen k.number_is k.of_lock.1 d.added d.name d.whole in
     let read : IfOk c.fetch_at-fetched.result (λ fetched. IfOk fetched.records (λ records.
     HasRead c.args.wanted.now.replica c.args.wanted.now.asked.now fetched.entered.became (state_of left.history) fetched.numbers records c.args.budget.now c.fetch_at-fetched.new.budget)) = search rules in
     subst

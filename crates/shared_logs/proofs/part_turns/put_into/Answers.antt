@@ -15,7 +15,8 @@ pub returns-clause-asked : goal.returns-clause-asked
 returns-clause-asked g c =
     let k = c.requires.key in
     let d = c.put_at-put.ensures in
-    let who = c.args.visit.now.who in
+    let who = c.args.visit.now.visitor.who in
+    let moment = c.args.visit.now.visitor.moment in
     let before = known c.args.key.now in
     let key = known c.part_turn-turn.new.key in
     let name = lock_name part_name c.args.lock.now in
@@ -24,15 +25,15 @@ returns-clause-asked g c =
     let t = c.part_turn-turn.ensures in
     let began : BeganPart before key name c.part_turn-turn.result.ticket found =
     subst (BeganPart before key name c.part_turn-turn.result.ticket) (sym c.value_mut.ensures.value) (record { found_is = t.found; begun_is = t.begun; named = t.name; keeps = t.keeps }) in
-    let turn = part_turned before key (known c.end.new.pass) name c.args.visit.now.who.by c.part_turn-turn.result.ticket found left began c.end.ensures.seen k.number_is k.of_lock.1 d.added d.name d.whole in
+    let turn = part_turned before key (known c.end.new.pass) name c.args.visit.now.visitor.who.by c.part_turn-turn.result.ticket found left began c.end.ensures.seen k.number_is k.of_lock.1 d.added d.name d.whole in
     let sent = c.args.sent.now in
     let part = part_is found c.args.visit.now.room.now.table (slice_index name 0) c.args.part (began.named ∙ k.name) in
     if_ok_both c.put_at-put.result d.entered d.numbers
-    (λ (put : Put) (e : HasEntered who.by who.seq (sent_outcome found.part sent) found.history left.history put.entered) (n : put.numbers ≡ numbers_of (state_of left.history)). record {
+    (λ (put : Put) (e : HasEntered who.by who.seq moment (sent_outcome found.part sent) found.history left.history put.entered) (n : put.numbers ≡ numbers_of (state_of left.history)). record {
       found = found;
       left = left;
       turn = turn;
-      entry = subst (λ (by : ℕ). HasEntered by who.seq (sent_outcome c.args.part sent) found.history left.history put.entered) (sym k.number_is)
-          (subst (λ (p : ℕ). HasEntered who.by who.seq (sent_outcome p sent) found.history left.history put.entered) part e);
+      entry = subst (λ (by : ℕ). HasEntered by who.seq moment (sent_outcome c.args.part sent) found.history left.history put.entered) (sym k.number_is)
+          (subst (λ (p : ℕ). HasEntered who.by who.seq moment (sent_outcome p sent) found.history left.history put.entered) part e);
       numbers_are = n;
     })

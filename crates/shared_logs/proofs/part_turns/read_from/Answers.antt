@@ -18,7 +18,7 @@ pub returns-clause-looked : goal.returns-clause-looked
 returns-clause-looked g c =
     let k = c.requires.key in
     let d = c.read_at-read.ensures in
-    let who = c.args.visit.now.who in
+    let who = c.args.visit.now.visitor.who in
     let before = known c.args.key.now in
     let key = known c.late_turn-turn.new.key in
     let name = lock_name part_name c.args.lock.now in
@@ -27,7 +27,7 @@ returns-clause-looked g c =
     let t = c.late_turn-turn.ensures in
     let began : BeganPart before key name c.late_turn-turn.result.ticket found =
     subst (BeganPart before key name c.late_turn-turn.result.ticket) (sym c.value_mut.ensures.value) (record { found_is = t.found; begun_is = t.begun; named = t.name; keeps = t.keeps }) in
-    let turn = part_turned before key (known c.end.new.pass) name c.args.visit.now.who.by c.late_turn-turn.result.ticket found left began c.end.ensures.seen k.2 k.0.1 d.added d.name d.whole in
+    let turn = part_turned before key (known c.end.new.pass) name c.args.visit.now.visitor.who.by c.late_turn-turn.result.ticket found left began c.end.ensures.seen k.2 k.0.1 d.added d.name d.whole in
     let late = subst (λ (desk : PartView). c.args.rest.now.late.value ≤ gauge_value c.args.rest.now.late.gauge (state_of desk.history)) (sym c.value_mut.ensures.value) t.late in
     if_ok_three c.read_at-read.result d.looked d.place d.numbers
     (λ (e : left.history ≡ looked found.history who.by who.seq) (x : Read) (p : x.looked.place ≡ length found.history.events) (n : x.looked.numbers ≡ numbers_of (state_of found.history)). record {
@@ -44,7 +44,7 @@ pub returns-clause-read : goal.returns-clause-read
 returns-clause-read g c =
     let k = c.requires.key in
     let d = c.read_at-read.ensures in
-    let who = c.args.visit.now.who in
+    let who = c.args.visit.now.visitor.who in
     let before = known c.args.key.now in
     let key = known c.late_turn-turn.new.key in
     let name = lock_name part_name c.args.lock.now in
@@ -53,7 +53,7 @@ returns-clause-read g c =
     let t = c.late_turn-turn.ensures in
     let began : BeganPart before key name c.late_turn-turn.result.ticket found =
     subst (BeganPart before key name c.late_turn-turn.result.ticket) (sym c.value_mut.ensures.value) (record { found_is = t.found; begun_is = t.begun; named = t.name; keeps = t.keeps }) in
-    let turn = part_turned before key (known c.end.new.pass) name c.args.visit.now.who.by c.late_turn-turn.result.ticket found left began c.end.ensures.seen k.2 k.0.1 d.added d.name d.whole in
+    let turn = part_turned before key (known c.end.new.pass) name c.args.visit.now.visitor.who.by c.late_turn-turn.result.ticket found left began c.end.ensures.seen k.2 k.0.1 d.added d.name d.whole in
     let told : IfOk c.read_at-read.result (λ read. IfOk read.records (λ records.
     HasRead c.args.rest.now.replica c.args.rest.now.asked.now (Seen (c.args.rest.now.late.gauge / 3) c.args.rest.now.start) (state_of left.history) read.looked.numbers records c.args.budget.now c.read_at-read.new.budget)) = search rules in
     subst

@@ -43,7 +43,7 @@ invariant_of-pass g c =
     let new = c.fetch_from.new.key in
     let step = part_step p.number p.room p.parts.items p.clock p.moment p.ticked c.pass.invariant s.room s.parts.items s.clock made part lock old less c.index.ensures c.index_mut.ensures.value room new e.room e.went e.kept e.key.of_lock e.key.ready in
     let a = c.args in
-    let asked : IfOk r (λ (f : Fetched). AskedPart a.who.seq (fetch_outcome (slice_index (lock_name part_name lock) 0) a.wanted.now.replica a.wanted.now.asked.now part) (known old) (known new) f.entered f.numbers) = search rules in
+    let asked : IfOk r (λ (f : Fetched). AskedPart a.who.seq p.moment (fetch_outcome (slice_index (lock_name part_name lock) 0) a.wanted.now.replica a.wanted.now.asked.now part) (known old) (known new) f.entered f.numbers) = search rules in
     by_result r asked e.refused (λ x a. part_pass p.number p.room room p.parts.items p.clock p.moment p.ticked part old new step a.found a.left a.turn) (λ saw. part_pass p.number p.room room p.parts.items p.clock p.moment p.ticked part old new step saw.0 saw.0 saw.1)
 
 pub returns-clause-seen : goal.returns-clause-seen
@@ -61,7 +61,7 @@ returns-clause-seen g c =
     let new = c.fetch_from.new.key in
     let step = part_step p.number p.room p.parts.items p.clock p.moment p.ticked c.pass.invariant s.room s.parts.items s.clock made part lock old less c.index.ensures c.index_mut.ensures.value room new e.room e.went e.kept e.key.of_lock e.key.ready in
     let a = c.args in
-    let asked : IfOk r (λ (f : Fetched). AskedPart a.who.seq (fetch_outcome (slice_index (lock_name part_name lock) 0) a.wanted.now.replica a.wanted.now.asked.now part) (known old) (known new) f.entered f.numbers) = search rules in
+    let asked : IfOk r (λ (f : Fetched). AskedPart a.who.seq p.moment (fetch_outcome (slice_index (lock_name part_name lock) 0) a.wanted.now.replica a.wanted.now.asked.now part) (known old) (known new) f.entered f.numbers) = search rules in
     (by_result r asked e.refused (λ x a. part_pass p.number p.room room p.parts.items p.clock p.moment p.ticked part old new step a.found a.left a.turn) (λ saw. part_pass p.number p.room room p.parts.items p.clock p.moment p.ticked part old new step saw.0 saw.0 saw.1)).seen
 
 pub returns-clause-made : goal.returns-clause-made
@@ -79,7 +79,7 @@ returns-clause-made g c =
     let new = c.fetch_from.new.key in
     let step = part_step p.number p.room p.parts.items p.clock p.moment p.ticked c.pass.invariant s.room s.parts.items s.clock made part lock old less c.index.ensures c.index_mut.ensures.value room new e.room e.went e.kept e.key.of_lock e.key.ready in
     let a = c.args in
-    let asked : IfOk r (λ (f : Fetched). AskedPart a.who.seq (fetch_outcome (slice_index (lock_name part_name lock) 0) a.wanted.now.replica a.wanted.now.asked.now part) (known old) (known new) f.entered f.numbers) = search rules in
+    let asked : IfOk r (λ (f : Fetched). AskedPart a.who.seq p.moment (fetch_outcome (slice_index (lock_name part_name lock) 0) a.wanted.now.replica a.wanted.now.asked.now part) (known old) (known new) f.entered f.numbers) = search rules in
     by_result r asked e.refused (λ x a. (part_same p.number p.room room p.parts.items p.clock p.moment p.ticked part old new step a.found a.left a.turn).made) (λ saw. (part_same p.number p.room room p.parts.items p.clock p.moment p.ticked part old new step saw.0 saw.0 saw.1).made)
     ∙ ap (λ (v : LogPassView). v.made) c.pass.view_is ∙ c.requires.made
 
@@ -98,7 +98,7 @@ returns-clause-asked g c =
     let new = c.fetch_from.new.key in
     let step = part_step p.number p.room p.parts.items p.clock p.moment p.ticked c.pass.invariant s.room s.parts.items s.clock made part lock old less c.index.ensures c.index_mut.ensures.value room new e.room e.went e.kept e.key.of_lock e.key.ready in
     let a = c.args in
-    let asked : IfOk r (λ (f : Fetched). AskedPart a.who.seq (fetch_outcome (slice_index (lock_name part_name lock) 0) a.wanted.now.replica a.wanted.now.asked.now part) (known old) (known new) f.entered f.numbers) = search rules in
+    let asked : IfOk r (λ (f : Fetched). AskedPart a.who.seq p.moment (fetch_outcome (slice_index (lock_name part_name lock) 0) a.wanted.now.replica a.wanted.now.asked.now part) (known old) (known new) f.entered f.numbers) = search rules in
     let after = pass_view p.number room (set p.parts.items part new) p.clock in
     let outcome = λ (n : ℕ). fetch_outcome n c.args.wanted.now.replica c.args.wanted.now.asked.now part in
     let all = slice_index (followers_in c.args.self.now) part in
@@ -107,7 +107,7 @@ returns-clause-asked g c =
     if_ok r asked
     (λ x a. subst (λ (v : LogPassView). HasAsked part c.args.who.seq (outcome all) v after x.entered x.numbers) c.pass.view_is
     (part_asked p.number p.room room p.parts.items p.clock p.moment p.ticked part old new step a.found a.left a.turn c.args.who.seq (outcome all) x.entered x.numbers
-    (subst (λ (n : ℕ). HasEntered (known old).number c.args.who.seq (outcome n) a.found.history a.left.history x.entered) followers a.entry) a.numbers_are))
+    (subst (λ (n : ℕ). HasEntered (known old).number c.args.who.seq p.moment (outcome n) a.found.history a.left.history x.entered) followers a.entry) a.numbers_are))
 
 pub returns-clause-read : goal.returns-clause-read
 returns-clause-read g c =
