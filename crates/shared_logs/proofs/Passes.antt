@@ -277,6 +277,13 @@ within its locks last shared part is there =
     let here : part < length (map part_lock locks) = subst (λ (s : SharedView). part < length s.parts) (sym is) there in
     omega (arith, here, length-map locks part_lock)
 
+-- a pass has seen as many histories as there are locks
+pub seen_count : (its : RoomView) (locks : List (TurnLock PartView LogEntry)) (last : TurnLock MomentView ClockEntry) (shared : SharedView) (pass : LogPassView) → shared_view its locks last ≡ shared → HasSeen pass → pass.made ≡ shared
+    → length pass.parts ≡ length locks
+seen_count its locks last shared pass is seen made =
+    sym (length-map pass.parts (λ (h : History). h.followers)) ∙ ap length seen.followers ∙ ap (λ (v : SharedView). length (followers_in v)) (made ∙ sym is)
+    ∙ length-map (map part_lock locks) (λ (lock : LockView). slice_index lock.name 0) ∙ length-map locks part_lock
+
 module _ (number : ℕ) (room : PassView) (parts : List (TurnPass PartView LogEntry)) (clock : TurnPass MomentView ClockEntry) (moment ticked : ℕ) (is : IsLogPass number room parts clock moment ticked)
     (its : RoomView) (locks : List (TurnLock PartView LogEntry)) (last : TurnLock MomentView ClockEntry) (made : (pass_view number room parts clock).made ≡ shared_view its locks last) where
   pub of_room : IsOfRoom its room

@@ -1,8 +1,8 @@
 -- Followers that a pass took out: in one turn of a partition, and over several; and the clock, where it was told a moment.
-use Rattle.std.proofs.Common.{◌≡◌, ◌≢◌, ◌⊎◌, ℕ, ◌+◌, ◌-◌, ◌≤◌, ◌<◌, ℤ, List, [], ◌++◌, length, set, take, Option, Some, unwrap_or, refl, sym, ap, subst, ◌∙◌, arith, inl, inr, append_assoc}
+use Rattle.std.proofs.Common.{◌≡◌, ◌≢◌, ◌⊎◌, ℕ, ◌+◌, ◌-◌, ◌≤◌, ◌<◌, ℤ, Bool, true, false, List, [], ◌++◌, length, set, take, Option, Some, unwrap_or, refl, sym, ap, subst, ◌∙◌, arith, inl, inr, append_assoc}
 use Rattle.std.proofs.lemmas.Bool.{cases_lt}
 use Rattle.std.proofs.lemmas.Option.{slice_get_within}
-use Rattle.std.specs.Prelude.{slice_get}
+use Rattle.std.specs.Prelude.{◌↔◌, IsTrue, slice_get}
 use Rattle.std.specs.List.{AllByRecursion}
 use Rattle.partlog.specs.declared.event.PartEvent.{PartEvent}
 use Rattle.partlog.specs.declared.event.PartEvent.TheVariants.{Shrink}
@@ -143,3 +143,10 @@ tick_rose t old between new told rose shrunk none = record {
   none_lags = λ less. none;
   still = λ past. absurd (omega (arith, rose, past));
 }
+
+-- the moment that was found is no less, where none was added
+pub not_risen : (rose : Bool) (found t : ℕ) → IsTrue rose ↔ (found < t) → rose ≡ false → t ≤ found
+not_risen rose found t iff is = elim (cases_lt found t) [
+  | inl less ↦ let up : rose ≡ true = iff.1 less in absurd (cc (is, up))
+  | inr past ↦ past
+]

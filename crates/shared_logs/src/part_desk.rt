@@ -1,6 +1,6 @@
 //! What is behind a partition's lock: `desk_calls` enters batches, fetches and looks here, in a turn, `part_turns` takes out who lags, and the
 //! gauges rise with the log.
-ghost use Rattle.std.specs.Prelude.{◌≡◌, [], IfOk, OnOk, OnErr, length};
+ghost use Rattle.std.specs.Prelude.{◌≡◌, ◌+◌, [], IfOk, OnOk, OnErr, length};
 ghost use Rattle.kanswer.specs.Decisions.{fetch_outcome};
 ghost use Rattle.kanswer.specs.Sent.{sent_outcome};
 ghost use Rattle.partlog.specs.Gauges.{numbers_of};
@@ -61,7 +61,7 @@ impl PartDesk {
         sources: PartSources,
     ) -> Result<PartDesk, NoMemory>
         requires whose { AreOfPart part sources }
-        requires fresh { AreAt (record { end = 0; high = 0; visible = 0; bytes = 0 }) sources }
+        requires fresh { AreAt (record { end = 0; high = 0; visible = 0; bytes = 0; insync = followers + 1 }) sources }
         ensures { IfOk result (λ desk. desk ≡ record {
           history = record { log = []; followers = followers; events = [] };
           part = part;

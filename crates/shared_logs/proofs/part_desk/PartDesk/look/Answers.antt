@@ -40,5 +40,5 @@ returns-clause-added c =
     let A : History → Type 0 = λ h. AddedBy entry_by who.by (log_entries log) (log_entries h) in
     subst (λ (d : PartView). AddedBy entry_by who.by (log_entries d.history) (log_entries c.look.new.self)) c.self.view_is
     (either c.look.result c.look.ensures.looked c.look.ensures.refused
-    (λ (e : c.look.new.self ≡ looked log who.by who.seq). subst A (sym e) (entered_added log who.by who.seq Looked c.look.ensures.was_kept.whole))
+    (λ (e : c.look.new.self ≡ looked log who.by who.seq). subst A (sym e) (entered_added log who.by who.seq 0 Looked c.look.ensures.was_kept.whole))
     (λ (e : c.look.new.self ≡ log). subst A (sym e) (added_none entry_by who.by (log_entries log))))
