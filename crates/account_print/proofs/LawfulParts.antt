@@ -1,4 +1,5 @@
--- Each entry of a lawful account can be put into a log again: it is that of a lawful call, which asked the log soundly.
+-- Each entry of a lawful account can be put into a log again: it is that of a lawful call, which asked the log soundly, or takes out a
+-- replica that lagged.
 use Rattle.std.proofs.Common.{◌≡◌, ◌≢◌, ℕ, zero, suc, ◌+◌, ◌≤◌, List, [], ◌∷◌, ◌++◌, length, take, drop, Option, Some, refl, sym, ap, subst, ◌∙◌, arith, option_map}
 use Rattle.std.specs.Prelude.{slice_get, slice_index}
 use Rattle.std.specs.List.{AllByRecursion}
@@ -7,7 +8,7 @@ use Rattle.std.proofs.lemmas.List.Sums.{sum_by_push, sum_by-take-le}
 use Rattle.std.proofs.lemmas.Option.{slice_get-map, slice_get_within, get_or_from_slice_get}
 use Rattle.kbatch.specs.Stamp.{stamped}
 use Rattle.partlog.specs.declared.event.PartEvent.{PartEvent}
-use Rattle.partlog.specs.declared.event.PartEvent.TheVariants.{Append, Follow, Look}
+use Rattle.partlog.specs.declared.event.PartEvent.TheVariants.{Append, Follow, Look, Shrink}
 use Rattle.partlog.specs.Added.{added_bytes, bytes_of, log_end_of}
 use Rattle.partlog.specs.Batches.{StoredBatch, batches_after, batches_of}
 use Rattle.partlog.specs.Gauges.{bytes_in}
@@ -20,7 +21,7 @@ use Rattle.kanswer.proofs.Laws.{batch_sized}
 use Rattle.audit.specs.declared.account.Account.{Account}
 use Rattle.audit.specs.declared.account.PartAccount.{PartAccount}
 use Rattle.audit.specs.declared.account.Point.{Point}
-use Rattle.audit.specs.Histories.{Owner, at_in, at_point, before_in, before_point, event_at, event_in, history_of, owner_of}
+use Rattle.audit.specs.Histories.{HadLagged, Owner, at_in, at_point, before_in, before_point, event_at, event_in, history_of, owner_of}
 use Rattle.audit.specs.IsLawful.{HasLogs, IsLawful, IsWholeLog}
 use Rattle.audit.specs.LawfulCall.{IsEntry}
 use Rattle.kbytes.proofs.Laws.{some_is}
@@ -28,11 +29,6 @@ use Rattle.audit.proofs.Laws.{entry_owned, entry_shows}
 use Rattle.broker_spec.proofs.Laws.{followers_size}
 use Rattle.account_print.specs.Playable.{CanPlay, IsPlayable, put_at}
 use Rattle.account_print.proofs.Sound.{IsSound, IsSoundEntry, decided_soundly}
-
-owned_by : (event : PartEvent) → (owner : Owner) × (owner_of event ≡ Some owner)
-owned_by (Append by seq count len) = (record { by = by; seq = seq }, refl)
-owned_by (Follow by seq replica offset) = (record { by = by; seq = seq }, refl)
-owned_by (Look by seq) = (record { by = by; seq = seq }, refl)
 
 -- ---- the batches of a history, one entry more
 
@@ -135,8 +131,9 @@ module _ (account : Account) (number : ℕ) (part : PartAccount) (there : slice_
           stands = was.1;
           room = omega (arith, long, same, sized, sound.3, bytes_at h whole k);
         }
-    by_put (Follow by seq replica offset) is count batch sound grew = absurd (no_put h whole k (Follow by seq replica offset) _ is (λ log. refl) grew)
+    by_put (Follow by seq replica offset t) is count batch sound grew = absurd (no_put h whole k (Follow by seq replica offset t) _ is (λ log. refl) grew)
     by_put (Look by seq) is count batch sound grew = absurd (no_put h whole k (Look by seq) _ is (λ log. refl) grew)
+    by_put (Shrink by replica t) is count batch sound grew = absurd (no_put h whole k (Shrink by replica t) _ is (λ log. refl) grew)
 
     by_look : (b s : ℕ) → event_at account here ≡ Some (Look b s) → CanPlay h k event
     by_look b s e = subst (CanPlay h k) (some_is (Look b s) event (sym e ∙ event_here)) tt
@@ -147,7 +144,7 @@ module _ (account : Account) (number : ℕ) (part : PartAccount) (there : slice_
         by_put event at count batch sound
         (sym (ap (λ (s : PartState). s.batches) after) ∙ is ∙ ap (λ (s : PartState). s.batches ++ record { base = s.log_end; count = count; bytes = stamped s.log_end batch } ∷ []) before)
     by_entry (Followed replica offset) is sound =
-        subst (CanPlay h k) (some_is (Follow is.0 is.1 replica offset) event (sym is.2 ∙ event_here)) sound
+        subst (CanPlay h k) (some_is (Follow is.0 is.1 replica offset is.2) event (sym is.3 ∙ event_here)) sound
     by_entry Looked is sound = by_look is.0 is.1 is.2
 
     by_asked : (outcome : PartState → Outcome) → IsEntry account here (outcome (before_point account here)).entry → IsSound account.config (AskLog number outcome) → CanPlay h k event
@@ -155,14 +152,21 @@ module _ (account : Account) (number : ℕ) (part : PartAccount) (there : slice_
         by_entry (outcome (state_before h k)).entry (subst (λ (s : PartState). IsEntry account here (outcome s).entry) before is)
         (subst (λ (n : ℕ). IsSoundEntry n (outcome (state_before h k)).entry (state_before h k)) follows (sound (state_before h k)).entry)
 
-    plays : IsLawful account → CanPlay h k event
-    plays lawful =
-        let by = owned_by event in
-        entry_shows account number k apart (CanPlay h k event) (IsSound account.config) (decided_soundly account.config) by_asked by_look lawful by.0
-        (entry_owned account number k apart part there event at by.0 by.1)
+    of_call : IsLawful account → (owner : Owner) → owner_of event ≡ Some owner → CanPlay h k event
+    of_call lawful owner by =
+        entry_shows account number k apart (CanPlay h k event) (IsSound account.config) (decided_soundly account.config) by_asked by_look lawful owner
+        (entry_owned account number k apart part there event at owner by)
+
+  plays : IsLawful account → (k : ℕ) (event : PartEvent) → slice_get part.events k ≡ Some event → CanPlay h k event
+  plays lawful k (Append by seq count len) at = of_call k (Append by seq count len) at lawful (record { by = by; seq = seq }) refl
+  plays lawful k (Follow by seq replica offset t) at = of_call k (Follow by seq replica offset t) at lawful (record { by = by; seq = seq }) refl
+  plays lawful k (Look by seq) at = of_call k (Look by seq) at lawful (record { by = by; seq = seq }) refl
+  plays lawful k (Shrink by replica t) at =
+      let late = (lawful.entries.shrinks number k by t replica (event_here k (Shrink by replica t) at)).0 in
+      subst (λ (o : Option PartAccount). HadLagged o k t replica) there late
 
   playable : IsLawful account → IsPlayable h
-  playable lawful = record { each = λ k event at. plays k event at lawful; whole = whole }
+  playable lawful = record { each = plays lawful; whole = whole }
 
 -- ---- every partition
 

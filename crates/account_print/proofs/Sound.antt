@@ -17,7 +17,7 @@ use Rattle.kwire.specs.declared.request.FetchPart.{FetchPart}
 use Rattle.kwire.specs.declared.request.ProducePart.{ProducePart}
 use Rattle.kanswer.specs.declared.accepted.Accepted.{Accepted}
 use Rattle.kanswer.specs.declared.accepted.Accepted.TheVariants.{Refused, Appended, Seen}
-use Rattle.kanswer.specs.Decisions.{Entry, Put, Followed, Looked, Outcome, Decision, Refuse, AskLog, BatchDecides, Decides, ProduceDecides, append_outcome, full_code, fetch_decision, fetch_outcome, fetch_parts, in_range_outcome, is_acks, look, offset_of, produce_parts}
+use Rattle.kanswer.specs.Decisions.{Entry, Put, Followed, Looked, Outcome, Decision, Refuse, AskLog, BatchDecides, Decides, ProduceDecides, append_outcome, full_code, fetch_decision, fetch_outcome, fetch_parts, in_range_outcome, is_acks, least_insync, look, offset_of, produce_parts}
 
 abbrev pub IsSoundEntry : ℕ → Entry → State → Type 0
 IsSoundEntry followers (Put count batch) state =
@@ -47,29 +47,42 @@ looks_sound followers part code state = record { entry = tt; own = tt }
 abbrev if_full : ℤ → Bool → ℕ → List ℕ → ℕ → State → Outcome
 if_full version full part bytes count state = cond full (look (Refused (full_code version))) (record { result = Appended part state.log_end count; entry = Put count bytes })
 
-append_sound : (version : ℤ) (followers part : ℕ) (bytes : List ℕ) (records : List Record) → IsBatch bytes records → (state : State) → IsSoundOutcome followers part (append_outcome version part (length records) bytes state) state
-append_sound version followers part bytes records is state =
+-- too few replicas are in sync, or enough
+few_or_sound : (followers part : ℕ) (outcome : Outcome) (state : State) (few : Bool) → IsSoundOutcome followers part outcome state → IsSoundOutcome followers part (cond few (look (Refused (pos 19))) outcome) state
+few_or_sound followers part outcome state true sound = looks_sound followers part (pos 19) state
+few_or_sound followers part outcome state false sound = sound
+
+room_sound : (version : ℤ) (followers part : ℕ) (bytes : List ℕ) (records : List Record) → IsBatch bytes records → (state : State)
+    → IsSoundOutcome followers part (if_full version (nat_lt 67108864 ((gauges_of state).bytes + length bytes)) part bytes (length records) state) state
+room_sound version followers part bytes records is state =
     let Sound : Bool → Type 0 = λ full. IsSoundOutcome followers part (if_full version full part bytes (length records) state) state in
     elim (cases_lt 67108864 ((gauges_of state).bytes + length bytes)) [
       | inl full ↦ subst Sound (sym (lt-ltb 67108864 ((gauges_of state).bytes + length bytes) full)) (looks_sound followers part (full_code version) state)
       | inr room ↦ subst Sound (sym (le-ltb 67108864 ((gauges_of state).bytes + length bytes) room)) (record { entry = (records, is, refl, room); own = refl })
     ]
 
-batch_sound : (version : ℤ) (config : Configuration) (part : ℕ) (bytes : List ℕ) (d : Decision) → BatchDecides version part bytes d → IsSound config d
-batch_sound version config part bytes d (inl f) = subst (IsSound config) (sym f.2) tt
-batch_sound version config part bytes d (inr b) = subst (IsSound config) (sym b.2) (append_sound version (slice_index (followers_of config.topics) part) part bytes b.0 b.1)
+append_sound : (version : ℤ) (least followers part : ℕ) (bytes : List ℕ) (records : List Record) → IsBatch bytes records → (state : State)
+    → IsSoundOutcome followers part (append_outcome version least part (length records) bytes state) state
+append_sound version least followers part bytes records is state =
+    few_or_sound followers part (if_full version (nat_lt 67108864 ((gauges_of state).bytes + length bytes)) part bytes (length records) state) state (nat_lt state.insync least)
+    (room_sound version followers part bytes records is state)
 
-acks_sound : (version : ℤ) (config : Configuration) (known : Bool) (part : ℕ) (bytes : List ℕ) (d : Decision) → MatchBool known (BatchDecides version part bytes d) (d ≡ Refuse (pos 21)) → IsSound config d
-acks_sound version config true part bytes d h = batch_sound version config part bytes d h
-acks_sound version config false part bytes d h = subst (IsSound config) (sym h) tt
+batch_sound : (version : ℤ) (config : Configuration) (least part : ℕ) (bytes : List ℕ) (d : Decision) → BatchDecides version least part bytes d → IsSound config d
+batch_sound version config least part bytes d (inl f) = subst (IsSound config) (sym f.2) tt
+batch_sound version config least part bytes d (inr b) = subst (IsSound config) (sym b.2) (append_sound version least (slice_index (followers_of config.topics) part) part bytes b.0 b.1)
 
-part_sound : (version : ℤ) (config : Configuration) (o : Option ℕ) (known : Bool) (bytes : List ℕ) (d : Decision) → MatchOption o (d ≡ Refuse (pos 3)) (λ part. MatchBool known (BatchDecides version part bytes d) (d ≡ Refuse (pos 21))) → IsSound config d
-part_sound version config None known bytes d h = subst (IsSound config) (sym h) tt
-part_sound version config (Some part) known bytes d h = acks_sound version config known part bytes d h
+acks_sound : (version : ℤ) (config : Configuration) (known : Bool) (least part : ℕ) (bytes : List ℕ) (d : Decision) → MatchBool known (BatchDecides version least part bytes d) (d ≡ Refuse (pos 21)) → IsSound config d
+acks_sound version config true least part bytes d h = batch_sound version config least part bytes d h
+acks_sound version config false least part bytes d h = subst (IsSound config) (sym h) tt
+
+part_sound : (version : ℤ) (config : Configuration) (o : Option ℕ) (known : Bool) (least : ℕ → ℕ) (bytes : List ℕ) (d : Decision)
+    → MatchOption o (d ≡ Refuse (pos 3)) (λ part. MatchBool known (BatchDecides version (least part) part bytes d) (d ≡ Refuse (pos 21))) → IsSound config d
+part_sound version config None known least bytes d h = subst (IsSound config) (sym h) tt
+part_sound version config (Some part) known least bytes d h = acks_sound version config known (least part) part bytes d h
 
 produce_sound : (version : ℤ) (config : Configuration) (id : Option (List ℕ)) (acks : ℤ) (named : List ℕ × ProducePart) (d : Decision) → ProduceDecides config version id acks named d → IsSound config d
 produce_sound version config (Some id) acks named d h = subst (IsSound config) (sym h) tt
-produce_sound version config None acks named d h = part_sound version config (part_of config named.0 named.1.index) (is_acks acks) (unwrap_or named.1.records []) d h
+produce_sound version config None acks named d h = part_sound version config (part_of config named.0 named.1.index) (is_acks acks) (least_insync config acks) (unwrap_or named.1.records []) d h
 
 all_produced : (version : ℤ) (config : Configuration) (id : Option (List ℕ)) (acks : ℤ) (named : List (List ℕ × ProducePart)) (ds : List Decision) → AllZip (ProduceDecides config version id acks) named ds → AllByRecursion (IsSound config) ds
 all_produced version config id acks named [] h = tt

@@ -39,6 +39,11 @@ fn put(part: u32, before: &Numbers, sent: &SentBatch<'_>) -> Accepted
     ensures outcome { (state : PartState) → before.now ≡ numbers_of state → result ≡ (sent_outcome part sent.now state).result }
     ensures carried { IsCarriable result }
 {
+    if before.insync < sent.least {
+        return Accepted::Refused {
+            code: codes::NOT_ENOUGH_REPLICAS,
+        };
+    }
     if sent.batch.bytes().len() > MOST_LOG_BYTES - before.bytes as usize {
         return Accepted::Refused {
             code: sent.full_code(),

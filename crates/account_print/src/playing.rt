@@ -8,6 +8,8 @@ ghost use Rattle.partlog.specs.Added.{log_end_of};
 ghost use Rattle.partlog.specs.Appended.{appended};
 ghost use Rattle.partlog.specs.Followed.{followed};
 ghost use Rattle.partlog.specs.Follower.{IsFollower};
+ghost use Rattle.partlog.specs.Lagging.{LagsAt};
+ghost use Rattle.partlog.specs.Shrunk.{shrunk};
 ghost use Rattle.partlog.specs.State.{front_of};
 ghost use Rattle.audit.specs.Histories.{history_of};
 ghost use Rattle.account_print.specs.Playable.{IsPlayable};
@@ -33,20 +35,35 @@ fn put_again(log: &mut PartLog, who: Who, bytes: &[u8]) -> Result<(), NoMemory>
     }
 }
 
-// Enters the fetch of a follower, which is in range.
-fn follow_again(log: &mut PartLog, who: Who, replica: i32, offset: u64) -> Result<(), NoMemory>
+// Enters the fetch of a follower, which is in range, at a moment.
+fn follow_again(
+    log: &mut PartLog,
+    who: Who,
+    replica: i32,
+    offset: u64,
+    t: u64,
+) -> Result<(), NoMemory>
     requires follower { IsFollower replica log.old.followers }
     requires within { offset ≤ log_end_of log.old.events }
-    ensures { OnOk result (log.new ≡ followed log.old who.by who.seq replica offset) }
+    ensures { OnOk result (log.new ≡ followed log.old who.by who.seq replica offset t) }
 {
     let end = log.numbers().end;
     prove!(offset <= end);
-    match log.follow(who, replica, offset as i64) {
+    match log.follow(who, replica, offset as i64, t) {
         Ok(_) => Ok(()),
         Err(FollowFault::NoMemory) => Err(NoMemory),
         Err(FollowFault::NoReplica) => unreachable!(),
         Err(FollowFault::OutOfRange { .. }) => unreachable!(),
     }
+}
+
+// Takes a replica out that lags at a moment.
+fn shrink_again(log: &mut PartLog, by: u32, replica: i32, t: u64) -> Result<(), NoMemory>
+    requires { LagsAt log.old.followers log.old.events t replica }
+    ensures { OnOk result (log.new ≡ shrunk log.old by replica t) }
+{
+    log.take_out(by, replica, t)?;
+    Ok(())
 }
 
 /// Puts the entry at a place of a history after those before it. If memory runs out, the log is as it was.
@@ -67,10 +84,12 @@ pub fn play(log: &mut PartLog, part: &PartAccount, place: usize) -> Result<(), N
             seq,
             replica,
             offset,
-        } => follow_again(log, Who { by, seq }, replica, offset),
+            t,
+        } => follow_again(log, Who { by, seq }, replica, offset, t),
         PartEvent::Look { by, seq } => {
             log.look(Who { by, seq })?;
             Ok(())
         }
+        PartEvent::Shrink { by, replica, t } => shrink_again(log, by, replica, t),
     }
 }

@@ -10,7 +10,7 @@ ghost use Rattle.audit.specs.IsLawful.{IsLawful};
 ghost use Rattle.account_print.specs.Playable.{IsPlayable};
 
 /// Law: the entries of each partition of a lawful account can be put into an empty log again. Each append left a batch that the
-/// log had room for, and each follower's fetch was a follower's and in range.
+/// log had room for, each follower's fetch was a follower's and in range, and each replica that was taken out lagged.
 pub fn lawful_parts_play_again()
     ensures { (account : TheAccount) → IsLawful account → partitions_of account.config.topics ≤ MOST_PARTITIONS
         → AllByRecursion (λ part. IsPlayable (history_of part)) account.parts }

@@ -1,5 +1,5 @@
 -- What the reply of a broker to a copy's request comes to: it is refused with a code, or brings batches that follow on at the copy's end.
-use Rattle.std.proofs.Common.{◌≡◌, ℕ, ◌<◌, ◌≤◌, ◌^◌, ℤ, pos, negsuc, min, fold, List, [], ◌∷◌, ◌++◌, length, take, drop, inl, inr, refl, sym, ap, subst, ◌∙◌, append_assoc, append-nil, arith, length-append}
+use Rattle.std.proofs.Common.{◌≡◌, ℕ, ◌<◌, ◌≤◌, ◌^◌, ℤ, pos, negsuc, List, [], ◌∷◌, ◌++◌, length, take, drop, inl, inr, refl, sym, ap, subst, ◌∙◌, append_assoc, append-nil, arith, length-append}
 use Rattle.std.specs.Prelude.{FitsSigned}
 use Rattle.std.specs.Int.{w16, w32, w64}
 use Rattle.std.proofs.lemmas.List.{append_cancel_left, take_at, drop_at}
@@ -125,10 +125,6 @@ run_short [] [] after = omega arith
 run_short [] (r ∷ run) after = omega (arith, run_short [] run after, length-append r (joined run), length-append r (joined (run ++ after)))
 run_short (b ∷ before) run after = omega (arith, run_short before run after, length-append b (joined (before ++ (run ++ after))))
 
-high_low : (end : ℕ) (positions : List ℕ) → fold min end positions ≤ end
-high_low end [] = omega arith
-high_low end (p ∷ positions) = omega (arith, high_low (min end p) positions)
-
 -- some of these batches are brought, up to an end no later than this
 pub record HasBrought (bs : List StoredBatch) (copy : Copy) (correlation : ℤ) (body : List ℕ) (last : ℕ) : Type 0 where
   pub brings : Brings copy correlation body
@@ -138,7 +134,7 @@ pub record HasBrought (bs : List StoredBatch) (copy : Copy) (correlation : ℤ) 
   pub within : end ≤ last
   pub short : length body < 2 ^ 31
 
-pub seen_so : (bs run : List StoredBatch) (copy : Copy) (correlation : ℤ) (last part start : ℕ) (state : PartState) → IsAskable copy correlation → length (joined (rows bs)) ≤ 67108864 → state.log_end ≤ 67108864
+pub seen_so : (bs run : List StoredBatch) (copy : Copy) (correlation : ℤ) (last part start : ℕ) (state : PartState) → IsAskable copy correlation → length (joined (rows bs)) ≤ 67108864 → state.high ≤ 67108864
     → read_of copy.id (asked_part copy) start state (first_budget (pos 1048576)) ≡ run → IsRead bs run copy.end last → HasBrought bs copy correlation (body_of copy correlation (told_as copy (Seen part start) state)) last
 seen_so bs run copy correlation last part start state ask few short was read =
     let told : FetchedPart = told_as copy (Seen part start) state in
@@ -146,7 +142,7 @@ seen_so bs run copy correlation last part start state ask few short was read =
     let within : length (joined (rows run)) ≤ length (joined (rows bs)) =
     subst (λ (l : List (List ℕ)). length (joined (rows run)) ≤ length (joined l)) (sym read.parts) (run_short read.before (rows run) read.after) in
     let size : length told.records ≤ 67108864 = omega (arith, ap (λ (b : List ℕ). length b) bytes, within, few) in
-    let reply = reply_of copy correlation told ask (record { index = refl; start = refl; code = record { sfits = omega arith }; high = record { sfits = omega (arith, high_low state.log_end state.positions, short) }; records = size }) in
+    let reply = reply_of copy correlation told ask (record { index = refl; start = refl; code = record { sfits = omega arith }; high = record { sfits = omega (arith, short) }; records = size }) in
     record {
       brings = record { told = told; reply = reply; fine = refl };
       end = read.end;

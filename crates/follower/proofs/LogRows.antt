@@ -13,7 +13,7 @@ use Rattle.kbatch.specs.Kept.{count_of}
 use Rattle.kbatch.specs.Stamp.{stamped}
 use Rattle.kbatch.proofs.Laws.{batch_count, batch_stamped}
 use Rattle.partlog.specs.declared.event.PartEvent.{PartEvent}
-use Rattle.partlog.specs.declared.event.PartEvent.TheVariants.{Append, Follow, Look}
+use Rattle.partlog.specs.declared.event.PartEvent.TheVariants.{Append, Follow, Look, Shrink}
 use Rattle.partlog.specs.Added.{added_bytes, added_count, bytes_of, log_end_of}
 use Rattle.partlog.specs.Batches.{StoredBatch, batches_after, batches_of, next_offset}
 use Rattle.partlog.specs.History.{History}
@@ -74,13 +74,15 @@ module _ (h : History) (plays : IsPlayable h) (short : log_end_of h.events ≤ 6
         put.counted ∙ sym counted ∙ ap count_of (sym put.stands),
         sym (end_on k (Append by seq count len) more),
       )
-  added_stored k (Follow by seq replica offset) more put = omega (arith, end_on k (Follow by seq replica offset) more)
+  added_stored k (Follow by seq replica offset t) more put = omega (arith, end_on k (Follow by seq replica offset t) more)
   added_stored k (Look by seq) more put = omega (arith, end_on k (Look by seq) more)
+  added_stored k (Shrink by replica t) more put = omega (arith, end_on k (Shrink by replica t) more)
 
   added_bytes_are : (k : ℕ) (e : PartEvent) → joined (rows (added k e)) ≡ take (added_bytes e) (drop (bytes_of (take k es)) h.log)
   added_bytes_are k (Append by seq count len) = append-nil (put_at h k len)
-  added_bytes_are k (Follow by seq replica offset) = refl
+  added_bytes_are k (Follow by seq replica offset t) = refl
   added_bytes_are k (Look by seq) = refl
+  added_bytes_are k (Shrink by replica t) = refl
 
   next_entry : (k : ℕ) → k < length es → (e : PartEvent) × (take (suc k) es ≡ take k es ++ e ∷ []) × CanPlay h k e
   next_entry k lt =
@@ -106,8 +108,9 @@ module _ (h : History) (plays : IsPlayable h) (short : log_end_of h.events ≤ 6
 
   added_few : (k : ℕ) (e : PartEvent) → take (suc k) es ≡ take k es ++ e ∷ [] → CanPlay h k e → bytes_of (take k es) ≤ 67108864 → bytes_of (take (suc k) es) ≤ 67108864
   added_few k (Append by seq count len) more put few = omega (arith, bytes_on k (Append by seq count len) more, put.room)
-  added_few k (Follow by seq replica offset) more put few = omega (arith, bytes_on k (Follow by seq replica offset) more, few)
+  added_few k (Follow by seq replica offset t) more put few = omega (arith, bytes_on k (Follow by seq replica offset t) more, few)
   added_few k (Look by seq) more put few = omega (arith, bytes_on k (Look by seq) more, few)
+  added_few k (Shrink by replica t) more put few = omega (arith, bytes_on k (Shrink by replica t) more, few)
 
   few_to : (k : ℕ) → k ≤ length es → bytes_of (take k es) ≤ 67108864
   few_to zero le = omega arith

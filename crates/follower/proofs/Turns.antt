@@ -12,6 +12,7 @@ use Rattle.partlog.specs.History.{History}
 use Rattle.partlog.specs.Start.{start_of}
 use Rattle.partlog.specs.State.{PartState, state_before}
 use Rattle.partlog.specs.Taken.{batches_past, taken}
+use Rattle.partlog.proofs.Laws.{high-within}
 use Rattle.kwire.specs.Configuration.{followers_of, part_of, partitions_of}
 use Rattle.kwire.specs.Frames.{framed}
 use Rattle.kwire.specs.Spelling.{spelling}
@@ -92,7 +93,8 @@ module _ (h : History) (plays : IsPlayable h) (short : log_end_of h.events ≤ 6
         let batches : state.batches ≡ X ++ on.more = ap (λ (s : PartState). s.batches) is ∙ before_is h plays short k ∙ on.parts in
         let was : read_of copy.id (asked_part copy) begin state (first_budget (pos 1048576)) ≡ run =
         state_read copy m is_id begin state ∙ ap (λ (l : List StoredBatch). taken limit false (filter (λ (b : StoredBatch). true) (batches_past begin l))) batches in
-        let last : state.log_end ≤ 67108864 = omega (arith, ap (λ (s : PartState). s.log_end) is, end_short h plays short k) in
+        let high : (state_before h k).high ≤ end_at h plays short k = high-within h.followers (take k h.events) in
+        let last : state.high ≤ 67108864 = omega (arith, ap (λ (s : PartState). s.high) is, high, end_short h plays short k) in
         let whole : rows bs ≡ held.front ++ (rows run ++ (rows read.after ++ rows now.0)) =
         ap rows (now.1 ∙ ap (λ (l : List StoredBatch). l ++ now.0) on.parts) ∙ rows_append (X ++ on.more) now.0 ∙ ap (λ (l : List (List ℕ)). l ++ rows now.0) read.parts
         ∙ append_assoc held.front (rows run ++ rows read.after) (rows now.0) ∙ ap (λ (l : List (List ℕ)). held.front ++ l) (append_assoc (rows run) (rows read.after) (rows now.0)) in

@@ -1,5 +1,5 @@
 -- A worked session: a replica whose number the leader doesn't know asked once, and was refused with the code for that.
-use Rattle.std.proofs.Common.{◌≡◌, ℕ, zero, suc, pos, Bool, true, false, cond, List, [], ◌∷◌, ◌++◌, map, Option, Some, None, unwrap_or, inl, inr, refl, sym, ap, subst, ◌∙◌, append-nil, arith}
+use Rattle.std.proofs.Common.{◌≡◌, ℕ, zero, suc, ℤ, pos, Bool, true, false, cond, List, [], ◌∷◌, ◌++◌, map, Option, Some, None, unwrap_or, inl, inr, refl, sym, ap, subst, ◌∙◌, append-nil, arith}
 use Rattle.std.proofs.lemmas.Bool.{ne_eqb}
 use Rattle.std.specs.Prelude.{slice_get, count_by}
 use Rattle.std.specs.List.{AllByRecursion, flat_map}
@@ -9,8 +9,10 @@ use Rattle.kwire.specs.Frames.{framed}
 use Rattle.kwire.specs.declared.reply.Reply.{Reply}
 use Rattle.kanswer.specs.Answer.{answer}
 use Rattle.kanswer.specs.declared.accepted.Accepted.TheVariants.{Refused as RefusedWith}
+use Rattle.partlog.specs.declared.event.PartEvent.{PartEvent}
+use Rattle.partlog.specs.declared.event.PartEvent.TheVariants.{Follow, Look, Shrink}
 use Rattle.partlog.specs.State.{PartState}
-use Rattle.audit.specs.Histories.{Owner, at_point, call_of, calls_of, clock_owner_of, owners_in, owners_of, points_of}
+use Rattle.audit.specs.Histories.{Owner, at_point, call_of, calls_of, clock_owner_of, event_at, owners_in, owners_of, points_of}
 use Rattle.audit.specs.IsLawful.{IsLawful, is_point, places_in}
 use Rattle.audit.specs.LawfulCall.{IsAccepted, IsLawfulCall, shown_as_accepted}
 use Rattle.audit.specs.Worked.{at, followed}
@@ -53,6 +55,21 @@ in_none part place by seq b e = elim b as (λ c. slice_get (cond c (map clock_ow
 entry_left : (part place by seq : ℕ) → slice_get (owners_of turned_away part) place ≡ owned_by by seq → Found part place by seq
 entry_left zero place by seq e = in_first place by seq e
 entry_left (suc part) place by seq e = absurd (in_none (suc part) place by seq _ e)
+
+-- its one entry is a look
+no_event : (e : PartEvent) → ◌≡◌ {A = Option PartEvent} None (Some e) → ⊥
+no_event e is = absurd cc
+
+only_look : (part place : ℕ) (e : PartEvent) → event_at turned_away (at part place) ≡ Some e → Look 0 0 ≡ e
+only_look zero zero e is = some_is (Look 0 0) e is
+only_look zero (suc place) e is = absurd (no_event e is)
+only_look (suc part) place e is = absurd (no_event e is)
+
+no_leave : (by t : ℕ) (replica : ℤ) → Look 0 0 ≡ Shrink by replica t → ⊥
+no_leave by t replica e = absurd cc
+
+no_fetch : (by seq offset t : ℕ) (replica : ℤ) → Look 0 0 ≡ Follow by seq replica offset t → ⊥
+no_fetch by seq offset t replica e = absurd cc
 
 no_call : (call : Call) → ◌≡◌ {A = Option Call} None (Some call) → ⊥
 no_call call e = absurd cc
@@ -100,6 +117,9 @@ lawful = record {
     left = entry_left;
     points = one (λ pass seq call. AllByRecursion (λ point. slice_get (owners_of turned_away point.part) point.place ≡ owned_by pass seq) (points_of call)) (refl, tt);
     ticks = rising_one 0;
+    shrinks = λ part place by t replica is. absurd (no_leave by t replica (only_look part place (Shrink by replica t) is));
+    follows = λ part place by seq offset t replica is. absurd (no_fetch by seq offset t replica (only_look part place (Follow by seq replica offset t) is));
+    earlier = λ part place by seq offset t replica is. absurd (no_fetch by seq offset t replica (only_look part place (Follow by seq replica offset t) is));
   };
   order = in_order;
   logs = record { followers = refl; whole = (refl, tt) };

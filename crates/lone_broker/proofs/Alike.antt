@@ -59,27 +59,27 @@ module _ (parts : List History) where
 
   -- ---- a produce
 
-  produced_alike : (acks index : ℤ) (result : Accepted) (state : PartState) → ShowsLog parts (record { result = result; state = state }) → produced_as acks index result state ≡ produced_as acks index result (state_now parts result)
-  produced_alike acks index (Refused code) state h = refl
-  produced_alike acks index (Appended part base count) state h =
-      ap (λ (x : PartState). produced_as acks index (Appended part base count) x) h
-  produced_alike acks index (Seen part start) state h = refl
+  produced_alike : (config : Configuration) (acks index : ℤ) (result : Accepted) (state : PartState) → ShowsLog parts (record { result = result; state = state }) → produced_as config acks index result state ≡ produced_as config acks index result (state_now parts result)
+  produced_alike config acks index (Refused code) state h = refl
+  produced_alike config acks index (Appended part base count) state h =
+      ap (λ (x : PartState). produced_as config acks index (Appended part base count) x) h
+  produced_alike config acks index (Seen part start) state h = refl
 
-  produced_parts_alike : (acks : ℤ) (asked : List ProducePart) (shown : List Shown) → Shows shown → produced_parts acks asked shown ≡ produced_parts acks asked (renewed shown)
-  produced_parts_alike acks [] shown h = refl
-  produced_parts_alike acks (a ∷ asked) [] h = refl
-  produced_parts_alike acks (a ∷ asked) (s ∷ shown) h =
-      ap (λ (p : ProducedPart). p ∷ produced_parts acks asked shown) (produced_alike acks a.index s.result s.state h.0)
-      ∙ ap (λ (ps : List ProducedPart). produced_as acks a.index s.result (state_now parts s.result) ∷ ps) (produced_parts_alike acks asked shown h.1)
+  produced_parts_alike : (config : Configuration) (acks : ℤ) (asked : List ProducePart) (shown : List Shown) → Shows shown → produced_parts config acks asked shown ≡ produced_parts config acks asked (renewed shown)
+  produced_parts_alike config acks [] shown h = refl
+  produced_parts_alike config acks (a ∷ asked) [] h = refl
+  produced_parts_alike config acks (a ∷ asked) (s ∷ shown) h =
+      ap (λ (p : ProducedPart). p ∷ produced_parts config acks asked shown) (produced_alike config acks a.index s.result s.state h.0)
+      ∙ ap (λ (ps : List ProducedPart). produced_as config acks a.index s.result (state_now parts s.result) ∷ ps) (produced_parts_alike config acks asked shown h.1)
 
-  produced_topics_alike : (acks : ℤ) (topics : List ProduceTopic) (shown : List Shown) → Shows shown → produced_topics acks topics shown ≡ produced_topics acks topics (renewed shown)
-  produced_topics_alike acks [] shown h = refl
-  produced_topics_alike acks (t ∷ topics) shown h =
+  produced_topics_alike : (config : Configuration) (acks : ℤ) (topics : List ProduceTopic) (shown : List Shown) → Shows shown → produced_topics config acks topics shown ≡ produced_topics config acks topics (renewed shown)
+  produced_topics_alike config acks [] shown h = refl
+  produced_topics_alike config acks (t ∷ topics) shown h =
       let n : ℕ = length t.parts in
-      let here = produced_parts_alike acks t.parts (take n shown) (take_shows n shown h) ∙ ap (λ (ss : List Shown). produced_parts acks t.parts ss) (take_renewed n shown) in
-      let rest = produced_topics_alike acks topics (drop n shown) (drop_shows n shown h) ∙ ap (λ (ss : List Shown). produced_topics acks topics ss) (drop_renewed n shown) in
-      ap (λ (ps : List ProducedPart). let told : List ProducedTopic = record { name = t.name; parts = ps } ∷ produced_topics acks topics (drop n shown) in told) here
-      ∙ ap (λ (ts : List ProducedTopic). let told : List ProducedTopic = record { name = t.name; parts = produced_parts acks t.parts (take n (renewed shown)) } ∷ ts in told) rest
+      let here = produced_parts_alike config acks t.parts (take n shown) (take_shows n shown h) ∙ ap (λ (ss : List Shown). produced_parts config acks t.parts ss) (take_renewed n shown) in
+      let rest = produced_topics_alike config acks topics (drop n shown) (drop_shows n shown h) ∙ ap (λ (ss : List Shown). produced_topics config acks topics ss) (drop_renewed n shown) in
+      ap (λ (ps : List ProducedPart). let told : List ProducedTopic = record { name = t.name; parts = ps } ∷ produced_topics config acks topics (drop n shown) in told) here
+      ∙ ap (λ (ts : List ProducedTopic). let told : List ProducedTopic = record { name = t.name; parts = produced_parts config acks t.parts (take n (renewed shown)) } ∷ ts in told) rest
 
   -- ---- a fetch
 
@@ -124,7 +124,7 @@ module _ (parts : List History) where
       ∙ ap (λ (ts : List FetchedTopic). let told : List FetchedTopic = record { name = t.name; parts = fetched_parts replica t.parts first b } ∷ ts in told) rest
 
 told_alike : (config : Configuration) (parts : List History) (ask : Ask) (shown : List Shown) → AllByRecursion (ShowsLog parts) shown → told_to config ask shown ≡ told_to config ask (shown_in_logs parts (results_of shown))
-told_alike config parts (Produce version transactional acks timeout topics) shown h = ap (Produced version) (produced_topics_alike parts acks topics shown h)
+told_alike config parts (Produce version transactional acks timeout topics) shown h = ap (Produced version) (produced_topics_alike parts config acks topics shown h)
 told_alike config parts (Fetch version replica max_wait min_bytes max_bytes isolation topics) shown h = ap (Fetched version isolation) (fetched_topics_alike parts replica topics shown (first_budget max_bytes) h)
 told_alike config parts (Metadata topics) shown h = refl
 told_alike config parts (Versions version) shown h = refl

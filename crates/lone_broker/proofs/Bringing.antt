@@ -1,14 +1,9 @@
--- What a line brings, and a session that ends.
+-- What a session's line brings, and a session that ends.
 use Rattle.std.proofs.Common.{◌≡◌, ℕ, ◌<◌, Bool, true, false, cond, List, [], ◌∷◌, ◌++◌, length, set, Option, Some, None, unwrap_or, refl, sym, subst, arith}
-use Rattle.std.specs.Prelude.{nat_lt}
-use Rattle.partlog.specs.declared.clock_event.ClockEvent.{ClockEvent}
-use Rattle.partlog.specs.declared.clock_event.ClockEvent.TheVariants.{Tick}
-use Rattle.partlog.specs.Moment.{moment_of}
-use Rattle.partlog.specs.Ticked.{ticked}
 use Rattle.audit.specs.Printed.{end_line}
 use Rattle.audit.specs.declared.account.SessionEnd.{SessionEnd}
 use Rattle.audit.specs.declared.account.Transcript.{Transcript}
-use Rattle.trace_file.specs.declared.line.Line.TheVariants.{Feed, Shut, Clock}
+use Rattle.trace_file.specs.declared.line.Line.TheVariants.{Feed, Shut}
 use Rattle.broker_spec.specs.Acting.{has_ended, is_there}
 use Rattle.broker_spec.specs.Board.{Board, Seat, Waiting, new_transcript, seat_at, transcript_at}
 use Rattle.broker_spec.specs.Play.{brought}
@@ -57,24 +52,6 @@ shut_stands kept session there =
     let next = reseated kept session (shut_seat session seat) in
     by_waiting (λ board. StandsFor next (brought board (Shut session))) kept (λ waiting are.
     stands_of next waiting (are_reseated kept waiting session (shut_seat session seat) are there refl))
-
--- the clock shows another history
-abbrev pub retimed : Kept → List ClockEvent → Kept
-retimed kept clock = record kept { board = record kept.board { clock = clock } }
-
-are_retimed : (kept : Kept) (waiting : List Waiting) (clock : List ClockEvent) → AreKept kept waiting → AreKept (retimed kept clock) waiting
-are_retimed kept waiting clock are = record { waits = are.waits; seats = are.seats; parked = are.parked; followers = are.followers; declared = are.declared }
-
-risen_or_not : (b : Bool) (board : Board) (t : ℕ) → record board { clock = cond b (board.clock ++ Tick t ∷ []) board.clock } ≡ cond b (record board { clock = board.clock ++ Tick t ∷ [] }) board
-risen_or_not true board t = refl
-risen_or_not false board t = refl
-
-pub ticked_stands : (kept : Kept) (t : ℕ) → (board : Board) → StandsFor kept board → StandsFor (retimed kept (ticked kept.board.clock t)) (brought board (Clock t))
-ticked_stands kept t =
-    let next = retimed kept (ticked kept.board.clock t) in
-    by_waiting (λ board. StandsFor next (brought board (Clock t))) kept (λ waiting are.
-    subst (StandsFor next) (risen_or_not (nat_lt (moment_of kept.board.clock) t) (with_waiting kept waiting) t)
-    (stands_of next waiting (are_retimed kept waiting (ticked kept.board.clock t) are)))
 
 pub ended_turns : (kept : Kept) (session : ℕ) (end : SessionEnd) (text more : List ℕ) → session < length kept.board.seats → more ≡ text ++ end_line session (Some end)
     → TurnsBy (λ board t. t ≡ ended board session end) kept (reseated kept session (ended_seat session end (seat_at kept.board session))) text more

@@ -6,10 +6,10 @@ use Rattle.std.proofs.lemmas.Bool.Decides.{leb_tells}
 use Rattle.std.specs.Prelude.{nat_le}
 use Rattle.std.specs.List.{cons_option}
 use Rattle.partlog.specs.History.{History}
+use Rattle.partlog.specs.Looked.{looked}
 use Rattle.partlog.specs.Moment.{moment_of}
 use Rattle.kwire.specs.Configuration.{partitions_of}
 use Rattle.kanswer.specs.Answer.{answer}
-use Rattle.kanswer.specs.Decisions.{Looked}
 use Rattle.kanswer.specs.Results.{part_asked, parts_asked}
 use Rattle.kanswer.specs.Waiting.{values_of}
 use Rattle.kanswer.specs.declared.accepted.Accepted.{Accepted}
@@ -23,13 +23,12 @@ use Rattle.audit.specs.declared.account.Point.{Point}
 use Rattle.trace_file.specs.PrintedLine.{reply_line}
 use Rattle.broker_spec.specs.Board.{Board, Seat, Waiting, history_at, next_call, seat_at, transcript_at}
 use Rattle.broker_spec.specs.Completing.{answered_in, completed, finish_last, is_answerable_now, is_overdue_now, is_satisfied_now, look_all, shown_now, unless_none}
-use Rattle.kanswer.specs.WithEntry.{entered}
 use Rattle.lone_broker.specs.Desks.{transcript_of}
 use Rattle.lone_broker.specs.Kept.{AreKept, IsKeptOf, Kept, MatchesWaiting, StandsFor, last_frame, waiting_in, with_waiting}
 use Rattle.broker_spec.specs.Board.{gauge_now}
 use Rattle.lone_broker.specs.Looks.{clock_after, clock_points, due_as, due_in, finished}
 use Rattle.lone_broker.specs.declared.parked.Parked.{Parked}
-use Rattle.lone_broker.proofs.Followers.{entered_followers, set_followers}
+use Rattle.lone_broker.proofs.Followers.{set_followers}
 use Rattle.lone_broker.proofs.Needs.{now_values}
 use Rattle.lone_broker.proofs.Standing.{are_moved, moved, stands_of}
 use Rattle.lone_broker.proofs.Turning.{turned}
@@ -126,19 +125,19 @@ pub look_append : (by seq : ℕ) (xs ys : List ℕ) (parts : List History)
     × ((look_all by seq (xs ++ ys) parts).1 ≡ (look_all by seq ys (look_all by seq xs parts).1).1)
 look_append by seq [] ys parts = (refl, refl)
 look_append by seq (x ∷ xs) ys parts =
-    let rest = look_append by seq xs ys (set parts x (entered (history_at parts x) by seq Looked)) in
+    let rest = look_append by seq xs ys (set parts x (looked (history_at parts x) by seq)) in
     (ap (λ (ps : List Point). record { part = x; place = length (history_at parts x).events } ∷ ps) rest.0, rest.1)
 
 look_followers : (by seq : ℕ) (xs : List ℕ) (parts : List History) → map (λ (h : History). h.followers) (look_all by seq xs parts).1 ≡ map (λ (h : History). h.followers) parts
 look_followers by seq [] parts = refl
 look_followers by seq (x ∷ xs) parts =
-    let left = entered (history_at parts x) by seq Looked in
-    look_followers by seq xs (set parts x left) ∙ set_followers parts x left (entered_followers (history_at parts x) by seq Looked)
+    let left = looked (history_at parts x) by seq in
+    look_followers by seq xs (set parts x left) ∙ set_followers parts x left refl
 
 pub look_size : (by seq : ℕ) (xs : List ℕ) (parts : List History) → length (look_all by seq xs parts).1 ≡ length parts
 look_size by seq [] parts = refl
 look_size by seq (x ∷ xs) parts =
-    let left = entered (history_at parts x) by seq Looked in
+    let left = looked (history_at parts x) by seq in
     look_size by seq xs (set parts x left) ∙ length-set parts x left
 
 same_part : (r : Accepted) → part_in r ≡ part_asked r

@@ -32,19 +32,19 @@ set_followers [] part left e = refl
 set_followers (p ∷ parts) zero left e = ap (λ (n : ℕ). n ∷ map (λ (h : History). h.followers) parts) e
 set_followers (p ∷ parts) (suc part) left e = ap (λ (ns : List ℕ). p.followers ∷ ns) (set_followers parts part left e)
 
-pub entered_followers : (h : History) (by seq : ℕ) (entry : Entry) → (entered h by seq entry).followers ≡ h.followers
-entered_followers h by seq (Put count batch) = refl
-entered_followers h by seq (Followed replica offset) = refl
-entered_followers h by seq Looked = refl
+pub entered_followers : (h : History) (by seq t : ℕ) (entry : Entry) → (entered h by seq t entry).followers ≡ h.followers
+entered_followers h by seq t (Put count batch) = refl
+entered_followers h by seq t (Followed replica offset) = refl
+entered_followers h by seq t Looked = refl
 
-pub accepted_followers : (by seq : ℕ) (decisions : List Decision) (parts : List History) → map (λ (h : History). h.followers) (accept_all by seq decisions parts).1 ≡ map (λ (h : History). h.followers) parts
-accepted_followers by seq [] parts = refl
-accepted_followers by seq (Refuse code ∷ decisions) parts = accepted_followers by seq decisions parts
-accepted_followers by seq (AskLog part outcome ∷ decisions) parts =
+pub accepted_followers : (by seq t : ℕ) (decisions : List Decision) (parts : List History) → map (λ (h : History). h.followers) (accept_all by seq t decisions parts).1 ≡ map (λ (h : History). h.followers) parts
+accepted_followers by seq t [] parts = refl
+accepted_followers by seq t (Refuse code ∷ decisions) parts = accepted_followers by seq t decisions parts
+accepted_followers by seq t (AskLog part outcome ∷ decisions) parts =
     let found = history_at parts part in
     let entry = (outcome (state_of found)).entry in
-    accepted_followers by seq decisions (set parts part (entered found by seq entry)) ∙ set_followers parts part (entered found by seq entry) (entered_followers found by seq entry)
+    accepted_followers by seq t decisions (set parts part (entered found by seq t entry)) ∙ set_followers parts part (entered found by seq t entry) (entered_followers found by seq t entry)
 
-pub carried_followers : (by seq : ℕ) (decisions : List Decision) (before after : List History) (came later : Came) → IsCarried by seq decisions before after came later
+pub carried_followers : (by seq t : ℕ) (decisions : List Decision) (before after : List History) (came later : Came) → IsCarried by seq t decisions before after came later
     → map (λ (h : History). h.followers) after ≡ map (λ (h : History). h.followers) before
-carried_followers by seq decisions before after came later c = ap (map (λ (h : History). h.followers)) c.histories ∙ accepted_followers by seq decisions before
+carried_followers by seq t decisions before after came later c = ap (map (λ (h : History). h.followers)) c.histories ∙ accepted_followers by seq t decisions before

@@ -49,34 +49,35 @@ pub if_answered : {T E : Type 0} {P : Type 0} {A B C D : T → Type 0} (r : Resu
 if_answered (Ok x) a b c p f = f x a b c p
 if_answered (Err e) a b c p f = tt
 
--- a request, whose decisions were carried out
-pub record IsAccepted (config : Configuration) (request : Request) (by seq : ℕ) (before after : List History) (later : Came) : Type 0 where
+-- a request, whose decisions were carried out at the clock's moment
+pub record IsAccepted (config : Configuration) (request : Request) (by seq : ℕ) (clock : List ClockEvent) (before after : List History) (later : Came) : Type 0 where
   pub body : List ℕ
   pub asked : IsRequest body request
   pub followers : map (λ (h : History). h.followers) before ≡ followers_of config.topics
   pub declared : AreDeclared config.topics
   pub decisions : List Decision
   pub decided : Decides config request.ask decisions
-  pub carried : IsCarried by seq decisions before after (record { accepted = []; points = [] }) later
+  pub carried : IsCarried by seq (moment_of clock) decisions before after (record { accepted = []; points = [] }) later
   pub offsets : All IsCarriable later.accepted
 
-pub was_accepted : (config : Configuration) (request : Request) (by seq : ℕ) (before after : List History) (came later : Came) (results : List Accepted) → ((body : List ℕ) × IsRequest body request) → map (λ (h : History). h.followers) before ≡ followers_of config.topics → AreDeclared config.topics
-    → came ≡ record { accepted = []; points = [] } → ((decisions : List Decision) × Decides config request.ask decisions × IsCarried by seq decisions before after came later) → results ≡ later.accepted → All IsCarriable results
-    → IsAccepted config request by seq before after later
-was_accepted config request by seq before after came later results asked followers declared fresh d same offsets = record {
+pub was_accepted : (config : Configuration) (request : Request) (by seq t : ℕ) (clock : List ClockEvent) (before after : List History) (came later : Came) (results : List Accepted) → t ≡ moment_of clock → ((body : List ℕ) × IsRequest body request) → map (λ (h : History). h.followers) before ≡ followers_of config.topics → AreDeclared config.topics
+    → came ≡ record { accepted = []; points = [] } → ((decisions : List Decision) × Decides config request.ask decisions × IsCarried by seq t decisions before after came later) → results ≡ later.accepted → All IsCarriable results
+    → IsAccepted config request by seq clock before after later
+was_accepted config request by seq t clock before after came later results at asked followers declared fresh d same offsets = record {
   body = asked.0;
   asked = asked.1;
   followers = followers;
   declared = declared;
   decisions = d.0;
   decided = d.1;
-  carried = subst (λ (k : Came). IsCarried by seq d.0 before after k later) fresh d.2;
+  carried = subst (λ (m : ℕ). IsCarried by seq m d.0 before after (record { accepted = []; points = [] }) later) at
+      (subst (λ (k : Came). IsCarried by seq t d.0 before after k later) fresh d.2);
   offsets = subst (All IsCarriable) same offsets;
 }
 
-module _ (config : Configuration) (request : Request) (by seq : ℕ) (before after : List History) (later : Came) (a : IsAccepted config request by seq before after later) where
+module _ (config : Configuration) (request : Request) (by seq : ℕ) (clock : List ClockEvent) (before after : List History) (later : Came) (a : IsAccepted config request by seq clock before after later) where
   abbrev noted : List Noted
-  noted = (accept_all by seq a.decisions before).0
+  noted = (accept_all by seq (moment_of clock) a.decisions before).0
 
   abbrev results : List Accepted
   results = results_of (shown_of noted)
@@ -88,22 +89,22 @@ module _ (config : Configuration) (request : Request) (by seq : ℕ) (before aft
   size = parts_size config.topics before a.followers
 
   as_many_left : length after ≡ partitions_of config.topics
-  as_many_left = ap length a.carried.histories ∙ as_many config request a.body by seq a.decisions before a.asked a.decided size
+  as_many_left = ap length a.carried.histories ∙ as_many config request a.body by seq (moment_of clock) a.decisions before a.asked a.decided size
 
   pub have_logs : AllByRecursion (HasLog (length after)) later.accepted
   have_logs =
       subst (λ (rs : List Accepted). AllByRecursion (HasLog (length after)) rs) (sym accepted_is)
-      (subst (λ (n : ℕ). AllByRecursion (HasLog n) results) (sym as_many_left) (results_logs config request a.body by seq a.decisions before a.asked a.decided size))
+      (subst (λ (n : ℕ). AllByRecursion (HasLog n) results) (sym as_many_left) (results_logs config request a.body by seq (moment_of clock) a.decisions before a.asked a.decided size))
 
   pub are_listed : AreResults request.ask later.accepted
   are_listed =
       subst (AreResults request.ask) (sym accepted_is)
-      (are_results config request a.body by seq a.decisions before a.asked a.decided size a.declared.few (subst (All IsCarriable) accepted_is a.offsets))
+      (are_results config request a.body by seq (moment_of clock) a.decisions before a.asked a.decided size a.declared.few (subst (All IsCarriable) accepted_is a.offsets))
 
   pub are_shown : ShowsLogs after later.accepted (shown_of noted)
   are_shown =
       subst (λ (rs : List Accepted). ShowsLogs after rs (shown_of noted)) (sym accepted_is)
-      (subst (λ (ps : List History). ShowsLogs ps results (shown_of noted)) (sym a.carried.histories) (shows_logs config request a.body by seq a.decisions before a.asked a.decided size))
+      (subst (λ (ps : List History). ShowsLogs ps results (shown_of noted)) (sym a.carried.histories) (shows_logs config request a.body by seq (moment_of clock) a.decisions before a.asked a.decided size))
 
   are_numbered : AreNumbers (numbers_in after later.accepted) (shown_of noted)
   are_numbered =
@@ -116,10 +117,10 @@ module _ (config : Configuration) (request : Request) (by seq : ℕ) (before aft
   delayed_is b accepted numbers list same is is_list tells =
       sym (tells (shown_of noted) (are_shown.results ∙ sym same) (subst (λ (ns : List Numbers). AreNumbers ns (shown_of noted)) (sym (is ∙ is_list)) are_numbered))
 
-  pub handled_waiting : (clock left : List ClockEvent) (handled : Handled) (text : List ℕ) → becomes_delayed request.ask (shown_of noted) ≡ true → left ≡ looked_by by seq clock
+  pub handled_waiting : (left : List ClockEvent) (handled : Handled) (text : List ℕ) → becomes_delayed request.ask (shown_of noted) ≡ true → left ≡ looked_by by seq clock
       → handled.accept ≡ later.points ++ record { part = clock_part; place = length clock } ∷ [] → handled.how ≡ Waits
       → handled.parked ≡ Some (record { accepted = later.accepted; op = operation_of request.ask later.accepted (moment_of left) }) → IsHandled config by seq request before after clock left handled text text
-  handled_waiting clock left handled text delayed looked points how some = record {
+  handled_waiting left handled text delayed looked points how some = record {
     decisions = a.decisions;
     decided = a.decided;
     histories = a.carried.histories;
@@ -133,9 +134,9 @@ module _ (config : Configuration) (request : Request) (by seq : ℕ) (before aft
     });
   }
 
-  pub handled_at_once : (clock : List ClockEvent) (handled : Handled) (text more : List ℕ) → becomes_delayed request.ask (shown_of noted) ≡ false → handled.accept ≡ later.points → handled.how ≡ how_at_once request.ask → handled.parked ≡ None
+  pub handled_at_once : (handled : Handled) (text more : List ℕ) → becomes_delayed request.ask (shown_of noted) ≡ false → handled.accept ≡ later.points → handled.how ≡ how_at_once request.ask → handled.parked ≡ None
       → ((shown : List Shown) → ShowsLogs after later.accepted shown → more ≡ text ++ text_at_once config by request shown) → IsHandled config by seq request before after clock clock handled text more
-  handled_at_once clock handled text more undelayed points how none printed = record {
+  handled_at_once handled text more undelayed points how none printed = record {
     decisions = a.decisions;
     decided = a.decided;
     histories = a.carried.histories;

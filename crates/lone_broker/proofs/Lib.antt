@@ -22,8 +22,10 @@ pub mod Turning
 pub mod Waits
 -- what a request that waits needs of the logs
 pub mod Needs
--- what a line brings, and a session that ends
+-- what a session's line brings, and a session that ends
 pub mod Bringing
+-- what a clock line leaves where the moment rises
+pub mod Risen
 -- a request that was handled
 pub mod Taking
 -- a request that is completed

@@ -21,33 +21,33 @@ use Rattle.kanswer.specs.Deciding.{AskOnce, AsksOther, AsksWithin, IsHonest, IsH
 use Rattle.kanswer.proofs.Laws.{decided_within, request_asks_once, sound, decides_honest, Differs, result_other, all_at, one_more_part, none_paired, decided_count, all_bounded, few_named}
 use Rattle.kbytes.proofs.Laws.{get_set_same, get_set_other}
 
-pub all_sound : (by seq n : ℕ) (decisions : List Decision) (parts : List History) → AllByRecursion (AsksWithin n) decisions → AllByRecursion IsHonest decisions
-    → AllByRecursion (IsSound n) (results_of (shown_of (accept_all by seq decisions parts).0))
-all_sound by seq n [] parts within honest = tt
-all_sound by seq n (Refuse code ∷ decisions) parts within honest = (tt, all_sound by seq n decisions parts within.1 honest.1)
-all_sound by seq n (AskLog part outcome ∷ decisions) parts within honest =
+pub all_sound : (by seq t n : ℕ) (decisions : List Decision) (parts : List History) → AllByRecursion (AsksWithin n) decisions → AllByRecursion IsHonest decisions
+    → AllByRecursion (IsSound n) (results_of (shown_of (accept_all by seq t decisions parts).0))
+all_sound by seq t n [] parts within honest = tt
+all_sound by seq t n (Refuse code ∷ decisions) parts within honest = (tt, all_sound by seq t n decisions parts within.1 honest.1)
+all_sound by seq t n (AskLog part outcome ∷ decisions) parts within honest =
     let found = history_at parts part in
     let came = outcome (state_of found) in (
       sound part n (state_of found) came.result came.entry within.0 (honest.0 (state_of found)),
-      all_sound by seq n decisions (set parts part (entered found by seq came.entry)) within.1 honest.1,
+      all_sound by seq t n decisions (set parts part (entered found by seq t came.entry)) within.1 honest.1,
     )
 
 -- ---- each is shown as its log is afterwards
 
-pub accepted_size : (by seq : ℕ) (decisions : List Decision) (parts : List History) → length (accept_all by seq decisions parts).1 ≡ length parts
-accepted_size by seq [] parts = refl
-accepted_size by seq (Refuse code ∷ decisions) parts = accepted_size by seq decisions parts
-accepted_size by seq (AskLog part outcome ∷ decisions) parts =
-    let left = entered (history_at parts part) by seq (outcome (state_of (history_at parts part))).entry in
-    accepted_size by seq decisions (set parts part left) ∙ length-set parts part left
+pub accepted_size : (by seq t : ℕ) (decisions : List Decision) (parts : List History) → length (accept_all by seq t decisions parts).1 ≡ length parts
+accepted_size by seq t [] parts = refl
+accepted_size by seq t (Refuse code ∷ decisions) parts = accepted_size by seq t decisions parts
+accepted_size by seq t (AskLog part outcome ∷ decisions) parts =
+    let left = entered (history_at parts part) by seq t (outcome (state_of (history_at parts part))).entry in
+    accepted_size by seq t decisions (set parts part left) ∙ length-set parts part left
 
-untouched : (by seq part : ℕ) (decisions : List Decision) (parts : List History) → AllByRecursion (AsksOther part) decisions
-    → history_at (accept_all by seq decisions parts).1 part ≡ history_at parts part
-untouched by seq part [] parts others = refl
-untouched by seq part (Refuse code ∷ decisions) parts others = untouched by seq part decisions parts others.1
-untouched by seq part (AskLog other outcome ∷ decisions) parts others =
-    let left = entered (history_at parts other) by seq (outcome (state_of (history_at parts other))).entry in
-    untouched by seq part decisions (set parts other left) others.1
+untouched : (by seq t part : ℕ) (decisions : List Decision) (parts : List History) → AllByRecursion (AsksOther part) decisions
+    → history_at (accept_all by seq t decisions parts).1 part ≡ history_at parts part
+untouched by seq t part [] parts others = refl
+untouched by seq t part (Refuse code ∷ decisions) parts others = untouched by seq t part decisions parts others.1
+untouched by seq t part (AskLog other outcome ∷ decisions) parts others =
+    let left = entered (history_at parts other) by seq t (outcome (state_of (history_at parts other))).entry in
+    untouched by seq t part decisions (set parts other left) others.1
     ∙ ap (λ (o : Option History). unwrap_or o (empty_history 0)) (get_set_other parts other part left (λ e. others.0 (sym e)))
 
 shows_own : (parts : List History) (part : ℕ) (found : PartState) (left : History) (result : Accepted) (entry : Entry) → IsHonestAs part found result entry → history_at parts part ≡ left
@@ -56,51 +56,51 @@ shows_own parts part found left (Refused code) entry honest is = tt
 shows_own parts part found left (Appended q base count) entry honest is = ap state_of (sym is) ∙ ap (λ (p : ℕ). state_of (history_at parts p)) (sym honest.0)
 shows_own parts part found left (Seen q start) entry honest is = ap state_of (sym is) ∙ ap (λ (p : ℕ). state_of (history_at parts p)) (sym honest)
 
-pub all_shown : (by seq n : ℕ) (decisions : List Decision) (parts : List History) → length parts ≡ n → AllByRecursion (AsksWithin n) decisions → AllByRecursion IsHonest decisions → AskOnce decisions
-    → AllByRecursion (ShowsLog (accept_all by seq decisions parts).1) (shown_of (accept_all by seq decisions parts).0)
-all_shown by seq n [] parts size within honest once = tt
-all_shown by seq n (Refuse code ∷ decisions) parts size within honest once = (tt, all_shown by seq n decisions parts size within.1 honest.1 once)
-all_shown by seq n (AskLog part outcome ∷ decisions) parts size within honest once =
+pub all_shown : (by seq t n : ℕ) (decisions : List Decision) (parts : List History) → length parts ≡ n → AllByRecursion (AsksWithin n) decisions → AllByRecursion IsHonest decisions → AskOnce decisions
+    → AllByRecursion (ShowsLog (accept_all by seq t decisions parts).1) (shown_of (accept_all by seq t decisions parts).0)
+all_shown by seq t n [] parts size within honest once = tt
+all_shown by seq t n (Refuse code ∷ decisions) parts size within honest once = (tt, all_shown by seq t n decisions parts size within.1 honest.1 once)
+all_shown by seq t n (AskLog part outcome ∷ decisions) parts size within honest once =
     let found = history_at parts part in
     let came = outcome (state_of found) in
-    let left = entered found by seq came.entry in
+    let left = entered found by seq t came.entry in
     let next = set parts part left in
     let here : history_at next part ≡ left = ap (λ (o : Option History). unwrap_or o (empty_history 0)) (get_set_same parts part left (omega (arith, size, within.0))) in (
-      shows_own (accept_all by seq decisions next).1 part (state_of found) left came.result came.entry (honest.0 (state_of found)) (untouched by seq part decisions next once.0 ∙ here),
-      all_shown by seq n decisions next (length-set parts part left ∙ size) within.1 honest.1 once.1,
+      shows_own (accept_all by seq t decisions next).1 part (state_of found) left came.result came.entry (honest.0 (state_of found)) (untouched by seq t part decisions next once.0 ∙ here),
+      all_shown by seq t n decisions next (length-set parts part left ∙ size) within.1 honest.1 once.1,
     )
 
 -- ---- the partitions whose logs were asked
 
-others_asked : (by seq part : ℕ) (decisions : List Decision) (parts : List History) → AllByRecursion (AsksOther part) decisions → AllByRecursion IsHonest decisions
-    → AllByRecursion (Differs part) (parts_asked (results_of (shown_of (accept_all by seq decisions parts).0)))
-others_asked by seq part [] parts others honest = tt
-others_asked by seq part (Refuse code ∷ decisions) parts others honest = others_asked by seq part decisions parts others.1 honest.1
-others_asked by seq part (AskLog other outcome ∷ decisions) parts others honest =
+others_asked : (by seq t part : ℕ) (decisions : List Decision) (parts : List History) → AllByRecursion (AsksOther part) decisions → AllByRecursion IsHonest decisions
+    → AllByRecursion (Differs part) (parts_asked (results_of (shown_of (accept_all by seq t decisions parts).0)))
+others_asked by seq t part [] parts others honest = tt
+others_asked by seq t part (Refuse code ∷ decisions) parts others honest = others_asked by seq t part decisions parts others.1 honest.1
+others_asked by seq t part (AskLog other outcome ∷ decisions) parts others honest =
     let found = history_at parts other in
     let came = outcome (state_of found) in
-    let next = set parts other (entered found by seq came.entry) in
-    result_other part other (state_of found) came.result came.entry (parts_asked (results_of (shown_of (accept_all by seq decisions next).0)))
-    (honest.0 (state_of found)) others.0 (others_asked by seq part decisions next others.1 honest.1)
+    let next = set parts other (entered found by seq t came.entry) in
+    result_other part other (state_of found) came.result came.entry (parts_asked (results_of (shown_of (accept_all by seq t decisions next).0)))
+    (honest.0 (state_of found)) others.0 (others_asked by seq t part decisions next others.1 honest.1)
 
-asked_once : (by seq : ℕ) (decisions : List Decision) (parts : List History) → AskOnce decisions → AllByRecursion IsHonest decisions
-    → AllPairs (λ a b. a ≢ b) (parts_asked (results_of (shown_of (accept_all by seq decisions parts).0)))
-asked_once by seq [] parts once honest = none_paired
-asked_once by seq (Refuse code ∷ decisions) parts once honest = asked_once by seq decisions parts once honest.1
-asked_once by seq (AskLog part outcome ∷ decisions) parts once honest =
+asked_once : (by seq t : ℕ) (decisions : List Decision) (parts : List History) → AskOnce decisions → AllByRecursion IsHonest decisions
+    → AllPairs (λ a b. a ≢ b) (parts_asked (results_of (shown_of (accept_all by seq t decisions parts).0)))
+asked_once by seq t [] parts once honest = none_paired
+asked_once by seq t (Refuse code ∷ decisions) parts once honest = asked_once by seq t decisions parts once honest.1
+asked_once by seq t (AskLog part outcome ∷ decisions) parts once honest =
     let found = history_at parts part in
     let came = outcome (state_of found) in
-    let next = set parts part (entered found by seq came.entry) in
-    one_more_part part part (state_of found) came.result came.entry (parts_asked (results_of (shown_of (accept_all by seq decisions next).0)))
-    (honest.0 (state_of found)) refl (others_asked by seq part decisions next once.0 honest.1) (asked_once by seq decisions next once.1 honest.1)
+    let next = set parts part (entered found by seq t came.entry) in
+    one_more_part part part (state_of found) came.result came.entry (parts_asked (results_of (shown_of (accept_all by seq t decisions next).0)))
+    (honest.0 (state_of found)) refl (others_asked by seq t part decisions next once.0 honest.1) (asked_once by seq t decisions next once.1 honest.1)
 
 -- ---- as many results as decisions, each of a log that is there
 
-pub results_count : (by seq : ℕ) (decisions : List Decision) (parts : List History) → length (results_of (shown_of (accept_all by seq decisions parts).0)) ≡ length decisions
-results_count by seq [] parts = refl
-results_count by seq (Refuse code ∷ decisions) parts = ap suc (results_count by seq decisions parts)
-results_count by seq (AskLog part outcome ∷ decisions) parts =
-    ap suc (results_count by seq decisions (set parts part (entered (history_at parts part) by seq (outcome (state_of (history_at parts part))).entry)))
+pub results_count : (by seq t : ℕ) (decisions : List Decision) (parts : List History) → length (results_of (shown_of (accept_all by seq t decisions parts).0)) ≡ length decisions
+results_count by seq t [] parts = refl
+results_count by seq t (Refuse code ∷ decisions) parts = ap suc (results_count by seq t decisions parts)
+results_count by seq t (AskLog part outcome ∷ decisions) parts =
+    ap suc (results_count by seq t decisions (set parts part (entered (history_at parts part) by seq t (outcome (state_of (history_at parts part))).entry)))
 
 sound_log : (n : ℕ) (result : Accepted) → IsSound n result → HasLog n result
 sound_log n (Refused code) is = tt
@@ -112,12 +112,12 @@ all_logs n [] is = tt
 all_logs n (r ∷ results) is = (sound_log n r is.0, all_logs n results is.1)
 
 -- What became of the partitions of a request, as it was accepted by the call of this number of a session.
-module _ (config : Configuration) (request : Request) (body : List ℕ) (by seq : ℕ) (decisions : List Decision) (parts : List History) (asked : IsRequest body request) (decided : Decides config request.ask decisions) (size : length parts ≡ partitions_of config.topics) where
+module _ (config : Configuration) (request : Request) (body : List ℕ) (by seq t : ℕ) (decisions : List Decision) (parts : List History) (asked : IsRequest body request) (decided : Decides config request.ask decisions) (size : length parts ≡ partitions_of config.topics) where
   abbrev results : List Accepted
-  results = results_of (shown_of (accept_all by seq decisions parts).0)
+  results = results_of (shown_of (accept_all by seq t decisions parts).0)
 
   all_are_sound : AllByRecursion (IsSound (partitions_of config.topics)) results
-  all_are_sound = all_sound by seq (partitions_of config.topics) decisions parts (decided_within config request.ask decisions decided) (decides_honest config request.ask decisions decided)
+  all_are_sound = all_sound by seq t (partitions_of config.topics) decisions parts (decided_within config request.ask decisions decided) (decides_honest config request.ask decisions decided)
 
   pub results_logs : AllByRecursion (HasLog (partitions_of config.topics)) results
   results_logs = all_logs (partitions_of config.topics) results all_are_sound
@@ -125,16 +125,16 @@ module _ (config : Configuration) (request : Request) (body : List ℕ) (by seq 
   pub are_results : partitions_of config.topics ≤ 64 → All IsCarriable results → AreResults request.ask results
   are_results few fits = record {
     few = few_named request body asked;
-    each = results_count by seq decisions parts ∙ decided_count config request.ask decisions decided;
+    each = results_count by seq t decisions parts ∙ decided_count config request.ask decisions decided;
     bounded = all_at IsBounded results (all_bounded (partitions_of config.topics) results few all_are_sound fits);
-    once = asked_once by seq decisions parts (request_asks_once config request body decisions asked decided) (decides_honest config request.ask decisions decided);
+    once = asked_once by seq t decisions parts (request_asks_once config request body decisions asked decided) (decides_honest config request.ask decisions decided);
   }
 
-  pub shows_logs : ShowsLogs (accept_all by seq decisions parts).1 results (shown_of (accept_all by seq decisions parts).0)
+  pub shows_logs : ShowsLogs (accept_all by seq t decisions parts).1 results (shown_of (accept_all by seq t decisions parts).0)
   shows_logs = record {
     results = refl;
-    states = all_shown by seq (partitions_of config.topics) decisions parts size (decided_within config request.ask decisions decided) (decides_honest config request.ask decisions decided) (request_asks_once config request body decisions asked decided);
+    states = all_shown by seq t (partitions_of config.topics) decisions parts size (decided_within config request.ask decisions decided) (decides_honest config request.ask decisions decided) (request_asks_once config request body decisions asked decided);
   }
 
-  pub as_many : length (accept_all by seq decisions parts).1 ≡ partitions_of config.topics
-  as_many = accepted_size by seq decisions parts ∙ size
+  pub as_many : length (accept_all by seq t decisions parts).1 ≡ partitions_of config.topics
+  as_many = accepted_size by seq t decisions parts ∙ size

@@ -1,21 +1,18 @@
 -- What a step of one session leaves as it was.
-use Rattle.std.proofs.Common.{◌≡◌, ◌≢◌, ◌⊎◌, ℤ, pos, negsuc, ℕ, zero, suc, ◌+◌, ◌-◌, ◌<◌, ◌≤◌, ◌^◌, Bool, true, false, cond, ◌&&◌, List, [], ◌∷◌, ◌++◌, length, map, set, Option, None, unwrap_or, MatchBool, refl, sym, ap, subst, ◌∙◌, arith, inl, inr, max, fold}
+use Rattle.std.proofs.Common.{◌≡◌, ◌≢◌, ◌⊎◌, ℤ, pos, negsuc, ℕ, zero, suc, ◌+◌, ◌-◌, ◌<◌, ◌≤◌, ◌^◌, Bool, true, false, cond, ◌&&◌, List, [], ◌∷◌, ◌++◌, length, map, set, Option, None, unwrap_or, MatchBool, refl, sym, ap, subst, ◌∙◌, arith, inl, inr}
 use Rattle.std.proofs.lemmas.Bool.{ltb-true}
 use Rattle.std.proofs.lemmas.List.{length-append}
-use Rattle.std.proofs.lemmas.List.Elements.{filter_map-append}
-use Rattle.std.proofs.lemmas.List.Sums.{fold_push}
-use Rattle.std.specs.Prelude.{nat_lt, slice_get}
+use Rattle.std.specs.Prelude.{slice_get}
 use Rattle.std.specs.Int.{w32}
-use Rattle.std.specs.List.{AllByRecursion, filter_map}
+use Rattle.std.specs.List.{AllByRecursion}
 use mir.Val.{SFits}
 use Rattle.kbytes.specs.FitsField.{FitsField}
 use Rattle.kwire.proofs.Laws.{spelled_fits}
 use Rattle.partlog.specs.declared.clock_event.ClockEvent.{ClockEvent}
-use Rattle.partlog.specs.declared.clock_event.ClockEvent.TheVariants.{Tick}
 use Rattle.partlog.specs.History.{History}
-use Rattle.partlog.specs.Moment.{moment_of, tick_of}
+use Rattle.partlog.specs.Looked.{looked}
+use Rattle.partlog.specs.Moment.{moment_of}
 use Rattle.partlog.specs.State.{state_of}
-use Rattle.partlog.specs.Ticked.{ticked}
 use Rattle.opcond.specs.Tally.{tally}
 use Rattle.opcond.specs.declared.need.Need.{Need}
 use Rattle.kwire.specs.Configuration.{Configuration, partitions_of}
@@ -23,7 +20,7 @@ use Rattle.kwire.specs.IsRequest.{IsRequest, ask_fields}
 use Rattle.kwire.specs.declared.request.Ask.{Ask}
 use Rattle.kwire.specs.declared.request.Ask.TheVariants.{Produce, Fetch, Metadata, Versions}
 use Rattle.kwire.specs.declared.request.Request.{Request}
-use Rattle.kanswer.specs.Decisions.{AskLog, Decides, Decision, Looked, Refuse}
+use Rattle.kanswer.specs.Decisions.{AskLog, Decides, Decision, Refuse}
 use Rattle.kanswer.specs.Waiting.{Shown, at_least_zero, becomes_delayed, falls_short, least_of, needs_of, operation_of, results_of, values_of, wait_of}
 use Rattle.kanswer.specs.Results.{parts_asked}
 use Rattle.kanswer.specs.declared.accepted.Accepted.{Accepted}
@@ -44,13 +41,13 @@ use Rattle.lone_broker.specs.Handled.{IsAnswered, IsHandled, IsParked}
 use Rattle.lone_broker.specs.Kept.{Kept, Stands, parked_at}
 use Rattle.broker_spec.specs.Board.{gauge_now}
 use Rattle.lone_broker.specs.Looks.{clock_after, clock_points}
-use Rattle.lone_broker.specs.Steps.{AnyLeft, HasPart, IsActed, IsAlone, IsFreed, IsLeft, IsReseated, IsTicked, last_points}
+use Rattle.lone_broker.specs.Steps.{AnyLeft, HasPart, IsActed, IsAlone, IsFreed, IsLeft, IsReseated, last_points}
 use Rattle.lone_broker.specs.declared.handling.Handled.{Handled}
 use Rattle.lone_broker.specs.declared.parked.Parked.{Parked}
 use Rattle.lone_broker.proofs.Completes.{done_seat, finished_of, look_size}
 use Rattle.lone_broker.proofs.Followers.{parts_size}
 use Rattle.lone_broker.proofs.ResultsStand.{accepted_size, shows_logs}
-use Rattle.lone_broker.proofs.Standing.{kept_as, moved, reseated, seat_set_other, seat_set_same}
+use Rattle.lone_broker.proofs.Standing.{moved, reseated, seat_set_other, seat_set_same}
 use Rattle.lone_broker.proofs.Taking.{call_of, noted}
 
 -- ---- a seat and a slot
@@ -118,15 +115,15 @@ part_set_other : (parts : List History) (s q : ℕ) (h : History) → q ≢ s �
 part_set_other parts s q h other = ap (λ (o : Option History). unwrap_or o (empty_history 0)) (get_set_other parts s q h other)
 
 -- a history is as it was, or one of the points is in it
-pub accepted_elsewhere : (by seq : ℕ) (decisions : List Decision) (parts : List History) (q : ℕ)
-    → (history_at (accept_all by seq decisions parts).1 q ≡ history_at parts q) ⊎ HasPart q (step_points (steps_of (accept_all by seq decisions parts).0))
-accepted_elsewhere by seq [] parts q = inl refl
-accepted_elsewhere by seq (Refuse code ∷ decisions) parts q = accepted_elsewhere by seq decisions parts q
-accepted_elsewhere by seq (AskLog part outcome ∷ decisions) parts q =
-    let left = entered (history_at parts part) by seq (outcome (state_of (history_at parts part))).entry in
+pub accepted_elsewhere : (by seq t : ℕ) (decisions : List Decision) (parts : List History) (q : ℕ)
+    → (history_at (accept_all by seq t decisions parts).1 q ≡ history_at parts q) ⊎ HasPart q (step_points (steps_of (accept_all by seq t decisions parts).0))
+accepted_elsewhere by seq t [] parts q = inl refl
+accepted_elsewhere by seq t (Refuse code ∷ decisions) parts q = accepted_elsewhere by seq t decisions parts q
+accepted_elsewhere by seq t (AskLog part outcome ∷ decisions) parts q =
+    let left = entered (history_at parts part) by seq t (outcome (state_of (history_at parts part))).entry in
     elim (same_or_not q part) [
       | inl same ↦ inr (inl (sym same))
-      | inr other ↦ elim (accepted_elsewhere by seq decisions (set parts part left) q) [
+      | inr other ↦ elim (accepted_elsewhere by seq t decisions (set parts part left) q) [
         | inl is ↦ inl (is ∙ part_set_other parts part q left other)
         | inr among ↦ inr (inr among)
       ]
@@ -170,18 +167,18 @@ request_near body request (inl whole) = ask_near request.ask (spelled_fits body 
 request_near body request (inr other) = subst (λ (ask : Ask). wait_of ask < 2 ^ 31) (sym other.asked) (omega arith)
 
 -- a request whose decisions were carried out from these histories on
-module _ (config : Configuration) (request : Request) (body : List ℕ) (by seq : ℕ) (decisions : List Decision) (parts : List History) (asked : IsRequest body request) (decided : Decides config request.ask decisions) (size : length parts ≡ partitions_of config.topics) where
+module _ (config : Configuration) (request : Request) (body : List ℕ) (by seq t : ℕ) (decisions : List Decision) (parts : List History) (asked : IsRequest body request) (decided : Decides config request.ask decisions) (size : length parts ≡ partitions_of config.topics) where
   abbrev after : List History
-  after = (accept_all by seq decisions parts).1
+  after = (accept_all by seq t decisions parts).1
 
   abbrev shown : List Shown
-  shown = shown_of (accept_all by seq decisions parts).0
+  shown = shown_of (accept_all by seq t decisions parts).0
 
   abbrev needs : List Need
   needs = needs_of request.ask (results_of shown)
 
   values_now : values_of request.ask shown ≡ map (gauge_now after) needs
-  values_now = values_by_part (λ part. state_of (history_at after part)) request.ask shown (shows_logs config request body by seq decisions parts asked decided size).states
+  values_now = values_by_part (λ part. state_of (history_at after part)) request.ask shown (shows_logs config request body by seq t decisions parts asked decided size).states
 
   delayed_unreached : becomes_delayed request.ask shown ≡ true → tally needs (map (gauge_now after) needs) < least_of request.ask needs
   delayed_unreached delayed =
@@ -190,14 +187,14 @@ module _ (config : Configuration) (request : Request) (body : List ℕ) (by seq 
 
   abbrev done_as : (clock later : List ClockEvent) (done : Handled) (text more : List ℕ) → Bool → Type 0
   done_as clock later done text more b =
-      MatchBool b (IsParked by seq request (accept_all by seq decisions parts).0 clock later done text more) (IsAnswered config by request (accept_all by seq decisions parts).0 clock later done text more)
+      MatchBool b (IsParked by seq request (accept_all by seq t decisions parts).0 clock later done text more) (IsAnswered config by request (accept_all by seq t decisions parts).0 clock later done text more)
 
   done_moment : (clock later : List ClockEvent) (done : Handled) (text more : List ℕ) (b : Bool) → done_as clock later done text more b → moment_of later ≡ moment_of clock
   done_moment clock later done text more true p = ap moment_of p.looked ∙ looked_moment clock by seq
   done_moment clock later done text more false a = ap moment_of a.still
 
-  done_points : (clock later : List ClockEvent) (done : Handled) (text more : List ℕ) (b : Bool) → done_as clock later done text more b → (q : ℕ) → HasPart q (step_points (steps_of (accept_all by seq decisions parts).0)) → HasPart q done.accept
-  done_points clock later done text more true p q has = subst (HasPart q) (sym p.points) (has_part_front q (step_points (steps_of (accept_all by seq decisions parts).0)) _ has)
+  done_points : (clock later : List ClockEvent) (done : Handled) (text more : List ℕ) (b : Bool) → done_as clock later done text more b → (q : ℕ) → HasPart q (step_points (steps_of (accept_all by seq t decisions parts).0)) → HasPart q done.accept
+  done_points clock later done text more true p q has = subst (HasPart q) (sym p.points) (has_part_front q (step_points (steps_of (accept_all by seq t decisions parts).0)) _ has)
   done_points clock later done text more false a q has = subst (HasPart q) (sym a.points) has
 
   done_left : (clock later : List ClockEvent) (done : Handled) (text more : List ℕ) (b : Bool) → becomes_delayed request.ask shown ≡ b → done_as clock later done text more b
@@ -233,18 +230,18 @@ handled_acted kept session end seq request parts clock done text more body stand
     let points : last_points (transcript_at next.board session).calls ≡ done.accept =
     ap (λ (x : Seat). last_points (transcript_of session x).calls) at_seat ∙ last_points_of (transcript_of session (seat_at kept.board session)).calls call in
     let counted : next_call next.board session ≡ next_call kept.board session + 1 = ap (next_of session) at_seat ∙ noted_calls kept session end call in
-    let delayed : Bool = becomes_delayed request.ask (shown_of (accept_all session seq h.decisions kept.board.parts).0) in
+    let delayed : Bool = becomes_delayed request.ask (shown_of (accept_all session seq (moment_of kept.board.clock) h.decisions kept.board.parts).0) in
     record {
       alone = moved_alone kept parts clock session seat done.parked seated
-          (done_moment config request body session seq h.decisions kept.board.parts asked h.decided size kept.board.clock clock done text more delayed h.became)
+          (done_moment config request body session seq (moment_of kept.board.clock) h.decisions kept.board.parts asked h.decided size kept.board.clock clock done text more delayed h.became)
           (omega (arith, noted_calls kept session end call));
-      size = ap length h.histories ∙ accepted_size session seq h.decisions kept.board.parts;
-      asked = λ q. elim (accepted_elsewhere session seq h.decisions kept.board.parts q) [
+      size = ap length h.histories ∙ accepted_size session seq (moment_of kept.board.clock) h.decisions kept.board.parts;
+      asked = λ q. elim (accepted_elsewhere session seq (moment_of kept.board.clock) h.decisions kept.board.parts q) [
         | inl same ↦ inl (ap (λ (ps : List History). history_at ps q) h.histories ∙ same)
-        | inr has ↦ inr (subst (HasPart q) (sym points) (done_points config request body session seq h.decisions kept.board.parts asked h.decided size kept.board.clock clock done text more delayed h.became q has))
+        | inr has ↦ inr (subst (HasPart q) (sym points) (done_points config request body session seq (moment_of kept.board.clock) h.decisions kept.board.parts asked h.decided size kept.board.clock clock done text more delayed h.became q has))
       ];
       left = subst (AnyLeft session kept next) (sym (slot_set_same kept.parked session done.parked (omega (arith, are.parked, there))))
-          (done_left config request body session seq h.decisions kept.board.parts asked h.decided size kept.board.clock clock done text more delayed refl h.became kept next session h.histories refl (omega (arith, counted)));
+          (done_left config request body session seq (moment_of kept.board.clock) h.decisions kept.board.parts asked h.decided size kept.board.clock clock done text more delayed refl h.became kept next session h.histories refl (omega (arith, counted)));
     }
 
 -- ---- what the looks of a completion leave
@@ -259,7 +256,7 @@ look_state (p ∷ parts) (suc x) (suc q) h same = look_state parts x q h same
 look_states : (by seq : ℕ) (xs : List ℕ) (parts : List History) (q : ℕ) → state_of (history_at (look_all by seq xs parts).1 q) ≡ state_of (history_at parts q)
 look_states by seq [] parts q = refl
 look_states by seq (x ∷ xs) parts q =
-    let left = entered (history_at parts x) by seq Looked in
+    let left = looked (history_at parts x) by seq in
     look_states by seq xs (set parts x left) q ∙ look_state parts x q left (looked_state (history_at parts x) by seq)
 
 clock_moment : (how : CallHow) (by seq : ℕ) (clock : List ClockEvent) → moment_of (clock_after how by seq clock) ≡ moment_of clock
@@ -289,21 +286,3 @@ finished_freed kept session how accepted stands there =
       states = look_states session seq (parts_asked accepted) kept.board.parts;
       free = slot_set_same kept.parked session None (omega (arith, stands.1.kept_of.parked, there));
     }
-
--- ---- what a line brings
-
-pub ticked_kept : (config : Configuration) (parts : List History) (clock later : List ClockEvent) (desks : List Seat) (parked : List (Option Parked)) (kept : Kept) (t : ℕ) → kept_as config parts clock desks parked ≡ kept → later ≡ ticked clock t
-    → IsTicked kept (kept_as config parts later desks parked)
-ticked_kept config parts clock later desks parked kept t view is = record {
-  seats = ap (λ (k : Kept). k.board.seats) view;
-  parked = ap (λ (k : Kept). k.parked) view;
-  parts = ap (λ (k : Kept). k.board.parts) view;
-  later = subst (λ (k : Kept). moment_of k.board.clock ≤ moment_of later) view
-      (subst (λ (cs : List ClockEvent). moment_of clock ≤ moment_of cs) (sym is) (rising (nat_lt (moment_of clock) t)));
-}
-  where
-    rising : (b : Bool) → moment_of clock ≤ moment_of (cond b (clock ++ Tick t ∷ []) clock)
-    rising true =
-        let told : moment_of (clock ++ Tick t ∷ []) ≡ max (moment_of clock) t = ap (λ (l : List ℕ). fold max 0 l) (filter_map-append tick_of clock (Tick t ∷ [])) ∙ fold_push max 0 (filter_map tick_of clock) t in
-        omega (arith, told)
-    rising false = omega arith

@@ -79,7 +79,7 @@ module _ (kept : Kept) (waiting : List Waiting) (are : AreKept kept waiting) (se
   body = front_body (seat_at kept.board session) end
 
   abbrev came : List Noted × List History
-  came = accept_all session (next_call kept.board session) decisions kept.board.parts
+  came = accept_all session (next_call kept.board session) (moment_of kept.board.clock) decisions kept.board.parts
 
   abbrev seated : Call → Seat
   seated call = seat_with board session body call
@@ -91,7 +91,7 @@ module _ (kept : Kept) (waiting : List Waiting) (are : AreKept kept waiting) (se
   noted_is call = ap (λ (n : ℕ). noted session n call (seat_at kept.board session)) long
 
   followers : map (λ (h : History). h.followers) came.1 ≡ map (λ (h : History). h.followers) kept.board.parts
-  followers = accepted_followers session (next_call kept.board session) decisions kept.board.parts
+  followers = accepted_followers session (next_call kept.board session) (moment_of kept.board.clock) decisions kept.board.parts
 
   -- it needn't wait
   abbrev the_call : Call
@@ -133,7 +133,7 @@ module _ (kept : Kept) (waiting : List Waiting) (are : AreKept kept waiting) (se
     moment = moment_of clock;
     made = refl;
     listed = listed;
-    there = results_logs kept.board.config request body session (next_call kept.board session) decisions kept.board.parts asked decided (parts_size kept.board.config.topics kept.board.parts are.followers);
+    there = results_logs kept.board.config request body session (next_call kept.board session) (moment_of kept.board.clock) decisions kept.board.parts asked decided (parts_size kept.board.config.topics kept.board.parts are.followers);
   }
 
   stands_waiting : AreResults request.ask results → (call : Call) → call ≡ waiting_call
@@ -192,7 +192,7 @@ handled_turns kept session end seq request parts clock done text more there idle
     let board = with_waiting kept waiting in
     let t = handled board session body request h.decisions in
     let did = became kept waiting are session end seq there idle whole counted request asked h.decisions h.decided
-    (becomes_delayed request.ask (shown_of (accept_all session (next_call kept.board session) h.decisions kept.board.parts).0)) parts clock done text more h.histories h.became in
+    (becomes_delayed request.ask (shown_of (accept_all session (next_call kept.board session) (moment_of kept.board.clock) h.decisions kept.board.parts).0)) parts clock done text more h.histories h.became in
     (t, frame_acts board session end t whole (λ e. room (counted ∙ e)) (inl (request, h.decisions, asked, h.decided, refl)), did.0, did.1))
 
 -- where it ends, that is how it acts

@@ -1,4 +1,4 @@
--- What the index is told of the partitions at a call's points.
+-- What the index is told of the partitions at a call's points, or of all.
 use Rattle.std.proofs.Common.{◌≡◌, ◌≢◌, ◌⊎◌, ◌↔◌, ℕ, zero, suc, ◌+◌, ◌*◌, ◌/◌, ◌%◌, ◌<◌, ◌≤◌, List, [], ◌∷◌, ◌++◌, length, get_or, set, take, map, Option, Some, None, refl, sym, ap, subst, ◌∙◌, arith, inl, inr}
 use Rattle.std.proofs.lemmas.Bool.{cases_lt}
 use Rattle.std.proofs.lemmas.List.{length-set, take_all, take_more}
@@ -17,8 +17,8 @@ use Rattle.lone_waiters.specs.Index.{Index, IsSuspect, WaitsFor, moment_of}
 use Rattle.lone_waiters.specs.Waiting.{Names, WaitsOn}
 use Rattle.broker_spec.specs.Board.{empty_history, history_at}
 use Rattle.lone_broker.specs.Steps.{HasPart}
-use Rattle.lone_broker.specs.Telling.{AreToldOf, AreWarned, IsWarned, StayWatched}
-use Rattle.lone_broker.specs.Watching.{IsIndexed, IsQuiet, numbers_now, told_at, told_value}
+use Rattle.lone_broker.specs.Telling.{AreToldOf, AreWarned, IsToldOf, IsWarned, StayWatched}
+use Rattle.lone_broker.specs.Watching.{AreTold, IsIndexed, IsQuiet, numbers_now, told_at, told_value}
 use Rattle.lone_broker.specs.declared.parked.Parked.{Parked}
 use Rattle.lone_broker.proofs.Watching.{indexed_on}
 
@@ -153,18 +153,48 @@ pub told_watched_at : (before after : Index) (told : List Numbers) (part : ℕ) 
 told_watched_at before after told part d now there warned tells =
     told_watched before after told part now there warned (subst (λ (n : Numbers). AreWarned part n now before after) (sym (told_there told part d there)) tells)
 
--- ---- of one point, and of one more
+-- ---- of one partition, of all of them, of one point, and of one more
 
-pub told_one : (parts : List History) (point : Point) (told : List Numbers) (now : Numbers) → point.part < length told → now ≡ numbers_now parts point.part → AreToldOf parts (point ∷ []) told (set told point.part now)
-told_one parts point told now there is = record {
-  size = length-set told point.part now;
+pub told_part : (parts : List History) (part : ℕ) (told : List Numbers) (now : Numbers) → part < length told → now ≡ numbers_now parts part → IsToldOf parts part told (set told part now)
+told_part parts part told now there is = record {
+  size = length-set told part now;
+  said = told_set_same told part now there ∙ is;
+  others = λ other differs. told_set_other told part other now differs;
+}
+
+-- those below this number
+pub record AreToldBelow (parts : List History) (upto : ℕ) (told : List Numbers) : Type 0 where
+  pub size : length told ≡ length parts
+  pub each : (part : ℕ) → part < upto → told_at told part ≡ numbers_now parts part
+
+pub below_more : (parts : List History) (upto : ℕ) (told later : List Numbers) → AreToldBelow parts upto told → IsToldOf parts upto told later → AreToldBelow parts (upto + 1) later
+below_more parts upto told later below one = record {
+  size = one.size ∙ below.size;
+  each = λ part lt. elim (same_or_not part upto) [
+    | inl here ↦ subst (λ (p : ℕ). told_at later p ≡ numbers_now parts p) (sym here) one.said
+    | inr other ↦ one.others part other ∙ below.each part (omega (arith, lt, other))
+  ];
+}
+
+pub below_all : (parts : List History) (upto : ℕ) (told : List Numbers) → length told ≤ upto → AreToldBelow parts upto told → AreTold told parts
+below_all parts upto told all below = record {
+  size = below.size;
+  each = λ part. elim (cases_lt part upto) [
+    | inl lt ↦ below.each part lt
+    | inr behind ↦ alike_behind told parts part below.size (omega (arith, all, behind))
+  ];
+}
+
+pub told_one : (parts : List History) (point : Point) (told later : List Numbers) → IsToldOf parts point.part told later → AreToldOf parts (point ∷ []) told later
+told_one parts point told later one = record {
+  size = one.size;
   said = λ part has. elim has [
-    | inl here ↦ subst (λ (p : ℕ). told_at (set told point.part now) p ≡ numbers_now parts p) here (told_set_same told point.part now there ∙ is)
+    | inl here ↦ subst (λ (p : ℕ). told_at later p ≡ numbers_now parts p) here one.said
     | inr none ↦ absurd none
   ];
   still = λ part. elim (same_or_not part point.part) [
-    | inl here ↦ inr (subst (λ (p : ℕ). told_at (set told point.part now) p ≡ numbers_now parts p) (sym here) (told_set_same told point.part now there ∙ is))
-    | inr other ↦ inl (told_set_other told point.part part now other)
+    | inl here ↦ inr (subst (λ (p : ℕ). told_at later p ≡ numbers_now parts p) (sym here) one.said)
+    | inr other ↦ inl (one.others part other)
   ];
 }
 

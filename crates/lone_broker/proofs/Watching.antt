@@ -338,23 +338,25 @@ ticked_quiet told before after t s (Some parked) later at i never quiet = record
   early = subst (λ (m : ℕ). m < parked.op.deadline) (sym at) (still_early t parked.op.deadline (λ come. never (parked.op.deadline, i.coming quiet.early, come)));
 }
 
-pub ticked_watched : (w : Watched) (engine : Kept) (next : Index) (t : ℕ) → IsWatched w → Stands engine → IsTicked w.engine engine → t ≡ clock_moment engine.board.clock → moment_of next ≡ t
-    → ((s : ℕ) → IsSuspect next s ↔ (IsSuspect w.waiters s ⊎ ComesBy t w.waiters s)) → ((s : ℕ) → WatchesOn w.waiters next s)
-    → ((s deadline : ℕ) → (coming_of next s ≡ Some deadline) ↔ ((coming_of w.waiters s ≡ Some deadline) × (t < deadline)))
-    → IsWatched (record { engine = engine; told = w.told; waiters = next; ready = w.ready })
-ticked_watched w engine next t h stands ticked now at suspects on coming =
-    let later : moment_of w.waiters ≤ t = omega (arith, h.moment, ticked.later, now) in
+-- the index was told which gauges rose as followers left, and then the moment
+pub ticked_watched : (w : Watched) (engine : Kept) (told : List Numbers) (first next : Index) (t : ℕ) → IsWatched w → Stands engine → IsTicked w.engine engine → AreTold told engine.board.parts → AreWatched first told (parked_at w.engine)
+    → moment_of first ≡ moment_of w.waiters → ((s : ℕ) → last_of first s ≡ last_of w.waiters s) → t ≡ clock_moment engine.board.clock → moment_of next ≡ t
+    → ((s : ℕ) → IsSuspect next s ↔ (IsSuspect first s ⊎ ComesBy t first s)) → ((s : ℕ) → WatchesOn first next s)
+    → ((s deadline : ℕ) → (coming_of next s ≡ Some deadline) ↔ ((coming_of first s ≡ Some deadline) × (t < deadline)))
+    → IsWatched (record { engine = engine; told = told; waiters = next; ready = w.ready })
+ticked_watched w engine told first next t h stands ticked are watched same last now at suspects on coming =
+    let later : moment_of first ≤ t = omega (arith, same, h.moment, ticked.later, now) in
     let slots : (s : ℕ) → parked_at engine s ≡ parked_at w.engine s = λ s. ap (λ (slots : List (Option Parked)). unwrap_or (slice_get slots s) None) ticked.parked in
     let seats : (s : ℕ) → seat_at engine.board s ≡ seat_at w.engine.board s = λ s. ap (λ (seats : List Seat). unwrap_or (slice_get seats s) empty_seat) ticked.seats in
     record {
       stands = stands;
-      told = subst (AreTold w.told) (sym ticked.parts) h.told;
+      told = are;
       moment = at ∙ now;
-      waits = same_waits next w.told (parked_at w.engine) (parked_at engine) slots (record {
-        indexed = λ s. ticked_indexed w.waiters next t s (parked_at w.engine s) later at (on s) (coming s) (h.waits.indexed s);
-        quiet = λ s never. ticked_quiet w.told w.waiters next t s (parked_at w.engine s) later at (h.waits.indexed s) (λ comes. never ((suspects s).1 (inr comes))) (h.waits.quiet s (λ was. never ((suspects s).1 (inl was))));
+      waits = same_waits next told (parked_at w.engine) (parked_at engine) slots (record {
+        indexed = λ s. ticked_indexed first next t s (parked_at w.engine s) later at (on s) (coming s) (watched.indexed s);
+        quiet = λ s never. ticked_quiet told first next t s (parked_at w.engine s) later at (watched.indexed s) (λ comes. never ((suspects s).1 (inr comes))) (watched.quiet s (λ was. never ((suspects s).1 (inl was))));
       });
-      generations = λ s. subst (λ (x : Seat). last_of next s ≤ next_of s x) (sym (seats s)) (omega (arith, (on s).last, h.generations s));
+      generations = λ s. subst (λ (x : Seat). last_of next s ≤ next_of s x) (sym (seats s)) (omega (arith, (on s).last, last s, h.generations s));
       ready = λ s there.
           let same = ready_same w.engine engine s (seats s) (slots s) in
           (λ has. same ∙ (h.ready s there).0 has, λ is. (h.ready s there).1 (sym same ∙ is));

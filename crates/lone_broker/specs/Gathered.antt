@@ -16,7 +16,7 @@ use Rattle.kanswer.specs.Waiting.{Shown}
 use Rattle.kanswer.specs.Answer.{read_of, budget_after}
 
 abbrev pub nothing_read : Reading
-nothing_read = record { numbers = record { end = 0; high = 0; visible = 0; bytes = 0 }; records = [] }
+nothing_read = record { numbers = record { end = 0; high = 0; visible = 0; bytes = 0; insync = 0 }; records = [] }
 
 abbrev pub state_now : List History → Accepted → State
 state_now parts (Refused code) = state_of (empty_history 0)

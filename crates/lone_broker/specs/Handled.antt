@@ -39,11 +39,11 @@ pub record IsParked (by seq : ℕ) (request : Request) (noted : List Noted) (clo
   pub printed : more ≡ text
   pub listed : AreResults request.ask (results_of (shown_of noted))
 
--- by the call of this number of a session
+-- by the call of this number of a session, at the clock's moment
 pub record IsHandled (config : Configuration) (by seq : ℕ) (request : Request) (before after : List History) (clock later : List ClockEvent) (handled : Handled) (text more : List ℕ) : Type 0 where
   pub decisions : List Decision
   pub decided : Decides config request.ask decisions
-  pub histories : after ≡ (accept_all by seq decisions before).1
-  pub became : MatchBool (becomes_delayed request.ask (shown_of (accept_all by seq decisions before).0))
-      (IsParked by seq request (accept_all by seq decisions before).0 clock later handled text more)
-      (IsAnswered config by request (accept_all by seq decisions before).0 clock later handled text more)
+  pub histories : after ≡ (accept_all by seq (moment_of clock) decisions before).1
+  pub became : MatchBool (becomes_delayed request.ask (shown_of (accept_all by seq (moment_of clock) decisions before).0))
+      (IsParked by seq request (accept_all by seq (moment_of clock) decisions before).0 clock later handled text more)
+      (IsAnswered config by request (accept_all by seq (moment_of clock) decisions before).0 clock later handled text more)

@@ -76,11 +76,11 @@ pub record IsFreed (session : ℕ) (before after : Kept) : Type 0 where
   pub states : (part : ℕ) → state_of (history_at after.board.parts part) ≡ state_of (history_at before.board.parts part)
   pub free : parked_at after session ≡ None
 
--- only the clock changed, and its moment didn't fall
+-- only the clock and the histories changed, and its moment didn't fall
 pub record IsTicked (before after : Kept) : Type 0 where
   pub seats : after.board.seats ≡ before.board.seats
   pub parked : after.parked ≡ before.parked
-  pub parts : after.board.parts ≡ before.board.parts
+  pub size : length after.board.parts ≡ length before.board.parts
   pub later : moment_of before.board.clock ≤ moment_of after.board.clock
 
 -- what a line brings

@@ -22,6 +22,12 @@ abbrev pub AreWarned : ℕ → Numbers → Numbers → Index → Index → Type 
 AreWarned part was now before after =
     (gauge session : ℕ) → partition_of gauge ≡ part → gauge_in gauge was ≢ gauge_in gauge now → WaitsFor before session gauge → IsSuspect after session
 
+-- the index was told the numbers of this partition, and of no other
+pub record IsToldOf (parts : List History) (part : ℕ) (told later : List Numbers) : Type 0 where
+  pub size : length later ≡ length told
+  pub said : told_at later part ≡ numbers_now parts part
+  pub others : (other : ℕ) → other ≢ part → told_at later other ≡ told_at told other
+
 -- the index was told the numbers of the partitions at these points, and of any other partition nothing or the numbers that it has
 pub record AreToldOf (parts : List History) (points : List Point) (told later : List Numbers) : Type 0 where
   pub size : length later ≡ length told

@@ -9,42 +9,42 @@ ghost use Rattle.kanswer.specs.Sent.{sent_outcome};
 ghost use Rattle.lone_broker.specs.Carried.{IsEntered, IsCarried, HasProduced};
 
 use crate::came::Came;
-use kanswer::{Accepted, SentBatch, Terms, decide_put, enter_batch, enter_fetch};
+use kanswer::{Accepted, SentBatch, Terms, Visitor, decide_put, enter_batch, enter_fetch};
 use kbytes::NoMemory;
 use kwire::{
     AskView, Config, FetchPart, FetchTopicView, ProducePartView, ProduceTopicView, RequestView,
     codes,
 };
-use partlog::{PartLog, Who};
+use partlog::PartLog;
 use std::alloc::Global;
 
 // Puts the batch at the end of the log if there is room.
 fn put(
     log: &mut PartLog,
-    who: Who,
+    visitor: Visitor,
     part: u32,
     sent: &SentBatch<'_>,
     came: &mut Came,
 ) -> Result<(), NoMemory>
-    ensures { OnOk result (IsEntered who.by who.seq part (sent_outcome part sent.now) log.old log.new came.old came.new) }
+    ensures { OnOk result (IsEntered visitor.who.by visitor.who.seq visitor.moment part (sent_outcome part sent.now) log.old log.new came.old came.new) }
 {
-    let entered = enter_batch(log, who, part, sent)?;
+    let entered = enter_batch(log, visitor, part, sent)?;
     came.note_at(entered.became, part, entered.place)
 }
 
-/// A call that is handled: its session and number, and the topics that there are.
+/// A call that is handled: its session and number, with the clock's moment, and the topics that there are.
 #[derive(Clone, Copy, Debug)]
 pub struct Asking<'a> {
     pub alloc: Global,
     pub config: &'a Config,
-    pub who: Who,
+    pub visitor: Visitor,
 }
 
 // A produce of a call.
 #[derive(Clone, Copy, Debug)]
 struct Producing<'a> {
     config: &'a Config,
-    who: Who,
+    visitor: Visitor,
     terms: Terms,
 }
 
@@ -52,7 +52,7 @@ struct Producing<'a> {
 #[derive(Clone, Copy, Debug)]
 struct Fetching<'a> {
     config: &'a Config,
-    who: Who,
+    visitor: Visitor,
     replica: i32,
 }
 
@@ -67,12 +67,12 @@ fn produce_one(
     requires { length parts.old ≡ partitions_of call.now.config.now.topics }
     ensures { OnOk result ((decision : Decision)
         × OnTerms call.now.terms (λ id. ProduceDecides call.now.config.now call.now.terms.version id call.now.terms.acks (topic.now, part.now) decision)
-        × IsCarried call.now.who.by call.now.who.seq (decision ∷ []) parts.old parts.new came.old came.new) }
+        × IsCarried call.now.visitor.who.by call.now.visitor.who.seq call.now.visitor.moment (decision ∷ []) parts.old parts.new came.old came.new) }
 {
     match decide_put(call.config, call.terms, topic, part) {
         Ok((number, sent)) => {
             let log = &mut parts[number as usize];
-            put(log, call.who, number, &sent, came)
+            put(log, call.visitor, number, &sent, came)
         }
         Err(code) => came.note(Accepted::Refused { code }),
     }
@@ -87,7 +87,7 @@ fn produce_topic(
 ) -> Result<(), NoMemory>
     requires { length parts.old ≡ partitions_of call.now.config.now.topics }
     ensures size { OnOk result (length parts.new ≡ length parts.old) }
-    ensures carried { OnOk result (HasProduced call.now.config.now call.now.terms call.now.who.by call.now.who.seq (topic.now ∷ [])
+    ensures carried { OnOk result (HasProduced call.now.config.now call.now.terms call.now.visitor.who.by call.now.visitor.who.seq call.now.visitor.moment (topic.now ∷ [])
         parts.old parts.new came.old came.new) }
 {
     for part in topic.parts.as_slice() {
@@ -105,7 +105,7 @@ fn produce(
     came: &mut Came,
 ) -> Result<(), NoMemory>
     requires { length parts.old ≡ partitions_of call.now.config.now.topics }
-    ensures { OnOk result (HasProduced call.now.config.now call.now.terms call.now.who.by call.now.who.seq topics.now
+    ensures { OnOk result (HasProduced call.now.config.now call.now.terms call.now.visitor.who.by call.now.visitor.who.seq call.now.visitor.moment topics.now
         parts.old parts.new came.old came.new) }
 {
     for topic in topics {
@@ -122,10 +122,10 @@ fn accept_fetch_part(
     asked: &FetchPart,
     came: &mut Came,
 ) -> Result<(), NoMemory>
-    ensures { OnOk result (IsEntered call.now.who.by call.now.who.seq part (fetch_outcome log.old.followers call.now.replica asked.now part)
+    ensures { OnOk result (IsEntered call.now.visitor.who.by call.now.visitor.who.seq call.now.visitor.moment part (fetch_outcome log.old.followers call.now.replica asked.now part)
         log.old log.new came.old came.new) }
 {
-    let entered = enter_fetch(log, call.who, call.replica, part, asked)?;
+    let entered = enter_fetch(log, call.visitor, call.replica, part, asked)?;
     came.note_at(entered.became, part, entered.place)
 }
 
@@ -138,7 +138,7 @@ fn fetch_one(
     came: &mut Came,
 ) -> Result<(), NoMemory>
     requires { map (λ h. h.followers) parts.old ≡ followers_of call.now.config.now.topics }
-    ensures { OnOk result (IsCarried call.now.who.by call.now.who.seq
+    ensures { OnOk result (IsCarried call.now.visitor.who.by call.now.visitor.who.seq call.now.visitor.moment
         (fetch_decision call.now.config.now call.now.replica (topic.now, asked.now) (part_of call.now.config.now topic.now asked.now.index) ∷ [])
         parts.old parts.new came.old came.new) }
 {
@@ -160,7 +160,7 @@ fn fetch_topic(
 ) -> Result<(), NoMemory>
     requires { map (λ h. h.followers) parts.old ≡ followers_of call.now.config.now.topics }
     ensures followers { OnOk result (map (λ h. h.followers) parts.new ≡ followers_of call.now.config.now.topics) }
-    ensures carried { OnOk result (IsCarried call.now.who.by call.now.who.seq
+    ensures carried { OnOk result (IsCarried call.now.visitor.who.by call.now.visitor.who.seq call.now.visitor.moment
         (fetch_decisions call.now.config.now call.now.replica (fetch_parts (topic.now ∷ [])))
         parts.old parts.new came.old came.new) }
 {
@@ -179,7 +179,7 @@ fn fetch(
     came: &mut Came,
 ) -> Result<(), NoMemory>
     requires { map (λ h. h.followers) parts.old ≡ followers_of call.now.config.now.topics }
-    ensures { OnOk result (IsCarried call.now.who.by call.now.who.seq (fetch_decisions call.now.config.now call.now.replica (fetch_parts topics.now))
+    ensures { OnOk result (IsCarried call.now.visitor.who.by call.now.visitor.who.seq call.now.visitor.moment (fetch_decisions call.now.config.now call.now.replica (fetch_parts topics.now))
         parts.old parts.new came.old came.new) }
 {
     for topic in topics {
@@ -198,7 +198,7 @@ pub fn accept(
 ) -> Result<(), NoMemory>
     requires { map (λ h. h.followers) parts.old ≡ followers_of call.now.config.now.topics }
     ensures { OnOk result ((decisions : Items Decision) × Decides call.now.config.now request.now.ask decisions
-        × IsCarried call.now.who.by call.now.who.seq decisions parts.old parts.new came.old came.new) }
+        × IsCarried call.now.visitor.who.by call.now.visitor.who.seq call.now.visitor.moment decisions parts.old parts.new came.old came.new) }
 {
     match &request.ask {
         AskView::Produce {
@@ -215,7 +215,7 @@ pub fn accept(
             };
             let produced = Producing {
                 config: call.config,
-                who: call.who,
+                visitor: call.visitor,
                 terms,
             };
             produce(&produced, parts, topics.as_slice(), came)
@@ -227,7 +227,7 @@ pub fn accept(
         } => {
             let fetched = Fetching {
                 config: call.config,
-                who: call.who,
+                visitor: call.visitor,
                 replica: *replica,
             };
             fetch(&fetched, parts, topics.as_slice(), came)

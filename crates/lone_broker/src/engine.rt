@@ -15,9 +15,10 @@ ghost use Rattle.broker_spec.specs.Play.{brought};
 ghost use Rattle.broker_spec.specs.Turns.{ended};
 ghost use Rattle.partlog.specs.Moment.{moment_of};
 ghost use Rattle.partlog.specs.declared.clock_event.TheConstants.{MOST_MOMENT};
+ghost use Rattle.trace_file.specs.declared.line.Line.TheVariants.{Clock};
 ghost use Rattle.lone_broker.specs.Kept.{IsPlayable, StandsFor, Stands, TurnsBy, parked_at, waiting_in};
 ghost use Rattle.lone_broker.specs.Looks.{due_in, finished};
-ghost use Rattle.lone_broker.specs.Steps.{IsActed, IsBrought, IsFreed, IsReseated, is_ready, last_points, operation_at};
+ghost use Rattle.lone_broker.specs.Steps.{IsActed, IsBrought, IsFreed, IsReseated, IsTicked, is_ready, last_points, operation_at};
 
 use crate::accept::Asking;
 use crate::closing::account;
@@ -27,7 +28,9 @@ use crate::handling::handle;
 use crate::opening::{open_desks, open_parked, open_parts};
 use crate::parked::Parked;
 use crate::reply::reply_frame;
+use crate::shrinking::shrink_parts;
 use audit::{Account, Call, CallHow, MOST_CALLS, Point, SessionEnd, end_of_input, put_end_line};
+use kanswer::Visitor;
 use kbytes::{Bytes, List, NoMemory};
 use kwire::{Config, Frame, WireFault, view_request};
 use opcond::{Op, is_overdue};
@@ -273,7 +276,10 @@ impl Engine {
         let call = Asking {
             alloc: self.alloc,
             config: &self.config,
-            who,
+            visitor: Visitor {
+                who,
+                moment: self.clock.now(),
+            },
         };
         let parts = self.parts.as_mut_slice();
         let handled = handle(&call, parts, &mut self.clock, &request, out)?;
@@ -310,6 +316,20 @@ impl Engine {
         }
     }
 
+    // Tells the clock a moment. Where it rises, the followers that lag at it leave, in one partition after the other.
+    fn tick(&mut self, t: u64) -> Result<(), NoMemory>
+        requires { t ≤ MOST_MOMENT }
+        ensures brought { OnOk result ((board : Board) → StandsFor self.old board → StandsFor self.new (brought board (Clock t))) }
+        ensures alone { OnOk result (IsTicked self.old self.new) }
+    {
+        let rose = self.clock.tick(t)?;
+        if rose {
+            shrink_parts(self.parts.as_mut_slice(), t)
+        } else {
+            Ok(())
+        }
+    }
+
     /// Takes in what a line brings.
     pub fn bring(&mut self, line: &Line) -> Result<(), NoMemory>
         requires playable { IsPlayable line.now }
@@ -325,7 +345,7 @@ impl Engine {
                 self.desks.as_mut_slice()[*session as usize].shut(*session);
             }
             Line::Clock { t } => {
-                self.clock.tick(*t)?;
+                self.tick(*t)?;
             }
             Line::Topic { .. } | Line::End => {}
         }

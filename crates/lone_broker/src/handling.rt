@@ -62,11 +62,11 @@ fn answer_at_once(
     ensures how { IfOk result (λ handled. handled.how ≡ how_at_once request.now.ask) }
     ensures none { IfOk result (λ handled. handled.parked ≡ None) }
     ensures printed { OnOk result ((shown : Items Shown) → ShowsLogs parts.now came.accepted shown
-        → out.new ≡ out.old ++ text_at_once call.now.config.now call.now.who.by request.now shown) }
+        → out.new ≡ out.old ++ text_at_once call.now.config.now call.now.visitor.who.by request.now shown) }
 {
     if !is_quiet(&request.ask) {
         let frame = reply_frame(call.alloc, call.config, parts, request, came.accepted())?;
-        put_reply_line(out, call.who.by, frame.as_slice())?;
+        put_reply_line(out, call.visitor.who.by, frame.as_slice())?;
     }
     Ok(Handled {
         accept: came.into_points(),
@@ -83,7 +83,7 @@ fn park(
     came: Came,
 ) -> Result<Handled, NoMemory>
     requires { AreResults request.now.ask came.accepted }
-    ensures looked { OnOk result (clock.new ≡ looked_by call.now.who.by call.now.who.seq clock.old) }
+    ensures looked { OnOk result (clock.new ≡ looked_by call.now.visitor.who.by call.now.visitor.who.seq clock.old) }
     ensures points { IfOk result (λ handled. handled.accept
         ≡ came.points ++ record { part = clock_part; place = length clock.old } ∷ []) }
     ensures how { IfOk result (λ handled. handled.how ≡ Waits) }
@@ -92,7 +92,7 @@ fn park(
       op = operation_of request.now.ask came.accepted (moment_of clock.new);
     })) }
 {
-    let place = clock.look(call.who)?;
+    let place = clock.look(call.visitor.who)?;
     let op = op_of(call.alloc, request, came.accepted(), clock.now())?;
     let (accepted, mut accept) = came.into_parts();
     accept.push(Point {
@@ -117,7 +117,8 @@ pub fn handle(
 ) -> Result<Handled, NoMemory>
     requires asked { (body : Items ℕ) × IsRequest body request.now }
     requires followers { map (λ h. h.followers) parts.old ≡ followers_of call.now.config.now.topics }
-    ensures { IfOk result (λ handled. IsHandled call.now.config.now call.now.who.by call.now.who.seq request.now parts.old parts.new
+    requires moment { call.now.visitor.moment ≡ moment_of clock.old }
+    ensures { IfOk result (λ handled. IsHandled call.now.config.now call.now.visitor.who.by call.now.visitor.who.seq request.now parts.old parts.new
         clock.old clock.new handled out.old out.new) }
 {
     // so few partitions that there is a gauge for each that the request may wait for

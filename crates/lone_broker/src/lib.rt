@@ -14,6 +14,7 @@ mod lone;
 mod opening;
 mod parked;
 mod reply;
+mod shrinking;
 mod watched;
 
 pub use lone::Lone;

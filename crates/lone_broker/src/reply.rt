@@ -186,6 +186,7 @@ const NO_NUMBERS: Numbers = Numbers {
     high: 0,
     visible: 0,
     bytes: 0,
+    insync: 0,
 };
 
 // The numbers of a partition's log as it is, if the log was asked.

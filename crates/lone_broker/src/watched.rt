@@ -17,8 +17,8 @@ ghost use Rattle.broker_spec.specs.Completing.{answered_in, scanned};
 ghost use Rattle.broker_spec.specs.Play.{PlaysLine, Rests, brought};
 ghost use Rattle.lone_broker.specs.Kept.{IsPlayable, StandsFor, Stands, TurnsBy, parked_at};
 ghost use Rattle.lone_broker.specs.Steps.{is_ready, operation_at};
-ghost use Rattle.lone_broker.specs.Telling.{AreToldOf, AreWarned, IsWarned, StayWatched};
-ghost use Rattle.lone_broker.specs.Watching.{IsTaken, IsWatched, MayWait};
+ghost use Rattle.lone_broker.specs.Telling.{AreToldOf, AreWarned, IsToldOf, IsWarned, StayWatched};
+ghost use Rattle.lone_broker.specs.Watching.{AreTold, IsTaken, IsWatched, MayWait};
 
 use crate::engine::Engine;
 use audit::{Account, Point};
@@ -88,6 +88,36 @@ fn tell_gauges(waiters: &mut Waiters, part: u32, was: &Numbers, now: &Numbers)
     tell_gauge(waiters, end_gauge(part), was.bytes, now.bytes);
 }
 
+// Tells the index of a partition.
+fn tell_part(parts: &[PartLog], part: u32, told: &mut [Numbers], waiters: &mut Waiters)
+    requires size { length told.old ≡ length parts.now }
+    requires few { length told.old ≤ MOST_PARTITIONS }
+    requires there { part < length told.old }
+    ensures told { IsToldOf parts.now part told.old told.new }
+    ensures warned { IsWarned waiters.old waiters.new }
+    ensures watched { StayWatched waiters.old told.old waiters.new told.new }
+{
+    let at = part as usize;
+    let now = parts[at].numbers();
+    let was = told[at];
+    tell_gauges(waiters, part, &was, &now);
+    told[at] = now;
+}
+
+// Tells the index of all partitions.
+fn tell_all(parts: &[PartLog], told: &mut [Numbers], waiters: &mut Waiters)
+    requires size { length told.old ≡ length parts.now }
+    requires few { length told.old ≤ MOST_PARTITIONS }
+    ensures told { AreTold told.new parts.now }
+    ensures warned { IsWarned waiters.old waiters.new }
+    ensures watched { StayWatched waiters.old told.old waiters.new told.new }
+{
+    let count = told.len() as u32;
+    for part in 0..count {
+        tell_part(parts, part, told, waiters);
+    }
+}
+
 // Tells the index of the partition at a point. The clock's history has no gauges.
 fn tell_at(parts: &[PartLog], point: &Point, told: &mut [Numbers], waiters: &mut Waiters)
     requires size { length told.old ≡ length parts.now }
@@ -96,14 +126,10 @@ fn tell_at(parts: &[PartLog], point: &Point, told: &mut [Numbers], waiters: &mut
     ensures warned { IsWarned waiters.old waiters.new }
     ensures watched { StayWatched waiters.old told.old waiters.new told.new }
 {
-    let at = point.part as usize;
-    if at >= told.len() {
+    if point.part as usize >= told.len() {
         return;
     }
-    let now = parts[at].numbers();
-    let was = told[at];
-    tell_gauges(waiters, point.part, &was, &now);
-    told[at] = now;
+    tell_part(parts, point.part, told, waiters);
 }
 
 // Tells the index of the partitions at these points.
@@ -216,7 +242,7 @@ impl Watched {
         }
     }
 
-    // Takes in what a line brings.
+    // Takes in what a line brings. After a clock line the index learns which gauges rose as followers left, and the moment.
     fn bring(&mut self, line: &Line) -> Result<(), NoMemory>
         requires playable { IsPlayable line.now }
         requires watched { IsWatched self.old }
@@ -227,7 +253,11 @@ impl Watched {
         match line {
             Line::Feed { session, .. } => note(&self.engine, &mut self.ready, *session),
             Line::Shut { session } => note(&self.engine, &mut self.ready, *session),
-            Line::Clock { .. } => self.waiters.tick(self.engine.moment()),
+            Line::Clock { .. } => {
+                let told = self.told.as_mut_slice();
+                tell_all(self.engine.parts(), told, &mut self.waiters);
+                self.waiters.tick(self.engine.moment());
+            }
             Line::Topic { .. } | Line::End => {}
         }
         Ok(())

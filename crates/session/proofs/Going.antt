@@ -1,5 +1,5 @@
 -- A pass that goes on, over two steps; and what ticks and calls of the broker are to it.
-use Rattle.std.proofs.Common.{◌≡◌, ℕ, ◌≤◌, max, Bool, true, false, List, [], ◌∷◌, ◌++◌, fold, cond, ltb, refl, sym, ap, subst, ◌∙◌, arith, inl, inr}
+use Rattle.std.proofs.Common.{◌≡◌, ℕ, ◌≤◌, max, Bool, true, false, List, [], ◌∷◌, ◌++◌, fold, cond, ltb, append-nil, refl, sym, ap, subst, ◌∙◌, arith, inl, inr}
 use Rattle.std.proofs.Math.Nat.{le-max_left, le-max_right, max-le}
 use Rattle.std.proofs.lemmas.Bool.{cases_lt}
 use Rattle.std.proofs.lemmas.List.Sums.{fold-append}
@@ -15,9 +15,11 @@ use Rattle.session.specs.Onwards.{HasGoneOn, latest}
 use Rattle.session.specs.clock.Asked.{WasTold}
 use Rattle.session.specs.clock.ClockViews.{PassView as SeatView}
 use Rattle.shared_broker.specs.Passes.{PassView, made_with}
-use Rattle.shared_broker.specs.Sessions.{HasOnlySeen, HasToldClock}
+use Rattle.shared_broker.specs.Sessions.{HasPartlyToldClock, HasToldClock}
 use Rattle.shared_logs.specs.Asked.{HasTicked}
+use Rattle.shared_logs.specs.Coming.{HasCaughtUp, HasStepped}
 use Rattle.shared_logs.specs.Shared.{LogPassView}
+use Rattle.shared_logs.specs.Shrinking.{HasPartlyTold, HasShrunk}
 use Rattle.shared_logs.proofs.Laws.{grown_on}
 
 -- ---- over two steps
@@ -103,31 +105,48 @@ ticked_most t told old new le h =
           omega (arith, same, le-max_left top told)
     ]
 
-pub looked_told : (t told : ℕ) (old new : PassView) → t ≤ told → HasToldClock t old new → HasOnlyLooked told old new
-looked_told t told old new le h =
-    let between = h.between in
-    let e = h.told in
-    let s = h.settled in
-    let logs = new.logs in
-    let came : HaveGrown old.logs.parts old.logs.clock old.logs.parts (ticked e.found t) =
-    grown_on old.logs.parts old.logs.parts old.logs.parts old.logs.clock e.found (ticked e.found t) e.others.grown (ticked_grown old.logs.parts e.found t) in
-    let grown : HaveGrown old.logs.parts old.logs.clock logs.parts logs.clock =
-    subst (λ (events : List ClockEvent). HaveGrown old.logs.parts old.logs.clock logs.parts events) (sym (s.clock ∙ e.clock))
-    (subst (λ (parts : List History). HaveGrown old.logs.parts old.logs.clock parts (ticked e.found t)) (sym (s.parts ∙ e.parts)) came) in
-    looked_with told old new logs h.else_as_before (record {
-      number = s.number ∙ e.same.number;
-      made = same_made old logs (s.made ∙ e.same.made);
-      grown = grown;
-      ticked = subst (λ (ts : List ℕ). fold max 0 ts ≤ max (latest old) told) (sym s.ticked) (ticked_most t told old.logs between le e);
-    })
+-- ---- and whoever lagged is taken out
 
-pub looked_seen : (told : ℕ) (old new : PassView) → HasOnlySeen old new → HasOnlyLooked told old new
-looked_seen told old new h =
-    let e = h.seen in
-    let s = h.settled in
-    let logs = new.logs in
-    let grown : HaveGrown old.logs.parts old.logs.clock logs.parts logs.clock =
-    subst (λ (events : List ClockEvent). HaveGrown old.logs.parts old.logs.clock logs.parts events) (sym s.clock)
-    (subst (λ (parts : List History). HaveGrown old.logs.parts old.logs.clock parts h.between.clock) (sym s.parts) e.others.grown) in
-    looked_with told old new logs h.else_as_before
-    (on_unticked told old (record old { logs = logs }) (s.number ∙ e.same.number) (same_made old logs (s.made ∙ e.same.made)) grown (s.ticked ∙ e.ticked))
+shrunk_grown : (t : ℕ) (a b : LogPassView) → HasShrunk t a b → HaveGrown a.parts a.clock b.parts b.clock
+shrunk_grown t a b h = record { each = h.taken.grown; more = []; events = h.clock ∙ sym (append-nil a.clock) }
+
+-- the clock rose, or not; some were taken out, or none; and the pass settled
+module _ (t told : ℕ) (old new : PassView) (le : t ≤ told) (is : new ≡ record old { logs = new.logs }) (between : LogPassView) (s : HasStepped between new.logs) where
+  abbrev logs : LogPassView
+  logs = new.logs
+
+  as_settled : HaveGrown old.logs.parts old.logs.clock between.parts between.clock → HaveGrown old.logs.parts old.logs.clock logs.parts logs.clock
+  as_settled grown =
+      subst (λ (events : List ClockEvent). HaveGrown old.logs.parts old.logs.clock logs.parts events) (sym s.clock)
+      (subst (λ (parts : List History). HaveGrown old.logs.parts old.logs.clock parts between.clock) (sym s.parts) grown)
+
+  looked_shrunk : (risen : LogPassView) → HasTicked t old.logs risen → HasShrunk t risen between → HasOnlyLooked told old new
+  looked_shrunk risen e shrunk =
+      let came : HaveGrown old.logs.parts old.logs.clock old.logs.parts (ticked e.found t) =
+      grown_on old.logs.parts old.logs.parts old.logs.parts old.logs.clock e.found (ticked e.found t) e.others.grown (ticked_grown old.logs.parts e.found t) in
+      let rose : HaveGrown old.logs.parts old.logs.clock risen.parts risen.clock =
+      subst (λ (events : List ClockEvent). HaveGrown old.logs.parts old.logs.clock risen.parts events) (sym e.clock)
+      (subst (λ (parts : List History). HaveGrown old.logs.parts old.logs.clock parts (ticked e.found t)) (sym e.parts) came) in
+      let grown : HaveGrown old.logs.parts old.logs.clock between.parts between.clock =
+      grown_on old.logs.parts risen.parts between.parts old.logs.clock risen.clock between.clock rose (shrunk_grown t risen between shrunk) in
+      looked_with told old new logs is (record {
+        number = s.number ∙ shrunk.same.number ∙ e.same.number;
+        made = same_made old logs (s.made ∙ shrunk.same.made ∙ e.same.made);
+        grown = as_settled grown;
+        ticked = subst (λ (ts : List ℕ). fold max 0 ts ≤ max (latest old) told) (sym (s.ticked ∙ shrunk.ticked)) (ticked_most t told old.logs risen le e);
+      })
+
+  looked_caught : HasCaughtUp old.logs between → HasOnlyLooked told old new
+  looked_caught e =
+      looked_with told old new logs is
+      (on_unticked told old (record old { logs = logs }) (s.number ∙ e.same.number) (same_made old logs (s.made ∙ e.same.made)) (as_settled e.others.grown) (s.ticked ∙ e.ticked))
+
+  looked_partly : HasPartlyTold t old.logs between → HasOnlyLooked told old new
+  looked_partly (inl came) = looked_caught came
+  looked_partly (inr risen) = looked_shrunk risen.between risen.told risen.shrunk
+
+pub looked_told : (t told : ℕ) (old new : PassView) → t ≤ told → HasToldClock t old new → HasOnlyLooked told old new
+looked_told t told old new le h = looked_shrunk t told old new le h.else_as_before h.between h.settled h.told.between h.told.told h.told.shrunk
+
+pub looked_partly_told : (t told : ℕ) (old new : PassView) → t ≤ told → HasPartlyToldClock t old new → HasOnlyLooked told old new
+looked_partly_told t told old new le h = looked_partly t told old new le h.else_as_before h.between h.settled h.told

@@ -57,7 +57,7 @@ impl<C: Clock, R: Wait> Room<'_, C, R> {
     {
         let moment = self.clock.rest(self.rt, seat);
         if moment >= deadline {
-            // Where memory runs out here, the request goes on waiting.
+            // Where memory runs out here, the session goes on waiting.
             let _ = self.tick(pass, seat);
         }
         moment

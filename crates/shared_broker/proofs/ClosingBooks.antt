@@ -322,6 +322,8 @@ module _ (broker : BrokerView) (passes : List PassView) (all : AllByRecursion St
     histories = made_histories;
     each = goes;
     known = λ part place by seq e. omega (arith, closed.known part place by seq e, books_size, length-map passes (λ (pass : PassView). pass.logs));
+    known_entries = λ part place event e. omega (arith, closed.known_entries part place event e, books_size, length-map passes (λ (pass : PassView). pass.logs));
+    late = closed.late;
     counts = λ winner. counted winner (split winner (winners broker.logs.room.table)) ∙ sums winner below ∙ sym (won_all books winner);
   }
     where

@@ -1,5 +1,7 @@
 -- what is so of a pass stays so between its calls
 mod SessionsStand
+-- a pass told the clock a moment
+mod Ticking
 -- what is so of a pass that is made
 mod MakingPasses
 -- passes taken apart for the close, and their transcripts by their numbers

@@ -1,9 +1,9 @@
 -- What is so of a pass stays so as a transcript is begun or ended, and as others come.
-use Rattle.std.proofs.Common.{◌≡◌, ◌∙◌, ℕ, zero, suc, ◌+◌, ◌<◌, ◌≤◌, Bool, true, false, cond, eqb, List, [], ◌∷◌, ◌++◌, Option, Some, None, length, map, refl, sym, ap, subst, arith, append-nil, length-append}
-use Rattle.std.proofs.lemmas.Bool.{ltb-true}
+use Rattle.std.proofs.Common.{inl, inr, ◌≡◌, ◌∙◌, ℕ, zero, suc, ◌+◌, ◌<◌, ◌≤◌, Bool, true, false, cond, eqb, List, [], ◌∷◌, ◌++◌, Option, Some, None, length, map, refl, sym, ap, subst, arith, append-nil, length-append}
+use Rattle.std.proofs.lemmas.Bool.{cases_lt, lt-ltb, ltb-true}
 use Rattle.std.proofs.lemmas.Grind.{flat_map-append}
-use Rattle.std.proofs.lemmas.List.Elements.{All-pop, All-push}
-use Rattle.std.specs.Prelude.{All, IfSome, IsSome, count_by, nat_lt, option_to_list, slice_index}
+use Rattle.std.proofs.lemmas.List.Elements.{All-pop, All-push, Contains-push}
+use Rattle.std.specs.Prelude.{All, Contains, IfSome, IsSome, count_by, nat_lt, option_to_list, slice_index}
 use Rattle.std.specs.List.Sorted.{IsStrictlyIncreasing}
 use Rattle.partlog.specs.declared.clock_event.ClockEvent.{ClockEvent}
 use Rattle.partlog.specs.declared.clock_event.ClockEvent.TheVariants as clocks
@@ -19,9 +19,10 @@ use Rattle.kwire.specs.Configuration.{Configuration, followers_of}
 use Rattle.pass_books.specs.Book.{Book, begun_behind}
 use Rattle.pass_books.specs.IsBook.{IsBook}
 use Rattle.pass_books.specs.Owned.{OwnWithin}
+use Rattle.pass_books.specs.TakenOut.{HasTakenOut}
 use Rattle.pass_books.specs.Told.{last_is_cut}
 use Rattle.pass_books.specs.Together.{won_by}
-use Rattle.pass_books.proofs.Laws.{begun, ended, others_came, ticked}
+use Rattle.pass_books.proofs.Laws.{begun, ended, others_came, taken_out, ticked}
 use Rattle.broker_spec.specs.Board.{Waiting}
 use Rattle.kwire.specs.DeclaredTopics.{AreDeclared}
 use Rattle.broker_spec.specs.GoesOn.{HaveGrown}
@@ -42,6 +43,7 @@ use Rattle.shared_logs.specs.Coming.{HasCaughtUp, HasStepped, OthersCame}
 use Rattle.shared_logs.specs.Closing.{taken_from}
 use Rattle.shared_logs.specs.Seen.{HasSeen}
 use Rattle.shared_logs.specs.Shared.{LogPassView, followers_in}
+use Rattle.shared_logs.specs.Shrinking.{HasPartlyTold, HasShrunk, HasTold}
 
 abbrev pub pass_of : Configuration → LogPassView → List Transcript → Option Transcript → Option Parked → PassView
 pass_of config logs ended going waits = record { config = config; logs = logs; ended = ended; going = going; waits = waits }
@@ -246,6 +248,11 @@ book_ticked book found t w came rises h =
     record { whole = h.histories.whole; few = h.histories.few; followers = h.histories.followers; ticks = found_rises (nat_lt (moment_of found) t) found t rises } in
     book_told (nat_lt (moment_of found) t) book found t w refl (others_came book w book.parts found came.grown came.within histories h)
 
+-- a moment above the clock's is among its ticks
+told_there : (b : Bool) (found : List ClockEvent) (t : ℕ) → b ≡ true → Contains (ticks_of (told_at b found t)) t
+told_there true found t e = subst (λ (ts : List ℕ). Contains ts t) (sym (ticks_front found (clocks.Tick t ∷ []))) (Contains-push (ticks_of found) t)
+told_there false found t e = absurd cc
+
 kept_on : (a b c : Caller) → KeepsOperation a b → KeepsOperation b c → KeepsOperation a c
 kept_on a b c one two = record {
   generation = two.generation ∙ one.generation;
@@ -257,14 +264,14 @@ kept_on a b c one two = record {
 
 module _ (config : Configuration) (logs between later : LogPassView) (before : List Transcript) (going : Option Transcript) (waits : Option Parked) (s : Stands (pass_of config logs before going waits)) (seen : HasSeen later)
     (stepped : HasStepped between later) (kept : KeepsOperation (caller_now between.seat) (caller_now later.seat)) (paid : OwesNothing (caller_now later.seat)) where
-  pub caught_stands : HasCaughtUp logs between → Stands (pass_of config later before going waits)
+  caught_stands : HasCaughtUp logs between → Stands (pass_of config later before going waits)
   caught_stands up =
       others_stand config logs later before going waits s seen (stepped.number ∙ up.same.number) (stepped.made ∙ up.same.made)
       (kept_on (caller_now logs.seat) (caller_now between.seat) (caller_now later.seat) up.same.kept kept) paid
       (subst (λ (c : List ClockEvent). OthersCame logs.number logs.parts logs.clock later.parts c) (sym stepped.clock)
       (subst (λ (p : List History). OthersCame logs.number logs.parts logs.clock p between.clock) (sym stepped.parts) up.others))
 
-  pub ticked_stands : (t : ℕ) → HasTicked t logs between → Stands (pass_of config later before going waits)
+  ticked_stands : (t : ℕ) → HasTicked t logs between → Stands (pass_of config later before going waits)
   ticked_stands t told =
       let number = stepped.number ∙ told.same.number in
       let parts = stepped.parts ∙ told.parts in
@@ -277,3 +284,36 @@ module _ (config : Configuration) (logs between later : LogPassView) (before : L
       (subst (λ (p : List History). IsBook (record old { parts = p; clock = later.clock }) w) (sym parts)
       (subst (λ (c : List ClockEvent). IsBook (record old { clock = c }) w) (sym clock)
       (book_ticked old told.found t w told.others (subst (λ (c : List ClockEvent). IsStrictlyIncreasing (0 ∷ ticks_of c)) clock seen.ticks) h))))
+
+  -- and whoever lagged was taken out
+  shrunk_stands : (t : ℕ) (risen : LogPassView) (told : HasTicked t logs risen) → moment_of told.found < t → HasShrunk t risen between → Stands (pass_of config later before going waits)
+  shrunk_stands t risen told less shrunk =
+      let b = nat_lt (moment_of told.found) t in
+      let number = stepped.number ∙ shrunk.same.number ∙ told.same.number in
+      let made = stepped.made ∙ shrunk.same.made ∙ told.same.made in
+      let all_kept = kept_on (caller_now logs.seat) (caller_now risen.seat) (caller_now later.seat) told.same.kept (kept_on (caller_now risen.seat) (caller_now between.seat) (caller_now later.seat) shrunk.same.kept kept) in
+      let clock : later.clock ≡ told_at b told.found t = stepped.clock ∙ shrunk.clock ∙ told.clock in
+      let rises = subst (λ (c : List ClockEvent). IsStrictlyIncreasing (0 ∷ ticks_of c)) clock seen.ticks in
+      let out : HasTakenOut logs.number t logs.parts later.parts =
+      subst (λ (n : ℕ). HasTakenOut n t logs.parts later.parts) told.same.number
+      (subst (λ (ps : List History). HasTakenOut risen.number t ps later.parts) told.parts
+      (subst (λ (ps : List History). HasTakenOut risen.number t risen.parts ps) (sym stepped.parts) shrunk.taken)) in
+      let histories : AreHistories config later.parts (told_at b told.found t) =
+      subst (λ (c : List ClockEvent). AreHistories config later.parts c) clock (later_histories config logs later before going waits s seen number made all_kept paid) in
+      later_stands config logs later before going waits s seen number made all_kept paid
+      (λ w h.
+      let old : Book = book_of (pass_of config logs before going waits) in
+      let there = book_ticked old told.found t w told.others rises h in
+      subst (λ (n : ℕ). IsBook (record old { number = n; parts = later.parts; clock = later.clock }) w) (sym number)
+      (subst (λ (c : List ClockEvent). IsBook (record old { parts = later.parts; clock = c }) w) (sym clock)
+      (taken_out (record old { clock = told_at b told.found t }) w t later.parts out (told_there b told.found t (lt-ltb (moment_of told.found) t less)) histories there)))
+
+  pub told_stands : (t : ℕ) → HasTold t logs between → Stands (pass_of config later before going waits)
+  told_stands t told = elim (cases_lt (moment_of told.told.found) t) [
+    | inl less ↦ shrunk_stands t told.between told.told less told.shrunk
+    | inr still ↦ ticked_stands t (subst (HasTicked t logs) (sym (told.still still)) told.told)
+  ]
+
+  pub partly_stands : (t : ℕ) → HasPartlyTold t logs between → Stands (pass_of config later before going waits)
+  partly_stands t (inl came) = caught_stands came
+  partly_stands t (inr risen) = shrunk_stands t risen.between risen.told risen.rose risen.shrunk

@@ -16,7 +16,7 @@
 //! }
 //! broker.wait(rt, pass, most);                                     // sleeps while it waits
 //! broker.collect(rt, pass)                                         // NotYet while it waits, and then the reply
-//! broker.tick(rt, pass, t)?;                                       // moves the clock to t
+//! broker.tick(rt, pass, t)?;                                       // moves the clock to t; who lags leaves the in-sync set
 //! broker.finish(pass, end)?;
 //!
 //! match broker.close(rt, passes) { BrokerEnd::Closed(account) => .. }

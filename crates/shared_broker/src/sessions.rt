@@ -4,7 +4,7 @@ ghost use Rattle.partlog.specs.declared.clock_event.TheConstants.{MOST_MOMENT};
 ghost use Rattle.shared_broker.specs.Moved.{HasFewCalls, HasMoved};
 ghost use Rattle.shared_broker.specs.Passes.{made_with};
 ghost use Rattle.shared_broker.specs.Standing.{Stands};
-ghost use Rattle.shared_broker.specs.Sessions.{HasEnded, HasOnlySeen, HasToldClock, MayEnd, with_begun};
+ghost use Rattle.shared_broker.specs.Sessions.{HasEnded, HasPartlyToldClock, HasToldClock, MayEnd, with_begun};
 
 use crate::broker::Broker;
 use crate::pass::Pass;
@@ -44,14 +44,15 @@ impl Broker {
         Ok(())
     }
 
-    /// Moves the clock to a moment in milliseconds, if that is later than the clock's: then every request whose deadline has passed is won. A request
-    /// of the pass itself may wait meanwhile. If memory runs out, the clock is as it was.
+    /// Moves the clock to a moment in milliseconds, if that is later than the clock's. Then in each partition every follower that lags at this moment
+    /// leaves the in-sync set, and every request that this satisfies, or whose deadline has passed, is won. A request of the pass itself may wait
+    /// meanwhile. If memory runs out, the clock may have moved, and some of the followers may have left.
     pub fn tick(&self, rt: &impl Wait, pass: &mut Pass, t: u64) -> Result<(), NoMemory>
         requires made { made_with pass.old ≡ self.now }
         requires limit { t ≤ MOST_MOMENT }
         ensures stood { Stands pass.old }
         ensures told { OnOk result (HasToldClock t pass.old pass.new) }
-        ensures refused { OnErr result (HasOnlySeen pass.old pass.new) }
+        ensures refused { OnErr result (HasPartlyToldClock t pass.old pass.new) }
     {
         let told = self.logs.tick(rt, &mut pass.logs, t);
         self.logs.settle(rt, &mut pass.logs);

@@ -6,6 +6,7 @@ use Rattle.std.specs.List.{AllByRecursion}
 use Rattle.partlog.specs.declared.clock_event.ClockEvent.{ClockEvent}
 use Rattle.partlog.specs.declared.numbers.Numbers.{Numbers}
 use Rattle.partlog.specs.History.{History}
+use Rattle.partlog.specs.Moment.{moment_of}
 use Rattle.partlog.specs.State.{PartState as State, state_of}
 use Rattle.audit.specs.declared.account.Call.{Call}
 use Rattle.audit.specs.declared.account.Point.{Point}
@@ -81,14 +82,14 @@ module _ (config : Configuration) (part seq : ℕ) (outcome : State → Outcome)
   abbrev noted_here : ℕ → Noted
   noted_here n = record {
     step = record { result = (outcome (state_of here)).result; point = Some (record { part = part; place = length here.events }) };
-    state = state_of (entered here old.number n (outcome (state_of here)).entry);
+    state = state_of (entered here old.number n (moment_of old.clock) (outcome (state_of here)).entry);
   }
 
   noted_is : noted_here seq ≡ noted_asked part came h.left
   noted_is =
       let one = λ (result : Accepted) (place : ℕ) (state : State). let n : Noted = record { step = record { result = result; point = Some (record { part = part; place = place }) }; state = state } in n in
-      ap (λ (r : Accepted). one r (length here.events) (state_of (entered here old.number seq (outcome (state_of here)).entry))) (sym h.entry.became)
-      ∙ ap (λ (n : ℕ). one came.became n (state_of (entered here old.number seq (outcome (state_of here)).entry))) (sym h.entry.place)
+      ap (λ (r : Accepted). one r (length here.events) (state_of (entered here old.number seq (moment_of old.clock) (outcome (state_of here)).entry))) (sym h.entry.became)
+      ∙ ap (λ (n : ℕ). one came.became n (state_of (entered here old.number seq (moment_of old.clock) (outcome (state_of here)).entry))) (sym h.entry.place)
       ∙ ap (λ (x : History). one came.became came.place (state_of x)) (sym h.entry.history)
 
   module _ (points : List Point) (front : List Transcript) (transcript : Transcript) (call : Call) (request : Request) (decisions : List Decision) (reached : ℕ) (noted : List Noted)
@@ -112,11 +113,11 @@ module _ (config : Configuration) (part seq : ℕ) (outcome : State → Outcome)
     abbrev told : ℕ → List History → List ClockEvent → List Point → List Noted → Type 0
     told number parts clock ps more = IsAccepting (told_amid config front transcript call number parts clock ps) request decisions (reached + 1) (noted ++ more)
 
-    carried_here : told old.number (set h.found part (entered here old.number (seq_of (amid config front transcript old call)) (outcome (state_of here)).entry)) old.clock
+    carried_here : told old.number (set h.found part (entered here old.number (seq_of (amid config front transcript old call)) (moment_of old.clock) (outcome (state_of here)).entry)) old.clock
         (call.accept ++ record { part = part; place = length here.events } ∷ []) (noted_here (seq_of (amid config front transcript old call)) ∷ [])
     carried_here = accepting_on (told_amid config front transcript call old.number h.found old.clock call.accept) request decisions reached noted found_here decision next
 
-    parts_are : set h.found part (entered here old.number seq (outcome (state_of here)).entry) ≡ new.parts
+    parts_are : set h.found part (entered here old.number seq (moment_of old.clock) (outcome (state_of here)).entry) ≡ new.parts
     parts_are = ap (set h.found part) (sym h.entry.history) ∙ sym h.turn.parts
 
     points_are : call.accept ++ record { part = part; place = length here.events } ∷ [] ≡ points ++ record { part = part; place = came.place } ∷ []
@@ -126,7 +127,7 @@ module _ (config : Configuration) (part seq : ℕ) (outcome : State → Outcome)
 
     asked_here : IsAccepting (amid config front transcript new (record call { accept = points ++ record { part = part; place = came.place } ∷ [] })) request decisions (reached + 1) (noted ++ noted_asked part came h.left ∷ [])
     asked_here =
-        let a = subst (λ (n : ℕ). told old.number (set h.found part (entered here old.number n (outcome (state_of here)).entry)) old.clock (call.accept ++ record { part = part; place = length here.events } ∷ []) (noted_here n ∷ [])) at.number carried_here in
+        let a = subst (λ (n : ℕ). told old.number (set h.found part (entered here old.number n (moment_of old.clock) (outcome (state_of here)).entry)) old.clock (call.accept ++ record { part = part; place = length here.events } ∷ []) (noted_here n ∷ [])) at.number carried_here in
         let b = subst (λ (ps : List History). told old.number ps old.clock (call.accept ++ record { part = part; place = length here.events } ∷ []) (noted_here seq ∷ [])) parts_are a in
         let c = subst (λ (ps : List Point). told old.number new.parts old.clock ps (noted_here seq ∷ [])) points_are b in
         let d = subst (λ (n : Noted). told old.number new.parts old.clock (points ++ record { part = part; place = came.place } ∷ []) (n ∷ [])) noted_is c in

@@ -11,8 +11,9 @@
 //! topic NAME PARTITIONS FOLLOWERS MIN each topic; the name in hex
 //! part FOLLOWERS LOG                  each partition, with its entries in order after it:
 //! append BY SEQ COUNT LEN
-//! follow BY SEQ REPLICA OFFSET
+//! follow BY SEQ REPLICA OFFSET MOMENT
 //! look BY SEQ
+//! shrink BY REPLICA MOMENT
 //! clock                               the clock, with its entries in order after it:
 //! tick MOMENT
 //! look BY SEQ

@@ -107,8 +107,10 @@ impl fmt::Display for Entry {
                 seq,
                 replica,
                 offset,
-            } => write!(f, "follow {by} {seq} {replica} {offset}"),
+                t,
+            } => write!(f, "follow {by} {seq} {replica} {offset} {t}"),
             PartEvent::Look { by, seq } => write!(f, "look {by} {seq}"),
+            PartEvent::Shrink { by, replica, t } => write!(f, "shrink {by} {replica} {t}"),
         }
     }
 }

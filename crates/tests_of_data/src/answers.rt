@@ -4,8 +4,9 @@ ghost use Rattle.kanswer.specs.LogReadings.{named_count};
 
 use crate::samples::{LONG_FRONT, ONE};
 use kanswer::{
-    Accepted, Budget, Entered, SentBatch, Terms, answer, decide_put, enter_batch, enter_fetch,
-    is_quiet, needs_op, op_of, read_asked, read_nothing, read_numbers, read_part, value_of_gauge,
+    Accepted, Budget, Entered, SentBatch, Terms, Visitor, answer, decide_put, enter_batch,
+    enter_fetch, is_quiet, needs_op, op_of, read_asked, read_nothing, read_numbers, read_part,
+    value_of_gauge,
 };
 use kbatch::view_batch;
 use kbytes::{List, NoMemory};
@@ -15,6 +16,11 @@ use std::alloc::{AllocError, Global};
 use std::test::*;
 
 const WHO: Who = Who { by: 3, seq: 7 };
+
+const VISITOR: Visitor = Visitor {
+    who: WHO,
+    moment: 500,
+};
 
 // A limit of 1 byte: the first batch is given whole, and nothing after it.
 #[test]
@@ -107,14 +113,18 @@ fn the_numbers_of_a_produce(rt: HostRuntime) {
 #[test]
 fn a_batch_is_put_and_fetched(rt: HostRuntime) {
     let batch = view_batch(&ONE).expect(&rt, "a batch");
-    let sent = SentBatch { version: 3, batch };
+    let sent = SentBatch {
+        version: 3,
+        least: 0,
+        batch,
+    };
     let mut log = PartLog::new(rt.alloc(), 1).expect(&rt, "memory");
     let became = Accepted::Appended {
         part: 5,
         base: 0,
         count: 1,
     };
-    assert!(rt; enter_batch(&mut log, WHO, 5, &sent) == Ok(Entered { became, place: 0 }));
+    assert!(rt; enter_batch(&mut log, VISITOR, 5, &sent) == Ok(Entered { became, place: 0 }));
     let asked = FetchPart {
         index: 0,
         offset: 1,
@@ -124,7 +134,7 @@ fn a_batch_is_put_and_fetched(rt: HostRuntime) {
     let became = Accepted::Seen { part: 5, start: 69 };
     for (replica, place) in [(1, 1), (-1, 2)] {
         assert!(rt;
-            enter_fetch(&mut log, WHO, replica, 5, &asked) == Ok(Entered { became, place })
+            enter_fetch(&mut log, VISITOR, replica, 5, &asked) == Ok(Entered { became, place })
         );
     }
     let fetched = PartEvent::Follow {
@@ -132,6 +142,7 @@ fn a_batch_is_put_and_fetched(rt: HostRuntime) {
         seq: 7,
         replica: 1,
         offset: 1,
+        t: 500,
     };
     assert!(rt; log.events().get(1) == Some(&fetched));
 }
@@ -169,7 +180,7 @@ fn put_one(config: &Config, version: i16, index: i32, log: &mut PartLog) -> Opti
         records: Some(&ONE),
     };
     match decide_put(config, terms, b"t", &part) {
-        Ok((number, sent)) => Some(enter_batch(log, WHO, number, &sent).ok()?.became),
+        Ok((number, sent)) => Some(enter_batch(log, VISITOR, number, &sent).ok()?.became),
         Err(_) => None,
     }
 }

@@ -36,6 +36,7 @@ fn each_batch_is_stamped_where_it_is_put(rt: HostRuntime) {
         high: 2,
         visible: 138,
         bytes: 138,
+        insync: 1,
     };
     assert!(rt; part.numbers() == numbers);
     assert!(rt; part.events() == [ONE_ENTRY, ONE_ENTRY].as_slice());
@@ -61,14 +62,14 @@ fn the_slowest_follower_decides(rt: HostRuntime) {
         (1, 1, 4, 1, 69),
         (1, 0, 5, 1, 69),
     ] {
-        assert!(rt; part.follow(WHO, replica, offset) == Ok(place));
+        assert!(rt; part.follow(WHO, replica, offset, 0) == Ok(place));
         let numbers = part.numbers();
         assert!(rt; numbers.high == high && numbers.visible == visible);
     }
-    assert!(rt; part.follow(WHO, 0, 1) == Err(FollowFault::NoReplica));
-    assert!(rt; part.follow(WHO, 3, 1) == Err(FollowFault::NoReplica));
+    assert!(rt; part.follow(WHO, 0, 1, 0) == Err(FollowFault::NoReplica));
+    assert!(rt; part.follow(WHO, 3, 1, 0) == Err(FollowFault::NoReplica));
     let beyond = Err(FollowFault::OutOfRange { log_end: 3 });
-    assert!(rt; part.follow(WHO, 1, -1) == beyond && part.follow(WHO, 1, 4) == beyond);
+    assert!(rt; part.follow(WHO, 1, -1, 0) == beyond && part.follow(WHO, 1, 4, 0) == beyond);
     assert!(rt; part.followers() == 2 && part.events().len() == 6);
 }
 
@@ -77,12 +78,13 @@ fn the_slowest_follower_decides(rt: HostRuntime) {
 fn a_batch_is_shown_whole(rt: HostRuntime) {
     let three = view_batch(&THREE).expect(&rt, "a batch");
     let mut part = PartLog::new(rt.alloc(), 1).expect(&rt, "memory");
-    assert!(rt; part.append_view(WHO, &three).is_ok() && part.follow(WHO, 1, 2) == Ok(1));
+    assert!(rt; part.append_view(WHO, &three).is_ok() && part.follow(WHO, 1, 2, 0) == Ok(1));
     let numbers = Numbers {
         end: 3,
         high: 2,
         visible: 0,
         bytes: 85,
+        insync: 2,
     };
     assert!(rt; part.numbers() == numbers);
 }

@@ -12,8 +12,9 @@ use Rattle.partlog.specs.declared.clock_event.ClockEvent.TheVariants.{Tick, Look
 use Rattle.partlog.specs.Moment.{moment_of, tick_of}
 use Rattle.audit.specs.Histories.{ticks_of}
 use Rattle.shared_logs.specs.Seen.{HasSeen}
+use Rattle.shared_logs.specs.Shrinking.{HasPartlyTold}
 use Rattle.shared_broker.specs.Passes.{BrokerView, PassView, made_with}
-use Rattle.shared_broker.specs.Sessions.{HasToldClock}
+use Rattle.shared_broker.specs.Sessions.{HasPartlyToldClock, HasToldClock}
 use Rattle.trace_file.specs.Contents.{rising_from}
 use Rattle.trace_file.specs.declared.line.Line.{Line}
 use Rattle.trace_file.specs.declared.line.Line.TheVariants.{Clock}
@@ -86,13 +87,14 @@ module _ (t : ℕ) (before : List Line) (old : PassView) (seen : HasSeen old.log
 
 pub told_tick : (broker : BrokerView) (before : List Line) (t : ℕ) (old new : PassView) → HasSeen old.logs → HasToldClock t old new → HasToldAll broker before old → HasToldAll broker (before ++ Clock t ∷ []) new
 told_tick broker before t old new seen tick h =
-    let told = tick.told in
+    let told = tick.told.told in
+    let shrunk = tick.told.shrunk in
     let is = tick.else_as_before in
     let found = told.found in
     let more = told.others.grown.more in
     let goes_on = told.others.grown.events in
-    let clock : new.logs.clock ≡ cond (ltb (moment_of found) t) (found ++ Tick t ∷ []) found = tick.settled.clock ∙ told.clock in
-    let made : new.logs.made ≡ old.logs.made = tick.settled.made ∙ told.same.made in
+    let clock : new.logs.clock ≡ cond (ltb (moment_of found) t) (found ++ Tick t ∷ []) found = tick.settled.clock ∙ shrunk.clock ∙ told.clock in
+    let made : new.logs.made ≡ old.logs.made = tick.settled.made ∙ shrunk.same.made ∙ told.same.made in
     record {
       made = ap made_with is ∙ ap (λ m. made_with (record old { logs = record old.logs { made = m } })) made ∙ h.made;
       ended = ap (λ (p : PassView). p.ended) is ∙ h.ended;
@@ -100,11 +102,23 @@ told_tick broker before t old new seen tick h =
       waits = ap (λ (p : PassView). p.waits) is ∙ h.waits;
       told = elim (cases_lt (moment_of found) t) [
         | inl less ↦
-            rose t before old seen h.told found more new.logs.clock new.logs.ticked goes_on (clock ∙ ap (λ (b : Bool). cond b (found ++ Tick t ∷ []) found) (lt-ltb (moment_of found) t less)) (tick.settled.ticked ∙ told.added less) less
+            rose t before old seen h.told found more new.logs.clock new.logs.ticked goes_on (clock ∙ ap (λ (b : Bool). cond b (found ++ Tick t ∷ []) found) (lt-ltb (moment_of found) t less)) (tick.settled.ticked ∙ shrunk.ticked ∙ told.added less) less
         | inr le ↦
-            stood t before old seen h.told found more new.logs.clock new.logs.ticked goes_on (clock ∙ ap (λ (b : Bool). cond b (found ++ Tick t ∷ []) found) (le-ltb (moment_of found) t le)) (tick.settled.ticked ∙ told.stood le) le
+            stood t before old seen h.told found more new.logs.clock new.logs.ticked goes_on (clock ∙ ap (λ (b : Bool). cond b (found ++ Tick t ∷ []) found) (le-ltb (moment_of found) t le)) (tick.settled.ticked ∙ shrunk.ticked ∙ told.stood le) le
       ];
     }
+
+-- ---- it is the same pass
+
+pub told_number : (t : ℕ) (old new : PassView) → HasToldClock t old new → new.logs.number ≡ old.logs.number
+told_number t old new h = h.settled.number ∙ h.told.shrunk.same.number ∙ h.told.told.same.number
+
+pub partly_number : (t : ℕ) (old new : PassView) → HasPartlyToldClock t old new → new.logs.number ≡ old.logs.number
+partly_number t old new h = h.settled.number ∙ by_told h.told
+  where
+    by_told : HasPartlyTold t old.logs h.between → h.between.number ≡ old.logs.number
+    by_told (inl came) = came.same.number
+    by_told (inr risen) = risen.shrunk.same.number ∙ risen.told.same.number
 
 -- ---- the worker of the pass
 

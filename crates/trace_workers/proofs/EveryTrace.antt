@@ -78,6 +78,9 @@ module _ (account : Account) where
           (found.0, call_same by seq ∙ found.1, found.2);
       points = λ pass seq call e. h.entries.points pass seq call (sym (call_same pass seq) ∙ e);
       ticks = h.entries.ticks;
+      shrinks = h.entries.shrinks;
+      follows = h.entries.follows;
+      earlier = λ part place by seq offset t replica e before call less at. h.entries.earlier part place by seq offset t replica e before call less (sym (call_same by before) ∙ at);
     };
     order = λ pass part. subst (λ (calls : List Call). IsStrictlyIncreasing (places_in part (flat_map points_of calls))) (sym (calls_same pass)) (h.order pass part);
     logs = record { followers = h.logs.followers; whole = h.logs.whole };

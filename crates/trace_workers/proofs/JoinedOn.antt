@@ -20,7 +20,7 @@ use Rattle.trace_workers.specs.Joined.{JoinedView, HasJoined, HasRun}
 use Rattle.trace_workers.specs.WorkerRun.{AreSeconds, last_moment}
 use Rattle.trace_workers.proofs.Seconds.{last_of, latest_second, seconds_more}
 use Rattle.trace_workers.specs.Workers.{HasTaken, HasToldAll}
-use Rattle.trace_workers.proofs.Clocks.{own_alone, ticks_after, told_tick}
+use Rattle.trace_workers.proofs.Clocks.{own_alone, ticks_after, told_number, told_tick}
 use Rattle.trace_workers.proofs.Untouched.{taken_on, taken_past}
 
 -- ---- one session goes on
@@ -82,18 +82,19 @@ run_on broker lines count drain old new clock goes h = record {
 -- where nobody else told it anything as far as the pass has seen, so it was before
 alone_before : (t : ℕ) (old new : PassView) → HasSeen old.logs → HasToldClock t old new → ticks_of new.logs.clock ≡ new.logs.ticked → ticks_of old.logs.clock ≡ old.logs.ticked
 alone_before t old new seen tick all =
-    let told = tick.told in
+    let told = tick.told.told in
+    let shrunk = tick.told.shrunk in
     let found = told.found in
     let more = told.others.grown.more in
-    let clock : new.logs.clock ≡ cond (ltb (moment_of found) t) (found ++ Tick t ∷ []) found = tick.settled.clock ∙ told.clock in
+    let clock : new.logs.clock ≡ cond (ltb (moment_of found) t) (found ++ Tick t ∷ []) found = tick.settled.clock ∙ shrunk.clock ∙ told.clock in
     let same : ticks_of found ≡ old.logs.ticked = elim (cases_lt (moment_of found) t) [
       | inl less ↦
           let is : new.logs.clock ≡ found ++ Tick t ∷ [] = clock ∙ ap (λ (b : Bool). cond b (found ++ Tick t ∷ []) found) (lt-ltb (moment_of found) t less) in
           (same_from_push (ticks_of found) old.logs.ticked t t
-          (sym (ticks_after found (Tick t ∷ [])) ∙ ap ticks_of (sym is) ∙ all ∙ tick.settled.ticked ∙ told.added less)).0
+          (sym (ticks_after found (Tick t ∷ [])) ∙ ap ticks_of (sym is) ∙ all ∙ tick.settled.ticked ∙ shrunk.ticked ∙ told.added less)).0
       | inr le ↦
           let is : new.logs.clock ≡ found = clock ∙ ap (λ (b : Bool). cond b (found ++ Tick t ∷ []) found) (le-ltb (moment_of found) t le) in
-          ap ticks_of (sym is) ∙ all ∙ tick.settled.ticked ∙ told.stood le
+          ap ticks_of (sym is) ∙ all ∙ tick.settled.ticked ∙ shrunk.ticked ∙ told.stood le
     ] in
     own_alone old.logs.clock more old.logs.ticked seen.rising seen.ticked (ap ticks_of (sym told.others.grown.events) ∙ same)
 
@@ -108,7 +109,7 @@ tick_joined broker lines count t joined new seen tick h = record {
   size = h.size;
   each = h.each;
   clock = told_tick broker lines t joined.clock new seen tick h.clock;
-  number = tick.settled.number ∙ tick.told.same.number ∙ h.number;
+  number = told_number t joined.clock new tick ∙ h.number;
 }
 
 second_is : (broker : BrokerView) (lines : List Line) (added : List ℕ) (t : ℕ) (pass : PassView) → HasToldAll broker (lines ++ map Clock added) pass → ticks_of pass.logs.clock ≡ pass.logs.ticked → AreSeconds (last_moment lines) added

@@ -3,12 +3,13 @@ use Rattle.std.proofs.lemmas.Int.{to_z-of_z}
 use Rattle.std.specs.Int.{w32}
 use mir.Val.{SFits}
 use Rattle.kbatch.specs.Batch.{IsBatch}
-use Rattle.partlog.specs.declared.event.PartEvent.TheVariants.{Append, Follow}
+use Rattle.partlog.specs.declared.event.PartEvent.TheVariants.{Append, Follow, Shrink}
 use Rattle.partlog.specs.Added.{bytes_of, log_end_of}
 use Rattle.partlog.specs.Appended.{appended}
 use Rattle.partlog.specs.Follower.{IsFollower}
 use Rattle.partlog.specs.History.{History}
 use Rattle.partlog.specs.Kept.{IsKept}
+use Rattle.partlog.specs.Lagging.{LagsAt}
 use Rattle.partlog.specs.State.{front_of}
 use Rattle.audit.specs.Histories.{history_of}
 use Rattle.audit.proofs.Laws.{on_ok}
@@ -41,17 +42,27 @@ follow_again-requires-clause-follower c =
     let h : History = history_of c.args.part.now in
     let e = c.in-Follow in
     let fits : SFits w32 e.replica = search rules in
-    let at = event_there h.events c.as_slice.result.now c.args.place _ (Follow e.by e.seq e.replica e.offset) c.as_slice.ensures c.requires.within e.is in
-    let is = (c.requires.playable.each c.args.place (Follow e.by e.seq e.replica e.offset) at).0 in
+    let at = event_there h.events c.as_slice.result.now c.args.place _ (Follow e.by e.seq e.replica e.offset e.t) c.as_slice.ensures c.requires.within e.is in
+    let is = (c.requires.playable.each c.args.place (Follow e.by e.seq e.replica e.offset e.t) at).0 in
     subst (λ (z : ℤ). IsFollower z c.args.log.now.followers) (sym (to_z-of_z w32 e.replica fits)) (subst (λ (f : History). IsFollower e.replica f.followers) (sym c.requires.before) is)
 
 pub follow_again-requires-clause-within : goal.follow_again-requires-clause-within
 follow_again-requires-clause-within c =
     let h : History = history_of c.args.part.now in
     let e = c.in-Follow in
-    let at = event_there h.events c.as_slice.result.now c.args.place _ (Follow e.by e.seq e.replica e.offset) c.as_slice.ensures c.requires.within e.is in
-    let is = (c.requires.playable.each c.args.place (Follow e.by e.seq e.replica e.offset) at).1 in
+    let at = event_there h.events c.as_slice.result.now c.args.place _ (Follow e.by e.seq e.replica e.offset e.t) c.as_slice.ensures c.requires.within e.is in
+    let is = (c.requires.playable.each c.args.place (Follow e.by e.seq e.replica e.offset e.t) at).1 in
     omega (arith, is, ap (λ (f : History). log_end_of f.events) c.requires.before)
+
+pub shrink_again-requires : goal.shrink_again-requires
+shrink_again-requires c =
+    let h : History = history_of c.args.part.now in
+    let e = c.in-Shrink in
+    let fits : SFits w32 e.replica = search rules in
+    let at = event_there h.events c.as_slice.result.now c.args.place _ (Shrink e.by e.replica e.t) c.as_slice.ensures c.requires.within e.is in
+    let late : LagsAt h.followers (take c.args.place h.events) e.t e.replica = c.requires.playable.each c.args.place (Shrink e.by e.replica e.t) at in
+    subst (λ (z : ℤ). LagsAt c.args.log.now.followers c.args.log.now.events e.t z) (sym (to_z-of_z w32 e.replica fits))
+    (subst (λ (f : History). LagsAt f.followers f.events e.t e.replica) (sym c.requires.before) late)
 
 pub returns-in-Append : goal.returns-in-Append
 returns-in-Append c =

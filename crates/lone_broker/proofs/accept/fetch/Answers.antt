@@ -11,5 +11,5 @@ loop-topic-preserved c =
     let next = fetch_next_topic ts i c.topic-item.result (omega (arith, c.loop-topic-test.true)) c.topic-item.is in
     record {
       followers = c.in_ok-fetch_topic.ensures.followers;
-      carried = fetched_on call.config.now call.replica call.who.by call.who.seq (take i ts) (c.topic-item.result ∷ []) (take (i + 1) ts) c.args.parts.now c.loop-topic.parts c.fetch_topic.new.parts c.args.came.now c.loop-topic.came c.fetch_topic.new.came next c.loop-topic.invariant.carried c.in_ok-fetch_topic.ensures.carried;
+      carried = fetched_on call.config.now call.replica call.visitor.who.by call.visitor.who.seq call.visitor.moment (take i ts) (c.topic-item.result ∷ []) (take (i + 1) ts) c.args.parts.now c.loop-topic.parts c.fetch_topic.new.parts c.args.came.now c.loop-topic.came c.fetch_topic.new.came next c.loop-topic.invariant.carried c.in_ok-fetch_topic.ensures.carried;
     }

@@ -7,5 +7,5 @@ use Rattle.lone_broker.proofs.accept.fetch.Given as goal
 abbrev pub invariant-loop-topic : goal.invariant-loop-topic
 invariant-loop-topic l = record {
   followers : map (λ h. h.followers) l.parts ≡ followers_of l.call.config.now.topics;
-  carried : IsCarried l.call.who.by l.call.who.seq (fetch_decisions l.call.config.now l.call.replica (fetch_parts (take l.topic-index l.topics))) l.fn.parts l.parts l.fn.came l.came;
+  carried : IsCarried l.call.visitor.who.by l.call.visitor.who.seq l.call.visitor.moment (fetch_decisions l.call.config.now l.call.replica (fetch_parts (take l.topic-index l.topics))) l.fn.parts l.parts l.fn.came l.came;
 }

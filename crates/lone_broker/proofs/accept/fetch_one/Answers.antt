@@ -17,8 +17,8 @@ returns-in_default c =
     let asked = c.args.asked.now in
     let fits : SFits w32 asked.index = search rules in
     let none : part_of call.config.now c.args.topic.now asked.index ≡ None = ap (part_of call.config.now c.args.topic.now) (sym (to_z-of_z w32 asked.index fits)) ∙ sym c.in_default.ensures.number in
-    let D : Option ℕ → Type 0 = λ o. IsCarried call.who.by call.who.seq (fetch_decision call.config.now c.args.call.now.replica (c.args.topic.now, asked) o ∷ []) c.args.parts.now c.args.parts.now c.args.came.now c.note.new.self in
-    on_ok c.note.result c.note.ensures (λ k. subst D (sym none) (refusal_carried call.who.by call.who.seq (pos 3) c.args.parts.now c.args.came.now c.note.new.self k))
+    let D : Option ℕ → Type 0 = λ o. IsCarried call.visitor.who.by call.visitor.who.seq call.visitor.moment (fetch_decision call.config.now c.args.call.now.replica (c.args.topic.now, asked) o ∷ []) c.args.parts.now c.args.parts.now c.args.came.now c.note.new.self in
+    on_ok c.note.result c.note.ensures (λ k. subst D (sym none) (refusal_carried call.visitor.who.by call.visitor.who.seq call.visitor.moment (pos 3) c.args.parts.now c.args.came.now c.note.new.self k))
 
 pub returns : goal.returns
 returns c =
@@ -35,10 +35,10 @@ returns c =
     let left = c.accept_fetch_part.new.log in
     let later = c.accept_fetch_part.new.came in
     let count : h.followers ≡ get_or (followers_of config.topics) part 0 = sym (followers_at parts part c.index-parts-part.result within) ∙ ap (λ (ns : List ℕ). get_or ns part 0) c.requires in
-    let Enters : ℕ → ℤ → Type 0 = λ followers r. IsEntered call.who.by call.who.seq part (fetch_outcome followers r asked part) h left c.args.came.now later in
-    let D : Option ℕ → Type 0 = λ o. IsCarried call.who.by call.who.seq (fetch_decision config replica (c.args.topic.now, asked) o ∷ []) parts (set parts part left) c.args.came.now later in
+    let Enters : ℕ → ℤ → Type 0 = λ followers r. IsEntered call.visitor.who.by call.visitor.who.seq call.visitor.moment part (fetch_outcome followers r asked part) h left c.args.came.now later in
+    let D : Option ℕ → Type 0 = λ o. IsCarried call.visitor.who.by call.visitor.who.seq call.visitor.moment (fetch_decision config replica (c.args.topic.now, asked) o ∷ []) parts (set parts part left) c.args.came.now later in
     on_ok c.accept_fetch_part.result c.accept_fetch_part.ensures (λ e. subst D (sym there)
-    (entered_carried call.who.by call.who.seq part parts (set parts part left) h left (fetch_outcome (get_or (followers_of config.topics) part 0) replica asked part) c.args.came.now later within (get_or_default parts part c.index-parts-part.result h within)
+    (entered_carried call.visitor.who.by call.visitor.who.seq call.visitor.moment part parts (set parts part left) h left (fetch_outcome (get_or (followers_of config.topics) part 0) replica asked part) c.args.came.now later within (get_or_default parts part c.index-parts-part.result h within)
     (subst (λ (f : ℕ). Enters f replica) count e) refl))
 
 pub bounds-parts-part : goal.bounds-parts-part

@@ -22,8 +22,8 @@ loop-part-preserved c =
     let within : i < length topic.parts = omega (arith, c.loop-part-test.true, ap length items) in
     let is : part ≡ get_or topic.parts i part = ap (λ (xs : List FetchPart). get_or xs i none) items ∙ get_or_default topic.parts i none part within in
     let d = c.in_ok-fetch_one.ensures in
-    let one = subst (λ (name : List ℕ). IsCarried call.who.by call.who.seq (fetch_decision config call.replica (name, part) (part_of config name part.index) ∷ []) c.loop-part.parts c.fetch_one.new.parts c.loop-part.came c.fetch_one.new.came) (ap (λ (t : FetchTopic). t.name) c.topic.view_is) d in
+    let one = subst (λ (name : List ℕ). IsCarried call.visitor.who.by call.visitor.who.seq call.visitor.moment (fetch_decision config call.replica (name, part) (part_of config name part.index) ∷ []) c.loop-part.parts c.fetch_one.new.parts c.loop-part.came c.fetch_one.new.came) (ap (λ (t : FetchTopic). t.name) c.topic.view_is) d in
     record {
-      followers = carried_followers call.who.by call.who.seq _ c.loop-part.parts c.fetch_one.new.parts c.loop-part.came c.fetch_one.new.came d ∙ c.loop-part.invariant.followers;
-      carried = fetched_on config call.replica call.who.by call.who.seq (record { name = topic.name; parts = take i topic.parts } ∷ []) (record { name = topic.name; parts = part ∷ [] } ∷ []) (record { name = topic.name; parts = take (i + 1) topic.parts } ∷ []) c.args.parts.now c.loop-part.parts c.fetch_one.new.parts c.args.came.now c.loop-part.came c.fetch_one.new.came (fetch_next topic.name topic.parts i part within is) c.loop-part.invariant.carried one;
+      followers = carried_followers call.visitor.who.by call.visitor.who.seq call.visitor.moment _ c.loop-part.parts c.fetch_one.new.parts c.loop-part.came c.fetch_one.new.came d ∙ c.loop-part.invariant.followers;
+      carried = fetched_on config call.replica call.visitor.who.by call.visitor.who.seq call.visitor.moment (record { name = topic.name; parts = take i topic.parts } ∷ []) (record { name = topic.name; parts = part ∷ [] } ∷ []) (record { name = topic.name; parts = take (i + 1) topic.parts } ∷ []) c.args.parts.now c.loop-part.parts c.fetch_one.new.parts c.args.came.now c.loop-part.came c.fetch_one.new.came (fetch_next topic.name topic.parts i part within is) c.loop-part.invariant.carried one;
     }

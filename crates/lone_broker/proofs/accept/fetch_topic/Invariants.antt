@@ -7,5 +7,5 @@ use Rattle.lone_broker.proofs.accept.fetch_topic.Given as goal
 abbrev pub invariant-loop-part : goal.invariant-loop-part
 invariant-loop-part l = record {
   followers : map (λ h. h.followers) l.parts ≡ followers_of l.call.config.now.topics;
-  carried : IsCarried l.call.who.by l.call.who.seq (fetch_decisions l.call.config.now l.call.replica (fetch_parts (record l.topic { parts = take l.part-index l.topic.parts } ∷ []))) l.fn.parts l.parts l.fn.came l.came;
+  carried : IsCarried l.call.visitor.who.by l.call.visitor.who.seq l.call.visitor.moment (fetch_decisions l.call.config.now l.call.replica (fetch_parts (record l.topic { parts = take l.part-index l.topic.parts } ∷ []))) l.fn.parts l.parts l.fn.came l.came;
 }

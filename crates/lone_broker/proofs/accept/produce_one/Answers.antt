@@ -21,7 +21,7 @@ returns-in-Ok c =
     on_ok c.put.result c.put.ensures (λ e. (
       AskLog number outcome,
       c.in-Ok.ensures.put,
-      entered_carried call.who.by call.who.seq number parts _ h c.put.new.log outcome c.args.came.now c.put.new.came within (get_or_default parts number c.index-parts-number.result h within) e refl,
+      entered_carried call.visitor.who.by call.visitor.who.seq call.visitor.moment number parts _ h c.put.new.log outcome c.args.came.now c.put.new.came within (get_or_default parts number c.index-parts-number.result h within) e refl,
     ))
 
 pub returns-in-Err : goal.returns-in-Err
@@ -33,6 +33,6 @@ returns-in-Err c =
     on_ok c.note.result c.note.ensures (λ e. (
       Refuse code,
       c.in-Err.ensures.refused,
-      refusal_carried call.who.by call.who.seq code c.args.parts.now came c.note.new.self
+      refusal_carried call.visitor.who.by call.visitor.who.seq call.visitor.moment code c.args.parts.now came c.note.new.self
           (e ∙ ap (λ (z : ℤ). record { accepted = came.accepted ++ Refused z ∷ []; points = came.points }) (to_z-of_z w16 code fits)),
     ))

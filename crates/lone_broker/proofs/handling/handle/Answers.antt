@@ -11,53 +11,53 @@ pub numbers_of-requires : goal.numbers_of-requires
 numbers_of-requires c =
     let call = c.args.call.now in
     let later = c.accept.new.came in
-    let a = was_accepted call.config.now c.args.request.now call.who.by call.who.seq c.args.parts.now c.accept.new.parts c.new-came.result later c.accepted.result.now c.requires.asked c.requires.followers c.parts.ensures.declared c.new-came.ensures c.in_ok-accept.ensures c.accepted.ensures.results c.accepted.ensures.offsets in
-    subst (λ (rs : List Accepted). AllByRecursion (HasLog (length c.accept.new.parts)) rs) (sym c.accepted.ensures.results) (have_logs call.config.now c.args.request.now call.who.by call.who.seq c.args.parts.now c.accept.new.parts later a)
+    let a = was_accepted call.config.now c.args.request.now call.visitor.who.by call.visitor.who.seq call.visitor.moment c.args.clock.now c.args.parts.now c.accept.new.parts c.new-came.result later c.accepted.result.now c.requires.moment c.requires.asked c.requires.followers c.parts.ensures.declared c.new-came.ensures c.in_ok-accept.ensures c.accepted.ensures.results c.accepted.ensures.offsets in
+    subst (λ (rs : List Accepted). AllByRecursion (HasLog (length c.accept.new.parts)) rs) (sym c.accepted.ensures.results) (have_logs call.config.now c.args.request.now call.visitor.who.by call.visitor.who.seq c.args.clock.now c.args.parts.now c.accept.new.parts later a)
 
 pub needs_op-requires-clause-results : goal.needs_op-requires-clause-results
 needs_op-requires-clause-results c =
     let call = c.args.call.now in
     let later = c.accept.new.came in
-    let a = was_accepted call.config.now c.args.request.now call.who.by call.who.seq c.args.parts.now c.accept.new.parts c.new-came.result later c.accepted.result.now c.requires.asked c.requires.followers c.parts.ensures.declared c.new-came.ensures c.in_ok-accept.ensures c.accepted.ensures.results c.accepted.ensures.offsets in
-    subst (AreResults c.args.request.now.ask) (sym c.accepted-2.ensures.results) (are_listed call.config.now c.args.request.now call.who.by call.who.seq c.args.parts.now c.accept.new.parts later a)
+    let a = was_accepted call.config.now c.args.request.now call.visitor.who.by call.visitor.who.seq call.visitor.moment c.args.clock.now c.args.parts.now c.accept.new.parts c.new-came.result later c.accepted.result.now c.requires.moment c.requires.asked c.requires.followers c.parts.ensures.declared c.new-came.ensures c.in_ok-accept.ensures c.accepted.ensures.results c.accepted.ensures.offsets in
+    subst (AreResults c.args.request.now.ask) (sym c.accepted-2.ensures.results) (are_listed call.config.now c.args.request.now call.visitor.who.by call.visitor.who.seq c.args.clock.now c.args.parts.now c.accept.new.parts later a)
 
 pub park-requires : goal.park-requires
 park-requires c =
     let call = c.args.call.now in
     let later = c.accept.new.came in
-    let a = was_accepted call.config.now c.args.request.now call.who.by call.who.seq c.args.parts.now c.accept.new.parts c.new-came.result later c.accepted.result.now c.requires.asked c.requires.followers c.parts.ensures.declared c.new-came.ensures c.in_ok-accept.ensures c.accepted.ensures.results c.accepted.ensures.offsets in
-    are_listed call.config.now c.args.request.now call.who.by call.who.seq c.args.parts.now c.accept.new.parts later a
+    let a = was_accepted call.config.now c.args.request.now call.visitor.who.by call.visitor.who.seq call.visitor.moment c.args.clock.now c.args.parts.now c.accept.new.parts c.new-came.result later c.accepted.result.now c.requires.moment c.requires.asked c.requires.followers c.parts.ensures.declared c.new-came.ensures c.in_ok-accept.ensures c.accepted.ensures.results c.accepted.ensures.offsets in
+    are_listed call.config.now c.args.request.now call.visitor.who.by call.visitor.who.seq c.args.clock.now c.args.parts.now c.accept.new.parts later a
 
 pub returns-then-needs_op : goal.returns-then-needs_op
 returns-then-needs_op c =
     let call = c.args.call.now in
     let later = c.accept.new.came in
-    let a = was_accepted call.config.now c.args.request.now call.who.by call.who.seq c.args.parts.now c.accept.new.parts c.new-came.result later c.accepted.result.now c.requires.asked c.requires.followers c.parts.ensures.declared c.new-came.ensures c.in_ok-accept.ensures c.accepted.ensures.results c.accepted.ensures.offsets in
-    let delayed = delayed_is call.config.now c.args.request.now call.who.by call.who.seq c.args.parts.now c.accept.new.parts later a c.needs_op.result c.accepted-2.result.now c.as_slice.result.now c.in_ok-numbers.numbers c.accepted-2.ensures.results c.as_slice.ensures
+    let a = was_accepted call.config.now c.args.request.now call.visitor.who.by call.visitor.who.seq call.visitor.moment c.args.clock.now c.args.parts.now c.accept.new.parts c.new-came.result later c.accepted.result.now c.requires.moment c.requires.asked c.requires.followers c.parts.ensures.declared c.new-came.ensures c.in_ok-accept.ensures c.accepted.ensures.results c.accepted.ensures.offsets in
+    let delayed = delayed_is call.config.now c.args.request.now call.visitor.who.by call.visitor.who.seq c.args.clock.now c.args.parts.now c.accept.new.parts later a c.needs_op.result c.accepted-2.result.now c.as_slice.result.now c.in_ok-numbers.numbers c.accepted-2.ensures.results c.as_slice.ensures
     (c.in_ok-numbers.ensures ∙ ap (numbers_in c.accept.new.parts) c.accepted.ensures.results) c.needs_op.ensures ∙ c.if-needs_op.true in
     if_parked c.park.result c.park.ensures.looked c.park.ensures.points c.park.ensures.how c.park.ensures.some (λ handled looked points how some.
-    handled_waiting call.config.now c.args.request.now call.who.by call.who.seq c.args.parts.now c.accept.new.parts later a c.args.clock.now c.park.new.clock handled c.args.out.now delayed looked points how some)
+    handled_waiting call.config.now c.args.request.now call.visitor.who.by call.visitor.who.seq c.args.clock.now c.args.parts.now c.accept.new.parts later a c.park.new.clock handled c.args.out.now delayed looked points how some)
 
 pub answer_at_once-requires-clause-listed : goal.answer_at_once-requires-clause-listed
 answer_at_once-requires-clause-listed c =
     let call = c.args.call.now in
     let later = c.accept.new.came in
-    let a = was_accepted call.config.now c.args.request.now call.who.by call.who.seq c.args.parts.now c.accept.new.parts c.new-came.result later c.accepted.result.now c.requires.asked c.requires.followers c.parts.ensures.declared c.new-came.ensures c.in_ok-accept.ensures c.accepted.ensures.results c.accepted.ensures.offsets in
-    are_listed call.config.now c.args.request.now call.who.by call.who.seq c.args.parts.now c.accept.new.parts later a
+    let a = was_accepted call.config.now c.args.request.now call.visitor.who.by call.visitor.who.seq call.visitor.moment c.args.clock.now c.args.parts.now c.accept.new.parts c.new-came.result later c.accepted.result.now c.requires.moment c.requires.asked c.requires.followers c.parts.ensures.declared c.new-came.ensures c.in_ok-accept.ensures c.accepted.ensures.results c.accepted.ensures.offsets in
+    are_listed call.config.now c.args.request.now call.visitor.who.by call.visitor.who.seq c.args.clock.now c.args.parts.now c.accept.new.parts later a
 
 pub answer_at_once-requires-clause-logs : goal.answer_at_once-requires-clause-logs
 answer_at_once-requires-clause-logs c =
     let call = c.args.call.now in
     let later = c.accept.new.came in
-    let a = was_accepted call.config.now c.args.request.now call.who.by call.who.seq c.args.parts.now c.accept.new.parts c.new-came.result later c.accepted.result.now c.requires.asked c.requires.followers c.parts.ensures.declared c.new-came.ensures c.in_ok-accept.ensures c.accepted.ensures.results c.accepted.ensures.offsets in
-    have_logs call.config.now c.args.request.now call.who.by call.who.seq c.args.parts.now c.accept.new.parts later a
+    let a = was_accepted call.config.now c.args.request.now call.visitor.who.by call.visitor.who.seq call.visitor.moment c.args.clock.now c.args.parts.now c.accept.new.parts c.new-came.result later c.accepted.result.now c.requires.moment c.requires.asked c.requires.followers c.parts.ensures.declared c.new-came.ensures c.in_ok-accept.ensures c.accepted.ensures.results c.accepted.ensures.offsets in
+    have_logs call.config.now c.args.request.now call.visitor.who.by call.visitor.who.seq c.args.clock.now c.args.parts.now c.accept.new.parts later a
 
 pub returns : goal.returns
 returns c =
     let call = c.args.call.now in
     let later = c.accept.new.came in
-    let a = was_accepted call.config.now c.args.request.now call.who.by call.who.seq c.args.parts.now c.accept.new.parts c.new-came.result later c.accepted.result.now c.requires.asked c.requires.followers c.parts.ensures.declared c.new-came.ensures c.in_ok-accept.ensures c.accepted.ensures.results c.accepted.ensures.offsets in
-    let undelayed = delayed_is call.config.now c.args.request.now call.who.by call.who.seq c.args.parts.now c.accept.new.parts later a c.needs_op.result c.accepted-2.result.now c.as_slice.result.now c.in_ok-numbers.numbers c.accepted-2.ensures.results c.as_slice.ensures
+    let a = was_accepted call.config.now c.args.request.now call.visitor.who.by call.visitor.who.seq call.visitor.moment c.args.clock.now c.args.parts.now c.accept.new.parts c.new-came.result later c.accepted.result.now c.requires.moment c.requires.asked c.requires.followers c.parts.ensures.declared c.new-came.ensures c.in_ok-accept.ensures c.accepted.ensures.results c.accepted.ensures.offsets in
+    let undelayed = delayed_is call.config.now c.args.request.now call.visitor.who.by call.visitor.who.seq c.args.clock.now c.args.parts.now c.accept.new.parts later a c.needs_op.result c.accepted-2.result.now c.as_slice.result.now c.in_ok-numbers.numbers c.accepted-2.ensures.results c.as_slice.ensures
     (c.in_ok-numbers.ensures ∙ ap (numbers_in c.accept.new.parts) c.accepted.ensures.results) c.needs_op.ensures ∙ c.if-needs_op.false in
     if_answered c.answer_at_once.result c.answer_at_once.ensures.points c.answer_at_once.ensures.how c.answer_at_once.ensures.none c.answer_at_once.ensures.printed (λ handled points how none printed.
-    handled_at_once call.config.now c.args.request.now call.who.by call.who.seq c.args.parts.now c.accept.new.parts later a c.args.clock.now handled c.args.out.now c.answer_at_once.new.out undelayed points how none printed)
+    handled_at_once call.config.now c.args.request.now call.visitor.who.by call.visitor.who.seq c.args.clock.now c.args.parts.now c.accept.new.parts later a handled c.args.out.now c.answer_at_once.new.out undelayed points how none printed)

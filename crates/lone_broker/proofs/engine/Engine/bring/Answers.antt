@@ -5,8 +5,8 @@ use Rattle.broker_spec.specs.Play.{brought}
 use Rattle.lone_broker.specs.Kept.{IsPlayable, Kept, StandsFor}
 use Rattle.lone_broker.proofs.Bringing.{fed_seat, fed_stands, shut_seat, shut_stands}
 use Rattle.lone_broker.specs.Steps.{IsBrought}
-use Rattle.lone_broker.proofs.Standing.{desk_changed, kept_as, reseated}
-use Rattle.lone_broker.proofs.Steps.{is_reseated, no_less, ticked_kept}
+use Rattle.lone_broker.proofs.Standing.{desk_changed, reseated}
+use Rattle.lone_broker.proofs.Steps.{is_reseated, no_less}
 use Rattle.lone_broker.proofs.engine.Engine.bring.Goals as goal
 
 pub returns-in_ok-feed-in-Feed-clause-brought : goal.returns-in_ok-feed-in-Feed-clause-brought
@@ -41,32 +41,32 @@ returns-in_ok-feed-in-Feed-clause-alone c =
 
 pub returns-in-Shut-clause-brought : goal.returns-in-Shut-clause-brought
 returns-in-Shut-clause-brought c =
-    let i = c.self.inside in
+    let i = c.self-in-Shut.inside in
     let kept = c.args.self.now in
     let s = c.in-Shut.session in
     let few : s < 64 = subst IsPlayable c.in-Shut.is c.requires.playable in
     let there : s < length kept.board.seats = omega (arith, few, c.requires.stands.1.kept_of.seats) in
     let next = reseated kept s (shut_seat s (seat_at kept.board s)) in
-    let made = desk_changed i.config i.parts i.clock i.desks c.as_mut_slice-in-Shut.result.now i.parked kept s (shut_seat s) c.index-as_mut_slice-session-in-Shut.result c.shut.new.self c.self.view_is there c.as_mut_slice-in-Shut.ensures.value c.index-as_mut_slice-session-in-Shut.is c.shut.ensures in
+    let made = desk_changed i.config i.parts i.clock i.desks c.as_mut_slice-in-Shut.result.now i.parked kept s (shut_seat s) c.index-as_mut_slice-session-in-Shut.result c.shut.new.self c.self-in-Shut.view_is there c.as_mut_slice-in-Shut.ensures.value c.index-as_mut_slice-session-in-Shut.is c.shut.ensures in
     λ board stands. subst (λ (k : Kept). StandsFor k (brought board c.args.line.now)) (sym made)
     (subst (λ (l : Line). StandsFor next (brought board l)) (sym c.in-Shut.is) (shut_stands kept s few board stands))
 
 pub returns-in-Shut-clause-alone : goal.returns-in-Shut-clause-alone
 returns-in-Shut-clause-alone c =
-    let i = c.self.inside in
+    let i = c.self-in-Shut.inside in
     let kept = c.args.self.now in
     let s = c.in-Shut.session in
     let few : s < 64 = subst IsPlayable c.in-Shut.is c.requires.playable in
     let there : s < length kept.board.seats = omega (arith, few, c.requires.stands.1.kept_of.seats) in
-    let made = desk_changed i.config i.parts i.clock i.desks c.as_mut_slice-in-Shut.result.now i.parked kept s (shut_seat s) c.index-as_mut_slice-session-in-Shut.result c.shut.new.self c.self.view_is there c.as_mut_slice-in-Shut.ensures.value c.index-as_mut_slice-session-in-Shut.is c.shut.ensures in
+    let made = desk_changed i.config i.parts i.clock i.desks c.as_mut_slice-in-Shut.result.now i.parked kept s (shut_seat s) c.index-as_mut_slice-session-in-Shut.result c.shut.new.self c.self-in-Shut.view_is there c.as_mut_slice-in-Shut.ensures.value c.index-as_mut_slice-session-in-Shut.is c.shut.ensures in
     let next = reseated kept s (shut_seat s (seat_at kept.board s)) in
     subst (λ (k : Kept). IsBrought c.args.line.now kept k) (sym made)
     (subst (λ (l : Line). IsBrought l kept next) (sym c.in-Shut.is) (is_reseated kept s (shut_seat s (seat_at kept.board s)) there (no_less (next_call kept.board s))))
 
+pub returns-in_ok-tick-in-Clock-clause-brought : goal.returns-in_ok-tick-in-Clock-clause-brought
+returns-in_ok-tick-in-Clock-clause-brought c =
+    λ board stands. subst (λ (l : Line). StandsFor c.tick.new.self (brought board l)) (sym c.in-Clock.is) (c.in_ok-tick-in-Clock.ensures.brought board stands)
+
 pub returns-in_ok-tick-in-Clock-clause-alone : goal.returns-in_ok-tick-in-Clock-clause-alone
 returns-in_ok-tick-in-Clock-clause-alone c =
-    let i = c.self.inside in
-    let kept = c.args.self.now in
-    let after = kept_as i.config i.parts c.tick.new.self i.desks i.parked in
-    subst (λ (l : Line). IsBrought l kept after) (sym c.in-Clock.is)
-    (ticked_kept i.config i.parts i.clock c.tick.new.self i.desks i.parked kept c.in-Clock.t c.self.view_is c.in_ok-tick-in-Clock.ensures.ticked)
+    subst (λ (l : Line). IsBrought l c.args.self.now c.tick.new.self) (sym c.in-Clock.is) c.in_ok-tick-in-Clock.ensures.alone

@@ -1,4 +1,4 @@
-use Rattle.session.proofs.Going.{looked_seen, looked_self, looked_told, told_now}
+use Rattle.session.proofs.Going.{looked_partly_told, looked_self, looked_told, told_now}
 use Rattle.session.proofs.Handling.{either_way}
 use Rattle.session.proofs.answers.Room.tick.Goals as goal
 
@@ -12,4 +12,4 @@ returns-clause-looked g c =
     let old = c.args.pass.now in
     let new = c.tick.new.pass in
     let le = told_now moment c.args.seat.now c.now.new.pass c.in_ok-moment.ensures.told in
-    either_way c.tick.result c.tick.ensures.told c.tick.ensures.refused (looked_told moment told old new le) (looked_seen told old new)
+    either_way c.tick.result c.tick.ensures.told c.tick.ensures.refused (looked_told moment told old new le) (looked_partly_told moment told old new le)
