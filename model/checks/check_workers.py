@@ -23,7 +23,7 @@ from model.definitions import accounts
 from model.traces import generate
 
 CRATE = "tell_account"
-KINDS = ["waiting", "mixed", "waiting", "mixed", "crowded", "changed"]
+KINDS = ["waiting", "mixed", "lagging", "mixed", "crowded", "changed"]
 WORKERS = [1, 2, 3, 16]
 DRAIN_STEP = 1000
 # How long a request may wait in a trace that is drained, in milliseconds.
