@@ -211,6 +211,13 @@ def state_at(h, place):
     return state_before(h, place + 1)
 
 
+# ==== partlog/specs/Looked.antt
+
+
+def looked(h, by, seq):
+    return History(h.log, h.followers, h.events + (Look(by, seq),))
+
+
 # ==== partlog/specs/Lagging.antt
 
 
@@ -386,6 +393,10 @@ def needed_insync(acks, least):
     return least if acks == -1 else 0
 
 
+def least_insync(config, acks, part):
+    return needed_insync(acks, min_insync_at(config.topics, part))
+
+
 def append_outcome(version, least, part, count, batch, state):
     if state.insync < least:
         return look(Refused(NOT_ENOUGH_REPLICAS))
@@ -417,8 +428,7 @@ def ProduceDecides(config, version, transactional, acks, named):
         return Refuse(3)
     if not is_acks(acks):
         return Refuse(21)
-    least = needed_insync(acks, min_insync_at(config.topics, part))
-    return BatchDecides(version, least, part, b"" if asked.records is None else asked.records)
+    return BatchDecides(version, least_insync(config, acks, part), part, b"" if asked.records is None else asked.records)
 
 
 def in_range_outcome(part, offset, entry, state):
@@ -591,14 +601,12 @@ class Reply:
 LOG_START = 0
 
 
-def code_for_all(least, after, state):
+def produced_code(acks, least, after, state):
+    if acks != -1:
+        return 0
     if state.high < after:
         return 7
     return NOT_ENOUGH_REPLICAS_AFTER_APPEND if state.insync < least else 0
-
-
-def produced_code(acks, least, after, state):
-    return code_for_all(least, after, state) if acks == -1 else 0
 
 
 def produced_as(config, acks, index, result, state):

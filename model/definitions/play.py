@@ -19,7 +19,7 @@ from model.definitions.accounts import (
 )
 from model.definitions.parts import (
     all_shrunk, answer, Append, becomes_delayed, ClockLook, Decides, Follow, Followed, History, is_quiet, log_end_of, Look,
-    Looked, moment_of, operation_of, Put, Refuse, Refused, results_of, Shown, State, state_of, tally, Tick, values_of,
+    looked, moment_of, operation_of, Put, Refuse, Refused, results_of, Shown, State, state_of, tally, Tick, values_of,
 )
 from model.definitions.requests import (
     Configuration, flat_map, followers_of, IsRefused, IsRequest, minus, next_frame_of, record, slice_get, slice_set,
@@ -226,7 +226,7 @@ def look_all(by, seq, looked_at, parts):
     for part in looked_at:
         found = history_at(parts, part)
         points.append(Point(part, len(found.events)))
-        parts = slice_set(parts, part, entered(found, by, seq, 0, Looked()))
+        parts = slice_set(parts, part, looked(found, by, seq))
     return tuple(points), parts
 
 
@@ -336,6 +336,10 @@ def with_seat(board, session, inbox, is_shut_):
     return replace(board, seats=slice_set(board.seats, session, Seat(inbox, is_shut_, transcript_at(board, session))))
 
 
+def ticked(board, t):
+    return replace(board, clock=board.clock + (Tick(t),), parts=tuple(all_shrunk(h, 0, t) for h in board.parts))
+
+
 def brought(board, kind, what):
     if kind == "bytes":
         session, data = what
@@ -345,7 +349,7 @@ def brought(board, kind, what):
     if kind == "close":
         return with_seat(board, what, seat_at(board, what).inbox, True)
     if kind == "clock" and moment_of(board.clock) < what:
-        return replace(board, clock=board.clock + (Tick(what),), parts=tuple(all_shrunk(h, 0, what) for h in board.parts))
+        return ticked(board, what)
     return board
 
 
