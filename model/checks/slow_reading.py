@@ -175,9 +175,9 @@ class SlowReading:
         need([point.part for point in call.accept[len(asked):]] == [CLOCK], "a call that waits didn't look at the clock once")
         wait = request.fields["timeout"] if request.key == 0 else request.fields["wait"]
         deadline = self.moments[call.accept[-1].place] + max(0, wait)
-        self.end_wait(owner, call, parts, asked, deadline)
+        self.end_wait(owner, call, parts, deadline)
 
-    def end_wait(self, owner, call, parts, asked, deadline):
+    def end_wait(self, owner, call, parts, deadline):
         request, how, finish = self.requests[owner], kind_of(call.how), call.finish
         if how == "Parked":
             need(finish == (), "a parked call with an end")
@@ -190,7 +190,8 @@ class SlowReading:
             need(finish != () and finish[0].part == CLOCK, "an expired call without a look at the clock")
             need(deadline <= self.moments[finish[0].place], "a call that expired too early")
             finish = finish[1:]
-        need([look.part for look in finish] == asked, "a completion that looks at other partitions")
+        needed = [part.number for part in parts if part.code == 0]
+        need([look.part for look in finish] == needed, "a completion that looks at other partitions")
         self.show(finish)
         need(how == "Expired" or self.broker.is_satisfied(request, parts), "a satisfied call that isn't")
         self.broker.reply(owner[0], request, parts)
