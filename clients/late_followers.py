@@ -54,7 +54,8 @@ def taken_again(link, correlation, topic, base):
     def is_taken():
         link.send(for_all(correlation, topic))
         came = wire.frame(link.reply())
-        expect(came in (refused, frames.produced(correlation, topic, base)), f"a produce should be taken or have code 19, and is told {came.hex()}")
+        is_right = came in (refused, frames.produced(correlation, topic, base))
+        expect(is_right, f"a produce should be taken, or have code 19, and is told {came.hex()}")
         return came != refused
     until(is_taken, "a produce for all replicas is taken again")
 

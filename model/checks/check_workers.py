@@ -222,8 +222,8 @@ class Counted:
     def told(self):
         unlike = sum(len(histories) > 1 for histories in self.came.values())
         return (f"{self.runs} runs, {self.drained} of them drained, with {sum(self.hows.values())} calls ({names(self.hows)}) and "
-                f"{sum(self.ends.values())} sessions ({names(self.ends)}); {self.leaves} times a follower left: each account is lawful, is that of its trace, and is printed as "
-                f"the slow broker prints it. The runs of {unlike} traces came to other histories than one another")
+                f"{sum(self.ends.values())} sessions ({names(self.ends)}); {self.leaves} times a follower left: each account is lawful, is "
+                f"that of its trace, and is printed as the slow broker prints it. The runs of {unlike} traces came to other histories than one another")
 
 
 def main():
