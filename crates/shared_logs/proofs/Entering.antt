@@ -7,7 +7,6 @@ use Rattle.std.specs.List.{AllByRecursion}
 use Rattle.kbatch.specs.Stamp.{stamped}
 use Rattle.partlog.specs.declared.event.PartEvent.{PartEvent}
 use Rattle.partlog.specs.declared.event.PartEvent.TheVariants.{Append, Follow, Look, Shrink}
-use Rattle.partlog.specs.declared.numbers.Numbers.{Numbers}
 use Rattle.partlog.specs.Added.{added_bytes, log_end_of}
 use Rattle.partlog.specs.Fallen.{NoneFell}
 use Rattle.partlog.specs.Gauges.{numbers_of}
@@ -20,18 +19,14 @@ use Rattle.kanswer.specs.Decisions.{Entry, Put, Followed, Looked, Outcome}
 use Rattle.kanswer.specs.WithEntry.{entered}
 use Rattle.broker_spec.specs.GoesOn.{IsWhole, Longer}
 use Rattle.broker_spec.specs.Timely.{pass_of}
-use Rattle.broker_spec.proofs.Laws.{entered_followers, entered_longer, looked_state}
-use Rattle.room_scans.specs.Desks.{desk_name}
-use Rattle.room_table.specs.Seats.{TableView}
+use Rattle.broker_spec.proofs.Laws.{entered_longer, looked_state}
 use Rattle.turn_lock.specs.AddedBy.{AddedBy}
-use Rattle.purgatory.specs.Raised.{IsQuietAt}
 use Rattle.kanswer.specs.declared.entered.Entered.{Entered}
 use Rattle.kanswer.specs.Entered.{HasEntered}
 use Rattle.shared_logs.specs.declared.entries.LogEntry.{LogEntry}
-use Rattle.shared_logs.specs.declared.sources.PartSources.{PartSources}
-use Rattle.shared_logs.specs.Desks.{PartView, part_name}
+use Rattle.shared_logs.specs.Desks.{PartView}
 use Rattle.shared_logs.specs.Entries.{entries_from, entry_by, log_entries}
-use Rattle.shared_logs.specs.Keeps.{AreAt, AreQuiet, PartKeeps}
+use Rattle.shared_logs.specs.Keeps.{AreAt, PartKeeps}
 use Rattle.shared_logs.specs.Shrunk.{HasShrunkSome}
 use Rattle.shared_logs.proofs.Adding.{added_one}
 use Rattle.shared_logs.proofs.Beside.{entries_append}

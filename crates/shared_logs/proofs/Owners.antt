@@ -1,20 +1,18 @@
 -- Who left an entry.
-use Rattle.std.proofs.Common.{◌≡◌, ℕ, zero, suc, ◌≤◌, Bool, true, false, cond, eqb, eq-eqb, List, [], ◌∷◌, ◌++◌, drop, map, Option, Some, None, refl, sym, ap, ◌∙◌, subst, arith}
-use Rattle.std.proofs.lemmas.Bool.Decides.{eqb_tells}
+use Rattle.std.proofs.Common.{◌≡◌, ℕ, zero, suc, ◌≤◌, Bool, true, false, cond, eqb, eq-eqb, List, [], ◌∷◌, drop, map, Option, Some, None, refl, ap, ◌∙◌, arith}
 use Rattle.std.specs.Prelude.{slice_get}
 use Rattle.partlog.specs.declared.clock_event.ClockEvent.{ClockEvent}
 use Rattle.partlog.specs.declared.clock_event.ClockEvent.TheVariants as clocks
 use Rattle.partlog.specs.declared.event.PartEvent.{PartEvent}
 use Rattle.partlog.specs.declared.event.PartEvent.TheVariants.{Append, Follow, Look, Shrink}
 use Rattle.partlog.specs.Added.{added_bytes}
-use Rattle.partlog.specs.History.{History}
 use Rattle.audit.specs.Histories.{Owner, clock_owner_of, owner_of}
 use Rattle.turn_lock.specs.OfPass.{of_pass}
 use Rattle.broker_spec.specs.GoesOn.{the_owner}
 use Rattle.broker_spec.specs.Timely.{pass_of}
 use Rattle.shared_logs.specs.declared.entries.ClockEntry.{ClockEntry}
 use Rattle.shared_logs.specs.declared.entries.LogEntry.{LogEntry}
-use Rattle.shared_logs.specs.Entries.{clock_by, clock_entries, entries_from, entry_by, log_entries}
+use Rattle.shared_logs.specs.Entries.{clock_by, clock_entries, entries_from, entry_by}
 
 abbrev by_or : ℕ → Option (Option Owner) → ℕ
 by_or n (Some (Some owner)) = owner.by

@@ -8,7 +8,6 @@ use Rattle.std.specs.List.{AllByRecursion, flat_map}
 use Rattle.std.specs.Prelude.{All, IfOk, OnErr, OnOk, slice_index}
 use Rattle.partlog.specs.declared.clock_event.ClockEvent.{ClockEvent}
 use Rattle.partlog.specs.declared.clock_event.ClockEvent.TheVariants as clocks
-use Rattle.partlog.specs.declared.event.PartEvent.{PartEvent}
 use Rattle.partlog.specs.Kept.{IsKept}
 use Rattle.audit.specs.Histories.{Owner, clock_owner_of}
 use Rattle.broker_spec.specs.GoesOn.{Longer, the_owner}

@@ -13,10 +13,9 @@ use Rattle.partlog.specs.Moment.{moment_of, tick_of}
 use Rattle.partlog.specs.Ticked.{ticked}
 use Rattle.audit.specs.Histories.{ticks_of}
 use Rattle.broker_spec.specs.Sound.{AllBelow}
-use Rattle.room_table.specs.Seats.{SourceView, source_now}
+use Rattle.room_table.specs.Seats.{SourceView}
 use Rattle.turn_lock.specs.AddedBy.{AddedBy}
 use Rattle.purgatory.specs.Raised.{IsQuietAt}
-use Rattle.shared_logs.specs.declared.entries.ClockEntry.{ClockEntry}
 use Rattle.shared_logs.specs.Desks.{MomentView}
 use Rattle.shared_logs.specs.Entries.{clock_by, clock_entries}
 use Rattle.shared_logs.specs.Keeps.{MomentKeeps}

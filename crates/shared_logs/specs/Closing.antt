@@ -1,5 +1,5 @@
 -- The logs as they are closed: what each pass saw, with all that came later.
-use Rattle.std.specs.Prelude.{◌≡◌, ℕ, ◌<◌, ◌≤◌, ◌/◌, ◌==◌, ◌↔◌, List, ◌∷◌, All, Any, Contains, Some, count_by, fold, length, map, max, slice_get, slice_index, sum_by}
+use Rattle.std.specs.Prelude.{◌≡◌, ℕ, ◌<◌, ◌≤◌, ◌==◌, ◌↔◌, List, ◌∷◌, All, Any, Contains, Some, count_by, fold, length, map, max, slice_get, slice_index, sum_by}
 use Rattle.std.specs.List.{flat_map}
 use Rattle.std.specs.List.Sorted.{IsStrictlyIncreasing}
 use Rattle.partlog.specs.declared.clock_event.ClockEvent.{ClockEvent}
@@ -7,13 +7,10 @@ use Rattle.partlog.specs.declared.event.PartEvent.{PartEvent}
 use Rattle.partlog.specs.History.{History}
 use Rattle.partlog.specs.Lagging.{LeftLate}
 use Rattle.partlog.specs.Moment.{moment_of}
-use Rattle.partlog.specs.State.{state_of}
-use Rattle.opcond.specs.declared.need.Need.{Need}
 use Rattle.opcond.specs.Operation.{Operation}
 use Rattle.opcond.specs.Tally.{IsSatisfied}
 use Rattle.audit.specs.Histories.{ticks_of}
-use Rattle.kanswer.specs.Waiting.{gauge_value}
-use Rattle.broker_spec.specs.Board.{history_at, gauge_now}
+use Rattle.broker_spec.specs.Board.{gauge_now}
 use Rattle.broker_spec.specs.GoesOn.{AllWhole, the_owner}
 use Rattle.broker_spec.specs.Kept.{owners_at}
 use Rattle.broker_spec.specs.Timely.{events_at, pass_of}

@@ -1,4 +1,4 @@
-use Rattle.std.proofs.Common.{◌≡◌, ◌≤◌, arith, length}
+use Rattle.std.proofs.Common.{◌≡◌, arith, length}
 use Rattle.shared_logs.proofs.Passes.{seen_count}
 use Rattle.shared_logs.proofs.Shrinking.{none_at_first, none_in_all, none_more, shrunk_on, shrunk_self}
 use Rattle.shared_logs.proofs.logs.SharedLogs.shrink_parts.Goals as goal

@@ -1,9 +1,9 @@
-use Rattle.std.proofs.Common.{◌≡◌, ◌≤◌, ℕ, List, [], refl, sym, subst, ◌∙◌, arith, rules}
+use Rattle.std.proofs.Common.{◌≡◌, ℕ, [], sym, subst, ◌∙◌, arith, rules}
 use Rattle.partlog.specs.Gauges.{numbers_of}
 use Rattle.partlog.specs.History.{History}
 use Rattle.partlog.specs.State.{state_of}
 use Rattle.partlog.proofs.Laws.{high-within}
-use Rattle.shared_logs.specs.Keeps.{AreAt, PartKeeps}
+use Rattle.shared_logs.specs.Keeps.{AreAt}
 use Rattle.shared_logs.proofs.part_desk.PartDesk.make.Goals as goal
 
 none : (followers : ℕ) → (state_of (record { log = []; followers = followers; events = [] })).high ≡ 0

@@ -1,10 +1,7 @@
-use Rattle.std.proofs.Common.{◌≡◌, ℕ, List, refl, sym, ap, subst, ◌∙◌, length}
-use Rattle.std.specs.Prelude.{OnErr, OnOk}
-use Rattle.partlog.specs.History.{History}
+use Rattle.std.proofs.Common.{sym, subst}
 use Rattle.partlog.specs.declared.numbers.Numbers.{Numbers}
 use Rattle.partlog.specs.Fallen.{NoneFell}
 use Rattle.partlog.specs.Gauges.{numbers_of}
-use Rattle.partlog.specs.Shrunk.{all_shrunk, shrinks_at, some_shrunk}
 use Rattle.partlog.specs.State.{state_of}
 use Rattle.turn_lock.specs.AddedBy.{AddedBy}
 use Rattle.shared_logs.specs.Desks.{PartView}
