@@ -51,7 +51,7 @@ bench:
 
 # Lets real Kafka clients speak to `serve` of the program that `make build` leaves. clients/README.md says which, and what is checked.
 clients:
-	python3 -B -m clients.check
+	python3 -B -m clients.check --slow
 
 # Plays random traces by the model and by the program that `make build` leaves: 1,000 of each kind, or COUNT, or of one KIND. With
 # UNPROVED=yes it is played by a build that proves nothing.

@@ -11,7 +11,7 @@ import pathlib
 import sys
 import time
 
-from clients import followers, held_lanes, hostile_frames, kafka_python, kcat, own_frames
+from clients import followers, held_lanes, hostile_frames, kafka_python, kcat, late_followers, own_frames
 from clients.served import Failed, Program
 from model.checks import repository
 
@@ -20,9 +20,11 @@ GROUPS = [
     (own_frames.CHECKS, None), (hostile_frames.CHECKS, None), (held_lanes.CHECKS, None),
     (kcat.CHECKS, kcat), (kafka_python.CHECKS, kafka_python), (followers.CHECKS, followers),
 ]
+# Those that take half a minute.
+SLOW = [(late_followers.CHECKS, late_followers)]
 # The most letters that are told of what was seen.
 MOST_TOLD = 600
-NAMES = [name for checks, _ in GROUPS for name in checks]
+NAMES, SLOW_NAMES = ([name for checks, _ in groups for name in checks] for groups in (GROUPS, SLOW))
 
 
 def passes(program, name, check):
@@ -41,7 +43,7 @@ def passes(program, name, check):
 def counted(program, chosen):
     """How many of the chosen checks failed, and how many were skipped."""
     failed, skipped = 0, 0
-    for checks, client in GROUPS:
+    for checks, client in GROUPS + SLOW:
         wanted = {name: check for name, check in checks.items() if name in chosen}
         lacks = client.missing() if client and wanted else None
         if client and wanted and not lacks:
@@ -58,14 +60,16 @@ def counted(program, chosen):
 def main():
     options = argparse.ArgumentParser(description=__doc__)
     options.add_argument("program", nargs="?", type=pathlib.Path, default=repository.program("kafka_room"))
-    options.add_argument("--only", action="append", choices=NAMES, metavar="NAME", help=f"only this check: {', '.join(NAMES)}")
+    options.add_argument("--only", action="append", choices=NAMES + SLOW_NAMES, metavar="NAME",
+                         help=f"only this check: {', '.join(NAMES + SLOW_NAMES)}")
+    options.add_argument("--slow", action="store_true", help="also those that take half a minute")
     options.add_argument("--plain", action="store_true", help="another program: what it writes to standard error isn't checked")
     chosen = options.parse_args()
     if not os.access(chosen.program, os.X_OK) or not chosen.program.is_file():
         print(f"{chosen.program} isn't there: `make build` makes it", file=sys.stderr)
         return 2
     began = time.monotonic()
-    failed, skipped = counted(Program(chosen.program.resolve(), chosen.plain), chosen.only or NAMES)
+    failed, skipped = counted(Program(chosen.program.resolve(), chosen.plain), chosen.only or NAMES + SLOW_NAMES * chosen.slow)
     print(f"clients: {failed or 'none'} failed, {skipped or 'none'} skipped, in {time.monotonic() - began:.0f} s")
     return 1 if failed else 0
 

@@ -13,16 +13,20 @@ PROGRAM = repository.program("kafka_follower")
 MANY = 2_000
 
 
+def missing_program():
+    return None if os.access(PROGRAM, os.X_OK) else f"{PROGRAM} isn't there"
+
+
 def missing():
-    return kcat.missing() or (None if os.access(PROGRAM, os.X_OK) else f"{PROGRAM} isn't there")
+    return kcat.missing() or missing_program()
 
 
 def version():
     return subprocess.run([PROGRAM, "--version"], capture_output=True, text=True).stdout.strip()
 
 
-def started(serving, rounds):
-    words = [PROGRAM, str(serving.port), "copies", "0", "1", str(rounds)]
+def started(serving, topic, rounds):
+    words = [PROGRAM, str(serving.port), topic, "0", "1", str(rounds)]
     return subprocess.Popen(words, stdout=subprocess.PIPE, stderr=subprocess.PIPE, text=True)
 
 
@@ -40,12 +44,12 @@ def returns_with_a_follower(program):
             time.sleep(0.4)
             expect(producer.process.poll() is None, "kcat should wait while no follower has its record")
             began = time.monotonic()
-            first = started(serving, 2**31 - 1)
+            first = started(serving, "copies", 2**31 - 1)
             producer.ends()
             took = soon(began, "kcat returns")
         first.kill()
         first.communicate()
-        second = started(serving, 14)
+        second = started(serving, "copies", 14)
         kcat.ran(serving, "-P", "-t", "copies", "-p", "0", "-X", "acks=all", text="".join(f"record {n}\n" for n in range(MANY)))
         printed = ended(second)
         with Link(serving.port) as link:

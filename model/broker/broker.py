@@ -1,56 +1,18 @@
 """A broker on one thread that scans an unordered list of waiting requests after every line. It is slow and plain on purpose."""
 
-from dataclasses import dataclass, field
+from dataclasses import dataclass
 
 from model.broker import batches, wire
+from model.broker.partition import Appended, Fetched, Left, Partition
 
 PORT = 9092
 LOG_LIMIT = 67_108_864
 REPLY_LIMIT = 52_428_800
 # The codes of a full log: NOT_LEADER_OR_FOLLOWER, and from this version of Produce on KAFKA_STORAGE_ERROR.
 FULL, WITH_STORAGE_ERROR = (6, 56), 4
-
-
-@dataclass
-class Partition:
-    followers: int
-    batches: list = field(default_factory=list)  # (base offset, count, bytes)
-    positions: dict = field(default_factory=dict)
-
-    @property
-    def log_end(self):
-        return sum(count for _, count, _ in self.batches)
-
-    @property
-    def high(self):
-        return min([self.log_end] + [self.positions.get(replica, 0) for replica in range(1, self.followers + 1)])
-
-    @property
-    def bytes(self):
-        return sum(len(data) for _, _, data in self.batches)
-
-    @property
-    def visible(self):
-        high = self.high
-        return sum(len(data) for base, count, data in self.batches if base + count <= high)
-
-    def start_of(self, offset):
-        """The byte place of the first batch whose last offset is at least this one."""
-        return sum(len(data) for base, count, data in self.batches if base + count <= offset)
-
-    def take(self, start, upto, limit, force):
-        """Whole batches from a byte place on, which end at or before `upto`, as many as fit; at least one where that is forced."""
-        taken, place = [], 0
-        for _, _, data in self.batches:
-            end = place + len(data)
-            if place >= start and end <= upto:
-                if sum(map(len, taken)) + len(data) > limit and not (force and not taken):
-                    break
-                taken.append(data)
-                if sum(map(len, taken)) > limit:
-                    break
-            place = end
-        return b"".join(taken)
+# The codes of a produce for all replicas where too few are in sync: NOT_ENOUGH_REPLICAS, where for that reason nothing is appended, and
+# NOT_ENOUGH_REPLICAS_AFTER_APPEND.
+TOO_FEW, TOO_FEW_AFTER = 19, 20
 
 
 @dataclass
@@ -111,6 +73,10 @@ class Broker:
             before += topic.partitions
         return None
 
+    def place_of(self, number):
+        """The topic and the index of a partition."""
+        return [(topic.name, index) for topic in self.topics for index in range(topic.partitions)][number]
+
     # ---- accepting
 
     def append(self, request, topic, index, data):
@@ -125,10 +91,12 @@ class Broker:
         if code is not None:
             return Part(topic, index, code)
         partition = self.partitions[number]
+        if fields["acks"] == -1 and partition.insync < self.least_in_sync(number):
+            return Part(topic, index, TOO_FEW)
         if partition.bytes + len(data) > LOG_LIMIT:
             return Part(topic, index, FULL[request.version >= WITH_STORAGE_ERROR])
         base, count = partition.log_end, batches.count_of(data)
-        partition.batches.append((base, count, batches.stamped(data, base)))
+        partition.history.append(Appended(base, count, batches.stamped(data, base)))
         return Part(topic, index, 0, number, base, count)
 
     def look(self, request, topic, index, offset, most, _):
@@ -141,8 +109,29 @@ class Broker:
         if not 0 <= offset <= partition.log_end:
             return Part(topic, index, 1)
         if replica >= 0:
-            partition.positions[replica] = max(offset, partition.positions.get(replica, 0))
+            self.fetched(number, replica, offset)
         return Part(topic, index, 0, number, start=partition.start_of(offset), most=max(0, most))
+
+    # ---- the in-sync sets
+
+    def least_in_sync(self, number):
+        """The least number of replicas in sync of the partition's topic, the leader counted."""
+        return [topic.min_insync for topic in self.topics for _ in range(topic.partitions)][number]
+
+    def fetched(self, number, replica, offset):
+        self.partitions[number].history.append(Fetched(replica, offset, self.moment))
+
+    def leave(self, number, replica):
+        self.partitions[number].history.append(Left(replica, self.moment))
+
+    def tick(self, moment):
+        """Where the clock goes on, each follower that lags leaves."""
+        if moment <= self.moment:
+            return
+        self.moment = moment
+        for number, partition in enumerate(self.partitions):
+            for replica in partition.lagging(moment):
+                self.leave(number, replica)
 
     # ---- waiting
 
@@ -181,9 +170,15 @@ class Broker:
 
     def told_produced(self, request, part):
         code = part.code
-        if code == 0 and request.fields["acks"] == -1 and self.partitions[part.number].high < part.base + part.count:
-            code = 7
+        if code == 0 and request.fields["acks"] == -1:
+            code = self.code_for_all(part)
         return part.index, code, part.base, log_start_of(part)
+
+    def code_for_all(self, part):
+        """What a produce for all replicas is told of a partition to which it was appended."""
+        if self.partitions[part.number].high < part.base + part.count:
+            return 7
+        return TOO_FEW_AFTER if self.partitions[part.number].insync < self.least_in_sync(part.number) else 0
 
     def told_fetched(self, request, part, budget):
         if part.code != 0:
@@ -261,7 +256,7 @@ class Broker:
         elif kind == "close":
             self.sessions[what].is_named = self.sessions[what].is_shut = True
         elif kind == "clock":
-            self.moment = max(self.moment, what)
+            self.tick(what)
         while True:
             self.scan()
             number = next((number for number in range(64) if self.can_act(number)), None)

@@ -5,16 +5,17 @@
 - `text`: it may be one of this trace's run, but then it tells otherwise;
 - `same`: it means the same, for the reason that stands beside the kind, and has to be called lawful;
 - `cut`: it is the lawful account of a broker that ran out of memory there, which isn't one of a trace's run;
-- `other`: the same entries in another order. It is refused, or is an account of threads that came in that order, and tells the same.
+- `other`: the same entries in another order, another moment of a follower's fetch, or a leave more or less. It is refused, or is an
+  account of threads to which it came so, and tells what they were told.
 """
 
 from dataclasses import replace
 
 from model.definitions.accounts import (
-    AtOnce, Cut, Expired, IsAccepted, Parked, Point, Quiet, Satisfied, SessionEnd, Transcript, clock_part, is_point, moment_at, operation_in,
-    operation_parts, points_of,
+    AtOnce, Cut, Expired, IsAccepted, Parked, Point, Quiet, Satisfied, SessionEnd, Transcript, calls_of, clock_part, is_point, moment_at,
+    operation_in, operation_parts, points_of, ticks_of,
 )
-from model.definitions.parts import Append, ClockLook, Follow, Look, Tick, moment_of
+from model.definitions.parts import Append, ClockLook, Follow, LagsAt, Look, Shrink, Tick, moment_of
 
 # ---- reading and changing
 
@@ -106,6 +107,11 @@ def each_call(account):
                 yield pass_, seq, call
 
 
+def is_owned(event):
+    """Whether it is an entry of a call."""
+    return not isinstance(event, (Tick, Shrink))
+
+
 def the_call(account, part, place):
     """Whose point this is."""
     return next((pass_, seq, call) for pass_, seq, call in each_call(account) if any(is_point(part, place, p) for p in points_of(call)))
@@ -116,7 +122,7 @@ def the_call(account, part, place):
 
 def owners(account):
     for part, place, event in each_entry(account):
-        if not isinstance(event, Tick):
+        if is_owned(event):
             events = events_in(account, part)
             put = lambda new: with_events(account, part, events[:place] + (new,) + events[place + 1:])
             yield "an entry of another session", "lawful", put(replace(event, by=event.by + 1))
@@ -131,6 +137,7 @@ def entries_lost_or_doubled(account):
         if isinstance(event, Tick):
             yield "a tick left out", "run", without(account, part, place)
             yield "a tick doubled", "lawful", with_entry(account, part, place, event)
+        if not is_owned(event):
             continue
         what = {Append: "an append", Follow: "a follower's fetch", Look: "a look", ClockLook: "a look at the clock"}[type(event)]
         yield f"{what} left out, its point left", "lawful", with_events(account, part, events[:place] + events[place + 1:])
@@ -157,8 +164,9 @@ def entries_of_another_kind(account):
             yield "a follower's fetch of the next offset", "lawful", put(replace(event, offset=event.offset + 1))
             yield "another follower's fetch", "lawful", put(replace(event, replica=event.replica + 1))
             yield "a follower's fetch that is a look", "lawful", put(Look(event.by, event.seq))
+            yield "a follower's fetch that is its leave", "lawful", put(Shrink(event.by, event.replica, event.t))
         if isinstance(event, Look):
-            yield "a look that is a follower's fetch", "lawful", put(Follow(event.by, event.seq, 1, 0))
+            yield "a look that is a follower's fetch", "lawful", put(Follow(event.by, event.seq, 1, 0, 0))
         if isinstance(event, ClockLook):
             yield "a look at the clock that is a tick", "lawful", put(Tick(moment_of(account.clock) + 1))
         if isinstance(event, Tick):
@@ -175,10 +183,66 @@ def entries_of_nobody(account):
     yield "a look at the clock of nobody", "lawful", with_entry(account, clock_part, len(account.clock), ClockLook(63, 99))
 
 
+def with_t(account, part, place, t):
+    """An entry has another moment."""
+    events = events_in(account, part)
+    return with_events(account, part, events[:place] + (replace(events[place], t=t),) + events[place + 1:])
+
+
+def leaves(account):
+    """The entries by which followers left."""
+    ticks = ticks_of(account.clock)
+    for part, place, event in each_entry(account):
+        if not isinstance(event, Shrink):
+            continue
+        events = events_in(account, part)
+        put = lambda new: with_events(account, part, events[:place] + (new,) + events[place + 1:])
+        # Which pass took a follower out is nobody's concern.
+        yield "a leave by another pass", "same", put(replace(event, by=event.by + 1))
+        yield "a leave left out", "other", without(account, part, place)
+        yield "a leave doubled", "lawful", with_entry(account, part, place, event)
+        yield "a leave that is a look of nobody", "lawful", put(Look(63, 99))
+        for t in {event.t - 1, event.t + 1} - set(ticks):
+            yield "a leave at a moment that is no tick", "lawful", put(replace(event, t=t))
+        for t in set(ticks) - {event.t}:
+            has_lagged = LagsAt(account.parts[part].followers, events[:place], t, event.replica)
+            # When it left is nobody's concern either, as long as it lagged then.
+            kind = ("a leave at another tick", "same") if has_lagged else ("a leave at a tick too early", "lawful")
+            yield *kind, put(replace(event, t=t))
+
+
+def leaves_more(account):
+    """A follower leaves where none left: at each tick, in each state."""
+    for part, kept in enumerate(account.parts):
+        for place in range(len(kept.events) + 1):
+            for t in ticks_of(account.clock):
+                for replica in range(-1, kept.followers + 2):
+                    has_lagged = LagsAt(kept.followers, kept.events[:place], t, replica)
+                    kind = ("a leave more, of one who lagged", "other") if has_lagged else ("a leave of one who didn't lag", "lawful")
+                    yield *kind, with_entry(account, part, place, Shrink(0, replica, t))
+
+
+def moments_of_fetches(account):
+    """A follower's fetch at another moment."""
+    told = {0, *ticks_of(account.clock)}
+    for part, place, event in each_entry(account):
+        if not isinstance(event, Follow):
+            continue
+        events = events_in(account, part)
+        put = lambda t: with_events(account, part, events[:place] + (replace(event, t=t),) + events[place + 1:])
+        seen = max((moment_at(account, point) for call in calls_of(account, event.by)[:event.seq] for point in points_of(call)
+                    if point.part == clock_part), default=0)
+        for t in {max(0, event.t - 1), event.t + 1} - told:
+            yield "a follower's fetch at a moment that wasn't told", "lawful", put(t)
+        for t in told - {event.t}:
+            kind = ("a follower's fetch at another moment", "other") if seen <= t else ("a follower's fetch before what its pass saw", "lawful")
+            yield *kind, put(t)
+
+
 def swapped(account):
     for part, place, event in each_entry(account):
         before = events_in(account, part)[place - 1] if place else Tick(0)
-        if isinstance(event, Tick) or isinstance(before, Tick) or event.by != before.by:
+        if not is_owned(event) or not is_owned(before) or event.by != before.by:
             if place and event != before:
                 yield "two neighbours in a history swapped", "other", moved_back(account, part, place, place - 1)
         else:
@@ -321,7 +385,7 @@ def owned_in_turn(account, pass_, seq):
     """The entries of a call are those of the one before it, and the other way round."""
     turned = {seq - 1: seq, seq: seq - 1}
     for part, place, event in each_entry(account):
-        if not isinstance(event, Tick) and event.by == pass_ and event.seq in turned:
+        if is_owned(event) and event.by == pass_ and event.seq in turned:
             events = events_in(account, part)
             account = with_events(account, part, events[:place] + (replace(event, seq=turned[event.seq]),) + events[place + 1:])
     return account
@@ -468,8 +532,8 @@ def configuration(account):
         yield "a topic with another least number in sync", "run", put(replace(topic, min_insync=topic.min_insync + 1))
 
 
-KINDS = [owners, entries_lost_or_doubled, entries_of_another_kind, entries_of_nobody, swapped, shared, in_another_history, looks_more, logs,
-         hows, wins, points, frames, undone, done, too_early, cuts, transcripts, configuration]
+KINDS = [owners, entries_lost_or_doubled, entries_of_another_kind, entries_of_nobody, leaves, leaves_more, moments_of_fetches, swapped,
+         shared, in_another_history, looks_more, logs, hows, wins, points, frames, undone, done, too_early, cuts, transcripts, configuration]
 
 
 def changes(account):

@@ -16,7 +16,7 @@ from model.definitions import accounts, parts, play
 from model.traces import generate
 
 PORT = broker.PORT
-KINDS = ["waiting", "waiting", "mixed", "plain"]
+KINDS = ["waiting", "lagging", "mixed", "plain"]
 # No trace is long enough to fill a log; so in each fifth one a log takes no more than so many bytes.
 MOST_LOG_BYTES, FEW_LOG_BYTES = broker.LOG_LIMIT, 200
 

@@ -20,10 +20,11 @@ import time
 from model.broker import broker, traces, wire
 from model.checks import compare, repository, slow_reading, told_account, unproved
 from model.definitions import accounts
+from model.definitions.parts import Shrink
 from model.traces import generate
 
 CRATE = "tell_account"
-KINDS = ["waiting", "mixed", "waiting", "mixed", "crowded", "changed"]
+KINDS = ["waiting", "mixed", "lagging", "mixed", "crowded", "changed"]
 WORKERS = [1, 2, 3, 16]
 DRAIN_STEP = 1000
 # How long a request may wait in a trace that is drained, in milliseconds.
@@ -204,7 +205,7 @@ class Counted:
     """What was met in all runs."""
 
     def __init__(self):
-        self.runs, self.drained = 0, 0
+        self.runs, self.drained, self.leaves = 0, 0, 0
         self.hows, self.ends = collections.Counter(), collections.Counter()
         # by trace, what its runs came to, but for the winners
         self.came = {}
@@ -212,6 +213,7 @@ class Counted:
     def add(self, case, account):
         self.runs += 1
         self.drained += case.drain
+        self.leaves += sum(isinstance(event, Shrink) for part in account.parts for event in part.events)
         self.hows.update(type(call.how).__name__ for _, _, call in accounts.each_call(account))
         self.ends.update(transcript.end.kind if transcript.end else "none" for transcript in accounts.transcripts_of(account))
         if not case.drain:
@@ -220,8 +222,8 @@ class Counted:
     def told(self):
         unlike = sum(len(histories) > 1 for histories in self.came.values())
         return (f"{self.runs} runs, {self.drained} of them drained, with {sum(self.hows.values())} calls ({names(self.hows)}) and "
-                f"{sum(self.ends.values())} sessions ({names(self.ends)}): each account is lawful, is that of its trace, and is printed as "
-                f"the slow broker prints it. The runs of {unlike} traces came to other histories than one another")
+                f"{sum(self.ends.values())} sessions ({names(self.ends)}); {self.leaves} times a follower left: each account is lawful, is "
+                f"that of its trace, and is printed as the slow broker prints it. The runs of {unlike} traces came to other histories than one another")
 
 
 def main():

@@ -26,8 +26,10 @@ from model.broker import broker, wire
 from model.checks import repository, seen_replies
 from model.traces import talks
 
-# The most connections of one `serve`, and how many clients there are at a time where there are lanes for them.
+# The most connections of one `serve`; of one whose topics have followers, which has to be over before one of these has lagged for 30 s;
+# and how many clients there are at a time where there are lanes for them.
 EACH = 200
+WITH_FOLLOWERS = 50
 BESIDE = 8
 # With SO_LINGER, closing a socket resets its connection.
 AT_ONCE = struct.pack("ii", 1, 0)
@@ -163,8 +165,13 @@ class OneLane:
 def on_one_lane(program, random_, count):
     """The ways in which the connections ended."""
     topics = random_.choice([talks.TOPICS, talks.WITH_FOLLOWERS])
+    each = count if topics is talks.TOPICS else WITH_FOLLOWERS
     said = [talks.made(random_, topics, may_be_rude=False) for _ in range(count)]
-    with Serving(program, declared(topics), connections=count, lanes=1) as serving:
+    return [link for first in range(0, count, each) for link in one_after_the_other(program, topics, said[first:first + each])]
+
+
+def one_after_the_other(program, topics, said):
+    with Serving(program, declared(topics), connections=len(said), lanes=1) as serving:
         model = OneLane(topics, serving.port)
         for number, talk in enumerate(said):
             wanted, came = model.answered(talk), speak(serving.port, talk).data

@@ -25,7 +25,7 @@ from model.traces import generate, mutated
 # How many texts are made of one trace, and played by one process before it tells.
 OF_ONE = 20
 AT_ONCE = 200
-KINDS = ["waiting", "mixed", "plain", "waiting", "mixed", "file"]
+KINDS = ["waiting", "mixed", "plain", "lagging", "mixed", "file"]
 # The longest file of the repository that is changed.
 MOST_BYTES = 8000
 

@@ -1,11 +1,18 @@
 """A trace played as threads might: a session goes on by one entry of one history at a time, and between two of them anything of the
 other sessions may come. A request that waits is completed at any time from when it is answerable on, as satisfied or as expired where
-it is both, and by any winner. The account of each such play has to be lawful, and to tell the replies that were given.
+it is both, and by any winner. A follower's fetch has any moment that the clock was told and that isn't below those that its session has
+seen. Of the followers that lag some leave, some time after the tick. The account of each such play has to be lawful, and to tell the
+replies that were given.
 """
+
+from dataclasses import replace
 
 from model.definitions import accounts, parts, play, requests
 from model.definitions.accounts import Account, Call, Expired, Parked, Point, Quiet, Satisfied, SessionEnd, Step, Transcript, clock_part
-from model.definitions.parts import AskLog, ClockLook, Refused, Shown
+from model.definitions.parts import AskLog, ClockLook, Refused, Shown, moment_of
+
+# How many passes there may be, of which any may have the clock.
+PASSES = 5
 
 
 class LoosePlay:
@@ -13,22 +20,39 @@ class LoosePlay:
         self.config, self.random, self.winners = config, random_, winners
         self.parts = [play.empty_history(followers) for followers in requests.followers_of(config.topics)]
         self.clock = ()
-        # by session: what it received and nobody has handled yet, with whether its input ended; and what it still has to do
+        # by session: what it received and nobody has handled yet, with whether its input ended; and what it still has to do, as what
+        # has to be done after a tick
         self.seats, self.steps = {}, {}
         self.calls, self.parked, self.ends, self.replies = {}, {}, {}, {}
         self.wins = [0] * winners
+        # by session: the moment at which it has seen the clock last
+        self.seen = {}
 
     # ---- one step on one history, and what it shows
 
     def enter(self, part, session, entry):
         """An entry in a partition's history: its point, and the state just after it."""
         found = self.parts[part]
-        self.parts[part] = play.entered(found, session, len(self.calls[session]), entry)
+        self.parts[part] = play.entered(found, session, len(self.calls[session]), self.moment_for(session), entry)
         return Point(part, len(found.events)), parts.state_of(self.parts[part])
+
+    def moment_for(self, session):
+        told = (0,) + accounts.ticks_of(self.clock)
+        return self.random.choice([moment for moment in told if self.seen.get(session, 0) <= moment])
 
     def look_at_clock(self, session):
         self.clock += (ClockLook(session, len(self.calls[session])),)
+        self.seen[session] = moment_of(self.clock)
         return Point(clock_part, len(self.clock) - 1)
+
+    def shrink(self, t, by):
+        """What follows a tick: of each partition those who lag leave, in any order, but for some now and then."""
+        for part in range(len(self.parts)):
+            yield True
+            while (leaves := parts.shrinks_at(self.parts[part], by, t)) and self.random.random() < 0.9:
+                found = self.parts[part]
+                self.parts[part] = replace(found, events=found.events + (self.random.choice(leaves),))
+                yield True
 
     # ---- a session, which stops before each step
 
@@ -69,7 +93,7 @@ class LoosePlay:
             return
         yield True
         accept += (self.look_at_clock(session),)
-        operation = parts.operation_of(request.ask, parts.results_of(shown), parts.moment_of(self.clock))
+        operation = parts.operation_of(request.ask, parts.results_of(shown), moment_of(self.clock))
         waiting = play.Waiting(session, request, steps, operation)
         self.parked[session] = Call(body, accept, (), Parked())
         while True:
@@ -110,8 +134,9 @@ class LoosePlay:
     # ---- the whole
 
     def bring(self, kind, what):
-        if kind == "clock" and parts.moment_of(self.clock) < what:
+        if kind == "clock" and moment_of(self.clock) < what:
             self.clock += (parts.Tick(what),)
+            self.steps[f"tick {what}"] = self.shrink(what, self.random.randrange(PASSES))
         if kind not in ("bytes", "close"):
             return
         session = what[0] if kind == "bytes" else what
@@ -136,11 +161,11 @@ class LoosePlay:
             self.bring(kind, what)
             for _ in range(self.random.choice([0, 1, 2, 5, 20, 100])):
                 if self.steps:
-                    self.go_on(self.random.choice(sorted(self.steps)))
+                    self.go_on(self.random.choice(list(self.steps)))
         before = None
         while before != (self.parts, self.steps.keys()):
             before = list(self.parts), set(self.steps)
-            sessions = sorted(self.steps)
+            sessions = list(self.steps)
             self.random.shuffle(sessions)
             while any([self.go_on(session) for session in sessions if session in self.steps]):
                 pass

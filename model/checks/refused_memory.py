@@ -23,7 +23,7 @@ from dataclasses import dataclass
 
 from clients import frames
 from clients.served import HOST, PATIENCE, Failed, expect, free_port, is_listening, text_of, until
-from model.broker import batches
+from model.broker import batches, traces
 from model.checks import check_lanes, check_workers, repository
 
 SHIM = r"""
@@ -148,7 +148,9 @@ def runs():
     crate = repository.crate("kafka_room")
     yield Run("the stored run", ["replay"], (crate / "stdin").read_bytes(), (crate / "stdout").read_bytes(), True)
     yield Run("a produce and its follower", ["replay"], *row("produce_waits_for_its_follower"), True)
+    yield Run("followers that leave", ["replay"], *row("followers_leave_in_several_partitions"), True)
     yield Run("one worker", ["replay", "--workers", "1"], *row("one_worker"))
+    yield Run("a follower that leaves, on one worker", ["replay", "--workers", "1"], *row("follower_leaves_and_comes_back_on_1_worker"))
     yield Run("edges on 3 workers", ["replay", "--workers", "3"], *row("edges_of_numbers_on_3_workers"))
     summary = "".join(f"part {number} end 4 batches 4 bytes 336\n" for number in range(8)) + "sessions 16 calls 64 replies 64 parked 0\ndone\n"
     yield Run("storm 7 64 2", ["storm", "7", "64", "2"], b"", summary.encode())
@@ -249,10 +251,10 @@ def tell_in_turn(refusing, teller, case, check):
 
 def cases():
     """Runs that are told, and what looks at their accounts. On lanes they have the two connections of `serve`, and one that is cut."""
-    for name in ("produce_waits_for_its_follower", "edges_of_numbers_on_3_workers"):
+    for name in ("produce_waits_for_its_follower", "edges_of_numbers_on_3_workers", "followers_leave_in_several_partitions"):
         for workers in (1, 3):
             yield check_workers.Case(name, workers, False, row(name)[0]), check_workers.check
-    text = check_lanes.text_of([(b"t", 1, 0)], [frames.fetch(1, b"t", 0, wait=20), frames.produce(2, b"t", BATCH), BATCH[:7]])
+    text = check_lanes.text_of([traces.Topic(b"t", 1, 0)], [frames.fetch(1, b"t", 0, wait=20), frames.produce(2, b"t", BATCH), BATCH[:7]])
     for lanes in (1, 2):
         yield check_lanes.Case(f"two connections on {lanes} lanes", lanes, text), check_lanes.check_lawful
 

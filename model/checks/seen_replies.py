@@ -5,6 +5,7 @@ those of a connection never stand before those of another that was over when it 
 import collections
 
 from model.broker import batches, broker, wire
+from model.broker.partition import Appended
 from model.traces.talks import is_quiet
 
 
@@ -58,7 +59,7 @@ class Seen:
         """The broker as it was when the logs had these ends."""
         made = broker.Broker(self.topics, self.port)
         for partition, log, end in zip(made.partitions, self.logs, ends):
-            partition.batches = [batch for batch in log if batch[0] + batch[1] <= end]
+            partition.history = [Appended(*batch) for batch in log if batch[0] + batch[1] <= end]
         return made
 
     def check(self, requests, replies, floors):

@@ -21,7 +21,7 @@ def need(holds, what):
 
 
 def copied(partition):
-    return replace(partition, batches=list(partition.batches), positions=dict(partition.positions))
+    return replace(partition, history=list(partition.history))
 
 
 def kind_of(event):
@@ -38,13 +38,14 @@ class SlowReading:
         self.requests = {owner: self.request_of(call.frame) for owner, call in self.calls.items()}
         # by call and by partition: what became of it, from the entry that its acceptance left there
         self.became = {owner: {} for owner in self.calls}
+        # the moment at each entry of the clock's history
+        self.moments = self.clock()
         # by partition: the partition as it was just after each entry
         self.shown = [self.history(number, part) for number, part in enumerate(account.parts)]
-        self.moments = self.clock()
         need(len(account.parts) == len(self.broker.partitions), "another number of partitions")
         need(sum(len(call.accept) + len(call.finish) for call in self.calls.values())
-             == sum(len(part.events) for part in account.parts) + sum(kind_of(event) != "Tick" for event in account.clock),
-             "a point that is no entry")
+             == sum(kind_of(event) != "Shrink" for part in account.parts for event in part.events)
+             + sum(kind_of(event) != "Tick" for event in account.clock), "a point that is no entry")
 
     def request_of(self, frame):
         try:
@@ -73,7 +74,9 @@ class SlowReading:
         partition, shown = self.broker.partitions[number], []
         need(partition.followers == part.followers, "another number of followers")
         for place, event in enumerate(part.events):
-            if self.is_accepting(number, place, event):
+            if kind_of(event) == "Shrink":
+                self.leave(number, event)
+            elif self.is_accepting(number, place, event):
                 self.accept(number, event)
             else:
                 need(kind_of(event) == "Look", f"the entry {place} of part {number} completes, and is no look")
@@ -81,10 +84,27 @@ class SlowReading:
         need(part.log == b"".join(data for _, _, data in partition.batches), f"the log of part {number} is another")
         return shown
 
+    def leave(self, number, event):
+        """A follower leaves, which has to lag at a moment that the clock was told."""
+        need(event.t > 0 and event.t in self.moments, f"a follower of part {number} leaves at a moment that the clock wasn't told")
+        need(event.replica in self.broker.partitions[number].lagging(event.t), f"a follower of part {number} leaves that doesn't lag")
+        self.broker.moment = event.t
+        self.broker.leave(number, event.replica)
+
+    def check_moment(self, event):
+        """A follower's fetch came at a moment that the clock was told, and not before what its pass had seen in earlier calls."""
+        need(event.t in [0, *self.moments], "a fetch at a moment that the clock wasn't told")
+        seen = [self.moments[point.place] for (by, seq), call in self.calls.items() if by == event.by and seq < event.seq
+                for point in call.accept + call.finish if point.part == CLOCK]
+        need(event.t >= max(seen, default=0), "a fetch at a moment before one that its pass had seen")
+
     def accept(self, number, event):
         """Does again what an entry did, which has to be what it tells."""
         owner, partition = (event.by, event.seq), self.broker.partitions[number]
         request = self.requests[owner]
+        if kind_of(event) == "Follow":
+            self.check_moment(event)
+            self.broker.moment = event.t
         named = [named for known, named in self.named(request) if known == number]
         need(len(named) == 1, f"an entry of part {number}, which its call doesn't name")
         bytes_before = partition.bytes
@@ -131,7 +151,7 @@ class SlowReading:
             entered = self.became[owner].get(number)
             part = entered or self.does(broker.Broker(self.account.config.topics), request, named)
             # What is refused by the topics, or by the batch itself, leaves no entry.
-            asks = number is not None and (request.key == 1 or part.code in (0, *broker.FULL))
+            asks = number is not None and (request.key == 1 or part.code in (0, broker.TOO_FEW, *broker.FULL))
             need(asks == (entered is not None), f"partition {named[1]} of a topic {'left no entry' if asks else 'left an entry'}")
             parts.append(part)
             asked += [number] * asks
@@ -155,9 +175,9 @@ class SlowReading:
         need([point.part for point in call.accept[len(asked):]] == [CLOCK], "a call that waits didn't look at the clock once")
         wait = request.fields["timeout"] if request.key == 0 else request.fields["wait"]
         deadline = self.moments[call.accept[-1].place] + max(0, wait)
-        self.end_wait(owner, call, parts, asked, deadline)
+        self.end_wait(owner, call, parts, deadline)
 
-    def end_wait(self, owner, call, parts, asked, deadline):
+    def end_wait(self, owner, call, parts, deadline):
         request, how, finish = self.requests[owner], kind_of(call.how), call.finish
         if how == "Parked":
             need(finish == (), "a parked call with an end")
@@ -170,7 +190,8 @@ class SlowReading:
             need(finish != () and finish[0].part == CLOCK, "an expired call without a look at the clock")
             need(deadline <= self.moments[finish[0].place], "a call that expired too early")
             finish = finish[1:]
-        need([look.part for look in finish] == asked, "a completion that looks at other partitions")
+        needed = [part.number for part in parts if part.code == 0]
+        need([look.part for look in finish] == needed, "a completion that looks at other partitions")
         self.show(finish)
         need(how == "Expired" or self.broker.is_satisfied(request, parts), "a satisfied call that isn't")
         self.broker.reply(owner[0], request, parts)

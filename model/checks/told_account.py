@@ -3,11 +3,11 @@
 from model.definitions.accounts import (
     Account, AtOnce, Call, Cut, Expired, Parked, PartAccount, Point, Quiet, Satisfied, SessionEnd, Transcript,
 )
-from model.definitions.parts import Append, ClockLook, Follow, Look, Tick
+from model.definitions.parts import Append, ClockLook, Follow, Look, Shrink, Tick
 from model.definitions.requests import Configuration, Topic
 
 HOWS = {b"quiet": Quiet, b"at-once": AtOnce, b"satisfied": Satisfied, b"expired": Expired, b"parked": Parked, b"cut": Cut}
-ENTRIES = {b"append": Append, b"follow": Follow, b"look": Look}
+ENTRIES = {b"append": Append, b"follow": Follow, b"shrink": Shrink, b"look": Look}
 CLOCK_ENTRIES = {b"tick": Tick, b"look": ClockLook}
 POINTS = (b"accept", b"finish")
 

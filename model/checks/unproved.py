@@ -7,7 +7,7 @@ import tempfile
 
 from model.checks import repository
 
-ENDED = re.compile(rb"^case=(\S+) run=(\w+)(?: status=(\d+))? .*\n", re.MULTILINE)
+ENDED = re.compile(rb"^case=(\S+) run=([\w-]+)(?: status=(\d+))? .*\n", re.MULTILINE)
 
 
 class Failed(Exception):

@@ -7,8 +7,8 @@ from typing import Any
 
 from model.broker import batches as records
 from model.definitions.parts import (
-    answer, becomes_delayed, bytes_of, ClockLook, Decides, Follow, Followed, high_of, History, is_quiet, IsAnswerable,
-    IsOverdue, IsSatisfied, Look, moment_of, operation_of, Put, Refuse, Refused, results_of, Shown, spelling, State, state_at,
+    answer, becomes_delayed, bytes_of, ClockLook, Decides, Follow, Followed, History, is_quiet, IsAnswerable, IsOverdue,
+    IsSatisfied, LagsAt, Look, moment_of, operation_of, Put, Refuse, Refused, results_of, Shown, Shrink, spelling, State, state_at,
     state_before, state_of, StoredBatch, Tick, values_of,
 )
 from model.definitions.requests import (
@@ -107,7 +107,7 @@ class Owner:
 
 
 def owner_of(event):
-    return Owner(event.by, event.seq)
+    return None if isinstance(event, Shrink) else Owner(event.by, event.seq)
 
 
 def clock_owner_of(event):
@@ -149,7 +149,7 @@ def points_of(call):
     return call.accept + call.finish
 
 
-no_state = State((), 0, ())
+no_state = State((), 0, 0, 0)
 
 
 def history_of(part):
@@ -190,6 +190,18 @@ def event_at(account, point):
 
 def moment_at(account, point):
     return moment_of(account.clock[:point.place + 1])
+
+
+def IsToldMoment(clock, t):
+    return t == 0 or t in ticks_of(clock)
+
+
+def AreNotLater(clock, t, points):
+    return all(moment_of(clock[:point.place + 1]) <= t for point in points if point.part == clock_part)
+
+
+def HadLagged(part, place, t, replica):
+    return part is not None and LagsAt(part.followers, part.events[:place], t, replica)
 
 
 # ==== audit/specs/LawfulCall.antt
@@ -454,7 +466,26 @@ def each_history(account):
     return [*range(len(account.parts)), clock_part]
 
 
+def each_event(account):
+    return [(part, place, event) for part, kept in enumerate(account.parts) for place, event in enumerate(kept.events)]
+
+
+def HasShrinks(account):
+    """The field `shrinks`."""
+    return all(HadLagged(slice_get(account.parts, part), place, event.t, event.replica) and event.t in ticks_of(account.clock)
+               for part, place, event in each_event(account) if isinstance(event, Shrink))
+
+
+def HasFollows(account):
+    """The fields `follows` and `earlier`."""
+    return all(IsToldMoment(account.clock, event.t)
+               and all(AreNotLater(account.clock, event.t, points_of(call)) for call in calls_of(account, event.by)[:event.seq])
+               for _, _, event in each_event(account) if isinstance(event, Follow))
+
+
 def HasEntries(account):
+    if not HasShrinks(account) or not HasFollows(account):
+        return False
     for part in each_history(account):
         for place, owner in enumerate(owners_of(account, part)):
             call = owner and call_of(account, owner.by, owner.seq)
@@ -651,7 +682,7 @@ def last_state_of(part):
 
 def part_line(number, part):
     state = last_state_of(part)
-    return line_of("part", number, "end", state.log_end, "high", high_of(state), "batches", len(state.batches), "bytes", len(part.log))
+    return line_of("part", number, "end", state.log_end, "high", state.high, "batches", len(state.batches), "bytes", len(part.log))
 
 
 def short_part_line(number, part):

@@ -7,8 +7,9 @@ from functools import lru_cache
 from typing import Any
 
 from model.broker import batches as records, wire
+from model.definitions import replicas
 from model.definitions.requests import (
-    Fetch, filter_map, flat_map, followers_of, Metadata, minus, part_of, Produce, record, slice_get,
+    Fetch, filter_map, flat_map, followers_of, Metadata, min_insync_at, minus, part_of, Produce, record, slice_get,
 )
 
 # ==== opcond/specs/Operation.antt
@@ -82,6 +83,14 @@ class Follow:
     seq: int
     replica: int
     offset: int
+    t: int
+
+
+@record
+class Shrink:
+    by: int
+    replica: int
+    t: int
 
 
 @record
@@ -155,19 +164,21 @@ def batches_of(events, log):
     return batches_after((), events, log)
 
 
-# ==== partlog/specs/Position.antt
+# ==== partlog/specs/Replicas.antt
 
 
-def offset_by(replica, event):
-    return event.offset if isinstance(event, Follow) and event.replica == replica else None
+def replica_event(event):
+    if isinstance(event, Append):
+        return replicas.Appended(event.count)
+    if isinstance(event, Follow) and event.replica >= 0:
+        return replicas.Fetched(event.replica, event.offset, event.t)
+    if isinstance(event, Shrink) and event.replica >= 0:
+        return replicas.Left(event.replica, event.t)
+    return None
 
 
-def position_of(events, replica):
-    return max((0,) + filter_map(lambda event: offset_by(replica, event), events))
-
-
-def positions_of(followers, events):
-    return tuple(position_of(events, replica) for replica in range(1, 1 + followers))
+def replica_events(events):
+    return filter_map(replica_event, events)
 
 
 # ==== partlog/specs/State.antt
@@ -177,16 +188,15 @@ def positions_of(followers, events):
 class State:
     batches: tuple
     log_end: int
-    positions: tuple
+    high: int
+    insync: int
 
 
 @lru_cache(maxsize=65536)
 def state_of(h):
-    return State(batches_of(h.events, h.log), log_end_of(h.events), positions_of(h.followers, h.events))
-
-
-def high_of(s):
-    return min((s.log_end,) + s.positions)
+    events = replica_events(h.events)
+    return State(batches_of(h.events, h.log), log_end_of(h.events),
+                 replicas.high_watermark_of(h.followers, events), replicas.count_of(h.followers, events))
 
 
 def front_of(h, place):
@@ -199,6 +209,35 @@ def state_before(h, place):
 
 def state_at(h, place):
     return state_before(h, place + 1)
+
+
+# ==== partlog/specs/Looked.antt
+
+
+def looked(h, by, seq):
+    return History(h.log, h.followers, h.events + (Look(by, seq),))
+
+
+# ==== partlog/specs/Lagging.antt
+
+
+def LagsAt(followers, events, t, replica):
+    return replica >= 0 and replicas.Lags(followers, replica_events(events), t, replica)
+
+
+# ==== partlog/specs/Shrunk.antt
+
+
+def late_at(h, t):
+    return tuple(replica for replica in range(1, 1 + h.followers) if replicas.Lags(h.followers, replica_events(h.events), t, replica))
+
+
+def shrinks_at(h, by, t):
+    return tuple(Shrink(by, replica, t) for replica in late_at(h, t))
+
+
+def all_shrunk(h, by, t):
+    return History(h.log, h.followers, h.events + shrinks_at(h, by, t))
 
 
 # ==== partlog/specs/Gauges.antt
@@ -220,7 +259,7 @@ class Gauges:
 
 
 def gauges_of(s):
-    return Gauges(high_of(s), bytes_in(batches_below(high_of(s), s.batches)), bytes_in(s.batches))
+    return Gauges(s.high, bytes_in(batches_below(s.high, s.batches)), bytes_in(s.batches))
 
 
 @record
@@ -229,10 +268,11 @@ class Numbers:
     high: int
     visible: int
     bytes: int
+    insync: int
 
 
 def numbers_of(s):
-    return Numbers(s.log_end, gauges_of(s).high, gauges_of(s).visible, gauges_of(s).bytes)
+    return Numbers(s.log_end, gauges_of(s).high, gauges_of(s).visible, gauges_of(s).bytes, s.insync)
 
 
 # ==== partlog/specs/Start.antt
@@ -285,6 +325,8 @@ def moment_of(events):
 # ==== kanswer/specs/Decisions.antt
 
 MOST_LOG_BYTES = 67_108_864
+NOT_ENOUGH_REPLICAS = 19
+NOT_ENOUGH_REPLICAS_AFTER_APPEND = 20
 
 
 @record
@@ -347,7 +389,17 @@ def full_code(version):
     return 56 if 4 <= version else 6
 
 
-def append_outcome(version, part, count, batch, state):
+def needed_insync(acks, least):
+    return least if acks == -1 else 0
+
+
+def least_insync(config, acks, part):
+    return needed_insync(acks, min_insync_at(config.topics, part))
+
+
+def append_outcome(version, least, part, count, batch, state):
+    if state.insync < least:
+        return look(Refused(NOT_ENOUGH_REPLICAS))
     if MOST_LOG_BYTES < gauges_of(state).bytes + len(batch):
         return look(Refused(full_code(version)))
     return Outcome(Appended(part, state.log_end, count), Put(count, batch))
@@ -360,11 +412,11 @@ def is_acks(acks):
 first_fault = lru_cache(maxsize=4096)(records.fault_code)
 
 
-def BatchDecides(version, part, data):
+def BatchDecides(version, least, part, data):
     code = first_fault(data)
     if code is not None:
         return Refuse(code)
-    return AskLog(part, lambda state: append_outcome(version, part, records.count_of(data), data, state))
+    return AskLog(part, lambda state: append_outcome(version, least, part, records.count_of(data), data, state))
 
 
 def ProduceDecides(config, version, transactional, acks, named):
@@ -376,7 +428,7 @@ def ProduceDecides(config, version, transactional, acks, named):
         return Refuse(3)
     if not is_acks(acks):
         return Refuse(21)
-    return BatchDecides(version, part, b"" if asked.records is None else asked.records)
+    return BatchDecides(version, least_insync(config, acks, part), part, b"" if asked.records is None else asked.records)
 
 
 def in_range_outcome(part, offset, entry, state):
@@ -549,31 +601,37 @@ class Reply:
 LOG_START = 0
 
 
-def produced_code(acks, after, state):
-    return (0 if after <= high_of(state) else 7) if acks == -1 else 0
+def produced_code(acks, least, after, state):
+    if acks != -1:
+        return 0
+    if state.high < after:
+        return 7
+    return NOT_ENOUGH_REPLICAS_AFTER_APPEND if state.insync < least else 0
 
 
-def produced_as(acks, index, result, state):
+def produced_as(config, acks, index, result, state):
     if isinstance(result, Refused):
         return index, result.code, -1, -1
     if isinstance(result, Appended):
-        return index, produced_code(acks, result.base + result.count, state), result.base, LOG_START
+        least = min_insync_at(config.topics, result.part)
+        return index, produced_code(acks, least, result.base + result.count, state), result.base, LOG_START
     return index, 0, -1, -1
 
 
-def produced_parts(acks, parts, shown):
-    return tuple(produced_as(acks, asked.index, s.result, s.state) for asked, s in zip(parts, shown))
+def produced_parts(config, acks, parts, shown):
+    return tuple(produced_as(config, acks, asked.index, s.result, s.state) for asked, s in zip(parts, shown))
 
 
-def produced_topics(acks, topics, shown):
+def produced_topics(config, acks, topics, shown):
     if not topics:
         return ()
     topic, here = topics[0], len(topics[0].parts)
-    return ((topic.name, produced_parts(acks, topic.parts, shown[:here])),) + produced_topics(acks, topics[1:], shown[here:])
+    told = topic.name, produced_parts(config, acks, topic.parts, shown[:here])
+    return (told,) + produced_topics(config, acks, topics[1:], shown[here:])
 
 
 def is_readable(replica, state, batch):
-    return next_offset(batch) <= high_of(state) if is_consumer(replica) else True
+    return next_offset(batch) <= state.high if is_consumer(replica) else True
 
 
 def read_of(replica, asked, start, state, budget):
@@ -606,7 +664,7 @@ def fetched_as(asked, result, state, batches):
         return asked.index, result.code, -1, -1, b""
     if isinstance(result, Appended):
         return asked.index, 0, -1, -1, b""
-    return asked.index, 0, high_of(state), LOG_START, joined(batches)
+    return asked.index, 0, state.high, LOG_START, joined(batches)
 
 
 def fetched_parts(replica, parts, shown, budget):
@@ -652,7 +710,7 @@ def infos_of(topics, names):
 
 def told_to(config, ask, shown):
     if isinstance(ask, Produce):
-        return wire.produced, produced_topics(ask.acks, ask.topics, shown), ask.version
+        return wire.produced, produced_topics(config, ask.acks, ask.topics, shown), ask.version
     if isinstance(ask, Fetch):
         return wire.fetched, ask.isolation, fetched_topics(ask.replica, ask.topics, shown, first_budget(ask.max_bytes)), ask.version
     if isinstance(ask, Metadata):

@@ -1,6 +1,6 @@
 """The definitions of the crates' `specs`, transcribed line by line, so that the two can be laid side by side: here the play of the
 one-thread broker, in `accounts.py` the account of a run and when it is lawful, in `parts.py` partitions,
-operations, decisions and answers, and in `requests.py` requests and the words of lists.
+operations, decisions and answers, in `replicas.py` who is in sync, and in `requests.py` requests and the words of lists.
 
 Each heading names the file, and each function has the name that it has there. A list is a tuple, a list of bytes is `bytes`, an
 option is None or the value, and `minus` is the difference of naturals, which is never below 0. What is a relation there is a
@@ -18,8 +18,8 @@ from model.definitions.accounts import (
     summary_of, Transcript,
 )
 from model.definitions.parts import (
-    answer, Append, becomes_delayed, ClockLook, Decides, Follow, Followed, History, is_quiet, log_end_of, Look, Looked,
-    moment_of, operation_of, Put, Refuse, Refused, results_of, Shown, State, state_of, tally, Tick, values_of,
+    all_shrunk, answer, Append, becomes_delayed, ClockLook, Decides, Follow, Followed, History, is_quiet, log_end_of, Look,
+    looked, moment_of, operation_of, Put, Refuse, Refused, results_of, Shown, State, state_of, tally, Tick, values_of,
 )
 from model.definitions.requests import (
     Configuration, flat_map, followers_of, IsRefused, IsRequest, minus, next_frame_of, record, slice_get, slice_set,
@@ -107,12 +107,12 @@ def account_of(board):
 # ==== broker_spec/specs/Entering.antt
 
 
-def entered(h, by, seq, entry):
+def entered(h, by, seq, t, entry):
     if isinstance(entry, Put):
         return replace(h, log=h.log + records.stamped(entry.batch, log_end_of(h.events)),
                        events=h.events + (Append(by, seq, entry.count, len(entry.batch)),))
     if isinstance(entry, Followed):
-        return replace(h, events=h.events + (Follow(by, seq, entry.replica, entry.offset),))
+        return replace(h, events=h.events + (Follow(by, seq, entry.replica, entry.offset, t),))
     return replace(h, events=h.events + (Look(by, seq),))
 
 
@@ -122,7 +122,7 @@ class Noted:
     state: State
 
 
-def accept_all(by, seq, decisions, parts):
+def accept_all(by, seq, t, decisions, parts):
     noted = []
     for decision in decisions:
         if isinstance(decision, Refuse):
@@ -130,7 +130,7 @@ def accept_all(by, seq, decisions, parts):
             continue
         found = history_at(parts, decision.part)
         came = decision.outcome(state_of(found))
-        left = entered(found, by, seq, came.entry)
+        left = entered(found, by, seq, t, came.entry)
         parts = slice_set(parts, decision.part, left)
         noted.append(Noted(Step(came.result, Point(decision.part, len(found.events))), state_of(left)))
     return tuple(noted), parts
@@ -187,7 +187,7 @@ def left_waiting(board, session, body, request, came):
 
 
 def handled(board, session, body, request, decisions):
-    came = accept_all(session, next_call(board, session), decisions, board.parts)
+    came = accept_all(session, next_call(board, session), moment_of(board.clock), decisions, board.parts)
     if becomes_delayed(request.ask, shown_of(came[0])):
         return left_waiting(board, session, body, request, came)
     return answered_at_once(board, session, body, request, came)
@@ -226,7 +226,7 @@ def look_all(by, seq, looked_at, parts):
     for part in looked_at:
         found = history_at(parts, part)
         points.append(Point(part, len(found.events)))
-        parts = slice_set(parts, part, entered(found, by, seq, Looked()))
+        parts = slice_set(parts, part, looked(found, by, seq))
     return tuple(points), parts
 
 
@@ -336,6 +336,10 @@ def with_seat(board, session, inbox, is_shut_):
     return replace(board, seats=slice_set(board.seats, session, Seat(inbox, is_shut_, transcript_at(board, session))))
 
 
+def ticked(board, t):
+    return replace(board, clock=board.clock + (Tick(t),), parts=tuple(all_shrunk(h, 0, t) for h in board.parts))
+
+
 def brought(board, kind, what):
     if kind == "bytes":
         session, data = what
@@ -345,7 +349,7 @@ def brought(board, kind, what):
     if kind == "close":
         return with_seat(board, what, seat_at(board, what).inbox, True)
     if kind == "clock" and moment_of(board.clock) < what:
-        return replace(board, clock=board.clock + (Tick(what),))
+        return ticked(board, what)
     return board
 
 

@@ -179,3 +179,11 @@ def part_of(config, name, index):
 
 def followers_of(topics):
     return flat_map(lambda topic: (topic.followers,) * topic.partitions, topics)
+
+
+def min_insyncs_of(topics):
+    return flat_map(lambda topic: (topic.min_insync,) * topic.partitions, topics)
+
+
+def min_insync_at(topics, part):
+    return slice_get(min_insyncs_of(topics), part) or 0

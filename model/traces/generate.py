@@ -3,9 +3,9 @@
 import random
 
 from model.broker import traces
-from model.traces import crowded, mutated, requests, waiting
+from model.traces import crowded, lagging, mutated, requests, waiting
 
-KINDS = ["plain", "mixed", "waiting", "crowded", "changed", "spoiled"]
+KINDS = ["plain", "mixed", "waiting", "lagging", "crowded", "changed", "spoiled"]
 BAD_TOPICS = [
     b"topic . 1 0", b"topic t 0 0", b"topic t 65 0", b"topic t 1 9", b"topic t 01 0", b"topic %s 1 0" % (b"n" * 250), b"topic t 1 1 0",
     b"topic t 1 1 3", b"topic t 1 8 10", b"topic t 1 9 1", b"topic t 1 1 01", b"topic t 1 1 4294967295", b"topic t 1 1 4294967296",
@@ -92,20 +92,22 @@ def is_trace(text):
 def changed(random_):
     """A trace that comes of another by some changes."""
     while True:
-        text = mutated.text(random_, made(random_.choice(["mixed", "waiting"]), random_.randrange(2**32)))
+        text = mutated.text(random_, made(random_.choice(["mixed", "waiting", "lagging"]), random_.randrange(2**32)))
         if is_trace(text):
             return text
 
 
 def made(kind, seed):
     """The text of a kind: `plain`, whose requests mostly wait for nothing, `mixed`, in which all may come, `waiting`, in which what
-    comes just meets or just misses what waits, `crowded`, in which many sessions wait for the same, `changed`, which comes of one of these by
-    changes and still is a trace, or `spoiled`."""
+    comes just meets or just misses what waits, `lagging`, in which followers leave the in-sync sets and come back, `crowded`, in which many
+    sessions wait for the same, `changed`, which comes of one of these by changes and still is a trace, or `spoiled`."""
     random_ = random.Random(f"{kind} {seed}")
     if kind in ("plain", "mixed"):
         return text(random_, waits=kind == "mixed")
     if kind == "waiting":
         return waiting.Maker(random_).made()
+    if kind == "lagging":
+        return lagging.Maker(random_).made()
     if kind == "crowded":
         return crowded.Crowd(random_).made()
     if kind == "changed":

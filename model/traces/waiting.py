@@ -18,14 +18,18 @@ def small_batch(random_):
 class Maker:
     def __init__(self, random_):
         self.random = random_
-        self.declared = [requests.topic(random_, name, random_.choice([1, 1, 2, 3]), random_.choice([0, 1, 1, 2, 3]))
-                         for name in random_.sample(requests.NAMES, random_.choice([1, 1, 2, 3]))]
+        self.declared = self.topics_declared()
         self.broker = broker.Broker(self.declared)
         self.lines = [requests.topic_line(random_, topic) for topic in self.declared]
         self.closed = set()
         self.correlation = 0
         # pieces of frames that are still to come, by session
         self.pieces = {}
+
+    def topics_declared(self):
+        random_ = self.random
+        return [requests.topic(random_, name, random_.choice([1, 1, 2, 3]), random_.choice([0, 1, 1, 2, 3]))
+                for name in random_.sample(requests.NAMES, random_.choice([1, 1, 2, 3]))]
 
     # ---- lines
 
@@ -108,7 +112,7 @@ class Maker:
         self.correlation += 1
         parts = []
         for key, partition in self.parts().items():
-            position = partition.positions.get(replica, 0)
+            position = partition.position(replica)
             offset = random_.choice([partition.log_end] * 4 + [partition.high, position, 0, max(0, partition.log_end - 1),
                                                               partition.log_end + (random_.random() < 0.1)])
             most = random_.choice([1 << 20, 1 << 20, 1 << 20, 69, 70, 68, 10, 0, 138])
@@ -151,11 +155,15 @@ class Maker:
             return None
         self.correlation += 1
         replica = self.random.randint(1, partition.followers)
-        back = self.random.choice([0, 0, 0, 1, 1, 2, self.random.randint(0, partition.log_end)])
-        offset = max(0, partition.log_end - back)
+        offset = self.offset_of(partition, replica)
         return wire.fetch_request(
             self.correlation, [(name, [(index, offset, 1 << 20)])], replica=replica, wait=self.random.choice([0, 1, 100, 500]),
             version=self.random.choice(wire.FETCH))
+
+    def offset_of(self, partition, replica):
+        """From where a follower fetches next."""
+        back = self.random.choice([0, 0, 0, 1, 1, 2, self.random.randint(0, partition.log_end)])
+        return max(0, partition.log_end - back)
 
     def add_to(self, name, index):
         """A batch is produced that waits for nobody."""

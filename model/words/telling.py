@@ -9,8 +9,9 @@ from model.words import words
 
 CODES = {
     1: "offset out of range", 2: "corrupt message", 3: "unknown topic or partition", 6: "not leader or follower", 7: "request timed out",
-    9: "replica not available", 10: "message too large", 21: "invalid required acks", 35: "unsupported version", 42: "invalid request",
-    56: "storage error", 76: "unsupported compression type", 87: "invalid record",
+    9: "replica not available", 10: "message too large", 19: "not enough replicas", 20: "not enough replicas after append",
+    21: "invalid required acks", 35: "unsupported version", 42: "invalid request", 56: "storage error", 76: "unsupported compression type",
+    87: "invalid record",
 }
 APIS = {0: "Produce", 1: "Fetch", 3: "Metadata", 18: "ApiVersions"}
 
@@ -128,9 +129,10 @@ class Asked:
 
 @dataclass
 class Event:
-    """`kind` is asked, waits, told or ends; `what` is the request, or the words of a session's end."""
+    """`kind` is asked, waits, told, ends, leaves or comes back; `what` is the request, the words of a session's end, or those of the
+    follower that leaves an in-sync set or comes back to it. Where the clock has one leave, that is no session's doing."""
     kind: str
-    session: int
+    session: Any
     what: Any
 
 
@@ -151,6 +153,18 @@ class Watched(broker.Broker):
     def act(self, number):
         self.cause = number
         super().act(number)
+
+    def leave(self, number, replica):
+        super().leave(number, replica)
+        self.note("leaves", None, f"follower {replica} leaves the in-sync set of {words.place_words(*self.place_of(number))}")
+
+    def fetched(self, number, replica, offset):
+        partition = self.partitions[number]
+        was_in_sync = replica in partition.in_sync
+        super().fetched(number, replica, offset)
+        if not was_in_sync and replica in partition.in_sync:
+            told = f"follower {replica} comes back to the in-sync set of {words.place_words(*self.place_of(number))}"
+            self.note("comes back", self.cause, told)
 
     def handle(self, number, request):
         asked = self.asked[number] = Asked(words.short_words(request))
@@ -275,7 +289,7 @@ def event_words(event):
         return f"session {event.session} is told: {event.what.told}{why}"
     if event.kind == "ends":
         return f"session {event.session} ends: {event.what}"
-    return None
+    return event.what if event.kind in ("leaves", "comes back") else None
 
 
 def summary_line_words(line):

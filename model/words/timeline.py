@@ -12,7 +12,10 @@ LINE = 15
 LABELS = 92
 STRIP = 26
 MARK = 15
-COLORS = {"at once": "#57606a", "quiet": "#57606a", "satisfied": "#1a7f37", "expired": "#bc4c00", "waits": "#0969da", "ends": "#8250df"}
+COLORS = {"at once": "#57606a", "quiet": "#57606a", "satisfied": "#1a7f37", "expired": "#bc4c00", "waits": "#0969da", "ends": "#8250df",
+          "leaves": "#bf3989", "comes back": "#bf3989"}
+# What a mark says in its own color.
+COLORED = ("told", "ends", "leaves", "comes back")
 LEGEND = [("waits", "waits"), ("satisfied", "what it waited for has come"), ("expired", "its time has run out")]
 
 
@@ -59,6 +62,9 @@ class Drawing:
                 self.put(event.session, column, Mark("told", COLORS[asked.how], f"told: {asked.told}", asked))
             elif event.kind == "ends":
                 self.put(event.session, column, Mark("ends", COLORS["ends"], f"ends: {asked}"))
+            elif event.kind in ("leaves", "comes back"):
+                row = line.kind if event.session is None else event.session
+                self.put(row, column, Mark(event.kind, COLORS[event.kind], event.what))
 
     def lay_out(self):
         self.lefts, left = [], LABELS
@@ -139,7 +145,7 @@ class Drawing:
                 x = self.mark_x(column, mark)
                 self.out.append(shape(mark.kind, x, self.strip_y(row), mark.color))
                 for piece in wrapped(mark.text):
-                    self.text(self.lefts[column][1], y, piece, mark.color if mark.kind in ("told", "ends") else "#1f2328")
+                    self.text(self.lefts[column][1], y, piece, mark.color if mark.kind in COLORED else "#1f2328")
                     y += LINE
 
     def legend(self):
@@ -170,9 +176,13 @@ def wrapped(told):
 
 
 def shape(kind, x, y, color):
-    """A circle where something is asked, a full one where something is told, and a square where a session ends."""
+    """A circle where something is asked, a full one where something is told, a square where a session ends, and a diamond where a follower
+    leaves an in-sync set, which is full where one comes back."""
     if kind == "ends":
         return f'<rect x="{x - 5}" y="{y - 5}" width="10" height="10" fill="{color}"/>'
+    if kind in ("leaves", "comes back"):
+        fill = color if kind == "comes back" else "#ffffff"
+        return f'<path d="M{x} {y - 6}l6 6l-6 6l-6 -6z" fill="{fill}" stroke="{color}" stroke-width="2"/>'
     fill = color if kind == "told" else "#ffffff"
     return f'<circle cx="{x}" cy="{y}" r="5" fill="{fill}" stroke="{color}" stroke-width="2"/>'
 

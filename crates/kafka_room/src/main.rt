@@ -60,9 +60,12 @@ numbers without sign or leading zeros. It has at most 67108864 bytes.
 
 The bytes of a session are frames, which lines may cut anywhere: Produce v3 to
 v5, Fetch v4 and v5, Metadata v1 and ApiVersions v0. A produce with acks -1
-waits until all followers have fetched past it, a fetch until there are its
-least bytes, and each no longer than its own time. The session's next frame
-waits with it.
+waits until all followers in sync have fetched past it, a fetch until there are
+its least bytes, and each no longer than its own time. The session's next frame
+waits with it. A follower that has lagged for 30000 ms leaves those in sync as
+the moment rises, and comes back by a fetch from the high watermark or above it.
+A produce with acks -1 is refused while fewer replicas are in sync than the
+least number.
 
 Printed after each line:
   reply S HEX     a reply of session S, the whole frame

@@ -1,15 +1,15 @@
 -- What a session's line brings, and a session that ends.
-use Rattle.std.proofs.Common.{◌≡◌, ℕ, ◌<◌, Bool, true, false, cond, List, [], ◌∷◌, ◌++◌, length, set, Option, Some, None, unwrap_or, refl, sym, subst, arith}
+use Rattle.std.proofs.Common.{◌≡◌, ℕ, ◌<◌, Bool, true, cond, List, ◌++◌, length, set, Option, Some, None, unwrap_or, refl, sym, subst, arith}
 use Rattle.audit.specs.Printed.{end_line}
 use Rattle.audit.specs.declared.account.SessionEnd.{SessionEnd}
 use Rattle.audit.specs.declared.account.Transcript.{Transcript}
 use Rattle.trace_file.specs.declared.line.Line.TheVariants.{Feed, Shut}
 use Rattle.broker_spec.specs.Acting.{has_ended, is_there}
-use Rattle.broker_spec.specs.Board.{Board, Seat, Waiting, new_transcript, seat_at, transcript_at}
+use Rattle.broker_spec.specs.Board.{Board, Seat, new_transcript, seat_at, transcript_at}
 use Rattle.broker_spec.specs.Play.{brought}
 use Rattle.broker_spec.specs.Turns.{Turned, ended}
 use Rattle.lone_broker.specs.Desks.{transcript_of}
-use Rattle.lone_broker.specs.Kept.{AreKept, Kept, StandsFor, TurnsBy, with_waiting}
+use Rattle.lone_broker.specs.Kept.{Kept, StandsFor, TurnsBy, with_waiting}
 use Rattle.lone_broker.proofs.Standing.{are_reseated, by_waiting, reseated, stands_of}
 
 abbrev pub fed_seat : ℕ → List ℕ → Seat → Seat

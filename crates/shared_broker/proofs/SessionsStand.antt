@@ -1,9 +1,9 @@
 -- What is so of a pass stays so as a transcript is begun or ended, and as others come.
-use Rattle.std.proofs.Common.{inl, inr, ◌≡◌, ◌∙◌, ℕ, zero, suc, ◌+◌, ◌<◌, ◌≤◌, Bool, true, false, cond, eqb, List, [], ◌∷◌, ◌++◌, Option, Some, None, length, map, refl, sym, ap, subst, arith, append-nil, length-append}
+use Rattle.std.proofs.Common.{inl, inr, ◌≡◌, ◌∙◌, ℕ, zero, suc, ◌+◌, ◌<◌, ◌≤◌, Bool, true, false, cond, eqb, List, [], ◌∷◌, ◌++◌, Option, Some, None, length, refl, sym, ap, subst, arith, append-nil, length-append}
 use Rattle.std.proofs.lemmas.Bool.{cases_lt, lt-ltb, ltb-true}
 use Rattle.std.proofs.lemmas.Grind.{flat_map-append}
 use Rattle.std.proofs.lemmas.List.Elements.{All-pop, All-push, Contains-push}
-use Rattle.std.specs.Prelude.{All, Contains, IfSome, IsSome, count_by, nat_lt, option_to_list, slice_index}
+use Rattle.std.specs.Prelude.{Contains, IsSome, count_by, nat_lt, slice_index}
 use Rattle.std.specs.List.Sorted.{IsStrictlyIncreasing}
 use Rattle.partlog.specs.declared.clock_event.ClockEvent.{ClockEvent}
 use Rattle.partlog.specs.declared.clock_event.ClockEvent.TheVariants as clocks
@@ -16,18 +16,15 @@ use Rattle.audit.specs.declared.account.Transcript.{Transcript}
 use Rattle.audit.specs.Histories.{calls_in, ticks_of}
 use Rattle.audit.specs.IsLawful.{is_won_by}
 use Rattle.kwire.specs.Configuration.{Configuration, followers_of}
-use Rattle.pass_books.specs.Book.{Book, begun_behind}
+use Rattle.pass_books.specs.Book.{Book}
 use Rattle.pass_books.specs.IsBook.{IsBook}
-use Rattle.pass_books.specs.Owned.{OwnWithin}
 use Rattle.pass_books.specs.TakenOut.{HasTakenOut}
 use Rattle.pass_books.specs.Told.{last_is_cut}
-use Rattle.pass_books.specs.Together.{won_by}
 use Rattle.pass_books.proofs.Laws.{begun, ended, others_came, taken_out, ticked}
 use Rattle.broker_spec.specs.Board.{Waiting}
 use Rattle.kwire.specs.DeclaredTopics.{AreDeclared}
-use Rattle.broker_spec.specs.GoesOn.{HaveGrown}
 use Rattle.broker_spec.specs.Sound.{AreHistories}
-use Rattle.broker_spec.proofs.Laws.{parts_size, ticks_rise}
+use Rattle.broker_spec.proofs.Laws.{parts_size}
 use Rattle.purgatory.specs.Going.{KeepsOperation, OwesNothing}
 use Rattle.room_core.specs.declared.parts.Taken.{Taken}
 use Rattle.room_core.specs.Described.{operation_of as described}
@@ -37,10 +34,9 @@ use Rattle.shared_broker.specs.declared.parked.Parked.{Parked}
 use Rattle.shared_broker.specs.Moved.{HasMoved}
 use Rattle.shared_broker.specs.Passes.{PassView, book_of}
 use Rattle.shared_broker.specs.Sessions.{MayEnd}
-use Rattle.shared_broker.specs.Standing.{HoldsBook, IsGoing, IsKeptOf, Sits, Stands}
+use Rattle.shared_broker.specs.Standing.{HoldsBook, Sits, Stands}
 use Rattle.shared_logs.specs.Asked.{HasTicked}
 use Rattle.shared_logs.specs.Coming.{HasCaughtUp, HasStepped, OthersCame}
-use Rattle.shared_logs.specs.Closing.{taken_from}
 use Rattle.shared_logs.specs.Seen.{HasSeen}
 use Rattle.shared_logs.specs.Shared.{LogPassView, followers_in}
 use Rattle.shared_logs.specs.Shrinking.{HasPartlyTold, HasShrunk, HasTold}

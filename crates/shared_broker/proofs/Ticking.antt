@@ -1,5 +1,5 @@
 -- A pass told the clock a moment, and settled.
-use Rattle.std.proofs.Common.{◌≡◌, ◌≤◌, ◌∙◌, ℕ, List, refl, subst, sym}
+use Rattle.std.proofs.Common.{◌≤◌, ◌∙◌, ℕ, List, refl, subst, sym}
 use Rattle.partlog.specs.declared.clock_event.ClockEvent.{ClockEvent}
 use Rattle.partlog.specs.Moment.{moment_of}
 use Rattle.shared_broker.specs.Passes.{PassView}

@@ -168,13 +168,16 @@ fn is_filled(log: &mut PartLog, bytes: &[u8]) -> bool {
     true
 }
 
-// What becomes of a partition of `t`.
-fn put_one(config: &Config, version: i16, index: i32, log: &mut PartLog) -> Option<Accepted> {
-    let terms = Terms {
+fn with_acks(version: i16, acks: i16) -> Terms {
+    Terms {
         version,
         is_transactional: false,
-        acks: 1,
-    };
+        acks,
+    }
+}
+
+// What becomes of a partition of `t`.
+fn put_one(config: &Config, terms: Terms, index: i32, log: &mut PartLog) -> Option<Accepted> {
     let part = ProducePartView {
         index,
         records: Some(&ONE),
@@ -207,9 +210,9 @@ fn a_full_partition_is_refused_and_another_takes_its_batch(rt: HostRuntime) {
     let mut empty = PartLog::new(rt.alloc(), 1).expect(&rt, "memory");
     assert!(rt; is_filled(&mut full, bytes.as_slice()));
     for (version, refused) in REFUSED {
-        assert!(rt; put_one(&config, version, 0, &mut full) == Some(refused));
+        assert!(rt; put_one(&config, with_acks(version, 1), 0, &mut full) == Some(refused));
     }
-    assert!(rt; put_one(&config, 3, 1, &mut empty) == Some(APPENDED));
+    assert!(rt; put_one(&config, with_acks(3, 1), 1, &mut empty) == Some(APPENDED));
     assert!(rt; full.numbers().end == 64 && full.numbers().bytes == 67_108_864);
     assert!(rt; empty.log() == ONE.as_slice());
 }
@@ -271,4 +274,42 @@ fn the_reply_where_one_of_two_partitions_is_full(rt: HostRuntime) {
             )
         );
     }
+}
+
+// What a produce with acks -1 is told of the batch of one record at the offset 0 of partition 4.
+fn told_code(alloc: Global, config: &Config, log: &PartLog) -> Option<i16> {
+    let request = a_produce(alloc).ok()?;
+    let became = [Accepted::Appended {
+        part: 4,
+        base: 0,
+        count: 1,
+    }];
+    let readings = [read_numbers(alloc, log)];
+    let reply = answer(alloc, config, &request, &became, &readings).ok()?;
+    let Told::Produced { topics, .. } = reply.told else {
+        return None;
+    };
+    Some(topics.get(0)?.parts.get(0)?.code)
+}
+
+// The topic asks for both replicas, and the follower leaves without the first record.
+#[test]
+fn too_few_replicas_in_sync(rt: HostRuntime) {
+    let mut config = Config::new(rt.alloc(), 9092);
+    assert!(rt; config.add(b"t", 5, 1, 2).is_ok());
+    let mut log = PartLog::new(rt.alloc(), 1).expect(&rt, "memory");
+    let appended = |base| Accepted::Appended {
+        part: 4,
+        base,
+        count: 1,
+    };
+    assert!(rt; put_one(&config, with_acks(3, -1), 4, &mut log) == Some(appended(0)));
+    assert!(rt; log.shrink(0, 29_999) == Ok(false));
+    assert!(rt; told_code(rt.alloc(), &config, &log) == Some(7));
+    assert!(rt; log.shrink(0, 30_000) == Ok(true));
+    assert!(rt; told_code(rt.alloc(), &config, &log) == Some(20));
+    let refused = Accepted::Refused { code: 19 };
+    assert!(rt; put_one(&config, with_acks(3, -1), 4, &mut log) == Some(refused));
+    assert!(rt; put_one(&config, with_acks(3, 1), 4, &mut log) == Some(appended(1)));
+    assert!(rt; log.events().len() == 4 && log.numbers().high == 2);
 }

@@ -217,6 +217,9 @@ fn declared_topics(rt: HostRuntime) {
     assert!(rt; matches!(config.topics(), [t, v] if t.min_insync == 2 && v.min_insync == 1));
     assert!(rt; config.part_of(b"v", 0) == Some(2) && config.part_of(b"t", 2).is_none());
     assert!(rt; config.parts() == 3 && config.followers_of(1) == 1);
+    for (part, least) in [(1, 2), (2, 1), (3, 0)] {
+        assert!(rt; config.min_insync_of(part) == least);
+    }
 }
 
 // Behind a topic `t` with one partition.

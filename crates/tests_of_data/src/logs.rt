@@ -2,6 +2,7 @@
 
 use crate::samples::{ONE, THREE};
 use kbatch::{BatchView, read_batch, view_batch};
+use kbytes::NoMemory;
 use partlog::{
     ClockEvent, ClockLog, FollowFault, LogFault, MOST_MOMENT, Numbers, PartEvent, PartLog, Placed,
     Who,
@@ -87,6 +88,79 @@ fn a_batch_is_shown_whole(rt: HostRuntime) {
         insync: 2,
     };
     assert!(rt; part.numbers() == numbers);
+}
+
+fn is_at(part: &PartLog, high: u64, insync: u32) -> bool {
+    let numbers = part.numbers();
+    numbers.high == high && numbers.insync == insync
+}
+
+#[derive(Clone, Copy)]
+enum Way {
+    Shrink,
+    ShrinkAll,
+    TakeOut,
+}
+
+// Whether follower 2 was taken out, or whoever lags.
+fn is_out(part: &mut PartLog, way: Way, t: u64) -> Result<bool, NoMemory> {
+    match way {
+        Way::Shrink => part.shrink(4, t),
+        Way::ShrinkAll => {
+            let before = part.events().len();
+            part.shrink_all(4, t)?;
+            Ok(part.events().len() > before)
+        }
+        Way::TakeOut => part.take_out(4, 2, t),
+    }
+}
+
+// Of two records follower 1 has the first, and had caught up at the moment 1. Follower 2 has none.
+#[test]
+fn a_follower_leaves_and_comes_back(rt: HostRuntime) {
+    let one = view_batch(&ONE).expect(&rt, "a batch");
+    let left = PartEvent::Shrink {
+        by: 4,
+        replica: 2,
+        t: 30_000,
+    };
+    for way in [Way::Shrink, Way::ShrinkAll, Way::TakeOut] {
+        let mut part = PartLog::new(rt.alloc(), 2).expect(&rt, "memory");
+        assert!(rt; part.append_view(WHO, &one).is_ok() && part.follow(WHO, 1, 1, 1) == Ok(1));
+        assert!(rt; part.append_view(WHO, &one).is_ok());
+        assert!(rt; is_out(&mut part, way, 29_999) == Ok(false) && is_at(&part, 0, 3));
+        assert!(rt; is_out(&mut part, way, 30_000) == Ok(true) && is_at(&part, 1, 2));
+        assert!(rt; part.events().len() == 4 && part.events().get(3) == Some(&left));
+        assert!(rt; is_out(&mut part, way, 30_000) == Ok(false));
+        assert!(rt; part.take_out(4, 1, 30_000) == Ok(false));
+        // below the high watermark, and from it
+        for (offset, place, insync) in [(0, 4, 2), (1, 5, 3)] {
+            assert!(rt; part.follow(WHO, 2, offset, 30_000) == Ok(place));
+            assert!(rt; is_at(&part, 1, insync));
+        }
+    }
+}
+
+// Both followers lag. Others can't be taken out, and nobody twice.
+#[test]
+fn all_who_lag_leave_the_least_first(rt: HostRuntime) {
+    let one = view_batch(&ONE).expect(&rt, "a batch");
+    let mut part = PartLog::new(rt.alloc(), 2).expect(&rt, "memory");
+    assert!(rt; part.append_view(WHO, &one).is_ok());
+    for replica in [-1, 0, 3] {
+        assert!(rt; part.take_out(4, replica, 30_000) == Ok(false));
+    }
+    assert!(rt; part.shrink_all(4, 30_000).is_ok() && is_at(&part, 1, 1));
+    for (place, replica) in [(1, 1), (2, 2)] {
+        let left = PartEvent::Shrink {
+            by: 4,
+            replica,
+            t: 30_000,
+        };
+        assert!(rt; part.events().get(place) == Some(&left));
+        assert!(rt; part.take_out(4, replica, 30_000) == Ok(false));
+    }
+    assert!(rt; part.events().len() == 3);
 }
 
 // Of batches of 69, 85 and 69 bytes: from where, up to where, how many bytes at most and whether the first batch is

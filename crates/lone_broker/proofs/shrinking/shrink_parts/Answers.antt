@@ -1,6 +1,5 @@
-use Rattle.std.proofs.Common.{◌≡◌, ◌<◌, ◌≤◌, List, length, get_or, map, set, subst, sym, ap, ◌∙◌, arith}
+use Rattle.std.proofs.Common.{◌<◌, ◌≤◌, length, get_or, arith}
 use Rattle.std.proofs.lemmas.List.{get_or_default}
-use Rattle.partlog.specs.History.{History}
 use Rattle.lone_broker.proofs.Risen.{all_through, shrunk_more}
 use Rattle.lone_broker.proofs.shrinking.shrink_parts.Goals as goal
 

@@ -1,4 +1,4 @@
-use Rattle.std.proofs.Common.{◌<◌, ◌≤◌, length, arith}
+use Rattle.std.proofs.Common.{◌≤◌, length, arith}
 use Rattle.lone_broker.proofs.Telling.{below_all, below_more, warned_self, warned_then}
 use Rattle.lone_broker.proofs.watched.tell_all.Goals as goal
 

@@ -1,8 +1,6 @@
-use Rattle.std.proofs.Common.{◌<◌, ◌≢◌, sym, subst, arith}
-use Rattle.std.specs.Prelude.{IsTrue}
+use Rattle.std.proofs.Common.{◌<◌, sym, subst}
 use Rattle.partlog.specs.Moment.{moment_of}
 use Rattle.trace_file.specs.declared.line.Line.TheVariants.{Clock}
-use Rattle.broker_spec.specs.Board.{Board}
 use Rattle.broker_spec.specs.Play.{brought}
 use Rattle.lone_broker.specs.Kept.{Kept, StandsFor}
 use Rattle.lone_broker.specs.Steps.{IsTicked}

@@ -1,4 +1,4 @@
-use Rattle.std.proofs.Common.{◌≤◌, List, length, sym, ap, subst, ◌∙◌, arith}
+use Rattle.std.proofs.Common.{List, length, sym, ap, subst, ◌∙◌, arith}
 use Rattle.partlog.specs.declared.numbers.Numbers.{Numbers}
 use Rattle.trace_file.specs.declared.line.Line.{Line}
 use Rattle.broker_spec.specs.Play.{brought}

@@ -1,7 +1,6 @@
 use Rattle.std.proofs.Common.{Result, Ok, Err, subst}
 use Rattle.std.proofs.lemmas.Result.{on_ok_weaker}
 use Rattle.std.specs.Prelude.{OnErr, OnOk}
-use Rattle.kbytes.specs.declared.no_memory.NoMemory.{NoMemory}
 use Rattle.shared_broker.specs.Passes.{PassView}
 use Rattle.shared_broker.specs.Sessions.{HasPartlyToldClock, HasToldClock}
 use Rattle.shared_broker.specs.Standing.{Stands}
