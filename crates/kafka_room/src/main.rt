@@ -2,6 +2,8 @@
 //! `kafka_room storm` plays a load that it generates, and `kafka_room serve` serves the connections of clients.
 #![tactic(auto)]
 
+ghost use Rattle.std.specs.Prelude.{◌≡◌, ◌≢◌};
+
 mod announce;
 mod command;
 mod exit;
@@ -24,6 +26,7 @@ use nothing::{NoClock, NoPort};
 use outside::{StdSink, StdSource, SystemClock, TcpPort};
 use run::run;
 use std::alloc::Global;
+use std::io::{BufWriter, Write};
 use std::net::{Net, TcpListener, TcpStream};
 use std::process::ExitCode;
 use std::sync::{OnceLock, Wait};
@@ -204,13 +207,34 @@ where
     came
 }
 
+// How many bytes of the output are held back at most: a replay writes after each line, and would else call the system for each.
+const MOST_HELD: usize = 65_536;
+
+// Writes what is held back of the output of a run that answered this code, and answers the code to end with.
+fn flush_held<W: Write>(output: &mut W, code: u8) -> u8
+    ensures { code ≢ 0 → result ≡ code }
+{
+    if output.flush().is_err() && code == 0 {
+        Stop::WriteFault.code()
+    } else {
+        code
+    }
+}
+
 // Plays a trace or a load, or refuses words that say nothing.
 fn run_lines<R>(rt: &R, alloc: Global, words: &[String]) -> Outcome
 where
     R: Threads + Wait + Sync + Input + Print,
 {
+    let Ok(mut output) = BufWriter::with_capacity(alloc, MOST_HELD, io::writer(rt)) else {
+        return Outcome {
+            code: Stop::NoMemory.code(),
+            line: None,
+            was_refused: false,
+        };
+    };
     let mut source = StdSource::new(rt.reader());
-    let mut sink = StdSink::new(io::writer(rt));
+    let mut sink = StdSink::new(&mut output);
     let exit = run(
         rt,
         alloc,
@@ -223,7 +247,7 @@ where
     let (code, line) = (exit.code, exit.line);
     mem::forget(exit);
     Outcome {
-        code,
+        code: flush_held(&mut output, code),
         line,
         was_refused: false,
     }
