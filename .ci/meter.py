@@ -97,8 +97,9 @@ class Meter:
                 self.walk(child, found, children)
 
     def note(self, pid, process, does, ticks):
-        # A process that turns into another program counts as that one.
-        _, before = self.seen.get((pid, process.start), (does, 0))
+        # A process that turns into another program counts as that one. One that has ended and was not waited for yet has no words any more.
+        did, before = self.seen.get((pid, process.start), (does, 0))
+        does = does if process.words else did
         self.seen[pid, process.start] = does, max(before, ticks)
         if does[1] in ("proof", "tests"):
             minute = (time.monotonic() - self.began) / 60
