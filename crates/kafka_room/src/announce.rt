@@ -3,7 +3,7 @@
 
 ghost use Rattle.std.specs.Prelude.{◌≡◌};
 
-use crate::command::Service;
+use commands::Service;
 use kbytes::Bytes;
 use outside::{Failed, Port, Source};
 use std::alloc::{AllocError, Global};

@@ -5,27 +5,14 @@
 ghost use Rattle.std.specs.Prelude.{◌≡◌, ◌≢◌};
 
 mod announce;
-mod command;
-mod exit;
 mod nothing;
-mod on_workers;
-mod replay;
-mod run;
-mod serving;
-mod storming;
-mod streams;
-#[cfg(test)]
-mod tests;
-mod trace;
-mod usage;
 
 use announce::{KeptSource, SpokenPort};
-use command::{Command, Service};
-use exit::{Stop, exit_text};
+use commands::{Command, Service, Stop, WrongWords, exit_text, run};
 use nothing::{NoClock, NoPort};
 use outside::{StdSink, StdSource, SystemClock, TcpPort};
-use run::run;
 use std::alloc::Global;
+use std::fmt::Display;
 use std::io::{BufWriter, Write};
 use std::net::{Net, TcpListener, TcpStream};
 use std::process::ExitCode;
@@ -34,7 +21,6 @@ use std::thread::Threads;
 use std::time::Clock;
 use std::{env, io, mem};
 use trace_file::{LineFault, LineKind};
-use usage::WrongWords;
 
 const HELP: &str = "\
 kafka_room: the request purgatory of a Kafka broker
@@ -145,8 +131,7 @@ fn ended(rt: &HostRuntime, code: u8) -> ExitCode {
 }
 
 // Ends because the words say no command, and reports what is wrong with them.
-fn ended_words(rt: &HostRuntime, words: &[String]) -> ExitCode {
-    let wrong = WrongWords::of(words);
+fn ended_words<D: Display>(rt: &HostRuntime, wrong: &D) -> ExitCode {
     let _ = rt.eprintln(format_args!("kafka_room: {wrong}: see kafka_room --help"));
     ExitCode::from(Stop::Usage.code())
 }
@@ -280,7 +265,7 @@ fn main(rt: HostRuntime) -> ExitCode {
             Stop::NoMemory.code(),
         ),
         // A word that isn't UTF-8.
-        Err(_) => return ended(&rt, Stop::Usage.code()),
+        Err(_) => return ended_words(&rt, &exit_text(Stop::Usage.code())),
     };
     if let [word] = words.as_slice()
         && let Some(text) = text_asked(word.as_str())
@@ -293,7 +278,7 @@ fn main(rt: HostRuntime) -> ExitCode {
     }
     let came = run_lines(&rt, rt.alloc(), words.as_slice());
     if came.code == Stop::Usage.code() {
-        return ended_words(&rt, words.as_slice());
+        return ended_words(&rt, &WrongWords::of(words.as_slice()));
     }
     ended_run(&rt, came.code, came.line)
 }

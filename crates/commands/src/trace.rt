@@ -1,0 +1,32 @@
+//! Reads the trace of a source, for both replays, or the topics that it declares, for a service.
+
+ghost use Rattle.std.specs.Prelude.{◌≡◌, ℕ, List as Items, IfOk, IfErr, OnOk, IsErrOf, IfSome, IsSome, ◌⊎◌};
+ghost use Rattle.std.specs.Io.KnownBytes.{IsAtEnd};
+ghost use Rattle.outside.specs.Causes.{Rose};
+ghost use Rattle.trace_file.specs.FirstBad.{IsTraceRead};
+ghost use Rattle.commands.specs.Codes.{bad_line_of};
+ghost use Rattle.commands.specs.Replay.{IsFirstBadOf};
+
+use crate::exit::Stop;
+use crate::streams::read_all;
+use kbytes::List;
+use outside::Source;
+use std::alloc::Global;
+use trace_file::{Line, read_trace};
+
+/// Reads the lines of the source's trace, or with `only_topics` those of its topics, which are lines `topic` and `end` alone. The text isn't kept.
+pub fn read_lines<S: Source>(
+    alloc: Global,
+    source: &mut S,
+    only_topics: bool,
+) -> Result<List<Line>, Stop>
+    ensures trace { IfOk result (λ lines. (text : Items ℕ) × IsTraceRead text only_topics lines × IfSome (S.left source.old) (λ t. t ≡ text)) }
+    ensures end { OnOk result (IsAtEnd (S.left source.new)) }
+    ensures read_fault { IsErrOf result Stop.ReadFault → Rose (S.faults source.old) (S.faults source.new) }
+    ensures bad_line { IfErr result (λ stop. IfSome (bad_line_of stop) (IsFirstBadOf (S.left source.old) only_topics)) }
+    ensures only { IfErr result (λ stop. (stop ≡ Stop.ReadFault) ⊎ (stop ≡ Stop.NoMemory) ⊎ IsSome (bad_line_of stop)) }
+{
+    let text = read_all(alloc, source)?;
+    let lines = read_trace(alloc, text.as_slice(), only_topics)?;
+    Ok(lines)
+}

@@ -1,5 +1,0 @@
-use Rattle.kafka_room.proofs.Stormings.{storm_printable}
-use Rattle.kafka_room.proofs.storming.play.Goals as goal
-
-pub print_storm-requires : goal.print_storm-requires
-print_storm-requires g c = storm_printable c.as_slice.result.now c.in_ok-account.account c.in_ok-account.ensures

@@ -1,0 +1,106 @@
+//! Runs over a source and a sink in memory, which may fail, and how they ended.
+
+use commands::run;
+use kbytes::{Bytes, List, NoMemory};
+use outside::{MemClock, MemPort, MemSink, MemSource};
+use std::alloc::{AllocError, Global};
+use std::sync::Wait;
+use std::thread::Threads;
+
+/// A trace on one thread.
+pub const REPLAY: &[&str] = &["replay"];
+
+/// A trace on one worker.
+pub const ON_ONE_WORKER: &[&str] = &["replay", "--workers", "1"];
+
+/// The reads and writes that fail, by their numbers, and how many bytes the sink takes.
+#[derive(Clone, Copy)]
+pub struct Faults<'a> {
+    pub reads: &'a [u64],
+    pub writes: &'a [u64],
+    pub room: u64,
+}
+
+/// Nothing fails, and the sink has room.
+pub const NONE: Faults<'static> = Faults {
+    reads: &[],
+    writes: &[],
+    room: 4096,
+};
+
+/// How a run ended, and what it wrote.
+#[derive(Drop)]
+pub struct Ran {
+    pub code: u8,
+    pub has_account: bool,
+    pub sink: MemSink,
+}
+
+/// A list of these.
+pub fn numbers(alloc: Global, items: &[u64]) -> Result<List<u64>, NoMemory> {
+    let mut list = List::new(alloc);
+    for item in items {
+        list.push(*item)?;
+    }
+    Ok(list)
+}
+
+/// The words of a command line.
+pub fn line_of(alloc: Global, words: &[&str]) -> Result<Vec<String>, AllocError> {
+    let mut line = Vec::new(alloc);
+    for word in words {
+        line.push(String::from_str(alloc, word)?)?;
+    }
+    Ok(line)
+}
+
+/// The text of these pieces.
+pub fn joined(alloc: Global, pieces: &[&str]) -> Result<Bytes, NoMemory> {
+    let mut text = Bytes::new(alloc);
+    for piece in pieces {
+        text.extend(piece.as_bytes())?;
+    }
+    Ok(text)
+}
+
+/// Runs these words on a trace, over a port without links.
+pub fn run_with<R: Threads + Wait + Sync>(
+    rt: &R,
+    alloc: Global,
+    words: &[&str],
+    text: Bytes,
+    faults: Faults<'_>,
+) -> Result<Ran, NoMemory> {
+    let line = line_of(alloc, words)?;
+    let mut source = MemSource::new(text, numbers(alloc, faults.reads)?);
+    let mut sink = MemSink::new(alloc, faults.room, numbers(alloc, faults.writes)?)?;
+    // a replay and a storm use neither
+    let port = MemPort::new(alloc, List::new(alloc), List::new(alloc))?;
+    let clock = MemClock::new(0, 1);
+    let exit = run(
+        rt,
+        alloc,
+        line.as_slice(),
+        &mut source,
+        &mut sink,
+        port,
+        clock,
+    );
+    Ok(Ran {
+        code: exit.code,
+        has_account: exit.account.is_some(),
+        sink,
+    })
+}
+
+/// Runs the words on a trace of these pieces.
+pub fn run_pieces<R: Threads + Wait + Sync>(
+    rt: &R,
+    alloc: Global,
+    words: &[&str],
+    pieces: &[&str],
+    faults: Faults<'_>,
+) -> Result<Ran, NoMemory> {
+    let text = joined(alloc, pieces)?;
+    run_with(rt, alloc, words, text, faults)
+}

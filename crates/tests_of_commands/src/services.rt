@@ -1,0 +1,95 @@
+//! A service over a port in memory that fails as it is opened and later, whose source fails, and whose sink is full.
+
+use crate::runs::{Faults, NONE, Ran, joined, line_of, numbers};
+use commands::run;
+use kbytes::{Bytes, List, NoMemory};
+use outside::{MemClock, MemLink, MemPort, MemSink, MemSource};
+use std::alloc::Global;
+use std::sync::Wait;
+use std::test::*;
+use std::thread::Threads;
+
+const SERVICE: &[&str] = &[
+    "serve",
+    "--port",
+    "9092",
+    "--lanes",
+    "2",
+    "--connections",
+    "3",
+];
+
+/// What is printed of one link that is closed at once.
+const CLOSED_LINK: &[u8] = b"link 0 calls 0 replies 0 closed\n\
+part 0 end 0 high 0 batches 0 bytes 0\ndone\n";
+
+/// What is printed where there is no link.
+const NO_LINK: &[u8] = b"part 0 end 0 high 0 batches 0 bytes 0\ndone\n";
+
+// Runs the service over a port with one link, which is closed at once. The port's calls with these numbers fail: the first opens it.
+fn run_service<R: Threads + Wait + Sync>(
+    rt: &R,
+    alloc: Global,
+    topics: &str,
+    fails: &[u64],
+    faults: Faults<'_>,
+) -> Result<Ran, NoMemory> {
+    let line = line_of(alloc, SERVICE)?;
+    let text = joined(alloc, &[topics])?;
+    let mut source = MemSource::new(text, numbers(alloc, faults.reads)?);
+    let mut sink = MemSink::new(alloc, faults.room, numbers(alloc, faults.writes)?)?;
+    let link = MemLink::new(alloc, Bytes::new(alloc), 4096, List::new(alloc))?;
+    let mut links = List::new(alloc);
+    links.push(link)?;
+    let port = MemPort::new(alloc, links, numbers(alloc, fails)?)?;
+    let clock = MemClock::new(0, 1);
+    let exit = run(
+        rt,
+        alloc,
+        line.as_slice(),
+        &mut source,
+        &mut sink,
+        port,
+        clock,
+    );
+    Ok(Ran {
+        code: exit.code,
+        has_account: exit.account.is_some(),
+        sink,
+    })
+}
+
+#[test]
+fn a_service_is_summed_up_as_far_as_the_sink_takes_it(rt: HostRuntime) {
+    for (fails, room, code, printed) in [
+        ([].as_slice(), 4096, 0, CLOSED_LINK),
+        (&[], 20, 4, CLOSED_LINK),
+        // it can't be opened
+        (&[0], 4096, 5, NO_LINK),
+        (&[0], 20, 5, NO_LINK),
+        // the second accept fails
+        (&[2], 4096, 5, CLOSED_LINK),
+    ] {
+        let faults = Faults { room, ..NONE };
+        let ran = run_service(&rt, rt.alloc(), "topic t 1 0\nend\n", fails, faults);
+        let ran = ran.expect(&rt, "memory");
+        assert!(rt; ran.code == code && ran.has_account, "with code {code}");
+        assert!(rt;
+            printed.starts_with(ran.sink.bytes())
+                && ran.sink.bytes().len() as u64 == room.min(printed.len() as u64),
+            "with code {code}"
+        );
+    }
+}
+
+#[test]
+fn a_service_without_topics_serves_nothing(rt: HostRuntime) {
+    for (topics, reads, code) in [
+        ("topic t 1 0\nend\n", [0].as_slice(), 3),
+        ("topic t 1 0\nclock 1\nend\n", &[], 2),
+    ] {
+        let faults = Faults { reads, ..NONE };
+        let ran = run_service(&rt, rt.alloc(), topics, &[], faults).expect(&rt, "memory");
+        assert!(rt; ran.code == code && !ran.has_account && ran.sink.bytes().is_empty());
+    }
+}

@@ -1,0 +1,71 @@
+//! Replays on workers: a sink that is full or fails, and sessions that wait for each other.
+
+use crate::pieces::{A, PRODUCE, PRODUCE_TO_1, WAIT_FOR_0, WAIT_FOR_1};
+use crate::replays::{THREE_LINES, printed_before};
+use crate::runs::{Faults, NONE, ON_ONE_WORKER, run_pieces};
+use std::test::*;
+
+const ON_TWO_WORKERS: &[&str] = &["replay", "--workers", "2"];
+
+#[test]
+fn a_full_sink_on_one_worker_leaves_the_account_and_a_front(rt: HostRuntime) {
+    let printed = printed_before(rt.alloc(), 4).expect(&rt, "memory");
+    for room in [0, 1, 60, 600] {
+        let faults = Faults { room, ..NONE };
+        let ran = run_pieces(&rt, rt.alloc(), ON_ONE_WORKER, THREE_LINES, faults);
+        let ran = ran.expect(&rt, "memory");
+        assert!(rt; ran.code == 4 && ran.has_account, "with room {room}");
+        assert!(rt;
+            ran.sink.bytes().len() as u64 == room
+                && printed.as_slice().starts_with(ran.sink.bytes()),
+            "with room {room}"
+        );
+    }
+}
+
+#[test]
+fn a_write_that_fails_on_one_worker_leaves_the_account(rt: HostRuntime) {
+    // the whole output is one write there
+    for (write, code, written) in [(0, 4, 0), (1, 0, 4)] {
+        let printed = printed_before(rt.alloc(), written).expect(&rt, "memory");
+        let faults = Faults {
+            writes: &[write],
+            ..NONE
+        };
+        let ran = run_pieces(&rt, rt.alloc(), ON_ONE_WORKER, THREE_LINES, faults);
+        let ran = ran.expect(&rt, "memory");
+        assert!(rt; ran.code == code && ran.has_account && ran.sink.bytes() == printed.as_slice());
+    }
+}
+
+/// Two fetches that wait for what another session produces: the first session's for the third's, and the second's for the first's.
+const MEETING: &[&str] = &[
+    "topic t 2 0\n",
+    "bytes 0 ",
+    WAIT_FOR_0,
+    PRODUCE_TO_1,
+    A,
+    "\nbytes 1 ",
+    WAIT_FOR_1,
+    "\nbytes 2 ",
+    PRODUCE,
+    A,
+    "\nend\n",
+];
+
+const END_OF_MEETING: &[u8] = b"part 0 end 1 high 1 batches 1 bytes 69\n\
+part 1 end 1 high 1 batches 1 bytes 69\n\
+session 0 calls 2 replies 2 parked 0\n\
+session 1 calls 1 replies 1 parked 0\n\
+session 2 calls 1 replies 1 parked 0\ndone\n";
+
+#[test]
+fn sessions_on_two_workers_wait_for_each_other(rt: HostRuntime) {
+    assert!(rt;
+        matches!(
+            run_pieces(&rt, rt.alloc(), ON_TWO_WORKERS, MEETING, NONE),
+            Ok(ran)
+                if ran.code == 0 && ran.has_account && ran.sink.bytes().ends_with(END_OF_MEETING)
+        )
+    );
+}
