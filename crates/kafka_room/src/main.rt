@@ -2,7 +2,8 @@
 //! `kafka_room storm` plays a load that it generates, and `kafka_room serve` serves the connections of clients.
 #![tactic(auto)]
 
-ghost use Rattle.std.specs.Prelude.{◌≡◌, ◌≢◌};
+ghost use Rattle.std.specs.Prelude.{◌≡◌, ◌≢◌, []};
+ghost use Rattle.std.specs.Io.Buffered.{writer_buffer};
 
 mod announce;
 mod nothing;
@@ -196,8 +197,9 @@ where
 const MOST_HELD: usize = 65_536;
 
 // Writes what is held back of the output of a run that answered this code, and answers the code to end with.
-fn flush_held<W: Write>(output: &mut W, code: u8) -> u8
-    ensures { code ≢ 0 → result ≡ code }
+fn flush_held<W: Write + Drop>(output: &mut BufWriter<W>, code: u8) -> u8
+    ensures kept { code ≢ 0 → result ≡ code }
+    ensures written { result ≡ 0 → writer_buffer output.new ≡ [] }
 {
     if output.flush().is_err() && code == 0 {
         Stop::WriteFault.code()
