@@ -9,8 +9,6 @@ mod draws;
 mod kind;
 mod load;
 mod promises;
-#[cfg(test)]
-mod same_as_model;
 mod sending;
 
 pub use asking::{LONGEST_WAIT, Wish};

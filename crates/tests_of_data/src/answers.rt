@@ -8,7 +8,7 @@ use kanswer::{
     enter_fetch, is_quiet, needs_op, op_of, read_asked, read_nothing, read_numbers, read_part,
     value_of_gauge,
 };
-use kbatch::view_batch;
+use kbatch::{BatchView, view_batch};
 use kbytes::{List, NoMemory};
 use kwire::{AskView, Config, FetchPart, ProducePartView, ProduceTopicView, RequestView, Told};
 use partlog::{PartEvent, PartLog, Who};
@@ -39,13 +39,10 @@ fn one_batch_at_least(rt: HostRuntime) {
         any: false,
     };
     for (start, records) in [(0, ONE.as_slice()), (69, &[])] {
-        assert!(rt;
-            matches!(
-                read_asked(rt.alloc(), -1, &asked, start, &log, &mut budget),
-                Ok(reading) if reading.records.as_slice() == records
-            )
-        );
-        assert!(rt; budget.left == 431 && budget.any);
+        let reading = read_asked(rt.alloc(), -1, &asked, start, &log, &mut budget);
+        let reading = reading.expect(&rt, "memory");
+        assert!(rt; reading.records.as_slice() == records);
+        assert!(rt; (budget.left, budget.any) == (431, true));
     }
 }
 
@@ -83,17 +80,17 @@ fn a_produce_waits(rt: HostRuntime) {
         count: 2,
     };
     let numbers = read_nothing(rt.alloc()).numbers;
-    assert!(rt; !is_quiet(&request.ask) && value_of_gauge(12, &numbers) == 0);
+    assert!(rt; (is_quiet(&request.ask), value_of_gauge(12, &numbers)) == (false, 0));
     assert!(rt; needs_op(&request, &[became], &[numbers]));
     let op = op_of(rt.alloc(), &request, &[became], 500).expect(&rt, "memory");
     // one needs the high watermark past 6
     assert!(rt;
         matches!(
             op.needs(),
-            [need] if need.gauge == 12 && need.start == 6 && need.cap == 1
+            [need] if (need.gauge, need.start, need.cap) == (12, 6, 1)
         )
     );
-    assert!(rt; op.min() == 1 && op.deadline() == 1500);
+    assert!(rt; (op.min(), op.deadline()) == (1, 1500));
 }
 
 // Of a produce the numbers are read, and no records.
@@ -102,12 +99,8 @@ fn the_numbers_of_a_produce(rt: HostRuntime) {
     let request = a_produce(rt.alloc()).expect(&rt, "memory");
     let log = PartLog::new(rt.alloc(), 0).expect(&rt, "memory");
     let mut budget = Budget::of(&request);
-    assert!(rt;
-        matches!(
-            read_part(rt.alloc(), &request, 0, 0, &log, &mut budget),
-            Ok(reading) if reading.numbers.end == 0 && reading.records.is_empty()
-        )
-    );
+    let reading = read_part(rt.alloc(), &request, 0, 0, &log, &mut budget).expect(&rt, "memory");
+    assert!(rt; (reading.numbers.end, reading.records.len()) == (0, 0));
 }
 
 #[test]
@@ -156,12 +149,9 @@ fn long_batch(alloc: Global) -> Result<Vec<u8>, AllocError> {
 }
 
 // Whether there is room for 64 such batches.
-fn is_filled(log: &mut PartLog, bytes: &[u8]) -> bool {
-    let Ok(batch) = view_batch(bytes) else {
-        return false;
-    };
+fn is_filled(log: &mut PartLog, batch: &BatchView<'_>) -> bool {
     for _ in 0..64 {
-        if log.append_view(WHO, &batch).is_err() {
+        if log.append_view(WHO, batch).is_err() {
             return false;
         }
     }
@@ -182,14 +172,13 @@ fn put_one(config: &Config, terms: Terms, index: i32, log: &mut PartLog) -> Opti
         index,
         records: Some(&ONE),
     };
-    match decide_put(config, terms, b"t", &part) {
-        Ok((number, sent)) => Some(enter_batch(log, VISITOR, number, &sent).ok()?.became),
-        Err(_) => None,
-    }
+    let (number, sent) = decide_put(config, terms, b"t", &part).ok()?;
+    let entered = enter_batch(log, VISITOR, number, &sent).ok()?;
+    Some(entered.became)
 }
 
 // What a produce before version 4 is told of a full log, and one from then on.
-const REFUSED: [(i16, Accepted); 3] = [
+const REFUSED: &[(i16, Accepted)] = &[
     (3, Accepted::Refused { code: 6 }),
     (4, Accepted::Refused { code: 56 }),
     (5, Accepted::Refused { code: 56 }),
@@ -206,15 +195,16 @@ fn a_full_partition_is_refused_and_another_takes_its_batch(rt: HostRuntime) {
     let mut config = Config::new(rt.alloc(), 9092);
     assert!(rt; config.add(b"t", 2, 1, 1).is_ok());
     let bytes = long_batch(rt.alloc()).expect(&rt, "memory");
+    let batch = view_batch(bytes.as_slice()).expect(&rt, "a batch");
     let mut full = PartLog::new(rt.alloc(), 1).expect(&rt, "memory");
     let mut empty = PartLog::new(rt.alloc(), 1).expect(&rt, "memory");
-    assert!(rt; is_filled(&mut full, bytes.as_slice()));
+    assert!(rt; is_filled(&mut full, &batch));
     for (version, refused) in REFUSED {
-        assert!(rt; put_one(&config, with_acks(version, 1), 0, &mut full) == Some(refused));
+        assert!(rt; put_one(&config, with_acks(*version, 1), 0, &mut full) == Some(*refused));
     }
-    assert!(rt; put_one(&config, with_acks(3, 1), 1, &mut empty) == Some(APPENDED));
-    assert!(rt; full.numbers().end == 64 && full.numbers().bytes == 67_108_864);
-    assert!(rt; empty.log() == ONE.as_slice());
+    assert!(rt; (full.numbers().end, full.numbers().bytes) == (64, 67_108_864));
+    let became = put_one(&config, with_acks(3, 1), 1, &mut empty);
+    assert!(rt; (became, empty.log()) == (Some(APPENDED), ONE.as_slice()));
 }
 
 // The partitions 0 and 1 of the topic `t`, with acks 1.
@@ -255,8 +245,9 @@ fn is_refused_and_put(told: &Told, asked: i16, code: i16) -> bool {
     let [full, empty] = topic.parts.as_slice() else {
         return false;
     };
-    let is_refused = full.code == code && full.base == -1 && full.start == -1;
-    *version == asked && is_refused && empty.code == 0 && empty.base == 0 && empty.start == 0
+    let is_refused = (full.code, full.base, full.start) == (code, -1, -1);
+    let is_put = (empty.code, empty.base, empty.start) == (0, 0, 0);
+    *version == asked && is_refused && is_put
 }
 
 #[test]
@@ -267,12 +258,9 @@ fn the_reply_where_one_of_two_partitions_is_full(rt: HostRuntime) {
     for (version, code) in [(3, 6), (4, 56), (5, 56)] {
         let request = a_produce_of_two(rt.alloc(), version).expect(&rt, "memory");
         let became = [Accepted::Refused { code }, APPENDED];
-        assert!(rt;
-            matches!(
-                answer(rt.alloc(), &config, &request, &became, &readings),
-                Ok(reply) if reply.correlation == 9 && is_refused_and_put(&reply.told, version, code)
-            )
-        );
+        let reply = answer(rt.alloc(), &config, &request, &became, &readings);
+        let reply = reply.expect(&rt, "memory");
+        assert!(rt; reply.correlation == 9 && is_refused_and_put(&reply.told, version, code));
     }
 }
 
@@ -311,5 +299,5 @@ fn too_few_replicas_in_sync(rt: HostRuntime) {
     let refused = Accepted::Refused { code: 19 };
     assert!(rt; put_one(&config, with_acks(3, -1), 4, &mut log) == Some(refused));
     assert!(rt; put_one(&config, with_acks(3, 1), 4, &mut log) == Some(appended(1)));
-    assert!(rt; log.events().len() == 4 && log.numbers().high == 2);
+    assert!(rt; (log.events().len(), log.numbers().high) == (4, 2));
 }

@@ -50,81 +50,105 @@ fn fields_are_written(rt: HostRuntime) {
 #[test]
 fn integers_are_read(rt: HostRuntime) {
     let mut reader = Reader::new(&FIELDS);
-    assert!(rt;
-        reader.i8() == Ok(-128)
-            && reader.i16() == Ok(-2)
-            && reader.i32() == Ok(16_909_060)
-            && reader.u32() == Ok(4_294_967_294)
-            && reader.i64() == Ok(72_623_859_790_382_856)
-            && reader.at() == 19
-    );
+    let small = (reader.i8(), reader.i16(), reader.i32());
+    assert!(rt; small == (Ok(-128), Ok(-2), Ok(16_909_060)));
+    let large = (reader.u32(), reader.i64(), reader.at());
+    assert!(rt; large == (Ok(4_294_967_294), Ok(72_623_859_790_382_856), 19));
 }
 
 #[test]
 fn fields_with_a_length_are_read(rt: HostRuntime) {
     let mut reader = Reader::new(&FIELDS[19..]);
-    assert!(rt;
-        reader.string() == Ok(b"hi".as_slice())
-            && reader.nullable_string() == Ok(None)
-            && reader.records() == Ok(Some([7].as_slice()))
-            && reader.records() == Ok(None)
-            && reader.array() == Ok(Some(256))
-            && reader.array() == Ok(None)
-            && reader.rest() == &FIELDS[42..]
-    );
+    let strings = (reader.string(), reader.nullable_string());
+    assert!(rt; strings == (Ok(b"hi".as_slice()), Ok(None)));
+    let records = (reader.records(), reader.records());
+    assert!(rt; records == (Ok(Some([7].as_slice())), Ok(None)));
+    let counts = (reader.array(), reader.array());
+    assert!(rt; counts == (Ok(Some(256)), Ok(None)) && reader.rest() == &FIELDS[42..]);
 }
+
+#[derive(Clone, Copy)]
+enum Kind {
+    Byte,
+    String,
+    NullableString,
+    Records,
+    Array,
+}
+
+// Why the bytes are no field of the kind.
+fn fault_of(kind: Kind, bytes: &[u8]) -> Option<ByteFault> {
+    let mut reader = Reader::new(bytes);
+    match kind {
+        Kind::Byte => reader.i8().err(),
+        Kind::String => reader.string().err(),
+        Kind::NullableString => reader.nullable_string().err(),
+        Kind::Records => reader.records().err(),
+        Kind::Array => reader.array().err(),
+    }
+}
+
+const MINUS_TWO: ByteFault = ByteFault::BadLength { at: 0, value: -2 };
+
+const SHORT: ByteFault = ByteFault::Short { at: 0 };
+
+const REFUSED_LENGTHS: &[(Kind, &[u8], ByteFault)] = &[
+    (
+        Kind::String,
+        &[0xff, 0xff],
+        ByteFault::BadLength { at: 0, value: -1 },
+    ),
+    (Kind::NullableString, &[0xff, 0xfe], MINUS_TWO),
+    (Kind::Records, &[0xff, 0xff, 0xff, 0xfe], MINUS_TWO),
+    (Kind::Array, &[0xff, 0xff, 0xff, 0xfe], MINUS_TWO),
+    (Kind::String, &[0, 3, 104, 105], SHORT),
+    (Kind::NullableString, &[0], SHORT),
+    (Kind::Records, &[0, 0, 0, 1], SHORT),
+    (Kind::Array, &[0, 0, 0], SHORT),
+    (Kind::Byte, &[], SHORT),
+];
 
 #[test]
 fn refused_lengths(rt: HostRuntime) {
-    let minus_one = ByteFault::BadLength { at: 0, value: -1 };
-    let minus_two = ByteFault::BadLength { at: 0, value: -2 };
-    let short = ByteFault::Short { at: 0 };
-    assert!(rt;
-        Reader::new(&[0xff, 0xff]).string() == Err(minus_one)
-            && Reader::new(&[0xff, 0xfe]).nullable_string() == Err(minus_two)
-            && Reader::new(&[0xff, 0xff, 0xff, 0xfe]).records() == Err(minus_two)
-            && Reader::new(&[0xff, 0xff, 0xff, 0xfe]).array() == Err(minus_two)
-    );
-    assert!(rt;
-        Reader::new(&[0, 3, 104, 105]).string() == Err(short)
-            && Reader::new(&[0]).nullable_string() == Err(short)
-            && Reader::new(&[0, 0, 0, 1]).records() == Err(short)
-            && Reader::new(&[0, 0, 0]).array() == Err(short)
-            && Reader::new(&[]).i8() == Err(short)
-    );
+    for (kind, bytes, fault) in REFUSED_LENGTHS {
+        assert!(rt; fault_of(*kind, bytes) == Some(*fault));
+    }
 }
+
+const VARINTS: &[(&[u8], i32)] = &[
+    (&[0], 0),
+    (&[1], -1),
+    (&[126], 63),
+    (&[128, 1], 64),
+    (&[128, 255, 127], 1_048_512),
+    (&[254, 255, 255, 255, 15], 2_147_483_647),
+    (&[255, 255, 255, 255, 15], -2_147_483_648),
+];
 
 #[test]
 fn varints(rt: HostRuntime) {
-    for (bytes, value) in [
-        ([0, 0, 0, 0, 0], 0),
-        ([1, 0, 0, 0, 0], -1),
-        ([126, 0, 0, 0, 0], 63),
-        ([128, 1, 0, 0, 0], 64),
-        ([128, 255, 127, 0, 0], 1_048_512),
-        ([254, 255, 255, 255, 15], 2_147_483_647),
-        ([255, 255, 255, 255, 15], -2_147_483_648),
-    ] {
-        assert!(rt;
-            Reader::new(&bytes).varint() == Ok(value)
-                && Reader::new(&bytes).varlong() == Ok(i64::from(value))
-        );
+    for (bytes, value) in VARINTS {
+        let read = (Reader::new(bytes).varint(), Reader::new(bytes).varlong());
+        assert!(rt; read == (Ok(*value), Ok(i64::from(*value))));
     }
 }
 
+const LONG: ByteFault = ByteFault::LongVarint { at: 0 };
+
+const REFUSED_VARINTS: &[(&[u8], ByteFault)] = &[
+    (&[128, 255], SHORT),
+    (&[128, 0], LONG),
+    (&[255, 255, 255, 255, 16], LONG),
+    (&[255, 255, 255, 255, 255], LONG),
+];
+
 #[test]
 fn refused_varints(rt: HostRuntime) {
-    for (bytes, fault) in [
-        ([128, 255].as_slice(), ByteFault::Short { at: 0 }),
-        (&[128, 0], ByteFault::LongVarint { at: 0 }),
-        (&[255, 255, 255, 255, 16], ByteFault::LongVarint { at: 0 }),
-        (&[255, 255, 255, 255, 255], ByteFault::LongVarint { at: 0 }),
-    ] {
-        assert!(rt; Reader::new(bytes).varint() == Err(fault));
+    for (bytes, fault) in REFUSED_VARINTS {
+        assert!(rt; Reader::new(bytes).varint() == Err(*fault));
     }
     let large = [255, 255, 255, 255, 255, 255, 255, 255, 255, 2];
-    let fault = ByteFault::LongVarint { at: 0 };
-    assert!(rt; Reader::new(&large).varlong() == Err(fault));
+    assert!(rt; Reader::new(&large).varlong() == Err(LONG));
 }
 
 fn add_two(list: &mut List<u64>) -> Result<(), NoMemory> {
@@ -135,11 +159,13 @@ fn add_two(list: &mut List<u64>) -> Result<(), NoMemory> {
 #[test]
 fn a_list(rt: HostRuntime) {
     let mut list = List::new(rt.alloc());
-    assert!(rt; list.is_empty() && add_two(&mut list).is_ok() && list.len() == 2);
-    assert!(rt; list.get(1) == Some(&5) && list.get(2).is_none());
+    let was_empty = list.is_empty();
+    assert!(rt; add_two(&mut list).is_ok());
+    let found = (list.get(1).copied(), list.get(2).copied());
+    assert!(rt; (was_empty, list.len(), found) == (true, 2, (Some(5), None)));
     list.as_mut_slice().reverse();
-    assert!(rt; list.as_slice() == [5, 3].as_slice() && list.pop() == Some(3));
-    assert!(rt; list.into_vec().len() == 1);
+    assert!(rt; list.as_slice() == [5, 3].as_slice());
+    assert!(rt; (list.pop(), list.into_vec().len()) == (Some(3), 1));
 }
 
 fn add_three(bytes: &mut Bytes) -> Result<(), NoMemory> {
@@ -150,51 +176,49 @@ fn add_three(bytes: &mut Bytes) -> Result<(), NoMemory> {
 #[test]
 fn a_list_of_bytes(rt: HostRuntime) {
     let mut bytes = Bytes::new(rt.alloc());
-    assert!(rt; bytes.is_empty() && add_three(&mut bytes).is_ok() && bytes.len() == 3);
+    let was_empty = bytes.is_empty();
+    assert!(rt; add_three(&mut bytes).is_ok());
     bytes.as_mut_slice().reverse();
-    assert!(rt; bytes.get(2) == Some(&97));
+    assert!(rt; (was_empty, bytes.len(), bytes.get(2).copied()) == (true, 3, Some(97)));
     bytes.truncate(1);
     assert!(rt; bytes.as_slice() == b"c".as_slice());
 }
 
 // The bytes of a vector that was taken over, copied twice.
-fn copies(alloc: Global, kept: Vec<u8>) -> Result<Option<Bytes>, NoMemory> {
-    let bytes = Bytes::from(kept);
+fn copies(alloc: Global) -> Result<Option<Bytes>, NoMemory> {
+    let bytes = Bytes::from(b"ab".to_vec(alloc)?);
     let copy = copied(alloc, bytes.as_slice())?;
     copied_or_null(alloc, Some(copy.as_slice()))
 }
 
 #[test]
-fn takes_over_and_copies(rt: HostRuntime) -> Result<(), Fail> {
-    let kept = b"ab".to_vec(rt.alloc())?;
-    assert!(rt;
-        matches!(copies(rt.alloc(), kept), Ok(Some(bytes)) if bytes.as_slice() == b"ab".as_slice())
-    );
-    Ok(())
+fn takes_over_and_copies(rt: HostRuntime) {
+    let copies = copies(rt.alloc()).expect(&rt, "memory");
+    let bytes = copies.expect(&rt, "no null");
+    assert!(rt; bytes.as_slice() == b"ab".as_slice());
 }
+
+const MESSAGES: &[(ByteFault, &str)] = &[
+    (
+        ByteFault::Short { at: 3 },
+        "the bytes end within the field at 3",
+    ),
+    (
+        ByteFault::BadLength { at: 4, value: -2 },
+        "the length -2 at 4 isn't allowed",
+    ),
+    (
+        ByteFault::LongVarint { at: 5 },
+        "the varint at 5 isn't in its shortest form or is out of range",
+    ),
+];
 
 #[test]
 fn messages(rt: HostRuntime) {
-    for (fault, text) in [
-        (
-            ByteFault::Short { at: 3 },
-            "the bytes end within the field at 3",
-        ),
-        (
-            ByteFault::BadLength { at: 4, value: -2 },
-            "the length -2 at 4 isn't allowed",
-        ),
-        (
-            ByteFault::LongVarint { at: 5 },
-            "the varint at 5 isn't in its shortest form or is out of range",
-        ),
-    ] {
-        assert!(rt; matches!(format!(in rt.alloc(); "{fault}"), Ok(said) if said.as_str() == text));
+    for (fault, text) in MESSAGES {
+        let said = format!(in rt.alloc(); "{fault}").expect(&rt, "memory");
+        assert!(rt; said.as_str() == *text);
     }
-    assert!(rt;
-        matches!(
-            format!(in rt.alloc(); "{NoMemory}"),
-            Ok(said) if said.as_str() == "no memory was left"
-        )
-    );
+    let said = format!(in rt.alloc(); "{NoMemory}").expect(&rt, "memory");
+    assert!(rt; said.as_str() == "no memory was left");
 }

@@ -1,5 +1,5 @@
-//! Tests of the crates of Kafka's data, from `kbytes` up to `kanswer`, and of `outside` and `trace_file`, by their public calls. Nothing
-//! here is for other crates.
+//! Tests of the crates of Kafka's data, from `kbytes` up to `kanswer`, and of `outside`, `trace_file` and `storm`, by their public calls.
+//! Nothing here is for other crates.
 #![tactic(auto)]
 
 #[cfg(test)]
@@ -10,6 +10,8 @@ mod batches;
 mod fields;
 #[cfg(test)]
 mod frames;
+#[cfg(test)]
+mod loads;
 #[cfg(test)]
 mod logs;
 #[cfg(test)]

@@ -31,6 +31,15 @@ fn a_source_in_memory_gives_its_bytes_and_fails_where_planned(rt: HostRuntime) {
     assert!(rt; into == *b"lol");
 }
 
+// What becomes of each write, of which the second is to fail, where there is room for 5 bytes.
+const WRITES: &[(&[u8], Result<usize, Failed>)] = &[
+    (b"hel", Ok(3)),
+    (b"lo", Err(Failed)),
+    (b"lo!", Ok(2)),
+    (b"", Ok(0)),
+    (b"!", Err(Failed)),
+];
+
 fn sink(alloc: Global) -> Result<MemSink, NoMemory> {
     MemSink::new(alloc, 5, failing(alloc, &[1])?)
 }
@@ -38,14 +47,8 @@ fn sink(alloc: Global) -> Result<MemSink, NoMemory> {
 #[test]
 fn a_sink_in_memory_takes_what_fits_and_fails_where_planned(rt: HostRuntime) {
     let mut sink = sink(rt.alloc()).expect(&rt, "memory");
-    for (part, want) in [
-        (b"hel".as_slice(), Ok(3)),
-        (b"lo", Err(Failed)),
-        (b"lo!", Ok(2)),
-        (b"", Ok(0)),
-        (b"!", Err(Failed)),
-    ] {
-        assert!(rt; sink.write(part) == want);
+    for (part, want) in WRITES {
+        assert!(rt; sink.write(part) == *want);
     }
     assert!(rt; sink.bytes() == b"hello".as_slice());
 }
@@ -94,7 +97,7 @@ fn a_source_over_a_reader_gives_its_bytes(rt: HostRuntime) {
     }
     assert!(rt; into == *b"lol");
     let mut broken = StdSource::new(Broken { has_failed: false });
-    assert!(rt; broken.read(&mut into) == Err(Failed) && broken.read(&mut into) == Ok(0));
+    assert!(rt; (broken.read(&mut into), broken.read(&mut into)) == (Err(Failed), Ok(0)));
 }
 
 #[test]
@@ -105,8 +108,12 @@ fn a_sink_over_a_writer_hands_its_bytes_on(rt: HostRuntime) {
     assert!(rt; written.as_slice() == b"hello".as_slice());
     // the first write fails, and the next takes nothing of a part that isn't empty
     let mut broken = StdSink::new(Broken { has_failed: false });
-    assert!(rt; broken.write(b"hello") == Err(Failed) && broken.write(b"hello") == Err(Failed));
-    assert!(rt; broken.write(b"") == Ok(0));
+    let writes = (
+        broken.write(b"hello"),
+        broken.write(b"hello"),
+        broken.write(b""),
+    );
+    assert!(rt; writes == (Err(Failed), Err(Failed), Ok(0)));
 }
 
 #[test]

@@ -1,17 +1,17 @@
-//! Tests: loads have the lines that the independent model gives them (`model/traces/storm.py`).
+//! Generated loads have the lines that the independent model gives them (`model/traces/storm.py`).
 
-use crate::load::{MOST_REQUESTS, storm};
 use kbatch::crc32c;
 use kbytes::{Bytes, NoMemory};
 use std::alloc::Global;
 use std::test::*;
+use storm::{MOST_REQUESTS, storm};
 use trace_file::put_line;
 
 const FIRST: &[u8] =
     b"topic storm 8 1\nbytes 0 0000007d0000000300000000ffffffffffff0000004f00000001000573746f726d0000000100000000000000540000000000000000000000480000000002a33a03d400000000000000000000000000000000000000000000ffffffffffffffffffffffffffff000000012c00000001203030303030303030303030303030303000\nclock 10\nend\n";
 
 // A seed, a number of requests, and the size and the CRC-32C of the text.
-const LOADS: [(u64, u32, usize, u32); 6] = [
+const LOADS: &[(u64, u32, usize, u32)] = &[
     (7, 1, 296, 0xF35C5EFC),
     (7, 20, 4848, 0x97D7E9F7),
     (7, 64, 12880, 0x5D92C1B9),
@@ -32,17 +32,14 @@ fn text(alloc: Global, seed: u64, n: u32) -> Result<Bytes, NoMemory> {
 
 #[test]
 fn one_request(rt: HostRuntime) {
-    assert!(rt; matches!(text(rt.alloc(), 7, 1), Ok(text) if text.as_slice() == FIRST));
+    let text = text(rt.alloc(), 7, 1).expect(&rt, "memory");
+    assert!(rt; text.as_slice() == FIRST);
 }
 
 #[test]
 fn loads_are_those_of_the_model(rt: HostRuntime) {
     for (seed, n, size, crc) in LOADS {
-        assert!(rt;
-            matches!(
-                text(rt.alloc(), seed, n),
-                Ok(text) if text.len() == size && crc32c(text.as_slice()) == crc
-            )
-        );
+        let text = text(rt.alloc(), *seed, *n).expect(&rt, "memory");
+        assert!(rt; (text.len(), crc32c(text.as_slice())) == (*size, *crc));
     }
 }
