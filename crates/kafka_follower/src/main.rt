@@ -2,8 +2,6 @@
 //! the port, and so lets produces with acks all be answered.
 #![tactic(auto)]
 
-#[cfg(test)]
-mod tests;
 mod usage;
 mod watched;
 

@@ -1,5 +1,5 @@
-//! Tests of the crates of Kafka's data, from `kbytes` up to `kanswer`, and of `outside`, `trace_file` and `storm`, by their public calls.
-//! Nothing here is for other crates.
+//! Tests of the crates of Kafka's data, from `kbytes` up to `kanswer`, and of `outside`, `trace_file`, `storm` and `follower`, by their public
+//! calls. Nothing here is for other crates.
 #![tactic(auto)]
 
 #[cfg(test)]
@@ -8,6 +8,8 @@ mod answers;
 mod batches;
 #[cfg(test)]
 mod fields;
+#[cfg(test)]
+mod followers;
 #[cfg(test)]
 mod frames;
 #[cfg(test)]

@@ -107,9 +107,10 @@ fn a_room_is_still_once_what_was_won_is_taken(rt: HostRuntime) {
         .err()
         .expect(&rt, "an end that isn't taken");
     let ends = whole.look();
-    assert!(rt; ends.count == 1 && ends.last == done(How::Satisfied, 2));
+    assert!(rt; (ends.count, ends.last) == (1, done(How::Satisfied, 2)));
     let numbers = whole.close(&rt).ok().expect(&rt, "a room that is still");
-    assert!(rt; numbers.len() == 19 && numbers.get(2) == Some(&1) && sum_of(&numbers) == 1);
+    let second = numbers.get(2).copied();
+    assert!(rt; (numbers.len(), second, sum_of(&numbers)) == (19, Some(1), 1));
 }
 
 #[test]
@@ -122,5 +123,5 @@ fn one_that_waits_keeps_no_room_from_being_still(rt: HostRuntime) {
     let whole = Whole::of(rt.alloc(), room, crew).expect(&rt, "memory");
     let whole = whole.expect(&rt, "all passes and sources");
     let numbers = whole.close(&rt).ok().expect(&rt, "a room that is still");
-    assert!(rt; numbers.len() == 19 && sum_of(&numbers) == 0);
+    assert!(rt; (numbers.len(), sum_of(&numbers)) == (19, 0));
 }

@@ -23,9 +23,10 @@ fn watchers_are_listed_replaced_dropped_and_purged(rt: HostRuntime) {
     shard.list(0, 3, 1);
     let row = [shard.each(1, 0), shard.each(1, 1), shard.each(1, 2)];
     assert!(rt; row == [Some(THIRD), Some(SEVENTH), None]);
-    assert!(rt; !shard.drop_stale(1, 3, 1) && shard.drop_stale(1, 3, 2));
+    let dropped = (shard.drop_stale(1, 3, 1), shard.drop_stale(1, 3, 2));
+    assert!(rt; dropped == (false, true));
     let mut live = [0; 10];
     live[7] = 1;
-    assert!(rt; shard.len() == 2 && shard.purge(&live) == 1);
-    assert!(rt; shard.each(1, 0) == Some(SEVENTH) && shard.each(0, 0).is_none());
+    assert!(rt; (shard.len(), shard.purge(&live)) == (2, 1));
+    assert!(rt; (shard.each(1, 0), shard.each(0, 0)) == (Some(SEVENTH), None));
 }

@@ -18,7 +18,7 @@ fn a_new_table_has_all_seats_and_no_word(rt: HostRuntime) {
         callers,
         scanners,
     } = RoomTable::make(rt.alloc(), PARTITION).expect(&rt, "memory");
-    assert!(rt; sources.len() == 4 && callers.len() == 3 && scanners.len() == 2);
+    assert!(rt; (sources.len(), callers.len(), scanners.len()) == (4, 3, 2));
     let words = table.close(sources, callers, scanners);
-    assert!(rt; words.word(0) == 0 && words.word(794) == 0);
+    assert!(rt; (words.word(0), words.word(794)) == (0, 0));
 }

@@ -104,7 +104,8 @@ fn a_take_in_mid_run(rt: HostRuntime) {
     let added = turn.value_mut().add(6);
     let count = turn.value().count();
     let numbers = turn.take();
-    assert!(rt; added.is_ok() && count == 2 && numbers.items.as_slice() == [5u64, 6].as_slice());
+    assert!(rt; (added, count) == (Ok(()), 2));
+    assert!(rt; numbers.items.as_slice() == [5u64, 6].as_slice());
 }
 
 #[test]
@@ -121,5 +122,5 @@ fn a_value_without_entries(rt: HostRuntime) {
     let mut passes = List::new(rt.alloc());
     assert!(rt; passes.push(pass).is_ok());
     let shelf = lock.close(passes);
-    assert!(rt; item == Some(3) && shelf.number == 7 && shelf.items.len() == 1);
+    assert!(rt; (item, shelf.number, shelf.items.len()) == (Some(3), 7, 1));
 }
