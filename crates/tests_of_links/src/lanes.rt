@@ -14,6 +14,7 @@ use kbytes::{Bytes, List, NoMemory};
 use link_lanes::{LaneRun, MOST_LANES, Serving, serve_links, served_accounts_are_printable};
 use outside::{Clock, MemClock, MemLink, MemPort, Port};
 use std::alloc::Global;
+use std::process::Abort;
 use std::sync::Wait;
 use std::sync::atomic::AtomicBool;
 use std::test::*;
@@ -129,9 +130,10 @@ impl Case<'_> {
         &self,
         rt: &R,
         alloc: Global,
-    ) -> Result<Option<&'static str>, NoMemory>
-        requires { (1 ≤ self.now.lanes) × (self.now.lanes ≤ MOST_LANES) }
-    {
+    ) -> Result<Option<&'static str>, NoMemory> {
+        if self.lanes == 0 || self.lanes > MOST_LANES {
+            return Ok(Some("the number of lanes"));
+        }
         let port = self.port(alloc)?;
         let serving = serving(self.lanes, self.most);
         let Told { run, text } = tell(rt, alloc, port, MemClock::new(0, 1), serving)?;
@@ -148,12 +150,10 @@ impl Case<'_> {
     }
 }
 
-// Fails with what is lacking.
-fn none_lacks(lacking: Option<&'static str>) -> Result<(), Fail> {
-    match lacking {
-        None => Ok(()),
-        Some(what) => Err(what.into()),
-    }
+// Serves the links, and fails with what is lacking.
+fn serve<R: Abort + Threads + Wait + Sync>(rt: &R, alloc: Global, case: &Case<'_>) {
+    let lacking = case.lacks(rt, alloc).expect(rt, "memory");
+    assert!(rt; lacking.is_none(), "{lacking:?}");
 }
 
 const FIVE: &str = "\
@@ -198,49 +198,52 @@ done
 ";
 
 // All links are served, to the end of the port.
+const WHOLE: Case<'static> = Case {
+    links: &[A_PRODUCE; 5],
+    fails: &[],
+    lanes: 2,
+    most: 9,
+    has_failed: false,
+    given: 5,
+    text: FIVE,
+};
+
+const EMPTY: Case<'static> = Case {
+    links: &[],
+    lanes: 64,
+    given: 0,
+    text: NONE,
+    ..WHOLE
+};
+
 #[test]
-fn each_link_is_served_and_comes_back_once(rt: HostRuntime) -> Result<(), Fail> {
-    let all = Case {
-        links: &[A_PRODUCE; 5],
-        fails: &[],
-        lanes: 2,
-        most: 9,
-        has_failed: false,
-        given: 5,
-        text: FIVE,
-    };
-    none_lacks(all.lacks(&rt, rt.alloc())?)?;
-    let none = Case {
-        links: &[],
-        lanes: 64,
-        given: 0,
-        text: NONE,
-        ..all
-    };
-    none_lacks(none.lacks(&rt, rt.alloc())?)
+fn each_link_is_served_and_comes_back_once(rt: HostRuntime) {
+    serve(&rt, rt.alloc(), &WHOLE);
+    serve(&rt, rt.alloc(), &EMPTY);
 }
 
 // The first link's first write fails and the third link's first read; no more links are asked for than may come.
+const WITH_TWO_FAULTS: Case<'static> = Case {
+    links: &[
+        Sent {
+            bytes: &PRODUCE,
+            fails: &[1],
+        },
+        A_PRODUCE,
+        Sent {
+            bytes: &PRODUCE,
+            fails: &[0],
+        },
+        A_PRODUCE,
+    ],
+    most: 3,
+    given: 3,
+    text: WITH_FAULTS,
+    ..WHOLE
+};
+
 #[test]
-fn a_link_that_fails_ends_alone(rt: HostRuntime) -> Result<(), Fail> {
-    let write = Sent {
-        fails: &[1],
-        ..A_PRODUCE
-    };
-    let read = Sent {
-        fails: &[0],
-        ..A_PRODUCE
-    };
-    let faults = Case {
-        links: &[write, A_PRODUCE, read, A_PRODUCE],
-        fails: &[],
-        lanes: 2,
-        most: 3,
-        has_failed: false,
-        given: 3,
-        text: WITH_FAULTS,
-    };
-    none_lacks(faults.lacks(&rt, rt.alloc())?)?;
+fn a_link_that_fails_ends_alone(rt: HostRuntime) {
     // a read fails after half a frame; a fetch waits when the input ends, and is answered once its time is over
     let half = Sent {
         bytes: &PRODUCE[..55],
@@ -251,31 +254,33 @@ fn a_link_that_fails_ends_alone(rt: HostRuntime) -> Result<(), Fail> {
         most: 2,
         given: 2,
         text: IN_MID_FRAME,
-        ..faults
+        ..WHOLE
     };
-    none_lacks(ends.lacks(&rt, rt.alloc())?)
+    serve(&rt, rt.alloc(), &WITH_TWO_FAULTS);
+    serve(&rt, rt.alloc(), &ends);
 }
+
+const ACCEPT_FAILS: Case<'static> = Case {
+    links: &[A_PRODUCE; 3],
+    fails: &[2],
+    has_failed: true,
+    given: 1,
+    text: ONE,
+    ..WHOLE
+};
+
+const OPENING_FAILS: Case<'static> = Case {
+    fails: &[0],
+    given: 0,
+    text: NONE,
+    ..ACCEPT_FAILS
+};
 
 // An accept fails after the first link, and an opening.
 #[test]
-fn a_port_that_fails_ends_the_run(rt: HostRuntime) -> Result<(), Fail> {
-    let accept = Case {
-        links: &[A_PRODUCE; 3],
-        fails: &[2],
-        lanes: 2,
-        most: 9,
-        has_failed: true,
-        given: 1,
-        text: ONE,
-    };
-    none_lacks(accept.lacks(&rt, rt.alloc())?)?;
-    let opening = Case {
-        fails: &[0],
-        given: 0,
-        text: NONE,
-        ..accept
-    };
-    none_lacks(opening.lacks(&rt, rt.alloc())?)
+fn a_port_that_fails_ends_the_run(rt: HostRuntime) {
+    serve(&rt, rt.alloc(), &ACCEPT_FAILS);
+    serve(&rt, rt.alloc(), &OPENING_FAILS);
 }
 
 const MET: &str = "\
@@ -369,23 +374,15 @@ fn meet_beside_a_fault<'a, R: Threads + Wait + time::Clock + Sync>(
 }
 
 #[test]
-fn two_lanes_run_beside_each_other(rt: HostRuntime) -> Result<(), Fail> {
+fn two_lanes_run_beside_each_other(rt: HostRuntime) {
     let is_due = AtomicBool::new(true);
     let has_rested = AtomicBool::new(false);
-    if meet(&rt, rt.alloc(), &is_due, &has_rested)? {
-        Ok(())
-    } else {
-        Err("a reply".into())
-    }
+    assert!(rt; meet(&rt, rt.alloc(), &is_due, &has_rested) == Ok(true));
 }
 
 #[test]
-fn a_fault_leaves_the_others_whole(rt: HostRuntime) -> Result<(), Fail> {
+fn a_fault_leaves_the_others_whole(rt: HostRuntime) {
     let is_due = AtomicBool::new(true);
     let has_rested = AtomicBool::new(false);
-    if meet_beside_a_fault(&rt, rt.alloc(), &is_due, &has_rested)? {
-        Ok(())
-    } else {
-        Err("a reply".into())
-    }
+    assert!(rt; meet_beside_a_fault(&rt, rt.alloc(), &is_due, &has_rested) == Ok(true));
 }

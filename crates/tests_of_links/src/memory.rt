@@ -28,30 +28,36 @@ pub(crate) fn link_of(
     MemLink::new(alloc, copied(alloc, input)?, room, failing(alloc, fails)?)
 }
 
+// What becomes of each read into three bytes, and what stands there after it, where the second call fails.
+const READS: &[(Result<usize, Failed>, [u8; 3])] = &[
+    (Ok(3), *b"hel"),
+    (Err(Failed), *b"hel"),
+    (Ok(2), *b"lol"),
+    (Ok(0), *b"lol"),
+];
+
+// What becomes of each write, of which the first fails, where there is room for 4 bytes.
+const WRITES: &[(&[u8], Result<usize, Failed>)] = &[
+    (b"abc", Err(Failed)),
+    (b"abc", Ok(3)),
+    (b"de", Ok(1)),
+    (b"e", Err(Failed)),
+    (b"", Ok(0)),
+];
+
 #[test]
-fn a_link_gives_and_takes_its_bytes_and_fails_where_planned(rt: HostRuntime) -> Result<(), Fail> {
-    let mut link = link_of(rt.alloc(), b"hello", 4, &[1, 4])?;
+fn a_link_gives_and_takes_its_bytes_and_fails_where_planned(rt: HostRuntime) {
+    let mut link = link_of(rt.alloc(), b"hello", 4, &[1, 4]).expect(&rt, "memory");
     let mut into = [0; 3];
-    assert_eq!(rt; link.read(&mut into), Ok(3));
-    assert_eq!(rt; link.read(&mut into), Err(Failed));
-    assert_eq!(rt; into, *b"hel");
-    assert_eq!(rt; link.read(&mut into), Ok(2));
-    assert_eq!(rt; link.read(&mut into), Ok(0));
-    assert_eq!(rt; into, *b"lol");
-    for (part, want) in [
-        (b"abc".as_slice(), Err(Failed)),
-        (b"abc", Ok(3)),
-        (b"de", Ok(1)),
-        (b"e", Err(Failed)),
-        (b"", Ok(0)),
-    ] {
-        assert_eq!(rt; link.write(part), want);
+    for (want, bytes) in READS {
+        assert!(rt; (link.read(&mut into), into) == (*want, *bytes));
     }
-    assert_eq!(rt; link.bytes(), b"abcd".as_slice());
-    assert!(rt; !link.was_shut());
+    for (part, want) in WRITES {
+        assert!(rt; link.write(part) == *want);
+    }
+    assert!(rt; (link.bytes(), link.was_shut()) == (b"abcd".as_slice(), false));
     link.shut();
     assert!(rt; link.was_shut());
-    Ok(())
 }
 
 // A port with the links `a` and `b`, whose calls with these numbers fail.
@@ -74,24 +80,23 @@ fn serves(port: &mut MemPort, number: u64) -> Result<Option<u8>, Failed> {
     Ok(Some(into[0]))
 }
 
+const SERVED: &[(u64, Result<Option<u8>, Failed>)] = &[
+    (5, Ok(Some(b'a'))),
+    (6, Err(Failed)),
+    (7, Ok(Some(b'b'))),
+    (8, Ok(None)),
+];
+
 #[test]
-fn a_port_gives_its_links_and_fails_where_planned(rt: HostRuntime) -> Result<(), Fail> {
-    let mut port = port_of(rt.alloc(), &[0, 3])?;
-    assert_eq!(rt; port.open(9092), Err(Failed));
-    assert_eq!(rt; port.open(9092), Ok(()));
-    for (number, want) in [
-        (5, Ok(Some(b'a'))),
-        (6, Err(Failed)),
-        (7, Ok(Some(b'b'))),
-        (8, Ok(None)),
-    ] {
-        assert_eq!(rt; serves(&mut port, number), want);
+fn a_port_gives_its_links_and_fails_where_planned(rt: HostRuntime) {
+    let mut port = port_of(rt.alloc(), &[0, 3]).expect(&rt, "memory");
+    assert!(rt; (port.open(9092), port.open(9092)) == (Err(Failed), Ok(())));
+    for (number, want) in SERVED {
+        assert!(rt; serves(&mut port, *number) == *want);
     }
     for (number, written) in [(7, b"b"), (5, b"a")] {
-        let (under, link) = port.pop_retired().ok_or("a link")?;
-        assert_eq!(rt; under, number);
-        assert_eq!(rt; link.bytes(), written.as_slice());
+        let (under, link) = port.pop_retired().expect(&rt, "a link");
+        assert!(rt; (under, link.bytes()) == (number, written.as_slice()));
     }
     assert!(rt; port.pop_retired().is_none());
-    Ok(())
 }

@@ -12,6 +12,7 @@ use std::alloc::Global;
 use std::sync::Wait;
 use std::sync::atomic::AtomicBool;
 use std::test::*;
+use std::time::Clock;
 
 fn joined(alloc: Global, first: &[u8], second: &[u8]) -> Result<Bytes, NoMemory> {
     let mut bytes = copied(alloc, first)?;
@@ -46,66 +47,77 @@ fn end_after(
 }
 
 #[test]
-fn two_frames_in_one_read(rt: HostRuntime) -> Result<(), Fail> {
-    let alloc = rt.alloc();
-    let link = link_of(alloc, requests(alloc)?.as_slice(), 200, &[])?;
-    let end = end_after(&rt, alloc, link, 167, replies(alloc)?.as_slice())?;
-    assert_eq!(rt; end, Some(SessionEnd::Closed));
-    Ok(())
+fn two_frames_in_one_read(rt: HostRuntime) {
+    let requests = requests(rt.alloc()).expect(&rt, "memory");
+    let replies = replies(rt.alloc()).expect(&rt, "memory");
+    let link = link_of(rt.alloc(), requests.as_slice(), 200, &[]).expect(&rt, "memory");
+    let end = end_after(&rt, rt.alloc(), link, 167, replies.as_slice());
+    assert!(rt; end == Ok(Some(SessionEnd::Closed)));
 }
 
-#[test]
-fn requests_in_pieces_of_each_size(rt: HostRuntime) -> Result<(), Fail> {
-    let alloc = rt.alloc();
-    let requests = requests(alloc)?;
-    let replies = replies(alloc)?;
+// How a session ends whose link gives at most `most` bytes of the requests at a time, where it sends just the replies.
+fn end_in_pieces<R: Wait + Clock>(
+    rt: &R,
+    alloc: Global,
+    requests: &[u8],
+    most: usize,
+    replies: &[u8],
+) -> Result<Option<SessionEnd>, NoMemory> {
     let is_due = AtomicBool::new(true);
+    let mut link = SlowLink {
+        rt,
+        inner: link_of(alloc, requests, 200, &[])?,
+        most,
+        is_due: &is_due,
+        faults: 0,
+    };
+    let end = serve_alone(rt, alloc, MemClock::new(0, 1000), &mut link)?;
+    Ok(has_sent(&link.inner, 167, replies).then_some(end))
+}
+
+#[test]
+fn requests_in_pieces_of_each_size(rt: HostRuntime) {
+    let requests = requests(rt.alloc()).expect(&rt, "memory");
+    let replies = replies(rt.alloc()).expect(&rt, "memory");
     for most in 1..requests.len() {
-        let mut link = SlowLink {
-            rt: &rt,
-            inner: link_of(alloc, requests.as_slice(), 200, &[])?,
+        let end = end_in_pieces(
+            &rt,
+            rt.alloc(),
+            requests.as_slice(),
             most,
-            is_due: &is_due,
-            faults: 0,
-        };
-        let end = serve_alone(&rt, alloc, MemClock::new(0, 1000), &mut link)?;
-        assert_eq!(rt; end, SessionEnd::Closed);
-        assert!(rt;
-            has_sent(&link.inner, 167, replies.as_slice()),
-            "in pieces of {most}"
+            replies.as_slice(),
         );
+        assert!(rt; end == Ok(Some(SessionEnd::Closed)), "in pieces of {most}");
     }
-    Ok(())
 }
 
 #[test]
-fn a_fetch_in_vain(rt: HostRuntime) -> Result<(), Fail> {
-    let alloc = rt.alloc();
-    let link = link_of(alloc, &FETCH, 200, &[])?;
-    let end = end_after(&rt, alloc, link, 53, &FETCHED_NOTHING)?;
-    assert_eq!(rt; end, Some(SessionEnd::Closed));
-    Ok(())
+fn a_fetch_in_vain(rt: HostRuntime) {
+    let link = link_of(rt.alloc(), &FETCH, 200, &[]).expect(&rt, "memory");
+    let end = end_after(&rt, rt.alloc(), link, 53, &FETCHED_NOTHING);
+    assert!(rt; end == Ok(Some(SessionEnd::Closed)));
 }
 
-// The calls of the link are a read, two writes, and the read that finds the end. Without room a write fails in the midst of a reply.
+// A call of the link that fails, the room for what is written, how the session ends, and how many bytes it sends. The calls are a read, two
+// writes, and the read that finds the end. Without room a write fails in the midst of a reply.
+const FAILING: &[(u64, u64, SessionEnd, usize)] = &[
+    (0, 200, SessionEnd::ReadFault, 0),
+    (1, 200, SessionEnd::WriteFault, 0),
+    (2, 200, SessionEnd::WriteFault, 45),
+    (3, 200, SessionEnd::ReadFault, 167),
+    (9, 44, SessionEnd::WriteFault, 44),
+    (9, 100, SessionEnd::WriteFault, 100),
+];
+
 #[test]
-fn a_call_of_the_link_fails(rt: HostRuntime) -> Result<(), Fail> {
-    let alloc = rt.alloc();
-    let requests = requests(alloc)?;
-    let replies = replies(alloc)?;
-    for (call, room, end, sent) in [
-        (0, 200, SessionEnd::ReadFault, 0),
-        (1, 200, SessionEnd::WriteFault, 0),
-        (2, 200, SessionEnd::WriteFault, 45),
-        (3, 200, SessionEnd::ReadFault, 167),
-        (9, 44, SessionEnd::WriteFault, 44),
-        (9, 100, SessionEnd::WriteFault, 100),
-    ] {
-        let link = link_of(alloc, requests.as_slice(), room, &[call])?;
-        let found = end_after(&rt, alloc, link, sent, replies.as_slice())?;
-        assert_eq!(rt; found, Some(end), "call {call}, room {room}");
+fn a_call_of_the_link_fails(rt: HostRuntime) {
+    let requests = requests(rt.alloc()).expect(&rt, "memory");
+    let replies = replies(rt.alloc()).expect(&rt, "memory");
+    for (call, room, end, sent) in FAILING {
+        let link = link_of(rt.alloc(), requests.as_slice(), *room, &[*call]).expect(&rt, "memory");
+        let found = end_after(&rt, rt.alloc(), link, *sent, replies.as_slice());
+        assert!(rt; found == Ok(Some(*end)), "call {call}, room {room}");
     }
-    Ok(())
 }
 
 // Whether a session that gets just the first bytes of the frame sends nothing, and ends with so many of them.
@@ -121,12 +133,13 @@ fn ends_with(rt: &impl Wait, alloc: Global, frame: &[u8], count: usize) -> Resul
 }
 
 #[test]
-fn a_frame_that_is_cut_at_any_byte_is_no_call(rt: HostRuntime) -> Result<(), Fail> {
-    let alloc = rt.alloc();
+fn a_frame_that_is_cut_at_any_byte_is_no_call(rt: HostRuntime) {
     for frame in [PRODUCE.as_slice(), &FETCH, &METADATA, &VERSIONS] {
         for count in 0..frame.len() {
-            assert!(rt; ends_with(&rt, alloc, frame, count)?, "cut at {count}");
+            assert!(rt;
+                ends_with(&rt, rt.alloc(), frame, count) == Ok(true),
+                "cut at {count}"
+            );
         }
     }
-    Ok(())
 }

@@ -74,8 +74,6 @@ where
 }
 
 #[test]
-fn a_client_over_a_socket(rt: HostRuntime) -> Result<(), Fail> {
-    let found = serves_a_client(&rt, rt.alloc()).ok_or("no socket, or no memory")?;
-    assert_eq!(rt; found, (SessionEnd::Closed, true));
-    Ok(())
+fn a_client_over_a_socket(rt: HostRuntime) {
+    assert!(rt; serves_a_client(&rt, rt.alloc()) == Some((SessionEnd::Closed, true)));
 }
