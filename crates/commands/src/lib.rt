@@ -11,7 +11,7 @@ mod command;
 mod exit;
 mod on_workers;
 mod replay;
-mod run;
+mod runs;
 mod serving;
 mod storming;
 mod streams;
@@ -20,5 +20,5 @@ mod usage;
 
 pub use command::{Command, Load, MOST_CONNECTIONS, MOST_PORT, MOST_WORKERS, Service};
 pub use exit::{Exit, Stop, exit_text};
-pub use run::run;
+pub use runs::run;
 pub use usage::{Wanted, WrongWords};

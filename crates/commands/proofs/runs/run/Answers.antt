@@ -5,7 +5,7 @@ use Rattle.commands.specs.declared.command.Command.TheVariants.{Replay, Serve, S
 use Rattle.commands.proofs.Replays.{stopped_by}
 use Rattle.commands.proofs.Services.{served_as}
 use Rattle.commands.proofs.Stormings.{stormed_as}
-use Rattle.commands.proofs.run.run.Goals as goal
+use Rattle.commands.proofs.runs.run.Goals as goal
 
 pub returns-in-Err-clause-complete : goal.returns-in-Err-clause-complete
 returns-in-Err-clause-complete g c = λ reads has quiet still.
