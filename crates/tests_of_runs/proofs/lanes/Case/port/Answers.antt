@@ -1,7 +1,7 @@
 use Rattle.std.proofs.Common.{All, subst, sym}
 use Rattle.std.proofs.lemmas.List.Elements.{All-push}
 use Rattle.outside.specs.Wire.{IsNewWire}
-use Rattle.tests_of_links.proofs.lanes.Case.port.Goals as goal
+use Rattle.tests_of_runs.proofs.lanes.Case.port.Goals as goal
 
 pub loop-sent-preserved : goal.loop-sent-preserved
 loop-sent-preserved c =

@@ -1,5 +1,5 @@
 use Rattle.std.proofs.Common.{[], ◌∷◌, ◌++◌, ap, append_assoc, ◌∙◌}
-use Rattle.tests_of_links.proofs.rooms.last_two.Goals as goal
+use Rattle.tests_of_runs.proofs.rooms.last_two.Goals as goal
 
 pub returns : goal.returns
 returns g c =

@@ -1,6 +1,6 @@
 //! A fetch that waits, and a produce of another session in another thread, which answers it.
 ghost use Rattle.std.specs.Thread.{IsSync};
-ghost use Rattle.tests_of_links.specs.Desks.{IsFree};
+ghost use Rattle.tests_of_runs.specs.Desks.{IsFree};
 
 use crate::frames::{FETCH, FETCHED, PRODUCE, PRODUCED};
 use crate::memory::link_of;

@@ -1,6 +1,6 @@
 //! A broker and a clock with two passes each: in them the tests of sessions serve links.
 ghost use Rattle.std.specs.Prelude.{◌≡◌, ◌++◌, ◌∷◌, [], IfOk, List as Items};
-ghost use Rattle.tests_of_links.specs.Desks.{IsFree};
+ghost use Rattle.tests_of_runs.specs.Desks.{IsFree};
 
 use audit::SessionEnd;
 use kbytes::{List, NoMemory};

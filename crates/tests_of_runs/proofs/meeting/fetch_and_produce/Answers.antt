@@ -13,15 +13,15 @@ use Rattle.shared_broker.proofs.Laws.{pass_is_send}
 use Rattle.shared_broker.specs.contracts.pass.Pass as Pass
 use Rattle.session.proofs.clock.clock_pass.ClockPass.TheSendSync as seat
 use Rattle.session.specs.contracts.clock.clock_pass.ClockPass as ClockPass
-use Rattle.tests_of_links.proofs.meeting.StandingClock.TheSendSync as standing
-use Rattle.tests_of_links.specs.contracts.meeting.StandingClock as StandingClock
-use Rattle.tests_of_links.specs.contracts.meeting.StandingClockClock.TheImpl.{ghosts}
-use Rattle.tests_of_links.proofs.rooms.Room.TheSendSync as room
-use Rattle.tests_of_links.specs.contracts.rooms.Room as Room
+use Rattle.tests_of_runs.proofs.meeting.StandingClock.TheSendSync as standing
+use Rattle.tests_of_runs.specs.contracts.meeting.StandingClock as StandingClock
+use Rattle.tests_of_runs.specs.contracts.meeting.StandingClockClock.TheImpl.{ghosts}
+use Rattle.tests_of_runs.proofs.rooms.Room.TheSendSync as room
+use Rattle.tests_of_runs.specs.contracts.rooms.Room as Room
 use denote.Exit.{no}
 use mir.Syntax.{named}
-use Rattle.tests_of_links.proofs.meeting.fetch_and_produce.Lts.{row-3}
-use Rattle.tests_of_links.proofs.meeting.fetch_and_produce.Goals as goal
+use Rattle.tests_of_runs.proofs.meeting.fetch_and_produce.Lts.{row-3}
+use Rattle.tests_of_runs.proofs.meeting.fetch_and_produce.Goals as goal
 
 -- What of a room may go to another thread, or be shared.
 
