@@ -1,7 +1,9 @@
 -- what the crates above may cite
 pub mod Laws
 -- hex digits that are put out, part by part
-pub mod Digits
+pub mod HexParts
+-- digits that are written and read by tables
+pub mod DigitTables
 -- decimal digits and their number
 pub mod Numbers
 -- a text that is cut at a byte

@@ -20,3 +20,5 @@ pub mod PrintedLine
 pub mod Refusals
 -- what is kept of the lines so far
 pub mod Sees
+-- the tables by which digits are written and read
+pub mod DigitTables

@@ -4,6 +4,8 @@
 //! trace's topics, writes lines, and prints the frames that a session is sent.
 #![tactic(auto)]
 
+mod digit_values;
+mod digits;
 mod line;
 mod line_text;
 mod number;
@@ -16,6 +18,7 @@ mod refusal;
 mod reply_line;
 mod words;
 
+pub use digits::Digits;
 pub use line::{
     LAST_MOMENT, LAST_SESSION, Line, LineFault, LineKind, MOST_NUMBER, MOST_SESSIONS,
     MOST_TRACE_BYTES, REPLAY_PORT, TraceFault,

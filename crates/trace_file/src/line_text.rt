@@ -71,7 +71,7 @@ fn put_feed(out: &mut Bytes, session: u32, bytes: &[u8]) -> Result<(), NoMemory>
     out.extend(b"bytes ".as_slice())?;
     put_number(out, u64::from(session))?;
     out.push(b' ')?;
-    put_hex(out, bytes)?;
+    put_hex(out, bytes, None)?;
     out.push(b'\n')?;
     Ok(())
 }

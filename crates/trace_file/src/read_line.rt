@@ -8,12 +8,12 @@ ghost use Rattle.trace_file.specs.IsLine.{words_of, AreWordsOf, IsLine};
 ghost use Rattle.trace_file.specs.LineFaults.{AreFilled, IsWordsFault, IsLineFault};
 ghost use Rattle.trace_file.specs.Refusals.{Tells};
 
+use crate::digit_values::DigitValues;
 use crate::line::{LAST_MOMENT, LAST_SESSION, Line, LineKind, MOST_NUMBER};
 use crate::number::number;
 use crate::pieces::cut;
 use crate::refusal::Refusal;
 use crate::words::{four_words, one_word, three_words, two_words};
-use hex::FromHexError;
 use kbytes::{Bytes, copied};
 use std::alloc::Global;
 
@@ -78,20 +78,25 @@ fn topic(alloc: Global, rest: &[u8]) -> Result<Line, Refusal>
 }
 
 // The bytes that the hex digits are.
-fn decoded(alloc: Global, digits: &[u8]) -> Result<Bytes, Refusal>
+fn decoded(alloc: Global, values: &DigitValues, digits: &[u8]) -> Result<Bytes, Refusal>
     ensures bytes { IfOk result (λ bytes. decode_of digits.now ≡ Ok bytes) }
     ensures fault { IfErr result (λ e. Tells e (λ kind. (kind ≡ kinds.Hex)
         × ((bytes : List ℕ) → decode_of digits.now ≢ Ok bytes))) }
 {
-    match hex::decode(alloc, digits) {
-        Ok(bytes) => Ok(Bytes::from(bytes)),
-        Err(FromHexError::OutOfMemory) => Err(Refusal::NoMemory),
-        Err(_) => Err(Refusal::Bad(LineKind::Hex)),
+    if digits.len() % 2 == 1 {
+        return Err(Refusal::Bad(LineKind::Hex));
     }
+    let Ok(mut bytes) = vec![in alloc; 0u8; digits.len() / 2] else {
+        return Err(Refusal::NoMemory);
+    };
+    if !values.decode(digits, bytes.as_mut_slice()) {
+        return Err(Refusal::Bad(LineKind::Hex));
+    }
+    Ok(Bytes::from(bytes))
 }
 
 // `S HEX`
-fn feed(alloc: Global, rest: &[u8]) -> Result<Line, Refusal>
+fn feed(alloc: Global, values: &DigitValues, rest: &[u8]) -> Result<Line, Refusal>
     ensures line { IfOk result (AreWordsOf (codes "bytes" ∷ words_of rest.now)) }
     ensures fault { IfErr result (λ e. Tells e (IsWordsFault (codes "bytes" ∷ words_of rest.now))) }
 {
@@ -101,7 +106,7 @@ fn feed(alloc: Global, rest: &[u8]) -> Result<Line, Refusal>
     let Some(session) = small(session, LAST_SESSION) else {
         return Err(Refusal::Bad(LineKind::Number));
     };
-    let bytes = decoded(alloc, digits)?;
+    let bytes = decoded(alloc, values, digits)?;
     Ok(Line::Feed { session, bytes })
 }
 
@@ -152,7 +157,7 @@ fn lone(word: &[u8]) -> Result<Line, Refusal>
 }
 
 /// Reads a line, given without its line feed, or answers what is wrong with its text.
-pub fn read_line(alloc: Global, piece: &[u8]) -> Result<Line, Refusal>
+pub fn read_line(alloc: Global, values: &DigitValues, piece: &[u8]) -> Result<Line, Refusal>
     ensures line { IfOk result (IsLine piece.now) }
     ensures fault { IfErr result (λ e. Tells e (IsLineFault piece.now)) }
 {
@@ -160,7 +165,7 @@ pub fn read_line(alloc: Global, piece: &[u8]) -> Result<Line, Refusal>
         return lone(piece);
     };
     if kind == b"bytes".as_slice() {
-        return feed(alloc, rest);
+        return feed(alloc, values, rest);
     }
     if kind == b"topic".as_slice() {
         return topic(alloc, rest);

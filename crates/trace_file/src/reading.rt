@@ -10,6 +10,7 @@ ghost use Rattle.trace_file.specs.LineFaults.{IsNewLine};
 ghost use Rattle.trace_file.specs.FirstBad.{IsTooLong, IsTraceRead, TellsFirstBad};
 ghost use Rattle.trace_file.specs.Refusals.{Tells};
 
+use crate::digit_values::DigitValues;
 use crate::line::{Line, LineFault, LineKind, MOST_TRACE_BYTES, REPLAY_PORT, TraceFault};
 use crate::order::Order;
 use crate::pieces::next_piece;
@@ -25,6 +26,7 @@ pub struct Reading {
     lines: List<Line>,
     config: Config,
     order: Order,
+    values: DigitValues,
 }
 
 // Declares the topic of a line, if it is one.
@@ -63,6 +65,7 @@ impl Reading {
             lines: List::new(alloc),
             config: Config::new(alloc, REPLAY_PORT),
             order: Order::new(),
+            values: DigitValues::make(),
         }
     }
 
@@ -73,7 +76,7 @@ impl Reading {
         ensures line { OnOk result ((line : Line) × IsLine piece.now line × (self.new.lines ≡ self.old.lines ++ line ∷ [])) }
         ensures fault { IfErr result (λ e. Tells e (IsPieceFault only_topics self.old.lines piece.now)) }
     {
-        let line = read_line(alloc, piece)?;
+        let line = read_line(alloc, &self.values, piece)?;
         if !self.order.allows(only_topics, &line) {
             return Err(Refusal::Bad(LineKind::Order));
         }

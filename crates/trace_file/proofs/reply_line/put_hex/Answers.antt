@@ -1,7 +1,7 @@
 use Rattle.std.proofs.Common.{◌≡◌, ℕ, List, [], ◌++◌, sym, ap, ◌∙◌, rules, append_assoc, append-nil}
 use Rattle.std.proofs.lemmas.List.{nil_from_length}
 use Rattle.hex.specs.Hex.{encode_with, encode_lower, lower_digits}
-use Rattle.trace_file.proofs.Digits.{encode_with-append}
+use Rattle.trace_file.proofs.HexParts.{encode_with-append}
 use Rattle.trace_file.proofs.reply_line.put_hex.Goals as goal
 
 pub loop-part-init : goal.loop-part-init
