@@ -1,7 +1,8 @@
 -- What is wrong with a piece of text is one thing, and a line has nothing wrong.
-use Rattle.std.proofs.Common.{◌≡◌, ◌≢◌, ℕ, ◌<◌, ◌≤◌, Bool, List, [], ◌∷◌, length, refl, sym, ap, ◌∙◌, subst, arith, inl, inr, ◌⊎◌}
+use Rattle.std.proofs.Common.{◌≡◌, ◌≢◌, ℕ, ◌<◌, ◌≤◌, Bool, List, [], ◌∷◌, length, Ok, refl, sym, ap, ◌∙◌, subst, arith, inl, inr, ◌⊎◌}
 use Rattle.std.specs.Prelude.{Option, Some, None, MatchOption, codes}
 use Rattle.std.specs.Fmt.{decimal}
+use Rattle.hex.specs.Hex.{decode_of}
 use Rattle.std.specs.List.{All, AllZip}
 use Rattle.std.proofs.lemmas.Fmt.{decimal_nonempty}
 use Rattle.std.proofs.lemmas.List.Elements.{All-cons}
@@ -37,6 +38,19 @@ long_some word long is = absurd (omega (arith, ap length is))
 
 number_some : (n : ℕ) → n ≤ LAST_MOMENT → decimal n ≢ []
 number_some n le = long_some (decimal n) (decimal_nonempty n (omega arith))
+
+two_filled : (first second : List ℕ) → first ≢ [] → second ≢ [] → AreFilled (first ∷ second ∷ []) 2
+two_filled first second a b = record { count_is = refl; filled = one_more first (second ∷ []) a (one_more second [] b none_empty) }
+
+-- bytes for what is no session
+pub session_fault : (first digits : List ℕ) → first ≢ [] → digits ≢ [] → ((n : ℕ) → n ≤ LAST_SESSION → first ≢ decimal n)
+    → IsWordsFault (codes "bytes" ∷ first ∷ digits ∷ []) kinds.Number
+session_fault first digits a b none = (two_filled first digits a b, λ h. none h.0.0 h.0.1 h.0.2)
+
+-- bytes whose digits aren't decoded
+pub hex_fault : (first digits : List ℕ) (n : ℕ) → first ≢ [] → digits ≢ [] → n ≤ LAST_SESSION → first ≡ decimal n → ((bytes : List ℕ) → decode_of digits ≢ Ok bytes)
+    → IsWordsFault (codes "bytes" ∷ first ∷ digits ∷ []) kinds.Hex
+hex_fault first digits n a b le is none = (two_filled first digits a b, ((n, le, is), (tt, tt)), λ h. none h.1.0.0 h.1.0.1)
 
 -- nor has a topic's line, with its last word or without
 topic_unfaulty : (name : List ℕ) (p f m : ℕ) (last : List (List ℕ)) (kind : LineKind) → 0 < length name → p ≤ MOST_NUMBER → f ≤ MOST_NUMBER → m ≤ MOST_NUMBER → AreLeast last m

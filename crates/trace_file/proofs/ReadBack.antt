@@ -1,5 +1,5 @@
 -- A line that is written is read back.
-use Rattle.std.proofs.Common.{◌≡◌, ℕ, ◌<◌, ◌≤◌, Bool, true, false, nat_le, ◌&&◌, eqb, List, [], ◌∷◌, ◌++◌, length, get_or, refl, sym, ap, subst, ◌∙◌, arith, append_assoc, cond, inl, inr}
+use Rattle.std.proofs.Common.{◌≡◌, ℕ, ◌<◌, ◌≤◌, Bool, true, false, nat_le, ◌&&◌, eqb, List, [], ◌∷◌, ◌++◌, length, get_or, Ok, refl, sym, ap, subst, ◌∙◌, arith, append_assoc, cond, inl, inr}
 use Rattle.std.specs.Prelude.{codes}
 use Rattle.std.specs.Fmt.{decimal}
 use Rattle.std.specs.List.{All, list_all, slice_split}
@@ -9,7 +9,7 @@ use Rattle.std.proofs.lemmas.List.Elements.{All-cons, All-append}
 use Rattle.std.proofs.lemmas.List.Sums.{AllPass-from_list_all}
 use Rattle.std.proofs.lemmas.List.Splits.{slice_split_at, slice_split_none}
 use Rattle.std.proofs.lemmas.Str.Parse.{digit_at}
-use Rattle.hex.specs.Hex.{is_hex_digit, encode_lower, IsBytes}
+use Rattle.hex.specs.Hex.{is_hex_digit, encode_lower, decode_of, IsBytes}
 use Rattle.hex.proofs.HexLemmas.{decode_of-encode_lower, decode_of-ok}
 use Rattle.kwire.specs.Configuration.{is_name_byte}
 use Rattle.trace_file.specs.declared.line.Line.{Line}
@@ -55,6 +55,10 @@ number_word n le =
 
 hex_word : (bytes : List ℕ) → IsBytes bytes → IsWord (encode_lower bytes)
 hex_word bytes are = word_by is_hex_digit (encode_lower bytes) refl refl (decode_of-ok (encode_lower bytes) bytes (decode_of-encode_lower bytes are)).1
+
+-- what is decoded is one word
+pub decoded_word : (digits bytes : List ℕ) → decode_of digits ≡ Ok bytes → words_of digits ≡ digits ∷ []
+decoded_word digits bytes is = slice_split_none (λ c. eqb c 32) digits (lacks_by is_hex_digit 32 digits refl (decode_of-ok digits bytes is).1)
 
 name_word : (name : List ℕ) → list_all is_name_byte name ≡ true → IsWord name
 name_word name all = word_by is_name_byte name refl refl (AllPass-from_list_all is_name_byte name all)

@@ -13,7 +13,7 @@ use crate::line::{LAST_MOMENT, LAST_SESSION, Line, LineKind, MOST_NUMBER};
 use crate::number::number;
 use crate::pieces::cut;
 use crate::refusal::Refusal;
-use crate::words::{four_words, one_word, three_words, two_words};
+use crate::words::{four_words, one_word, three_words, word_before};
 use kbytes::{Bytes, copied};
 use std::alloc::Global;
 
@@ -95,18 +95,39 @@ fn decoded(alloc: Global, values: &DigitValues, digits: &[u8]) -> Result<Bytes, 
     Ok(Bytes::from(bytes))
 }
 
-// `S HEX`
+// What is wrong with `S HEX` where the digits weren't decoded.
+fn unread(session: &[u8], digits: &[u8], why: Refusal) -> Refusal
+    requires named { session.now ≢ [] }
+    requires why { Tells why (λ kind. (kind ≡ kinds.Hex) × ((bytes : List ℕ) → decode_of digits.now ≢ Ok bytes)) }
+    ensures { Tells result (IsWordsFault (codes "bytes" ∷ session.now ∷ words_of digits.now)) }
+{
+    match one_word(digits) {
+        None => Refusal::Bad(LineKind::Form),
+        Some(_) => match small(session, LAST_SESSION) {
+            None => Refusal::Bad(LineKind::Number),
+            Some(_) => why,
+        },
+    }
+}
+
+// `S HEX`. What is decoded has no space, so the digits aren't searched for one before.
 fn feed(alloc: Global, values: &DigitValues, rest: &[u8]) -> Result<Line, Refusal>
     ensures line { IfOk result (AreWordsOf (codes "bytes" ∷ words_of rest.now)) }
     ensures fault { IfErr result (λ e. Tells e (IsWordsFault (codes "bytes" ∷ words_of rest.now))) }
 {
-    let Some((session, digits)) = two_words(rest) else {
+    let Some((session, digits)) = word_before(rest) else {
         return Err(Refusal::Bad(LineKind::Form));
+    };
+    if digits.is_empty() {
+        return Err(Refusal::Bad(LineKind::Form));
+    }
+    let bytes = match decoded(alloc, values, digits) {
+        Ok(bytes) => bytes,
+        Err(why) => return Err(unread(session, digits, why)),
     };
     let Some(session) = small(session, LAST_SESSION) else {
         return Err(Refusal::Bad(LineKind::Number));
     };
-    let bytes = decoded(alloc, values, digits)?;
     Ok(Line::Feed { session, bytes })
 }
 

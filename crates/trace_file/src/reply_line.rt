@@ -70,10 +70,10 @@ fn put_words(
 
 // Adds the line at the end, by the table if there is one, or leaves the bytes as they were.
 fn put_line_by(
-    table: Option<&Digits>,
     out: &mut Bytes,
     session: u32,
     frame: &[u8],
+    table: Option<&Digits>,
 ) -> Result<(), NoMemory>
     ensures ok { OnOk result (out.new ≡ out.old ++ line_of (codes "reply" ∷ decimal session ∷ encode_lower frame.now ∷ [])) }
     ensures err { OnErr result (out.new ≡ out.old) }
@@ -91,7 +91,7 @@ pub fn put_reply_line(out: &mut Bytes, session: u32, frame: &[u8]) -> Result<(),
     ensures ok { OnOk result (out.new ≡ out.old ++ line_of (codes "reply" ∷ decimal session ∷ encode_lower frame.now ∷ [])) }
     ensures err { OnErr result (out.new ≡ out.old) }
 {
-    put_line_by(None, out, session, frame)
+    put_line_by(out, session, frame, None)
 }
 
 impl Digits {
@@ -106,6 +106,6 @@ impl Digits {
         ensures ok { OnOk result (out.new ≡ out.old ++ line_of (codes "reply" ∷ decimal session ∷ encode_lower frame.now ∷ [])) }
         ensures err { OnErr result (out.new ≡ out.old) }
     {
-        put_line_by(Some(self), out, session, frame)
+        put_line_by(out, session, frame, Some(self))
     }
 }

@@ -6,8 +6,8 @@ ghost use Rattle.trace_file.specs.LineFaults.{AreFilled};
 
 use crate::pieces::cut;
 
-// The word before the first space, and the bytes after it. `None` comes where there is no such word.
-fn word_before(text: &[u8]) -> Option<(&[u8], &[u8])>
+/// The word before the first space, and the bytes after it. `None` comes where there is no such word.
+pub fn word_before(text: &[u8]) -> Option<(&[u8], &[u8])>
     ensures some { IfSome result (λ p. words_of text.now ≡ p.0.now ∷ words_of p.1.now) }
     ensures filled { IfSome result (λ p. p.0.now ≢ []) }
     ensures none { IfNone result ((n : ℕ) → AreFilled (words_of text.now) (n + 2) → ⊥) }
@@ -22,6 +22,7 @@ fn word_before(text: &[u8]) -> Option<(&[u8], &[u8])>
 /// The one word of the bytes. `None` comes where they aren't exactly one word.
 pub fn one_word(text: &[u8]) -> Option<&[u8]>
     ensures some { IfSome result (λ word. words_of text.now ≡ word.now ∷ []) }
+    ensures all { IfSome result (λ word. word.now ≡ text.now) }
     ensures filled { OnSome result (AreFilled (words_of text.now) 1) }
     ensures none { IfNone result (AreFilled (words_of text.now) 1 → ⊥) }
 {
@@ -34,8 +35,8 @@ pub fn one_word(text: &[u8]) -> Option<&[u8]>
     }
 }
 
-/// The two words of the bytes, or `None`.
-pub fn two_words(text: &[u8]) -> Option<(&[u8], &[u8])>
+// The two words of the bytes, or `None`.
+fn two_words(text: &[u8]) -> Option<(&[u8], &[u8])>
     ensures some { IfSome result (λ p. words_of text.now ≡ p.0.now ∷ p.1.now ∷ []) }
     ensures filled { OnSome result (AreFilled (words_of text.now) 2) }
     ensures none { IfNone result (AreFilled (words_of text.now) 2 → ⊥) }

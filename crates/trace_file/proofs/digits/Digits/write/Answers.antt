@@ -1,4 +1,4 @@
-use Rattle.std.proofs.Common.{◌≡◌, ◌<◌, ◌∷◌, [], ℕ, List, get_or, arith, subst, sym}
+use Rattle.std.proofs.Common.{◌<◌, ℕ, get_or, arith, subst, sym}
 use Rattle.hex.proofs.Pairs.{encode_step, encode_done}
 use Rattle.hex.specs.Hex.{lower_digits}
 use Rattle.trace_file.specs.DigitTables.{ArePairs}
