@@ -18,6 +18,8 @@ pub mod AtRest
 pub mod Worked
 -- a whole trace, written out
 pub mod WorkedPlay
+-- the books of passes that threads have; books.antt says what is in them
+pub mod books
 -- ==== the words of lemmas that the crates above may cite
 
 -- histories that go on, and what holds in every account that goes on from them

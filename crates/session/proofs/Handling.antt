@@ -11,7 +11,7 @@ use Rattle.audit.specs.declared.account.SessionEnd.TheVariants.{NoMemory}
 use Rattle.audit.specs.declared.account.Transcript.{Transcript}
 use Rattle.audit.specs.Fits.{is_answered}
 use Rattle.audit.specs.Histories.{calls_in}
-use Rattle.pass_books.specs.Told.{is_cut}
+use Rattle.broker_spec.specs.books.Told.{is_cut}
 use Rattle.purgatory.specs.declared.outcome.Done.{Done}
 use Rattle.room_core.specs.declared.event.How.{How}
 use Rattle.room_table.specs.Seats.{CallerView}

@@ -17,9 +17,9 @@ use Rattle.audit.specs.Histories.{ticks_of}
 use Rattle.audit.specs.IsLawful.{IsLawful}
 use Rattle.kbytes.proofs.Laws.{some_is}
 use Rattle.kwire.specs.Configuration.{followers_of}
-use Rattle.pass_books.specs.Book.{Book}
-use Rattle.pass_books.specs.Together.{account_of}
-use Rattle.pass_books.specs.Told.{told}
+use Rattle.broker_spec.specs.books.Book.{Book}
+use Rattle.broker_spec.specs.books.Together.{account_of}
+use Rattle.broker_spec.specs.books.Told.{told}
 use Rattle.audit.specs.Histories.{part_account}
 use Rattle.kwire.specs.DeclaredTopics.{AreDeclared}
 use Rattle.broker_spec.specs.GoesOn.{GoesOn}

@@ -25,12 +25,12 @@ use Rattle.kanswer.specs.Waiting.{Shown, needs_of, results_of, values_of}
 use Rattle.kanswer.proofs.Laws.{values_by_part}
 use Rattle.kwire.specs.declared.request.Ask.{Ask}
 use Rattle.kwire.specs.Configuration.{Configuration, followers_of}
-use Rattle.pass_books.specs.Book.{Book}
-use Rattle.pass_books.specs.IsBook.{IsBook}
-use Rattle.pass_books.specs.Owned.{OwnWithin}
-use Rattle.pass_books.specs.Told.{told}
-use Rattle.pass_books.specs.Together.{AreTogether, GoesWith, IsAnswerableIn, account_of, all_calls_in, shown_in, won_by}
-use Rattle.pass_books.proofs.Laws.{books_lawful, won_all}
+use Rattle.broker_spec.specs.books.Book.{Book}
+use Rattle.broker_spec.specs.books.IsBook.{IsBook}
+use Rattle.broker_spec.specs.books.Owned.{OwnWithin}
+use Rattle.broker_spec.specs.books.Told.{told}
+use Rattle.broker_spec.specs.books.Together.{AreTogether, GoesWith, IsAnswerableIn, account_of, all_calls_in, shown_in, won_by}
+use Rattle.broker_spec.proofs.books.Laws.{books_lawful, won_all}
 use Rattle.broker_spec.specs.Board.{Waiting, history_at}
 use Rattle.broker_spec.specs.Completing.{present}
 use Rattle.kwire.specs.DeclaredTopics.{AreDeclared}

@@ -20,12 +20,12 @@ use Rattle.kanswer.specs.Results.{parts_asked}
 use Rattle.kanswer.specs.Waiting.{operation_of, results_of}
 use Rattle.kwire.specs.Configuration.{Configuration, followers_of}
 use Rattle.kwire.specs.declared.request.Request.{Request}
-use Rattle.pass_books.specs.Accepting.{IsAccepting, clock_seen, left_waiting}
-use Rattle.pass_books.specs.Finishing.{IsDelayed}
-use Rattle.pass_books.specs.IsBook.{IsBook}
-use Rattle.pass_books.specs.Owned.{OwnWithin}
-use Rattle.pass_books.specs.Underway.{Underway, book_amid, seq_of}
-use Rattle.pass_books.proofs.Laws.{accepting_cut, accepting_delayed, delayed_cut, others_accepting}
+use Rattle.broker_spec.specs.books.Accepting.{IsAccepting, clock_seen, left_waiting}
+use Rattle.broker_spec.specs.books.Finishing.{IsDelayed}
+use Rattle.broker_spec.specs.books.IsBook.{IsBook}
+use Rattle.broker_spec.specs.books.Owned.{OwnWithin}
+use Rattle.broker_spec.specs.books.Underway.{Underway, book_amid, seq_of}
+use Rattle.broker_spec.proofs.books.Laws.{accepting_cut, accepting_delayed, delayed_cut, others_accepting}
 use Rattle.broker_spec.specs.Entering.{Noted, shown_of, steps_of}
 use Rattle.broker_spec.specs.GoesOn.{HaveGrown}
 use Rattle.broker_spec.specs.Sound.{AllBelow}

@@ -17,9 +17,9 @@ use Rattle.kanswer.specs.Results.{AreResults}
 use Rattle.kanswer.specs.Waiting.{operation_of}
 use Rattle.kwire.specs.Configuration.{Configuration}
 use Rattle.kwire.specs.declared.request.Request.{Request}
-use Rattle.pass_books.specs.Finishing.{IsDelayed}
-use Rattle.pass_books.specs.Underway.{Underway, seq_of, with_end}
-use Rattle.pass_books.proofs.Laws.{delayed_as, delayed_parked}
+use Rattle.broker_spec.specs.books.Finishing.{IsDelayed}
+use Rattle.broker_spec.specs.books.Underway.{Underway, seq_of, with_end}
+use Rattle.broker_spec.proofs.books.Laws.{delayed_as, delayed_parked}
 use Rattle.broker_spec.specs.GoesOn.{HaveGrown}
 use Rattle.broker_spec.proofs.Laws.{grown_self}
 use Rattle.purgatory.specs.declared.outcome.Done.{Done}

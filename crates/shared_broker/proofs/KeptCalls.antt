@@ -14,9 +14,9 @@ use Rattle.kwire.specs.Configuration.{Configuration}
 use Rattle.kwire.specs.declared.request.Request.{Request}
 use Rattle.kwire.specs.IsRequest.{IsRequest}
 use Rattle.kwire.proofs.Laws.{same_request}
-use Rattle.pass_books.specs.Finishing.{IsDelayed}
-use Rattle.pass_books.specs.Underway.{Underway, with_end}
-use Rattle.pass_books.proofs.Laws.{finishing_as, finishing_cut, finishing_won, waits_delayed}
+use Rattle.broker_spec.specs.books.Finishing.{IsDelayed}
+use Rattle.broker_spec.specs.books.Underway.{Underway, with_end}
+use Rattle.broker_spec.proofs.books.Laws.{finishing_as, finishing_cut, finishing_won, waits_delayed}
 use Rattle.audit.specs.Histories.{part_account}
 use Rattle.broker_spec.specs.GoesOn.{GoesOn}
 use Rattle.broker_spec.specs.Sound.{AllBelow}

@@ -14,11 +14,11 @@ use Rattle.audit.specs.IsLawful.{is_won_as, is_won_by}
 use Rattle.shared_logs.specs.Amid.{amid}
 use Rattle.shared_logs.proofs.Laws.{left_on, left_stepped}
 use Rattle.kwire.specs.Configuration.{Configuration}
-use Rattle.pass_books.specs.Book.{Book}
-use Rattle.pass_books.specs.IsBook.{with_call}
-use Rattle.pass_books.specs.Together.{won_by}
-use Rattle.pass_books.specs.Underway.{book_amid}
-use Rattle.pass_books.proofs.Laws.{calls_with, waits_delayed, won_amid}
+use Rattle.broker_spec.specs.books.Book.{Book}
+use Rattle.broker_spec.specs.books.IsBook.{with_call}
+use Rattle.broker_spec.specs.books.Together.{won_by}
+use Rattle.broker_spec.specs.books.Underway.{book_amid}
+use Rattle.broker_spec.proofs.books.Laws.{calls_with, waits_delayed, won_amid}
 use Rattle.audit.specs.Fits.{IsReplyOf}
 use Rattle.broker_spec.specs.GoesOn.{Carried, HaveGrown}
 use Rattle.purgatory.specs.declared.outcome.Done.{Done}

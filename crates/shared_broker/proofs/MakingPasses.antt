@@ -5,8 +5,8 @@ use Rattle.std.specs.List.{range_with_len}
 use Rattle.std.specs.Prelude.{All, IsSome}
 use Rattle.audit.specs.declared.account.Transcript.{Transcript}
 use Rattle.kwire.specs.Configuration.{Configuration, followers_of}
-use Rattle.pass_books.specs.IsBook.{IsBook}
-use Rattle.pass_books.proofs.Laws.{opened}
+use Rattle.broker_spec.specs.books.IsBook.{IsBook}
+use Rattle.broker_spec.proofs.books.Laws.{opened}
 use Rattle.broker_spec.specs.Board.{empty_history}
 use Rattle.kwire.specs.DeclaredTopics.{AreDeclared}
 use Rattle.shared_broker.specs.Fresh.{IsFresh, IsNewOf, pass_with}

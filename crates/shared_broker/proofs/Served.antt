@@ -18,10 +18,10 @@ use Rattle.kanswer.specs.Waiting.{Shown, becomes_delayed, results_of}
 use Rattle.kwire.specs.Configuration.{Configuration}
 use Rattle.kwire.specs.declared.request.Request.{Request}
 use Rattle.kwire.specs.Spelling.{spelling}
-use Rattle.pass_books.specs.Accepting.{IsAccepting}
-use Rattle.pass_books.specs.IsBook.{IsBook}
-use Rattle.pass_books.specs.Underway.{Underway, book_amid, with_end}
-use Rattle.pass_books.proofs.Laws.{accepting_as, accepting_cut, answered_book, answered_reply}
+use Rattle.broker_spec.specs.books.Accepting.{IsAccepting}
+use Rattle.broker_spec.specs.books.IsBook.{IsBook}
+use Rattle.broker_spec.specs.books.Underway.{Underway, book_amid, with_end}
+use Rattle.broker_spec.proofs.books.Laws.{accepting_as, accepting_cut, answered_book, answered_reply}
 use Rattle.broker_spec.specs.Entering.{Noted, shown_of}
 use Rattle.broker_spec.specs.Turns.{how_at_once}
 use Rattle.purgatory.specs.Going.{KeepsOperation, OwesNothing}

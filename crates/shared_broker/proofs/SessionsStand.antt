@@ -16,11 +16,11 @@ use Rattle.audit.specs.declared.account.Transcript.{Transcript}
 use Rattle.audit.specs.Histories.{calls_in, ticks_of}
 use Rattle.audit.specs.IsLawful.{is_won_by}
 use Rattle.kwire.specs.Configuration.{Configuration, followers_of}
-use Rattle.pass_books.specs.Book.{Book}
-use Rattle.pass_books.specs.IsBook.{IsBook}
-use Rattle.pass_books.specs.TakenOut.{HasTakenOut}
-use Rattle.pass_books.specs.Told.{last_is_cut}
-use Rattle.pass_books.proofs.Laws.{begun, ended, others_came, taken_out, ticked}
+use Rattle.broker_spec.specs.books.Book.{Book}
+use Rattle.broker_spec.specs.books.IsBook.{IsBook}
+use Rattle.broker_spec.specs.books.TakenOut.{HasTakenOut}
+use Rattle.broker_spec.specs.books.Told.{last_is_cut}
+use Rattle.broker_spec.proofs.books.Laws.{begun, ended, others_came, taken_out, ticked}
 use Rattle.broker_spec.specs.Board.{Waiting}
 use Rattle.kwire.specs.DeclaredTopics.{AreDeclared}
 use Rattle.broker_spec.specs.Sound.{AreHistories}

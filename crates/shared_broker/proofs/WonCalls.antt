@@ -20,10 +20,10 @@ use Rattle.kanswer.specs.Waiting.{Shown}
 use Rattle.kwire.specs.Configuration.{Configuration}
 use Rattle.kwire.specs.declared.request.Request.{Request}
 use Rattle.kwire.specs.Spelling.{spelling}
-use Rattle.pass_books.specs.Finishing.{IsFinishing, shown_with}
-use Rattle.pass_books.specs.IsBook.{IsBook}
-use Rattle.pass_books.specs.Underway.{Underway, book_amid, with_end}
-use Rattle.pass_books.proofs.Laws.{expired_reply, finishing_as, finishing_cut, finishing_expired, finishing_satisfied, satisfied_reply}
+use Rattle.broker_spec.specs.books.Finishing.{IsFinishing, shown_with}
+use Rattle.broker_spec.specs.books.IsBook.{IsBook}
+use Rattle.broker_spec.specs.books.Underway.{Underway, book_amid, with_end}
+use Rattle.broker_spec.proofs.books.Laws.{expired_reply, finishing_as, finishing_cut, finishing_expired, finishing_satisfied, satisfied_reply}
 use Rattle.broker_spec.specs.Board.{Waiting}
 use Rattle.broker_spec.specs.GoesOn.{Carried, HaveGrown}
 use Rattle.purgatory.specs.declared.outcome.Done.{Done}

@@ -20,10 +20,10 @@ use Rattle.kwire.specs.declared.reply.Reply.{Reply}
 use Rattle.kwire.specs.declared.request.Request.{Request}
 use Rattle.kwire.specs.IsRequest.{IsRequest}
 use Rattle.kwire.specs.Spelling.{spelling}
-use Rattle.pass_books.specs.Accepting.{IsAccepting}
-use Rattle.pass_books.specs.IsBook.{IsBook}
-use Rattle.pass_books.specs.Told.{last_is_cut}
-use Rattle.pass_books.specs.Underway.{book_amid, seq_of}
+use Rattle.broker_spec.specs.books.Accepting.{IsAccepting}
+use Rattle.broker_spec.specs.books.IsBook.{IsBook}
+use Rattle.broker_spec.specs.books.Told.{last_is_cut}
+use Rattle.broker_spec.specs.books.Underway.{book_amid, seq_of}
 use Rattle.broker_spec.specs.Board.{Waiting}
 use Rattle.broker_spec.specs.Entering.{Noted, shown_of}
 use Rattle.broker_spec.specs.GoesOn.{Carried, HaveGrown}

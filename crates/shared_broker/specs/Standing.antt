@@ -7,9 +7,9 @@ use Rattle.kanswer.specs.LogReadings.{IsCarriable}
 use Rattle.kanswer.specs.Results.{AreResults}
 use Rattle.kanswer.specs.Waiting.{operation_of}
 use Rattle.kwire.specs.Configuration.{followers_of}
-use Rattle.pass_books.specs.Book.{Book}
-use Rattle.pass_books.specs.IsBook.{IsBook}
-use Rattle.pass_books.specs.Together.{won_by}
+use Rattle.broker_spec.specs.books.Book.{Book}
+use Rattle.broker_spec.specs.books.IsBook.{IsBook}
+use Rattle.broker_spec.specs.books.Together.{won_by}
 use Rattle.broker_spec.specs.Board.{Waiting}
 use Rattle.kwire.specs.DeclaredTopics.{AreDeclared}
 use Rattle.purgatory.specs.Going.{OwesNothing}

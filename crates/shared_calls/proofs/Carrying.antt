@@ -11,7 +11,7 @@ use Rattle.kwire.specs.Configuration.{Configuration}
 use Rattle.kwire.specs.declared.request.Request.{Request}
 use Rattle.broker_spec.specs.Entering.{Noted}
 use Rattle.broker_spec.proofs.Laws.{grown_self}
-use Rattle.pass_books.specs.Accepting.{IsAccepting}
+use Rattle.broker_spec.specs.books.Accepting.{IsAccepting}
 use Rattle.shared_logs.specs.Shared.{LogPassView}
 use Rattle.shared_logs.specs.Amid.{amid}
 use Rattle.shared_logs.proofs.Laws.{grown_on, left_on, left_self, same_on, same_self}

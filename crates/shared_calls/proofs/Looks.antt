@@ -16,9 +16,9 @@ use Rattle.partlog.specs.Looked.{looked}
 use Rattle.partlog.specs.State.{PartState as State, state_of}
 use Rattle.broker_spec.specs.Board.{history_at}
 use Rattle.broker_spec.proofs.Laws.{grown_self}
-use Rattle.pass_books.specs.Finishing.{IsFinishing, part_seen}
-use Rattle.pass_books.specs.Underway.{Underway, seq_of}
-use Rattle.pass_books.proofs.Laws.{finishing_on, others_finishing}
+use Rattle.broker_spec.specs.books.Finishing.{IsFinishing, part_seen}
+use Rattle.broker_spec.specs.books.Underway.{Underway, seq_of}
+use Rattle.broker_spec.proofs.books.Laws.{finishing_on, others_finishing}
 use Rattle.shared_logs.specs.Asked.{HasLooked}
 use Rattle.shared_logs.specs.Coming.{HasCaughtUp}
 use Rattle.shared_logs.specs.Seen.{HasSeen}

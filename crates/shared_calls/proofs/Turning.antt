@@ -26,9 +26,9 @@ use Rattle.kanswer.specs.WithEntry.{entered}
 use Rattle.broker_spec.specs.Entering.{Noted}
 use Rattle.broker_spec.specs.Sound.{AreHistories}
 use Rattle.broker_spec.proofs.Laws.{IsFair, all_get, decides_fair, followers_size, grown_self, parts_size}
-use Rattle.pass_books.specs.Accepting.{IsAccepting}
-use Rattle.pass_books.specs.Underway.{Underway, seq_of}
-use Rattle.pass_books.proofs.Laws.{accepting_on, accepting_refused, others_accepting}
+use Rattle.broker_spec.specs.books.Accepting.{IsAccepting}
+use Rattle.broker_spec.specs.books.Underway.{Underway, seq_of}
+use Rattle.broker_spec.proofs.books.Laws.{accepting_on, accepting_refused, others_accepting}
 use Rattle.shared_logs.specs.Asked.{HasAsked}
 use Rattle.shared_logs.specs.Coming.{HasCaughtUp}
 use Rattle.shared_logs.specs.Seen.{HasSeen}

@@ -8,8 +8,8 @@ use Rattle.kwire.specs.Configuration.{Configuration}
 use Rattle.kwire.specs.declared.request.Request.{Request}
 use Rattle.broker_spec.specs.Entering.{Noted}
 use Rattle.broker_spec.specs.GoesOn.{HaveGrown}
-use Rattle.pass_books.specs.Accepting.{IsAccepting}
-use Rattle.pass_books.specs.Underway.{seq_of}
+use Rattle.broker_spec.specs.books.Accepting.{IsAccepting}
+use Rattle.broker_spec.specs.books.Underway.{seq_of}
 use Rattle.shared_logs.specs.Coming.{IsSamePass}
 use Rattle.shared_logs.specs.Shared.{LogPassView}
 use Rattle.shared_logs.specs.Amid.{amid}

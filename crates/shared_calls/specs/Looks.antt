@@ -14,8 +14,8 @@ use Rattle.opcond.specs.Tally.{IsSatisfied}
 use Rattle.partlog.specs.State.{PartState as State}
 use Rattle.broker_spec.specs.Board.{Waiting}
 use Rattle.broker_spec.specs.GoesOn.{HaveGrown}
-use Rattle.pass_books.specs.Finishing.{IsFinishing, shown_with}
-use Rattle.pass_books.specs.Underway.{seq_of}
+use Rattle.broker_spec.specs.books.Finishing.{IsFinishing, shown_with}
+use Rattle.broker_spec.specs.books.Underway.{seq_of}
 use Rattle.room_core.specs.declared.event.How.{How}
 use Rattle.shared_logs.specs.Coming.{IsSamePass}
 use Rattle.shared_logs.specs.Shared.{LogPassView}

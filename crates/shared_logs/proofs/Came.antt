@@ -11,8 +11,8 @@ use Rattle.partlog.specs.Kept.{IsKept}
 use Rattle.audit.specs.Histories.{clock_owner_of}
 use Rattle.broker_spec.specs.GoesOn.{Longer}
 use Rattle.broker_spec.specs.Timely.{pass_of}
-use Rattle.pass_books.specs.Owned.{NotOf, OthersAlone}
-use Rattle.pass_books.proofs.Laws.{others_behind}
+use Rattle.broker_spec.specs.books.Owned.{NotOf, OthersAlone}
+use Rattle.broker_spec.proofs.books.Laws.{others_behind}
 use Rattle.turn_lock.specs.declared.pass.TurnPass.{TurnPass}
 use Rattle.turn_lock.specs.Locks.{known}
 use Rattle.turn_lock.specs.OfPass.{of_pass}

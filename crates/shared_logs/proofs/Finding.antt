@@ -25,7 +25,7 @@ use Rattle.broker_spec.specs.GoesOn.{AllWhole, IsWhole, Longer}
 use Rattle.broker_spec.specs.Sound.{AreHistories}
 use Rattle.broker_spec.specs.Timely.{pass_of}
 use Rattle.broker_spec.proofs.Laws.{IsFair, IsSized, all_from_get, entered_followers, set_same}
-use Rattle.pass_books.specs.Turns.{Finds}
+use Rattle.broker_spec.specs.books.Turns.{Finds}
 use Rattle.shared_logs.specs.Asked.{HasAsked, HasLooked, LeftOne}
 use Rattle.shared_logs.specs.Seen.{HasSeen}
 use Rattle.shared_logs.specs.Shared.{LogPassView, followers_in}

@@ -17,8 +17,8 @@ use Rattle.audit.specs.Histories.{clock_owner_of, ticks_of}
 use Rattle.room_core.specs.Gauges.{IsPass}
 use Rattle.room_table.specs.Seats.{TableView, caller_now}
 use Rattle.broker_spec.specs.GoesOn.{Longer}
-use Rattle.pass_books.specs.Owned.{NotOf, OthersAlone}
-use Rattle.pass_books.proofs.Laws.{clock_came}
+use Rattle.broker_spec.specs.books.Owned.{NotOf, OthersAlone}
+use Rattle.broker_spec.proofs.books.Laws.{clock_came}
 use Rattle.turn_lock.specs.declared.known.Known.{Known}
 use Rattle.turn_lock.specs.declared.pass.TurnPass.{TurnPass}
 use Rattle.turn_lock.specs.declared.lock.TurnLock.{TurnLock}

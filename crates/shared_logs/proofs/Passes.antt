@@ -25,9 +25,9 @@ use Rattle.broker_spec.specs.Board.{empty_history, history_at}
 use Rattle.broker_spec.specs.GoesOn.{AllWhole}
 use Rattle.broker_spec.proofs.Laws.{set_same, set_whole}
 use Rattle.broker_spec.specs.Timely.{pass_of}
-use Rattle.pass_books.specs.Owned.{OthersAlone}
-use Rattle.pass_books.specs.TakenOut.{HasTakenOut}
-use Rattle.pass_books.proofs.Laws.{others_grown, others_within, part_came}
+use Rattle.broker_spec.specs.books.Owned.{OthersAlone}
+use Rattle.broker_spec.specs.books.TakenOut.{HasTakenOut}
+use Rattle.broker_spec.proofs.books.Laws.{others_grown, others_within, part_came}
 use Rattle.turn_lock.specs.declared.pass.TurnPass.{TurnPass}
 use Rattle.turn_lock.specs.declared.lock.TurnLock.{TurnLock}
 use Rattle.turn_lock.specs.Locks.{IsPassOf, IsReady, known, lock_name}

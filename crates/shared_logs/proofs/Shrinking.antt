@@ -15,7 +15,7 @@ use Rattle.broker_spec.specs.Board.{empty_history, history_at}
 use Rattle.broker_spec.specs.GoesOn.{Longer}
 use Rattle.broker_spec.specs.Timely.{events_at, pass_of}
 use Rattle.broker_spec.proofs.Laws.{NewEvents, all_get, all_longer_on, all_longer_self, all_on, events_of_part, longer_on, set_longer, was_there}
-use Rattle.pass_books.specs.TakenOut.{HasTakenOut}
+use Rattle.broker_spec.specs.books.TakenOut.{HasTakenOut}
 use Rattle.shared_logs.specs.Asked.{HasTicked}
 use Rattle.shared_logs.specs.Shared.{LogPassView}
 use Rattle.shared_logs.specs.Shrinking.{HasShrunk, HasShrunkOne, HasTold, NoPartLags}

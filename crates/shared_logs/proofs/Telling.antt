@@ -12,8 +12,8 @@ use Rattle.partlog.specs.Kept.{IsKept}
 use Rattle.audit.specs.Histories.{Owner, clock_owner_of}
 use Rattle.broker_spec.specs.GoesOn.{Longer, the_owner}
 use Rattle.broker_spec.specs.Timely.{pass_of}
-use Rattle.pass_books.specs.Owned.{NotOf}
-use Rattle.pass_books.proofs.Laws.{others_behind}
+use Rattle.broker_spec.specs.books.Owned.{NotOf}
+use Rattle.broker_spec.proofs.books.Laws.{others_behind}
 use Rattle.room_table.specs.Seats.{TableView}
 use Rattle.room_scans.specs.Desks.{desk_name}
 use Rattle.room_scans.proofs.Laws.{name_number, name_table}

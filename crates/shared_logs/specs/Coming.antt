@@ -4,7 +4,7 @@ use Rattle.partlog.specs.declared.clock_event.ClockEvent.{ClockEvent}
 use Rattle.partlog.specs.History.{History}
 use Rattle.room_table.specs.Seats.{caller_now}
 use Rattle.broker_spec.specs.GoesOn.{HaveGrown}
-use Rattle.pass_books.specs.Owned.{OwnWithin}
+use Rattle.broker_spec.specs.books.Owned.{OwnWithin}
 use Rattle.purgatory.specs.Going.{GoesOn, KeepsOperation}
 use Rattle.shared_logs.specs.Shared.{LogPassView}
 

@@ -12,7 +12,7 @@ use Rattle.audit.specs.IsLawful.{FollowOn}
 use Rattle.audit.specs.RunOf.{IsNotCut, IsSessionOf}
 use Rattle.broker_spec.specs.GoesOn.{GoesOn}
 use Rattle.broker_spec.proofs.Laws.{all_get}
-use Rattle.pass_books.specs.Told.{told}
+use Rattle.broker_spec.specs.books.Told.{told}
 use Rattle.shared_broker.specs.Closing.{IsAccountOf}
 use Rattle.shared_broker.specs.Standing.{Stands}
 use Rattle.shared_broker.specs.Passes.{BrokerView, PassView, transcripts_of}
