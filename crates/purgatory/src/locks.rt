@@ -1,15 +1,17 @@
 //! The room's locks, one for each scanner, and what a pass has of them. Settling and registering come here for each scan and each
 //! listing: a turn is taken, the desk behind the lock does its work, and the turn ends.
-ghost use Rattle.std.specs.Prelude.{◌≡◌, ◌≤◌, ◌<◌, ◌%◌, ℕ};
+ghost use Rattle.std.specs.Prelude.{◌≡◌, ◌≤◌, ◌<◌, ◌%◌, ℕ, length};
 ghost use Rattle.room_core.specs.Gauges.{IsGauge, IsGaugeOf, IsPass, clock_of};
 ghost use Rattle.room_core.specs.Numbers.{clock_scanner, most_needs, shards};
 ghost use Rattle.room_scans.specs.Desks.{desk_name};
+ghost use Rattle.room_scans.specs.Going.{GoesOn};
 ghost use Rattle.room_scans.specs.Listing.{HasListedDeadline, HasListedNeed};
 ghost use Rattle.room_scans.specs.Scanned.{HasScanned};
 ghost use Rattle.turn_lock.specs.Locks.{IsPassOf, IsReady, lock_name};
 ghost use Rattle.purgatory.specs.Rooms.{IsRoom};
 ghost use Rattle.purgatory.specs.Turning.{clock_name, shard_name};
 
+use opcond::Need;
 use room_core::{SHARDS, Shape};
 use room_scans::{ClockDesk, ShardDesk};
 use room_table::RoomTable;
@@ -110,6 +112,52 @@ fn listed(
     turn
 }
 
+// The same, if the need's gauge is of this shard.
+fn listed_here(
+    is_here: bool,
+    turn: Turn<ShardDesk>,
+    table: &RoomTable,
+    pass: u32,
+    generation: u32,
+    at: u32,
+) -> Turn<ShardDesk>
+    requires table { turn.value.seat.table ≡ table.now }
+    requires pass { IsPass table.now.shape pass }
+    requires generation { 1 ≤ generation }
+    requires need { at < most_needs }
+    ensures turn { (result.from ≡ turn.from) × (result.ticket ≡ turn.ticket) }
+    ensures went { GoesOn turn.value.seat result.value.seat }
+{
+    if !is_here {
+        return turn;
+    }
+    listed(turn, table, pass, generation, at)
+}
+
+// The desk has listed the operation under the gauge of the mark's need, and of each later need whose gauge is of the same shard, in
+// this turn.
+fn all_listed(
+    mut turn: Turn<ShardDesk>,
+    table: &RoomTable,
+    mark: Mark,
+    needs: &[Need],
+) -> Turn<ShardDesk>
+    requires table { turn.value.seat.table ≡ table.now }
+    requires pass { IsPass table.now.shape mark.pass }
+    requires generation { 1 ≤ mark.generation }
+    requires need { mark.at < length needs.now }
+    requires few { length needs.now ≤ most_needs }
+    ensures turn { (result.from ≡ turn.from) × (result.ticket ≡ turn.ticket) }
+    ensures went { GoesOn turn.value.seat result.value.seat }
+{
+    let shard = needs[mark.at as usize].gauge % SHARDS;
+    for at in mark.at as usize..needs.len() {
+        let is_here = needs[at].gauge % SHARDS == shard;
+        turn = listed_here(is_here, turn, table, mark.pass, mark.generation, at as u32);
+    }
+    turn
+}
+
 // The clock's desk has listed the open operation of the pass under its deadline, in this turn, or has seen that it can't.
 fn clock_listed(
     mut turn: Turn<ClockDesk>,
@@ -168,16 +216,18 @@ fn list_shard(
     key: &mut TurnPass<ShardDesk>,
     table: &RoomTable,
     mark: Mark,
+    needs: &[Need],
 )
     requires key { IsPassOf shard_name lock.now key.old × IsReady key.old }
     requires name { (k : ℕ) × (lock_name shard_name lock.now ≡ desk_name table.now k) }
     requires pass { IsPass table.now.shape mark.pass }
     requires generation { 1 ≤ mark.generation }
-    requires need { mark.at < most_needs }
+    requires need { mark.at < length needs.now }
+    requires few { length needs.now ≤ most_needs }
     ensures { IsPassOf shard_name lock.now key.new × IsReady key.new }
 {
     let turn = lock.turn(rt, key);
-    let turn = listed(turn, table, mark.pass, mark.generation, mark.at);
+    let turn = all_listed(turn, table, mark, needs);
     lock.end(key, turn);
 }
 
@@ -224,24 +274,48 @@ impl Locks {
         scan_shard(rt, &self.shards[k], &mut keys.shards[k], table, gauge);
     }
 
-    /// Lists an operation under a need's gauge, in a turn of that gauge's lock.
-    pub(crate) fn list_need(
+    // Lists an operation in a turn of this shard's lock.
+    fn list_behind(
         &self,
         rt: &impl Wait,
         keys: &mut Keys,
         table: &RoomTable,
         mark: Mark,
-        gauge: u32,
+        needs: &[Need],
+        k: usize,
     )
         requires keys { keys.old ≡ self.now }
         requires room { IsRoom table.now self.now }
         requires pass { IsPass table.now.shape mark.pass }
         requires generation { 1 ≤ mark.generation }
-        requires need { mark.at < most_needs }
+        requires need { mark.at < length needs.now }
+        requires few { length needs.now ≤ most_needs }
+        requires there { k < shards }
         ensures { keys.new ≡ keys.old }
     {
-        let k = (gauge % SHARDS) as usize;
-        list_shard(rt, &self.shards[k], &mut keys.shards[k], table, mark);
+        list_shard(rt, &self.shards[k], &mut keys.shards[k], table, mark, needs);
+    }
+
+    /// Lists an operation under a need's gauge, in a turn of that gauge's lock, and in the same turn under those of its later needs that
+    /// are behind this lock too.
+    pub(crate) fn list_needs(
+        &self,
+        rt: &impl Wait,
+        keys: &mut Keys,
+        table: &RoomTable,
+        mark: Mark,
+        needs: &[Need],
+    )
+        requires keys { keys.old ≡ self.now }
+        requires room { IsRoom table.now self.now }
+        requires pass { IsPass table.now.shape mark.pass }
+        requires generation { 1 ≤ mark.generation }
+        requires need { mark.at < length needs.now }
+        requires few { length needs.now ≤ most_needs }
+        ensures { keys.new ≡ keys.old }
+    {
+        let k = (needs[mark.at as usize].gauge % SHARDS) as usize;
+        self.list_behind(rt, keys, table, mark, needs, k);
     }
 
     /// Lists an operation under the clock, in a turn of the clock's lock.

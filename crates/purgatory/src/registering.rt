@@ -70,33 +70,34 @@ impl Room {
         }
     }
 
-    // Lists the operation under a need's gauge, until the pass sees it listed, or over.
+    // Sees the operation listed under a need's gauge, or over. It is listed there first, unless that was done with an earlier need.
     fn list_need(
         &self,
         rt: &impl Wait,
         owner: &mut Owner,
         keys: &mut Keys,
+        needs: &[Need],
         at: u32,
-        gauge: u32,
     ) -> Option<Done>
         requires table { owner.old.table ≡ self.now.table }
         requires keys { keys.old ≡ self.now.locks }
         requires generation { 1 ≤ (caller_now owner.old).generation }
         requires listing { ((caller_now owner.old).stage ≡ Listing) × ((caller_now owner.old).seen clock_mark ≡ false) }
-        requires need { (at < needs_of (caller_now owner.old).description) × (at < most_needs) }
+        requires needs { (length needs.now ≡ needs_of (caller_now owner.old).description) × (length needs.now ≤ most_needs) }
+        requires need { at < length needs.now }
         ensures keys { keys.new ≡ keys.old }
         ensures none { IfNone result (HasSeen at owner.old owner.new) }
         ensures some { IfSome result (λ done. Ends done owner.old owner.new) }
     {
         let mark = owner.mark(at);
         for _ in rt.forever() {
-            self.locks.list_need(rt, keys, &self.table, mark, gauge);
             if owner.sees_mark(&self.table, at) {
                 return None;
             }
             if let Some(done) = owner.poll(&self.table) {
                 return Some(done);
             }
+            self.locks.list_needs(rt, keys, &self.table, mark, needs);
         }
         unreachable!()
     }
@@ -126,6 +127,21 @@ impl Room {
         unreachable!()
     }
 
+    // Lists the operation under its first need's gauge, and those that are behind the same lock.
+    fn list_first(&self, rt: &impl Wait, owner: &Owner, keys: &mut Keys, needs: &[Need])
+        requires table { owner.now.table ≡ self.now.table }
+        requires keys { keys.old ≡ self.now.locks }
+        requires generation { 1 ≤ (caller_now owner.now).generation }
+        requires few { length needs.now ≤ most_needs }
+        ensures { keys.new ≡ keys.old }
+    {
+        if needs.is_empty() {
+            return;
+        }
+        let mark = owner.mark(0);
+        self.locks.list_needs(rt, keys, &self.table, mark, needs);
+    }
+
     // Lists the operation under the gauges of all its needs. Some, if it is over before that.
     fn list_needs(
         &self,
@@ -143,8 +159,9 @@ impl Room {
         ensures none { IfNone result (GoesListing owner.old owner.new × HasSeenBelow (length needs.now) (caller_now owner.new)) }
         ensures some { IfSome result (λ done. Ends done owner.old owner.new) }
     {
+        self.list_first(rt, owner, keys, needs);
         for at in 0..needs.len() {
-            if let Some(done) = self.list_need(rt, owner, keys, at as u32, needs[at].gauge) {
+            if let Some(done) = self.list_need(rt, owner, keys, needs, at as u32) {
                 return Some(done);
             }
         }

@@ -13,7 +13,6 @@ use Rattle.watch_lists.specs.Watches.{Watches}
 use Rattle.room_scans.specs.Checked.{HasLooked}
 use Rattle.room_scans.specs.Desks.{ShardView}
 use Rattle.room_scans.specs.Going.{GoesOn}
-use Rattle.room_scans.specs.Listing.{open_at}
 use Rattle.room_scans.specs.Shelf.{IsAtCheck, KeepsLower, WasChecked, open_generation}
 use Rattle.room_scans.proofs.Goes.{goes_by, goes_far, stays}
 use Rattle.room_scans.proofs.Rows.{lower_far, lower_same}

@@ -21,9 +21,10 @@ use timing_wheel::Due;
 /// is past the moment up to which the scanner has begun to scan the clock, and the scanner has no duty.
 #[derive(Drop)]
 pub struct ClockDesk {
-    listing: ClockListing,
+    // in boxes, since a turn moves the desk out of its lock and back
+    listing: Box<ClockListing>,
     // the passes whose timers come out in a scan
-    due: Due,
+    due: Box<Due>,
 }
 
 impl Model for ClockDesk {
@@ -32,9 +33,9 @@ impl Model for ClockDesk {
 
     ghost Value = { ClockView };
 
-    ghost view = { λ d. d.listing };
+    ghost view = { λ d. d.listing.value };
 
-    ghost invariant = { λ d. HasRoom d.listing d.due.room };
+    ghost invariant = { λ d. HasRoom d.listing.value d.due.value.room };
 }
 
 impl ClockDesk {
@@ -48,7 +49,10 @@ impl ClockDesk {
     {
         let listing = ClockListing::make(alloc, seat, shape)?;
         let due = Due::new(alloc, shape.passes)?;
-        Ok(ClockDesk { listing, due })
+        Ok(ClockDesk {
+            listing: Box::new(alloc, listing)?,
+            due: Box::new(alloc, due)?,
+        })
     }
 
     /// Scans the clock: hears up to which moment, in milliseconds, begins, and checks each operation whose deadline has come since
@@ -57,12 +61,7 @@ impl ClockDesk {
         requires table { self.old.seat.table ≡ table.now }
         ensures { HasScanned (clock_of table.now.shape) self.old.seat self.new.seat }
     {
-        self.due.clear();
-        self.listing.begin(table, &mut self.due);
-        for place in 0..self.due.ids().len() {
-            let pass = self.due.ids()[place];
-            self.listing.check(rt, table, pass);
-        }
+        self.listing.scan(rt, table, &mut self.due);
         self.listing.is_listed();
     }
 
@@ -92,6 +91,6 @@ impl ClockDesk {
         ensures no_duty { HasNoDuty (scanner_now result) }
     {
         let ClockDesk { listing, due: _ } = self;
-        listing.into_seat()
+        Box::into_inner(listing).into_seat()
     }
 }

@@ -8,7 +8,7 @@ ghost use Rattle.room_core.specs.Scans.{HasNoDuty};
 ghost use Rattle.room_table.specs.Seats.{scanner_now};
 ghost use Rattle.timing_wheel.specs.Timers.{deadline_of, ids_of};
 ghost use Rattle.room_scans.specs.Listing.{HasListedDeadline};
-ghost use Rattle.room_scans.specs.Scanned.{scan_begun};
+ghost use Rattle.room_scans.specs.Scanned.{HasScanned, scan_begun};
 ghost use Rattle.room_scans.specs.Timing.{HasTimer};
 ghost use Rattle.room_scans.specs.Coming.{AreComingFrom, ChangesOnly, HasComeOut, IsClockListing, IsOnDuty, IsSettled, WasMet, is_stale};
 
@@ -194,6 +194,24 @@ impl ClockListing {
             return;
         }
         self.check_duty(rt, table, pass, entry);
+    }
+
+    /// Scans the clock: begins, and checks each operation whose timer comes out, of which `due` is the list.
+    pub(crate) fn scan(&mut self, rt: &impl Wait, table: &RoomTable, due: &mut Due)
+        requires table { self.old.seat.table ≡ table.now }
+        requires settled { (pass : ℕ) → IsSettled pass self.old }
+        requires room { due.old.room ≡ ids_of self.old.timers }
+        ensures scanned { HasScanned (clock_of table.now.shape) self.old.seat self.new.seat }
+        ensures settled { (pass : ℕ) → IsSettled pass self.new }
+        ensures ids { ids_of self.new.timers ≡ ids_of self.old.timers }
+        ensures room { due.new.room ≡ due.old.room }
+    {
+        due.clear();
+        self.begin(table, due);
+        for place in 0..due.ids().len() {
+            let pass = due.ids()[place];
+            self.check(rt, table, pass);
+        }
     }
 
     /// Lists the operation that the pass has open at this generation under its deadline.

@@ -13,7 +13,7 @@ ghost use Rattle.room_scans.specs.ShardKeeps.{ShardKeeps, purge_size};
 
 use crate::shard_listing::ShardListing;
 use kbytes::NoMemory;
-use room_core::{SHARDS, Shape};
+use room_core::Shape;
 use room_table::{RoomTable, ScanSeat};
 use std::alloc::Global;
 use std::marker::Model;
@@ -23,7 +23,8 @@ use std::sync::Wait;
 /// scanner has no duty.
 #[derive(Drop)]
 pub struct ShardDesk {
-    listing: ShardListing,
+    // in a box, since a turn moves the desk out of its lock and back
+    listing: Box<ShardListing>,
 }
 
 impl Model for ShardDesk {
@@ -32,9 +33,9 @@ impl Model for ShardDesk {
 
     ghost Value = { ShardView };
 
-    ghost view = { λ d. d.listing };
+    ghost view = { λ d. d.listing.value };
 
-    ghost invariant = { λ d. ShardKeeps d.listing };
+    ghost invariant = { λ d. ShardKeeps d.listing.value };
 }
 
 impl ShardDesk {
@@ -52,7 +53,9 @@ impl ShardDesk {
         ensures { IfOk result (λ desk. desk.seat ≡ seat) }
     {
         let listing = ShardListing::make(alloc, seat, shape, number)?;
-        Ok(ShardDesk { listing })
+        Ok(ShardDesk {
+            listing: Box::new(alloc, listing)?,
+        })
     }
 
     /// Scans a gauge of the scanner's own: hears up to which value, begins, and checks each watcher against all gauges of its
@@ -62,15 +65,7 @@ impl ShardDesk {
         requires gauge { IsGaugeOf table.now.shape self.old.seat.scanner gauge }
         ensures { HasScanned gauge self.old.seat self.new.seat }
     {
-        self.listing.begin(table, gauge);
-        let key = gauge / SHARDS;
-        let mut left = self.listing.watchers(key);
-        while left > 0 {
-            left -= 1;
-            if let Some(watch) = self.listing.watcher(key, left) {
-                self.listing.check(rt, table, gauge, watch);
-            }
-        }
+        self.listing.scan(rt, table, gauge);
         self.listing.is_listed();
     }
 
@@ -103,6 +98,6 @@ impl ShardDesk {
         ensures no_duty { HasNoDuty (scanner_now result) }
     {
         let ShardDesk { listing } = self;
-        listing.into_seat()
+        Box::into_inner(listing).into_seat()
     }
 }

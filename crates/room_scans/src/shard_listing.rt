@@ -9,7 +9,7 @@ ghost use Rattle.watch_lists.specs.Row.{IsRow};
 ghost use Rattle.watch_lists.specs.Watches.{IsListed, keys_of, row_of, size_of};
 ghost use Rattle.room_scans.specs.Going.{GoesOn, HasMetAll};
 ghost use Rattle.room_scans.specs.Listing.{HasListedNeed};
-ghost use Rattle.room_scans.specs.Scanned.{scan_begun};
+ghost use Rattle.room_scans.specs.Scanned.{HasScanned, scan_begun};
 ghost use Rattle.room_scans.specs.ShardKeeps.{purge_size};
 ghost use Rattle.room_scans.specs.Shelf.{AreAllBelow, AreDutiesBelow, IsShelf, KeepsLower, WasChecked, open_generation};
 
@@ -18,7 +18,7 @@ use crate::numbers::PURGE_SIZE;
 use crate::open_generation::open_generation;
 use crate::verdict::Verdict;
 use kbytes::NoMemory;
-use room_core::{GAUGE_WORD, NEED_WORDS, NEEDS_WORD, SHARD_GAUGES, Session, Shape};
+use room_core::{GAUGE_WORD, NEED_WORDS, NEEDS_WORD, SHARD_GAUGES, SHARDS, Session, Shape};
 use room_table::{RoomTable, ScanSeat};
 use std::alloc::Global;
 use std::marker::Model;
@@ -46,6 +46,21 @@ impl Model for ShardListing {
     ghost invariant = { λ l. IsShelf l.generations.items (record { seat = l.scanner; watches = l.shard }) };
 }
 
+// Takes out the watcher of a pass at this generation under a key, if there is one. Most keys have no watcher at all.
+fn drop_from(shard: &mut Shard, key: u32, pass: u32, generation: u32)
+    requires key { key < keys_of shard.old }
+    requires pass { pass < shard.old.ids }
+    ensures same { (shard.new.ids ≡ shard.old.ids) × (keys_of shard.new ≡ keys_of shard.old) }
+    ensures others { (k i g : ℕ) → IsListed shard.new k i g ↔ (IsListed shard.old k i g × (k ≡ key → i ≡ pass → g ≢ generation)) }
+    ensures lower { KeepsLower pass shard.old shard.new }
+{
+    let Some(_first) = shard.each(key, 0) else {
+        return;
+    };
+    shard.watchers_rise();
+    shard.drop_stale(key, pass, generation);
+}
+
 // Takes out the watchers of a pass at this generation, under every key.
 fn drop_pass(shard: &mut Shard, pass: u32, generation: u32)
     requires keys { keys_of shard.old ≡ shard_gauges }
@@ -55,8 +70,7 @@ fn drop_pass(shard: &mut Shard, pass: u32, generation: u32)
     ensures lower { KeepsLower pass shard.old shard.new }
 {
     for key in 0..SHARD_GAUGES {
-        shard.watchers_rise();
-        shard.drop_stale(key, pass, generation);
+        drop_from(shard, key, pass, generation);
     }
 }
 
@@ -190,6 +204,26 @@ impl ShardListing {
             }
         }
         unreachable!()
+    }
+
+    /// Scans a gauge of its own: begins, and checks each watcher, the last one first.
+    pub(crate) fn scan(&mut self, rt: &impl Wait, table: &RoomTable, gauge: u32)
+        requires table { self.old.seat.table ≡ table.now }
+        requires gauge { IsGaugeOf table.now.shape self.old.seat.scanner gauge }
+        requires no_duty { HasNoDuty (scanner_now self.old.seat) }
+        ensures scanned { HasScanned gauge self.old.seat self.new.seat }
+        ensures no_duty { HasNoDuty (scanner_now self.new.seat) }
+    {
+        self.is_listed();
+        self.begin(table, gauge);
+        let key = gauge / SHARDS;
+        let mut left = self.watchers(key);
+        while left > 0 {
+            left -= 1;
+            if let Some(watch) = self.watcher(key, left) {
+                self.check(rt, table, gauge, watch);
+            }
+        }
     }
 
     // Meets every pass, and takes out all watchers whose operation isn't open any more.

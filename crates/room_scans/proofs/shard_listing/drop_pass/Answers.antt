@@ -1,7 +1,6 @@
-use Rattle.std.proofs.Common.{⊎_elim, ◌∙◌, ◌<◌, ◌≤◌, ap, arith, length-set, refl}
+use Rattle.std.proofs.Common.{⊎_elim, ◌∙◌, ◌<◌, ◌≤◌, arith, refl}
 use Rattle.std.proofs.lemmas.Bool.{cases_lt}
-use Rattle.watch_lists.specs.Watches.{Watches, keys_of}
-use Rattle.room_scans.proofs.Rows.{lower_dropped, lower_far, lower_same}
+use Rattle.room_scans.proofs.Rows.{lower_far, lower_same}
 use Rattle.room_scans.proofs.Shelves.{listed_within}
 use Rattle.room_scans.proofs.shard_listing.drop_pass.Goals as goal
 
@@ -13,34 +12,32 @@ loop-key-init c = record {
   lower = lower_same c.args.pass c.args.shard.now;
 }
 
-pub drop_stale-requires : goal.drop_stale-requires
-drop_stale-requires c =
+pub drop_from-requires : goal.drop_from-requires
+drop_from-requires c =
     let keys = c.loop-key.invariant.keys in
     let ids = c.loop-key.invariant.ids in
     let pass = c.requires.pass in
     let test = c.loop-key.key in
-    record { key = omega (arith, keys); id = omega (arith, ids, pass) }
+    record { key = omega (arith, keys); pass = omega (arith, ids, pass) }
 
 pub loop-key-preserved : goal.loop-key-preserved
 loop-key-preserved c =
     let old = c.args.shard.now in
     let now = c.loop-key.shard in
-    let new = c.drop_stale.new.self in
+    let new = c.drop_from.new.shard in
     let key = c.loop-key.key in
     let i = c.loop-key.invariant in
-    let keys = i.keys in
-    let less : key < keys_of now = omega (arith, keys) in
     record {
-      ids = ap (λ (w : Watches). w.ids) c.drop_stale.ensures.rest ∙ i.ids;
-      keys = ap keys_of c.drop_stale.ensures.rest ∙ length-set now.rows key _ ∙ i.keys;
+      ids = c.drop_from.ensures.same.0 ∙ i.ids;
+      keys = c.drop_from.ensures.same.1 ∙ i.keys;
       listed = λ k p g. (
         λ h.
-            let mid = (c.drop_stale.ensures.others k p g).0 h in
+            let mid = (c.drop_from.ensures.others k p g).0 h in
             let was = (i.listed k p g).0 mid.0 in
             (was.0, λ l e. ⊎_elim (λ (low : k < key). was.1 low e) (λ (high : key ≤ k). mid.1 (omega (arith, l, high)) e) (cases_lt k key)),
-        λ h. (c.drop_stale.ensures.others k p g).1 ((i.listed k p g).1 (h.0, λ l e. h.1 (omega (arith, l)) e), λ same e. h.1 (omega (arith, same)) e),
+        λ h. (c.drop_from.ensures.others k p g).1 ((i.listed k p g).1 (h.0, λ l e. h.1 (omega (arith, l)) e), λ same e. h.1 (omega (arith, same)) e),
       );
-      lower = lower_far c.args.pass old now new i.lower (lower_dropped c.args.pass c.args.generation key now new less (c.watchers_rise.ensures.rows key less) c.drop_stale.ensures.rest);
+      lower = lower_far c.args.pass old now new i.lower c.drop_from.ensures.lower;
     }
 
 pub returns-clause-listed : goal.returns-clause-listed

@@ -1,6 +1,4 @@
 use Rattle.std.proofs.Common.{◌≡◌, ◌∙◌, ◌/◌, ◌<◌, ap, rules, subst, sym}
-use Rattle.room_core.specs.declared.shape.Shape.{Shape}
-use Rattle.room_core.specs.Gauges.{IsShape}
 use Rattle.room_scans.specs.ShardKeeps.{gauge_of_key}
 use Rattle.room_scans.proofs.Gauges.{key_few, key_is}
 use Rattle.room_scans.proofs.inspector.Inspector.key_of.Goals as goal

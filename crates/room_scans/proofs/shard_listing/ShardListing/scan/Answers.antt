@@ -1,33 +1,29 @@
-use Rattle.std.proofs.Common.{◌≡◌, ◌∙◌, ◌+◌, ◌-◌, ◌/◌, ◌≤◌, ap, arith, subst, sym}
+use Rattle.std.proofs.Common.{◌≡◌, ◌∙◌, ◌+◌, ◌-◌, ◌/◌, ap, arith, subst, sym}
 use Rattle.room_core.specs.Gauges.{IsGaugeOf}
 use Rattle.room_table.specs.Seats.{ScanView, TableView, scanner_now}
-use Rattle.room_scans.specs.Desks.{ShardView}
-use Rattle.room_scans.specs.Scanned.{scan_begun}
 use Rattle.room_scans.specs.Shelf.{AreDutiesBelow}
 use Rattle.room_scans.proofs.Duties.{duty_less, has_scanned, row_pass}
 use Rattle.room_scans.proofs.Gauges.{key_few}
 use Rattle.room_scans.proofs.Goes.{goes_far}
-use Rattle.room_scans.proofs.shard_desk.ShardDesk.scan.Goals as goal
+use Rattle.room_scans.proofs.shard_listing.ShardListing.scan.Goals as goal
 
 pub watchers-left-requires : goal.watchers-left-requires
 watchers-left-requires g c =
-    let desk = c.self.inside.listing in
-    let table = ap (λ (v : ShardView). v.seat.table) c.self.view_is ∙ c.requires.table in
-    let own = subst (λ k. IsGaugeOf desk.seat.table.shape k c.args.gauge) (sym (ap (λ (v : ShardView). v.seat.scanner) c.self.view_is)) (subst (λ (t : TableView). IsGaugeOf t.shape c.args.self.now.seat.scanner c.args.gauge) (sym table) c.requires.gauge) in
-    key_few desk.seat.table.shape desk.seat.scanner c.args.gauge c.self.invariant.shape c.self.invariant.number own
+    let shelf = c.is_listed.ensures.1 in
+    let own = subst (λ (t : TableView). IsGaugeOf t.shape c.args.self.now.seat.scanner c.args.gauge) (sym c.requires.table) c.requires.gauge in
+    key_few c.args.self.now.seat.table.shape c.args.self.now.seat.scanner c.args.gauge shelf.shape shelf.number own
 
 pub watcher-requires : goal.watcher-requires
 watcher-requires g c =
-    let desk = c.self.inside.listing in
-    let table = ap (λ (v : ShardView). v.seat.table) c.self.view_is ∙ c.requires.table in
-    let own = subst (λ k. IsGaugeOf desk.seat.table.shape k c.args.gauge) (sym (ap (λ (v : ShardView). v.seat.scanner) c.self.view_is)) (subst (λ (t : TableView). IsGaugeOf t.shape c.args.self.now.seat.scanner c.args.gauge) (sym table) c.requires.gauge) in
-    key_few desk.seat.table.shape desk.seat.scanner c.args.gauge c.self.invariant.shape c.self.invariant.number own
+    let shelf = c.is_listed.ensures.1 in
+    let own = subst (λ (t : TableView). IsGaugeOf t.shape c.args.self.now.seat.scanner c.args.gauge) (sym c.requires.table) c.requires.gauge in
+    key_few c.args.self.now.seat.table.shape c.args.self.now.seat.scanner c.args.gauge shelf.shape shelf.number own
 
 pub check-requires-clause-pass : goal.check-requires-clause-pass
 check-requires-clause-pass g c =
     let row = row_pass (c.args.gauge / 16) _ _ c.in-Some.ensures.row (c.loop-left.left - 1) c.in-Some.watch (sym c.in-Some.ensures.place) in
     let below = row.1 in
-    let table = c.loop-left.invariant.went.table ∙ ap (λ (v : ScanView). v.table) c.begin.ensures.step ∙ ap (λ (v : ShardView). v.seat.table) c.self.view_is ∙ c.requires.table in
+    let table = c.loop-left.invariant.went.table ∙ ap (λ (v : ScanView). v.table) c.begin.ensures.step ∙ c.requires.table in
     let passes = ap (λ (t : TableView). t.shape.passes) table in
     omega (arith, below, passes)
 
@@ -40,7 +36,7 @@ check-requires-clause-generation g c = (row_pass (c.args.gauge / 16) _ _ c.in-So
 pub loop-left-preserved-in-Some : goal.loop-left-preserved-in-Some
 loop-left-preserved-in-Some g c =
     let i = c.loop-left.invariant in
-    let old = c.loop-left.self-inside.listing in
+    let old = c.loop-left.self in
     let new = c.check.new.self in
     let key = c.args.gauge / 16 in
     let test = c.loop-left-test.true in
@@ -52,11 +48,8 @@ loop-left-preserved-in-Some g c =
           (subst (λ n. AreDutiesBelow c.args.gauge key n old.watches (scanner_now old.seat)) more i.duties) c.check.ensures.freed c.check.ensures.lower;
     }
 
-pub returns : goal.returns
-returns g c =
+pub returns-clause-scanned : goal.returns-clause-scanned
+returns-clause-scanned g c =
     let i = c.loop-left.invariant in
-    let seat = ap (λ (v : ShardView). v.seat) c.self.view_is in
-    has_scanned c.args.gauge c.begin.result c.args.self.now.seat c.begin.new.self.seat c.loop-left.self-inside.listing.seat
-    (c.begin.ensures.step ∙ ap (λ (v : ScanView). scan_begun v c.args.gauge c.begin.result) seat)
-    (subst (λ (v : ScanView). (scanner_now v).began c.args.gauge ≤ c.begin.result) seat c.begin.ensures.least)
-    i.went i.began
+    has_scanned c.args.gauge c.begin.result c.args.self.now.seat c.begin.new.self.seat c.loop-left.self.seat
+    c.begin.ensures.step c.begin.ensures.least i.went i.began
