@@ -17,6 +17,7 @@ use kwire::{
 };
 use partlog::PartLog;
 use std::alloc::Global;
+use trace_file::Digits;
 
 // Puts the batch at the end of the log if there is room.
 fn put(
@@ -32,11 +33,13 @@ fn put(
     came.note_at(entered.became, part, entered.place)
 }
 
-/// A call that is handled: its session and number, with the clock's moment, and the topics that there are.
+/// A call that is handled: its session and number, with the clock's moment, the topics that there are, and the digits by which
+/// its reply is printed.
 #[derive(Clone, Copy, Debug)]
 pub struct Asking<'a> {
     pub alloc: Global,
     pub config: &'a Config,
+    pub digits: &'a Digits,
     pub visitor: Visitor,
 }
 

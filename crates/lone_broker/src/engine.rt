@@ -37,13 +37,14 @@ use opcond::{Op, is_overdue};
 use partlog::{ClockLog, PartLog, Who};
 use std::alloc::Global;
 use std::marker::Model;
-use trace_file::{Line, put_reply_line};
+use trace_file::{Digits, Line};
 
 /// What the one-thread broker keeps: a contract sees a board of the definition, and what is kept of the requests that wait. If
 /// memory runs out, it may only be dropped.
 #[derive(Debug, Drop)]
 pub struct Engine {
     alloc: Global,
+    digits: Digits,
     config: Config,
     parts: List<PartLog>,
     clock: ClockLog,
@@ -71,8 +72,10 @@ impl Engine {
         let parts = open_parts(alloc, &config)?;
         let desks = open_desks(alloc)?;
         let parked = open_parked(alloc)?;
+        let digits = Digits::make(alloc)?;
         Ok(Engine {
             alloc,
+            digits,
             config,
             parts,
             clock: ClockLog::new(alloc),
@@ -162,7 +165,7 @@ impl Engine {
         ensures freed { OnOk result (IsFreed session self.old self.new) }
     {
         let reply = self.reply(session)?;
-        put_reply_line(out, session, reply.as_slice())?;
+        self.digits.put_reply_line(out, session, reply.as_slice())?;
         self.finish(session, how)
     }
 
@@ -276,6 +279,7 @@ impl Engine {
         let call = Asking {
             alloc: self.alloc,
             config: &self.config,
+            digits: &self.digits,
             visitor: Visitor {
                 who,
                 moment: self.clock.now(),

@@ -25,7 +25,6 @@ use kanswer::{is_quiet, needs_op, op_of};
 use kbytes::{Bytes, List, NoMemory};
 use kwire::{AskView, MOST_PARTITIONS, RequestView};
 use partlog::{ClockLog, PartLog};
-use trace_file::put_reply_line;
 
 /// What was done with a request: the points of the entries that it left, how its call ended or that it waits, and what is kept
 /// of it if it waits.
@@ -66,7 +65,7 @@ fn answer_at_once(
 {
     if !is_quiet(&request.ask) {
         let frame = reply_frame(call.alloc, call.config, parts, request, came.accepted())?;
-        put_reply_line(out, call.visitor.who.by, frame.as_slice())?;
+        call.digits.put_reply_line(out, call.visitor.who.by, frame.as_slice())?;
     }
     Ok(Handled {
         accept: came.into_points(),
