@@ -122,6 +122,28 @@ fn raise<R: Wait + Clock, S: Waiter>(rt: &R, mut seat: S) -> (S, io::Result<Inst
     (seat, now)
 }
 
+// How many nanoseconds the wake of one operation took, and both seats again.
+fn wake_once<R: Threads + Wait + Clock + Sync, S: Waiter>(
+    rt: &R,
+    mut sleeper: S,
+    raiser: S,
+    past: u64,
+) -> Result<(S, S, u64), Fault> {
+    if !sleeper.register(rt, raiser.gauge(), past) {
+        return Err(Fault::Stopped);
+    }
+    let (slept, raised) = join(rt, move || wake(rt, sleeper), move || raise(rt, raiser));
+    let took = slept.1?.duration_since(raised.1?);
+    Ok((slept.0, raised.0, nanoseconds(took)))
+}
+
+// What that many in a hundred of these don't exceed.
+fn most_of(mut times: Vec<u64>, hundredths: usize) -> Result<u64, Fault> {
+    times.sort()?;
+    let place = (times.len() / 100).saturating_mul(hundredths);
+    Ok(times.get(place).copied().unwrap_or(0))
+}
+
 fn wakes<R: Threads + Wait + Clock + Sync, S: Waiter>(
     rt: &R,
     alloc: Global,
@@ -133,17 +155,12 @@ fn wakes<R: Threads + Wait + Clock + Sync, S: Waiter>(
     let mut raiser = seats.pop().ok_or(Fault::Stopped)?;
     let mut times = Vec::new(alloc);
     for round in 0..rounds {
-        if !sleeper.register(rt, raiser.gauge(), u64::from(round)) {
-            return Err(Fault::Stopped);
-        }
-        let (slept, raised) = join(rt, move || wake(rt, sleeper), move || raise(rt, raiser));
-        times.push(nanoseconds(slept.1?.duration_since(raised.1?)))?;
-        sleeper = slept.0;
-        raiser = raised.0;
+        let (slept, raised, took) = wake_once(rt, sleeper, raiser, u64::from(round))?;
+        times.push(took)?;
+        sleeper = slept;
+        raiser = raised;
     }
-    times.sort()?;
-    let place = (times.len() / 100).saturating_mul(hundredths);
-    let within = times.get(place).copied().unwrap_or(0);
+    let within = most_of(times, hundredths)?;
     Ok(Cost {
         each: within.saturating_mul(1_000),
         came_to: within,
@@ -194,6 +211,34 @@ impl Deed {
         }
     }
 
+    // In the room.
+    fn time_in_room<R: Threads + Wait + Clock + Sync>(
+        self,
+        rt: &R,
+        alloc: Global,
+        rounds: u32,
+    ) -> Result<Cost, Fault> {
+        let RoomParts {
+            room,
+            sources,
+            passes,
+        } = Room::make(alloc, GAUGES, PASSES)?;
+        let seats = room_seats(alloc, &room, sources, passes)?;
+        self.time(rt, alloc, seats, rounds)
+    }
+
+    // In the plain room.
+    fn time_in_plain_room<R: Threads + Wait + Clock + Sync>(
+        self,
+        rt: &R,
+        alloc: Global,
+        rounds: u32,
+    ) -> Result<Cost, Fault> {
+        let room = PlainRoom::make(alloc, GAUGES)?;
+        let seats = room.seats(alloc, PASSES)?;
+        self.time(rt, alloc, seats, rounds)
+    }
+
     pub fn figure<R: Threads + Wait + Clock + Sync>(
         self,
         rt: &R,
@@ -201,19 +246,14 @@ impl Deed {
         size: Size,
     ) -> Result<Figure, Fault> {
         let rounds = self.rounds(size);
-        let RoomParts {
-            room,
-            sources,
-            passes,
-        } = Room::make(alloc, GAUGES, PASSES)?;
-        let plain = PlainRoom::make(alloc, GAUGES)?;
-        let seats = room_seats(alloc, &room, sources, passes)?;
-        let plain_seats = plain.seats(alloc, PASSES)?;
+        let ours = self.time_in_room(rt, alloc, rounds)?;
+        let theirs = self.time_in_plain_room(rt, alloc, rounds)?;
+        let name = self.name(alloc)?;
         Ok(Figure {
-            name: self.name(alloc)?,
-            ours: self.time(rt, alloc, seats, rounds)?,
+            name,
+            ours,
             baseline: "a plain room",
-            theirs: self.time(rt, alloc, plain_seats, rounds)?,
+            theirs,
         })
     }
 }

@@ -190,19 +190,38 @@ const APPENDED: Accepted = Accepted::Appended {
     count: 1,
 };
 
+// The topic `t` with so many partitions and one follower.
+fn config_of(alloc: Global, partitions: u32, min_insync: u32) -> Option<Config> {
+    let mut config = Config::new(alloc, 9092);
+    config.add(b"t", partitions, 1, min_insync).ok()?;
+    Some(config)
+}
+
+// A log without room for another batch.
+fn full_log(alloc: Global) -> Option<PartLog> {
+    let bytes = long_batch(alloc).ok()?;
+    let batch = view_batch(bytes.as_slice()).ok()?;
+    let mut log = PartLog::new(alloc, 1).ok()?;
+    if !is_filled(&mut log, &batch) {
+        return None;
+    }
+    Some(log)
+}
+
 #[test]
-fn a_full_partition_is_refused_and_another_takes_its_batch(rt: HostRuntime) {
-    let mut config = Config::new(rt.alloc(), 9092);
-    assert!(rt; config.add(b"t", 2, 1, 1).is_ok());
-    let bytes = long_batch(rt.alloc()).expect(&rt, "memory");
-    let batch = view_batch(bytes.as_slice()).expect(&rt, "a batch");
-    let mut full = PartLog::new(rt.alloc(), 1).expect(&rt, "memory");
-    let mut empty = PartLog::new(rt.alloc(), 1).expect(&rt, "memory");
-    assert!(rt; is_filled(&mut full, &batch));
+fn a_full_partition_is_refused(rt: HostRuntime) {
+    let config = config_of(rt.alloc(), 2, 1).expect(&rt, "a topic");
+    let mut full = full_log(rt.alloc()).expect(&rt, "64 batches");
     for (version, refused) in REFUSED {
         assert!(rt; put_one(&config, with_acks(*version, 1), 0, &mut full) == Some(*refused));
     }
     assert!(rt; (full.numbers().end, full.numbers().bytes) == (64, 67_108_864));
+}
+
+#[test]
+fn another_partition_takes_its_batch(rt: HostRuntime) {
+    let config = config_of(rt.alloc(), 2, 1).expect(&rt, "a topic");
+    let mut empty = PartLog::new(rt.alloc(), 1).expect(&rt, "memory");
     let became = put_one(&config, with_acks(3, 1), 1, &mut empty);
     assert!(rt; (became, empty.log()) == (Some(APPENDED), ONE.as_slice()));
 }
@@ -280,24 +299,29 @@ fn told_code(alloc: Global, config: &Config, log: &PartLog) -> Option<i16> {
     Some(topics.get(0)?.parts.get(0)?.code)
 }
 
-// The topic asks for both replicas, and the follower leaves without the first record.
-#[test]
-fn too_few_replicas_in_sync(rt: HostRuntime) {
-    let mut config = Config::new(rt.alloc(), 9092);
-    assert!(rt; config.add(b"t", 5, 1, 2).is_ok());
-    let mut log = PartLog::new(rt.alloc(), 1).expect(&rt, "memory");
-    let appended = |base| Accepted::Appended {
+// A batch of one record at this offset of partition 4.
+fn appended(base: u64) -> Accepted {
+    Accepted::Appended {
         part: 4,
         base,
         count: 1,
-    };
+    }
+}
+
+// The topic asks for both replicas, and the follower leaves without the first record.
+#[test]
+fn too_few_replicas_in_sync(rt: HostRuntime) {
+    let config = config_of(rt.alloc(), 5, 2).expect(&rt, "a topic");
+    let mut log = PartLog::new(rt.alloc(), 1).expect(&rt, "memory");
     assert!(rt; put_one(&config, with_acks(3, -1), 4, &mut log) == Some(appended(0)));
-    assert!(rt; log.shrink(0, 29_999) == Ok(false));
-    assert!(rt; told_code(rt.alloc(), &config, &log) == Some(7));
-    assert!(rt; log.shrink(0, 30_000) == Ok(true));
-    assert!(rt; told_code(rt.alloc(), &config, &log) == Some(20));
-    let refused = Accepted::Refused { code: 19 };
-    assert!(rt; put_one(&config, with_acks(3, -1), 4, &mut log) == Some(refused));
-    assert!(rt; put_one(&config, with_acks(3, 1), 4, &mut log) == Some(appended(1)));
+    for (t, is_out, code) in [(29_999, false, 7), (30_000, true, 20)] {
+        let told = (log.shrink(0, t), told_code(rt.alloc(), &config, &log));
+        assert!(rt; told == (Ok(is_out), Some(code)));
+    }
+    let put = (
+        put_one(&config, with_acks(3, -1), 4, &mut log),
+        put_one(&config, with_acks(3, 1), 4, &mut log),
+    );
+    assert!(rt; put == (Some(Accepted::Refused { code: 19 }), Some(appended(1))));
     assert!(rt; (log.events().len(), log.numbers().high) == (4, 2));
 }

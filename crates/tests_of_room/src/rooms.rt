@@ -1,6 +1,7 @@
 //! `purgatory`, and below it `room_table` and `room_scans`: the room's calls on one thread, and what threads come to that
 //! share it.
 ghost use Rattle.std.specs.Prelude.{◌≡◌, ◌<◌};
+ghost use Rattle.tests_of_room.specs.Crews.{IsCrewOf};
 
 mod crew;
 mod many;
@@ -8,12 +9,13 @@ mod shards;
 mod waits;
 mod whole;
 
-use crew::{Rise, start};
+use crew::{Crew, Rise, start};
 use kbytes::{List, NoMemory};
 use opcond::{Need, Op};
-use purgatory::{Done, Registered};
+use purgatory::{Done, Registered, Room};
 use room_core::How;
 use std::alloc::Global;
+use std::sync::Wait;
 use std::test::*;
 use whole::{Ends, Whole};
 
@@ -35,6 +37,25 @@ fn op_of(alloc: Global, gauges: &[u32], least: u64, deadline: u64) -> Result<Op,
     Ok(op)
 }
 
+// Whether the first pass registers such an operation, which then waits.
+fn parks(
+    rt: &impl Wait,
+    alloc: Global,
+    room: &Room,
+    crew: &mut Crew,
+    gauges: &[u32],
+    least: u64,
+    deadline: u64,
+) -> bool
+    requires { IsCrewOf room.now crew.old }
+    ensures { IsCrewOf room.now crew.new }
+{
+    let Ok(op) = op_of(alloc, gauges, least, deadline) else {
+        return false;
+    };
+    crew.register(rt, room, 0, op) == Some(Registered::Parked)
+}
+
 fn done(how: How, by: u32) -> Option<Done> {
     Some(Done { how, by })
 }
@@ -42,8 +63,7 @@ fn done(how: How, by: u32) -> Option<Done> {
 #[test]
 fn an_operation_waits_and_is_satisfied(rt: HostRuntime) {
     let (room, mut crew) = start(rt.alloc(), 20, 2).expect(&rt, "memory");
-    let op = op_of(rt.alloc(), &[18], 5, 100).expect(&rt, "memory");
-    assert!(rt; crew.register(&rt, &room, 0, op) == Some(Registered::Parked));
+    assert!(rt; parks(&rt, rt.alloc(), &room, &mut crew, &[18], 5, 100));
     crew.raise(&rt, &room, 1, Rise::of(18, 4));
     assert!(rt; crew.poll(&room, 0).is_none());
     crew.raise(&rt, &room, 1, Rise::of(18, 5));
@@ -54,8 +74,7 @@ fn an_operation_waits_and_is_satisfied(rt: HostRuntime) {
 #[test]
 fn a_deadline_comes(rt: HostRuntime) {
     let (room, mut crew) = start(rt.alloc(), 4, 2).expect(&rt, "memory");
-    let op = op_of(rt.alloc(), &[0, 1, 2], 5, 100).expect(&rt, "memory");
-    assert!(rt; crew.register(&rt, &room, 0, op) == Some(Registered::Parked));
+    assert!(rt; parks(&rt, rt.alloc(), &room, &mut crew, &[0, 1, 2], 5, 100));
     crew.raise(&rt, &room, 1, Rise::of(3, 99));
     assert!(rt; crew.poll(&room, 0).is_none());
     crew.raise(&rt, &room, 1, Rise::of(3, 100));
@@ -77,8 +96,7 @@ fn what_is_satisfied_need_not_wait(rt: HostRuntime) {
 #[test]
 fn the_second_shard_wins(rt: HostRuntime) {
     let (room, mut crew) = start(rt.alloc(), 40, 2).expect(&rt, "memory");
-    let op = op_of(rt.alloc(), &[3, 20], 5, 100).expect(&rt, "memory");
-    assert!(rt; crew.register(&rt, &room, 0, op) == Some(Registered::Parked));
+    assert!(rt; parks(&rt, rt.alloc(), &room, &mut crew, &[3, 20], 5, 100));
     crew.raise(&rt, &room, 1, Rise::of(3, 3));
     assert!(rt; crew.poll(&room, 0).is_none());
     crew.raise(&rt, &room, 1, Rise::of(20, 2));
@@ -97,8 +115,7 @@ fn sum_of(numbers: &List<u64>) -> u64 {
 #[test]
 fn a_room_is_still_once_what_was_won_is_taken(rt: HostRuntime) {
     let (room, mut crew) = start(rt.alloc(), 20, 2).expect(&rt, "memory");
-    let op = op_of(rt.alloc(), &[18], 5, 100).expect(&rt, "memory");
-    assert!(rt; crew.register(&rt, &room, 0, op) == Some(Registered::Parked));
+    assert!(rt; parks(&rt, rt.alloc(), &room, &mut crew, &[18], 5, 100));
     crew.raise(&rt, &room, 1, Rise::of(18, 5));
     let whole = Whole::of(rt.alloc(), room, crew).expect(&rt, "memory");
     let whole = whole.expect(&rt, "all passes and sources");
@@ -116,8 +133,7 @@ fn a_room_is_still_once_what_was_won_is_taken(rt: HostRuntime) {
 #[test]
 fn one_that_waits_keeps_no_room_from_being_still(rt: HostRuntime) {
     let (room, mut crew) = start(rt.alloc(), 20, 2).expect(&rt, "memory");
-    let op = op_of(rt.alloc(), &[18], 5, 100).expect(&rt, "memory");
-    assert!(rt; crew.register(&rt, &room, 0, op) == Some(Registered::Parked));
+    assert!(rt; parks(&rt, rt.alloc(), &room, &mut crew, &[18], 5, 100));
     crew.raise(&rt, &room, 1, Rise::of(18, 4));
     crew.raise(&rt, &room, 1, Rise::of(19, 99));
     let whole = Whole::of(rt.alloc(), room, crew).expect(&rt, "memory");

@@ -88,7 +88,10 @@ fn only_pass<T: Kept>(
     requires { AreFresh (lock_id lock.now) (lock_name T.name lock.now) passes × (length passes ≡ 1) }
     ensures { IfOk result (λ p. IsPassOf T.name lock.now p × IsReady p × ((known p).number ≡ 0)) }
 {
-    passes.pop().ok_or(NoMemory)
+    let Some(pass) = passes.pop() else {
+        return Err(NoMemory);
+    };
+    Ok(pass)
 }
 
 #[test]

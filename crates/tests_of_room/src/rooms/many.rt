@@ -112,7 +112,7 @@ fn run_all<R: Threads + Wait + Sync>(
             requires { IsSync R.row × IsCrewOf room crew }
         { runs(rt, alloc, &room, crew) },
     )?;
-    Ok(done.len() == THREADS as usize && done.iter().all(|answered| *answered))
+    Ok(done.len() == THREADS as usize && !done.contains(&false))
 }
 
 fn run_in_threads<R: Threads + Wait + Sync>(rt: &R, alloc: Global) -> Result<bool, NoMemory> {

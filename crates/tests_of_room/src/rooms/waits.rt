@@ -1,12 +1,11 @@
 //! A pass that sleeps until its operation is won.
-ghost use Rattle.std.specs.Prelude.{◌≡◌};
 ghost use Rattle.std.specs.Thread.{IsSync};
 ghost use Rattle.tests_of_room.specs.Crews.{IsCrewOf};
 
 use super::crew::{Crew, Rise, halves, start};
-use super::op_of;
+use super::parks;
 use kbytes::NoMemory;
-use purgatory::{Registered, Room};
+use purgatory::Room;
 use std::alloc::Global;
 use std::sync::Wait;
 use std::test::*;
@@ -22,14 +21,43 @@ fn raises(rt: &(impl Wait + Clock), room: &Room, mut crew: Crew)
     crew.raise(rt, room, 0, Rise::of(0, 1));
 }
 
-// How long it slept, where its operation was won then.
-fn sleeps(rt: &(impl Wait + Clock), room: &Room, mut crew: Crew) -> Option<Duration>
-    requires { IsCrewOf room.now crew }
+// How long the first pass slept.
+fn sleeps(rt: &(impl Wait + Clock), room: &Room, crew: &Crew, most: Duration) -> Option<Duration>
+    requires { IsCrewOf room.now crew.now }
 {
     let start = Instant::now(rt).ok()?;
-    crew.wait(rt, room, 0, Duration::from_secs(30));
-    crew.poll(room, 0)?;
+    crew.wait(rt, room, 0, most);
     start.elapsed(rt).ok()
+}
+
+// How long it slept, where its operation was won then.
+fn sleeps_until_won(rt: &(impl Wait + Clock), room: &Room, mut crew: Crew) -> Option<Duration>
+    requires { IsCrewOf room.now crew }
+{
+    let slept = sleeps(rt, room, &crew, Duration::from_secs(30));
+    crew.poll(room, 0)?;
+    slept
+}
+
+// Two threads: how long the one slept that the other wakes.
+fn sleeps_beside<R: Threads + Wait + Clock + Sync>(
+    rt: &R,
+    room: &Room,
+    sleeper: Crew,
+    raiser: Crew,
+) -> Option<Duration>
+    requires { IsCrewOf room.now sleeper × IsCrewOf room.now raiser }
+{
+    let ((), slept) = join(
+        rt,
+        ||
+            requires { IsSync R.row × IsCrewOf room.now raiser }
+        { raises(rt, room, raiser) },
+        || -> Option<Duration>
+            requires { IsSync R.row × IsCrewOf room.now sleeper }
+        { sleeps_until_won(rt, room, sleeper) },
+    );
+    slept
 }
 
 fn sleeps_and_raises<R: Threads + Wait + Clock + Sync>(
@@ -38,41 +66,25 @@ fn sleeps_and_raises<R: Threads + Wait + Clock + Sync>(
 ) -> Result<Option<Duration>, NoMemory> {
     let (room, crew) = start(alloc, 2, 2)?;
     let (raiser, mut sleeper) = halves(&room, crew)?;
-    let op = op_of(alloc, &[0], 1, 1)?;
-    let Some(Registered::Parked) = sleeper.register(rt, &room, 0, op) else {
+    if !parks(rt, alloc, &room, &mut sleeper, &[0], 1, 1) {
         return Ok(None);
-    };
-    let ((), slept) = join(
-        rt,
-        ||
-            requires { IsSync R.row × IsCrewOf room raiser }
-        { raises(rt, &room, raiser) },
-        || -> Option<Duration>
-            requires { IsSync R.row × IsCrewOf room sleeper }
-        { sleeps(rt, &room, sleeper) },
-    );
-    Ok(slept)
+    }
+    Ok(sleeps_beside(rt, &room, sleeper, raiser))
 }
 
 #[test]
 fn a_win_wakes_the_sleeper(rt: HostRuntime) {
-    assert!(rt;
-        matches!(
-            sleeps_and_raises(&rt, rt.alloc()),
-            Ok(Some(slept)) if slept < Duration::from_secs(10)
-        )
-    );
+    let slept = sleeps_and_raises(&rt, rt.alloc()).expect(&rt, "memory");
+    let slept = slept.expect(&rt, "a win, and a clock");
+    assert!(rt; slept < Duration::from_secs(10));
 }
 
 #[test]
-fn a_sleep_ends_by_itself(rt: HostRuntime) -> Result<(), Fail> {
+fn a_sleep_ends_by_itself(rt: HostRuntime) {
     let (room, mut crew) = start(rt.alloc(), 2, 1).expect(&rt, "memory");
-    let op = op_of(rt.alloc(), &[0], 1, 1).expect(&rt, "memory");
-    assert!(rt; crew.register(&rt, &room, 0, op) == Some(Registered::Parked));
-    let start = Instant::now(&rt)?;
-    crew.wait(&rt, &room, 0, Duration::from_millis(200));
-    let slept = start.elapsed(&rt)?;
+    assert!(rt; parks(&rt, rt.alloc(), &room, &mut crew, &[0], 1, 1));
+    let slept = sleeps(&rt, &room, &crew, Duration::from_millis(200));
+    let slept = slept.expect(&rt, "a clock");
     assert!(rt; slept >= Duration::from_millis(100) && slept < Duration::from_secs(10));
     assert!(rt; crew.poll(&room, 0).is_none());
-    Ok(())
 }
