@@ -1,5 +1,6 @@
 -- A worker may do each line of a trace that is its own.
-use Rattle.std.proofs.Common.{◌≡◌, ℕ, ◌<◌, ◌≤◌, true, false, List, get_or, length, take, refl, eqb}
+use Rattle.std.proofs.Common.{◌≡◌, ℕ, ◌<◌, ◌≤◌, true, false, List, get_or, length, take, refl, eqb, arith}
+use Rattle.std.specs.Prelude.{IfSome}
 use Rattle.std.proofs.lemmas.Bool.{eq-eqb, eqb-true}
 use Rattle.partlog.specs.declared.clock_event.TheConstants.{MOST_MOMENT}
 use Rattle.trace_file.specs.Contents.{is_shut, names, sessions_of}
@@ -7,7 +8,7 @@ use Rattle.trace_file.specs.declared.line.Line.{Line}
 use Rattle.trace_file.specs.declared.line.Line.TheVariants.{Topic, Feed, Shut, Clock, End}
 use Rattle.trace_file.specs.Trace.{pieces_of}
 use Rattle.trace_workers.specs.Workers.{HasAll, WorkerView}
-use Rattle.trace_workers.specs.Own.{MayTake, is_own}
+use Rattle.trace_workers.specs.Own.{MayTake, is_own, named_place}
 use Rattle.trace_workers.specs.Playable.{AreTraced}
 use Rattle.trace_workers.proofs.Traced.{named_below, open_before, within_limit}
 
@@ -31,3 +32,11 @@ may_take lines worker i d traced all less own =
     (λ session named. open_before lines i d session trace.order.pairs less named)
     (λ t is. within_limit (pieces_of traced.0) lines i d t trace.spelled less is)
     own
+
+-- the session that such a line names is at its place, and stays there
+pub place_there : (before : List Line) (line : Line) (worker new : WorkerView) → MayTake before line worker → length new.sessions ≡ length worker.sessions → IfSome (named_place worker line) (λ (at : ℕ). at < length new.sessions)
+place_there before (Topic name partitions followers least) worker new may size = tt
+place_there before (Feed session bytes) worker new may size = let there = may.0 in omega (arith, there, size)
+place_there before (Shut session) worker new may size = omega (arith, may, size)
+place_there before (Clock t) worker new may size = tt
+place_there before End worker new may size = tt

@@ -1,5 +1,5 @@
 -- The lines that are a worker's own, and when it may do one.
-use Rattle.std.specs.Prelude.{◌≡◌, ℕ, ◌/◌, ◌%◌, ◌<◌, ◌≤◌, ◌==◌, Bool, false, List, is_some, length, ⊤}
+use Rattle.std.specs.Prelude.{◌≡◌, ℕ, ◌/◌, ◌%◌, ◌<◌, ◌≤◌, ◌==◌, Bool, false, List, Option, Some, None, is_some, length, ⊤}
 use Rattle.partlog.specs.declared.clock_event.TheConstants.{MOST_MOMENT}
 use Rattle.trace_file.specs.Contents.{is_shut}
 use Rattle.trace_file.specs.declared.line.Line.{Line}
@@ -19,6 +19,14 @@ is_own worker End = false
 
 abbrev pub IsThere : WorkerView → ℕ → Type 0
 IsThere worker session = session / worker.worker_count < length worker.sessions
+
+-- the place of the session that the line names
+abbrev pub named_place : WorkerView → Line → Option ℕ
+named_place worker (Topic name partitions followers least) = None
+named_place worker (Feed session bytes) = Some (session / worker.worker_count)
+named_place worker (Shut session) = Some (session / worker.worker_count)
+named_place worker (Clock t) = None
+named_place worker End = None
 
 -- the session that the line names is there, and its input is still open where bytes come; a moment is within the limit
 abbrev pub MayTake : List Line → Line → WorkerView → Type 0

@@ -43,20 +43,10 @@ impl TraceSession {
         if self.pass.waits() {
             return self.collect(rt, broker);
         }
-        if !self.pass.is_begun() {
+        if !self.has_more() {
             return Ok(false);
         }
-        match next_frame(self.inbox.bytes()) {
-            Frame::Whole { end } => self.handle(rt, broker, end),
-            Frame::TooLong { size } => self.end(broker, SessionEnd::FrameTooLong { size }),
-            Frame::NotYet => {
-                if !self.is_shut {
-                    return Ok(false);
-                }
-                let end = end_of_input(self.inbox.bytes());
-                self.end(broker, end)
-            }
-        }
+        self.take_next(rt, broker)
     }
 
     /// Goes on until it can do nothing more.
@@ -76,6 +66,41 @@ impl TraceSession {
             }
         }
         unreachable!()
+    }
+
+    // Whether its transcript goes on, and bytes are left or its input ended. Most sessions that are asked have nothing more, and so this comes first.
+    fn has_more(&self) -> bool
+        ensures begun { result ≡ true → IsSome self.now.pass.going }
+        ensures rests { result ≡ false → Rests self.now }
+    {
+        self.pass.is_begun() && (self.is_shut || !self.inbox.bytes().is_empty())
+    }
+
+    // Handles the first whole frame, or ends, if it can.
+    fn take_next(&mut self, rt: &impl Wait, broker: &Broker) -> Result<bool, NoMemory>
+        requires made { made_with self.old.pass ≡ broker.now }
+        requires received { (input : Items ℕ) × HasReceived input self.old }
+        requires begun { IsSome self.old.pass.going }
+        requires none { self.old.pass.waits ≡ None }
+        ensures same { IsSameSession self.old self.new }
+        ensures named { self.new.is_named ≡ self.old.is_named }
+        ensures shut { self.new.is_shut ≡ self.old.is_shut }
+        ensures received { OnOk result ((input : Items ℕ) → HasReceived input self.old → HasReceived input self.new) }
+        ensures moved { IfOk result (λ did. did ≡ true → self.new.pass.going ≢ self.old.pass.going) }
+        ensures rests { IfOk result (λ did. did ≡ false → Rests self.new) }
+        ensures waits { IfOk result (λ did. did ≡ false → self.new.pass.waits ≡ None) }
+    {
+        match next_frame(self.inbox.bytes()) {
+            Frame::Whole { end } => self.handle(rt, broker, end),
+            Frame::TooLong { size } => self.end(broker, SessionEnd::FrameTooLong { size }),
+            Frame::NotYet => {
+                if !self.is_shut {
+                    return Ok(false);
+                }
+                let end = end_of_input(self.inbox.bytes());
+                self.end(broker, end)
+            }
+        }
     }
 
     // Takes the reply to its request that waits, if that was won.

@@ -1,5 +1,5 @@
 //! A worker, to which `run_lines` gives a thread: `work` plays the lines that are its own, and lets its sessions go on after each.
-ghost use Rattle.std.specs.Prelude.{◌≡◌, ◌≢◌, ◌≤◌, ◌<◌, ◌/◌, ℕ, [], ◌∷◌, ◌++◌, true, false, List as Items, IfOk, OnOk, length, slice_index_or};
+ghost use Rattle.std.specs.Prelude.{◌≡◌, ◌≢◌, ◌≤◌, ◌<◌, ◌/◌, ℕ, [], ◌∷◌, ◌++◌, true, false, List as Items, Some, IfOk, IfSome, OnOk, length, slice_index_or};
 ghost use Rattle.partlog.specs.declared.clock_event.TheConstants.{MOST_MOMENT};
 ghost use Rattle.trace_file.specs.Contents.{is_shut, sessions_of};
 ghost use Rattle.trace_file.specs.declared.line.Line.{Line as TheLine};
@@ -7,7 +7,7 @@ ghost use Rattle.trace_file.specs.declared.line.Line.TheVariants.{Feed, Shut, Cl
 ghost use Rattle.trace_workers.specs.Resting.{Rests};
 ghost use Rattle.trace_workers.specs.Sessions.{SessionView};
 ghost use Rattle.trace_workers.specs.Workers.{AllRest, HasAll, HasDone, IsSameWorker};
-ghost use Rattle.trace_workers.specs.Own.{MayTake, is_own, is_own_session};
+ghost use Rattle.trace_workers.specs.Own.{MayTake, is_own, is_own_session, named_place};
 ghost use Rattle.trace_workers.specs.Playable.{AreTraced};
 
 use crate::TraceSession;
@@ -63,6 +63,7 @@ impl Worker {
         ensures same { IsSameWorker self.old self.new }
         ensures running { self.new.is_stopped ≡ self.old.is_stopped }
         ensures done { OnOk result ((before : Items TheLine) → HasDone broker.now before self.old → HasDone broker.now (before ++ Feed session bytes.now ∷ []) self.new) }
+        ensures alone { (k : ℕ) (s : SessionView) → k ≢ session / self.old.worker_count → slice_index_or self.new.sessions k s ≡ slice_index_or self.old.sessions k s }
     {
         let at = (session / self.worker_count) as usize;
         self.sessions.as_mut_slice()[at].feed(broker, bytes)
@@ -76,6 +77,7 @@ impl Worker {
         ensures same { IsSameWorker self.old self.new }
         ensures running { self.new.is_stopped ≡ self.old.is_stopped }
         ensures done { (before : Items TheLine) → HasDone broker.now before self.old → HasDone broker.now (before ++ Shut session ∷ []) self.new }
+        ensures alone { (k : ℕ) (s : SessionView) → k ≢ session / self.old.worker_count → slice_index_or self.new.sessions k s ≡ slice_index_or self.old.sessions k s }
     {
         let at = (session / self.worker_count) as usize;
         self.sessions.as_mut_slice()[at].shut(broker);
@@ -102,6 +104,8 @@ impl Worker {
         ensures same { IsSameWorker self.old self.new }
         ensures running { self.new.is_stopped ≡ self.old.is_stopped }
         ensures done { OnOk result ((before : Items TheLine) → HasDone broker.now before self.old → HasDone broker.now (before ++ line.now ∷ []) self.new) }
+        ensures alone { (place : ℕ) → named_place self.old line.now ≡ Some place
+            → (k : ℕ) (s : SessionView) → k ≢ place → slice_index_or self.new.sessions k s ≡ slice_index_or self.old.sessions k s }
     {
         match line {
             Line::Feed { session, bytes } => self.feed(broker, *session, bytes.as_slice()),
@@ -146,6 +150,38 @@ impl Worker {
         Ok(did)
     }
 
+    // The place of the session that the line names.
+    fn named_place(&self, line: &Line) -> Option<usize>
+        ensures { result ≡ named_place self.now line.now }
+    {
+        match line {
+            Line::Feed { session, .. } | Line::Shut { session } => {
+                Some((*session / self.worker_count) as usize)
+            }
+            Line::Clock { .. } | Line::Topic { .. } | Line::End => None,
+        }
+    }
+
+    // Lets one of its sessions go on until it can't, and answers whether it did anything.
+    fn go_on_at(&mut self, rt: &impl Wait, broker: &Broker, at: usize) -> Result<bool, NoMemory>
+        requires there { at < length self.old.sessions }
+        requires done { (lines : Items TheLine) × HasDone broker.now lines self.old }
+        ensures same { IsSameWorker self.old self.new }
+        ensures running { self.new.is_stopped ≡ self.old.is_stopped }
+        ensures done { OnOk result ((lines : Items TheLine) → HasDone broker.now lines self.old → HasDone broker.now lines self.new) }
+        ensures alone { (k : ℕ) (s : SessionView) → k ≢ at → slice_index_or self.new.sessions k s ≡ slice_index_or self.old.sessions k s }
+        ensures rests { OnOk result ((s : SessionView) → Rests (slice_index_or self.new.sessions at s)) }
+    {
+        let mut did = false;
+        for _ in rt.forever() {
+            if !self.step(rt, broker, at)? {
+                return Ok(did);
+            }
+            did = true;
+        }
+        unreachable!()
+    }
+
     // Lets its sessions go on until none can.
     fn go_on(&mut self, rt: &impl Wait, broker: &Broker) -> Result<(), NoMemory>
         requires done { (lines : Items TheLine) × HasDone broker.now lines self.old }
@@ -160,6 +196,24 @@ impl Worker {
             }
         }
         unreachable!()
+    }
+
+    // Lets its sessions go on after a line. If the one that the line names did nothing, no other could go on by that, and none is asked.
+    fn go_on_after(&mut self, rt: &impl Wait, broker: &Broker, named: Option<usize>) -> Result<(), NoMemory>
+        requires there { IfSome named (λ at. at < length self.old.sessions) }
+        requires done { (lines : Items TheLine) × HasDone broker.now lines self.old }
+        ensures same { IsSameWorker self.old self.new }
+        ensures running { self.new.is_stopped ≡ self.old.is_stopped }
+        ensures done { OnOk result ((lines : Items TheLine) → HasDone broker.now lines self.old → HasDone broker.now lines self.new) }
+        ensures rests { OnOk result (((at k : ℕ) (s : SessionView) → named ≡ Some at → k ≢ at → k < length self.old.sessions → Rests (slice_index_or self.old.sessions k s)) → AllRest self.new) }
+    {
+        let Some(at) = named else {
+            return self.go_on(rt, broker);
+        };
+        if !self.go_on_at(rt, broker, at)? {
+            return Ok(());
+        }
+        self.go_on(rt, broker)
     }
 
     // Plays one line of the list, if it is its own.
@@ -181,8 +235,9 @@ impl Worker {
             return Ok(());
         }
         gate.pass(self.number, at);
+        let named = self.named_place(line);
         self.take(rt, broker, line)?;
-        self.go_on(rt, broker)
+        self.go_on_after(rt, broker, named)
     }
 
     // Plays all lines that are its own.
@@ -207,7 +262,8 @@ impl Worker {
         Ok(())
     }
 
-    /// Plays all lines that are its own, in their order, and after each lets its sessions go on until none can. It stops if memory runs out.
+    /// Plays all lines that are its own, in their order. After each its sessions go on: the one that the line names, and if that did anything, or
+    /// the line named none, all until none can. It stops if memory runs out.
     pub fn work<G: Gate>(&mut self, rt: &impl Wait, broker: &Broker, gate: &G, lines: &[Line])
         requires traced { AreTraced lines.now }
         requires begun { HasDone broker.now [] self.old }

@@ -1,7 +1,7 @@
 use Rattle.std.proofs.Common.{◌≡◌, Bool, List, ℕ, true, sym, subst, ap, ◌∙◌}
 use Rattle.trace_workers.specs.Ending.{MayEndSo}
 use Rattle.trace_workers.specs.Sessions.{SessionView}
-use Rattle.trace_workers.proofs.session.TraceSession.step.Goals as goal
+use Rattle.trace_workers.proofs.session.TraceSession.take_next.Goals as goal
 
 pub end-requires-in-NotYet-clause-shown : goal.end-requires-in-NotYet-clause-shown
 end-requires-in-NotYet-clause-shown g c t going =
