@@ -199,7 +199,12 @@ impl Worker {
     }
 
     // Lets its sessions go on after a line. If the one that the line names did nothing, no other could go on by that, and none is asked.
-    fn go_on_after(&mut self, rt: &impl Wait, broker: &Broker, named: Option<usize>) -> Result<(), NoMemory>
+    fn go_on_after(
+        &mut self,
+        rt: &impl Wait,
+        broker: &Broker,
+        named: Option<usize>,
+    ) -> Result<(), NoMemory>
         requires there { IfSome named (λ at. at < length self.old.sessions) }
         requires done { (lines : Items TheLine) × HasDone broker.now lines self.old }
         ensures same { IsSameWorker self.old self.new }
