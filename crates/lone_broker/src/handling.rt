@@ -65,7 +65,8 @@ fn answer_at_once(
 {
     if !is_quiet(&request.ask) {
         let frame = reply_frame(call.alloc, call.config, parts, request, came.accepted())?;
-        call.digits.put_reply_line(out, call.visitor.who.by, frame.as_slice())?;
+        call.digits
+            .put_reply_line(out, call.visitor.who.by, frame.as_slice())?;
     }
     Ok(Handled {
         accept: came.into_points(),
