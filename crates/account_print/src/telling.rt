@@ -20,7 +20,7 @@ use audit::{Account, Call, CallHow, Transcript, print_replay, put_end_line};
 use kbytes::{Bytes, List, NoMemory};
 use kwire::reply_bytes;
 use std::alloc::Global;
-use trace_file::put_reply_line;
+use trace_file::Digits;
 
 fn is_answered(how: CallHow) -> bool
     ensures { result ≡ is_answered how }
@@ -31,12 +31,13 @@ fn is_answered(how: CallHow) -> bool
     }
 }
 
-// An account, and the past of each of its partitions.
+// An account, the past of each of its partitions, and the digits of the bytes.
 #[derive(Clone, Copy, Debug)]
 struct Teller<'a> {
     alloc: Global,
     account: &'a Account,
     pasts: &'a [Past],
+    digits: &'a Digits,
 }
 
 // Puts the line of a call's reply if it was answered.
@@ -57,7 +58,9 @@ fn put_reply(
     }
     let reply = reply_to(teller.alloc, teller.account, teller.pasts, call)?;
     let frame = reply_bytes(teller.alloc, &reply)?;
-    put_reply_line(out, session, frame.as_slice())
+    teller
+        .digits
+        .put_reply_line(out, session, frame.as_slice())
 }
 
 // Puts the lines of these calls' replies.
@@ -149,10 +152,12 @@ pub(crate) fn passes_text(
     requires pasts { pasts.now ≡ map history_of account.now.parts }
     ensures { IfOk result (λ text. IsTextOf account.now (sessions_in passes.now) text) }
 {
+    let digits = Digits::make(alloc)?;
     let teller = Teller {
         alloc,
         account,
         pasts,
+        digits: &digits,
     };
     let mut text = Bytes::new(alloc);
     put_passes(&teller, passes, &mut text)?;
