@@ -58,9 +58,7 @@ fn put_reply(
     }
     let reply = reply_to(teller.alloc, teller.account, teller.pasts, call)?;
     let frame = reply_bytes(teller.alloc, &reply)?;
-    teller
-        .digits
-        .put_reply_line(out, session, frame.as_slice())
+    teller.digits.put_reply_line(out, session, frame.as_slice())
 }
 
 // Puts the lines of these calls' replies.
