@@ -198,7 +198,8 @@ impl Worker {
         unreachable!()
     }
 
-    // Lets its sessions go on after a line. If the one that the line names did nothing, no other could go on by that, and none is asked.
+    // Lets its sessions go on after a line. If the one that the line names did nothing, no other could go on by that, and a worker that plays
+    // alone asks none. Beside other workers all are asked, since another thread may have answered what one of them waits for.
     fn go_on_after(
         &mut self,
         rt: &impl Wait,
@@ -215,7 +216,8 @@ impl Worker {
         let Some(at) = named else {
             return self.go_on(rt, broker);
         };
-        if !self.go_on_at(rt, broker, at)? {
+        let did = self.go_on_at(rt, broker, at)?;
+        if !did && self.worker_count == 1 {
             return Ok(());
         }
         self.go_on(rt, broker)
@@ -267,8 +269,7 @@ impl Worker {
         Ok(())
     }
 
-    /// Plays all lines that are its own, in their order. After each its sessions go on: the one that the line names, and if that did anything, or
-    /// the line named none, all until none can. It stops if memory runs out.
+    /// Plays all lines that are its own, in their order, and after each lets its sessions go on until none can. It stops if memory runs out.
     pub fn work<G: Gate>(&mut self, rt: &impl Wait, broker: &Broker, gate: &G, lines: &[Line])
         requires traced { AreTraced lines.now }
         requires begun { HasDone broker.now [] self.old }
