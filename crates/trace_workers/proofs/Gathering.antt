@@ -1,5 +1,5 @@
 -- All sessions and the clock of the workers, in one hand.
-use Rattle.std.proofs.Common.{◌≡◌, ◌∙◌, ℕ, suc, ◌+◌, ◌-◌, ◌*◌, ◌/◌, ◌%◌, ◌<◌, ◌≤◌, false, List, [], ◌∷◌, ◌++◌, append-nil, get_or, length, take, refl, sym, ap, subst, arith, inl, inr, length-append}
+use Rattle.std.proofs.Common.{◌≡◌, ◌∙◌, ℕ, suc, ◌+◌, ◌-◌, ◌*◌, ◌/◌, ◌%◌, ◌<◌, ◌≤◌, List, [], ◌∷◌, ◌++◌, append-nil, get_or, length, take, refl, sym, ap, subst, arith, inl, inr, length-append}
 use Rattle.std.specs.Prelude.{All, Any, None, Option, Some}
 use Rattle.std.specs.List.{flat_map}
 use Rattle.std.specs.Option.{option_or}
@@ -14,18 +14,8 @@ use Rattle.trace_workers.specs.Sessions.{SessionView}
 use Rattle.trace_workers.specs.Workers.{HasTaken, HasToldAll, IfClock, WorkerView}
 use Rattle.trace_workers.specs.Dealing.{empty_worker, fresh_session}
 use Rattle.trace_workers.specs.Dealt.{AreWorked}
+use Rattle.trace_workers.specs.Gathered.{IsRunning, first_clock, sessions_in}
 use Rattle.trace_workers.specs.Joined.{HasJoined}
-
-abbrev pub sessions_in : WorkerView → List SessionView
-sessions_in worker = worker.sessions
-
--- the first clock that there is
-abbrev pub first_clock : List WorkerView → Option PassView
-first_clock [] = None
-first_clock (worker ∷ workers) = option_or worker.clock (first_clock workers)
-
-abbrev pub IsRunning : WorkerView → Type 0
-IsRunning worker = worker.is_stopped ≡ false
 
 -- no worker is left
 pub all_workers : (front rest workers : List WorkerView) → length rest ≡ 0 → front ++ rest ≡ workers → front ≡ workers

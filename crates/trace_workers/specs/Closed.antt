@@ -22,3 +22,8 @@ pub record CameTo (broker : BrokerView) (lines : List Line) (count : ℕ) (drain
   pub run : HasRun broker lines count drain joined
   pub come : HasCome drain joined
   pub account_is : IsAccountOf broker (passes_in joined) account
+
+-- the broker is closed after all came to rest, or all is handed back, and the run can go on
+abbrev pub HasGoneOn : BrokerView → List Line → ℕ → Bool → Closing → Type 0
+HasGoneOn broker lines count drain (Closing.Closed account) = CameTo broker lines count drain account
+HasGoneOn broker lines count drain (Closing.Again again back) = (again ≡ broker) × HasRun broker lines count drain back

@@ -24,5 +24,7 @@ pub mod Joined
 pub mod Dealt
 -- sessions as they are dealt, one after the other
 pub mod Dealing
+-- what is had back from workers
+pub mod Gathered
 -- joined sessions that are closed
 pub mod Closed

@@ -1,11 +1,14 @@
 //! `run_lines` deals the passes of a new broker to workers by `deal`, and has their sessions and the clock back from `gather` once all threads
 //! are joined.
-ghost use Rattle.std.specs.Prelude.{◌≡◌, ◌+◌, ◌<◌, ◌≤◌, ◌++◌, ◌∷◌, ℕ, [], false, Some, List as Items, IfOk, OnOk, length};
+ghost use Rattle.std.specs.Prelude.{◌≡◌, ◌+◌, ◌<◌, ◌≤◌, ◌++◌, ◌∷◌, ℕ, [], false, All, Some, List as Items, IfOk, OnOk, length};
+ghost use Rattle.std.specs.List.{flat_map};
+ghost use Rattle.std.specs.Option.{option_or};
 ghost use Rattle.shared_broker.specs.Making.{fresh_pass, fresh_passes};
 ghost use Rattle.shared_broker.specs.Passes.{BrokerView};
 ghost use Rattle.trace_file.specs.declared.line.Line.{Line as TheLine};
 ghost use Rattle.trace_workers.specs.Dealing.{AreDealing, empty_worker, empty_workers};
 ghost use Rattle.trace_workers.specs.Dealt.{AreDealt, AreWorked};
+ghost use Rattle.trace_workers.specs.Gathered.{IsRunning, first_clock, sessions_in};
 ghost use Rattle.trace_workers.specs.Joined.{HasJoined};
 
 use crate::joined::JoinedSessions;
@@ -136,19 +139,54 @@ fn append(sessions: &mut List<TraceSession>, more: List<TraceSession>) -> Result
     Ok(())
 }
 
+// Keeps this clock, if there is none yet.
+fn keep_clock(clock: &mut Option<Pass>, more: Option<Pass>)
+    ensures { clock.new ≡ option_or clock.old more }
+{
+    *clock = clock.take().or(more);
+}
+
+// What was had back from workers: their sessions, and the clock once one had that.
+#[derive(Drop)]
+struct Gathered {
+    sessions: List<TraceSession>,
+    clock: Option<Pass>,
+}
+
+// Has one more worker's sessions and clock back. An error if it ran out of memory.
+fn gather_worker(gathered: &mut Gathered, worker: Worker) -> Result<(), NoMemory>
+    ensures running { OnOk result (IsRunning worker) }
+    ensures sessions { OnOk result (gathered.new.sessions ≡ gathered.old.sessions ++ worker.sessions) }
+    ensures clock { OnOk result (gathered.new.clock ≡ option_or gathered.old.clock worker.clock) }
+{
+    let (own, clock) = take_worker(worker)?;
+    keep_clock(&mut gathered.clock, clock);
+    append(&mut gathered.sessions, own)
+}
+
+// The sessions of all workers, and the first clock that there is. An error if one of them ran out of memory.
+fn gather_all(alloc: Global, workers: List<Worker>) -> Result<Gathered, NoMemory>
+    ensures running { IfOk result (λ gathered. All IsRunning workers) }
+    ensures sessions { IfOk result (λ gathered. gathered.sessions ≡ flat_map sessions_in workers) }
+    ensures clock { IfOk result (λ gathered. gathered.clock ≡ first_clock workers) }
+{
+    let mut gathered = Gathered {
+        sessions: List::new(alloc),
+        clock: None,
+    };
+    for worker in workers.into_vec() {
+        gather_worker(&mut gathered, worker)?;
+    }
+    Ok(gathered)
+}
+
 /// The sessions and the clock of all workers. An error if one of them ran out of memory.
 pub fn gather(alloc: Global, workers: List<Worker>) -> Result<JoinedSessions, NoMemory>
     requires { (broker : BrokerView) × (lines : Items TheLine) × (count : ℕ) × (worker_count : ℕ) × (1 ≤ worker_count) × AreWorked broker lines count worker_count workers }
     ensures { IfOk result (λ joined. (broker : BrokerView) (lines : Items TheLine) (count worker_count : ℕ) → 1 ≤ worker_count → AreWorked broker lines count worker_count workers
         → HasJoined broker lines count joined) }
 {
-    let mut sessions = List::new(alloc);
-    let mut clock = None;
-    for worker in workers.into_vec() {
-        let (own, its_clock) = take_worker(worker)?;
-        append(&mut sessions, own)?;
-        clock = clock.or(its_clock);
-    }
+    let Gathered { sessions, clock } = gather_all(alloc, workers)?;
     let Some(clock) = clock else { unreachable!() };
     Ok(JoinedSessions { sessions, clock })
 }

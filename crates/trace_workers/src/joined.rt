@@ -1,11 +1,13 @@
 //! The sessions and the clock of a run once `gather` has them from the workers: `run_lines` calls `close`, by which one thread lets them go on
 //! and then closes the broker.
-ghost use Rattle.std.specs.Prelude.{◌≡◌, ◌≢◌, ◌≤◌, ◌<◌, ◌+◌, ℕ, true, false, All, List as Items, IfOk, OnOk, is_some, length, map, slice_index_or};
+ghost use Rattle.std.specs.Prelude.{◌≡◌, ◌≢◌, ◌≤◌, ◌<◌, ◌+◌, ◌++◌, ◌∷◌, [], ℕ, true, false, All, List as Items, IfOk, OnOk, is_some, length, map, slice_index_or};
 ghost use Rattle.std.specs.List.{list_any};
 ghost use Rattle.trace_file.specs.declared.line.Line.{Line as TheLine};
+ghost use Rattle.shared_broker.specs.Closing.{HasClosed as HasEnded};
+ghost use Rattle.shared_broker.specs.Passes.{BrokerView};
 ghost use Rattle.trace_workers.specs.Resting.{Rests};
 ghost use Rattle.trace_workers.specs.Sessions.{SessionView, desk_of};
-ghost use Rattle.trace_workers.specs.Closed.{CameTo, HasClosed, IsWhole};
+ghost use Rattle.trace_workers.specs.Closed.{CameTo, HasClosed, HasGoneOn, IsWhole};
 ghost use Rattle.trace_workers.specs.Joined.{JoinedView, HasCome, HasJoined, HasRun, passes_in};
 
 use crate::{Desk, TraceSession};
@@ -58,6 +60,38 @@ fn later(rt: &impl Wait, ticked: u64) -> u64
     ticked + DRAIN_STEP
 }
 
+// Sessions that were taken apart for the close: their passes, and the rest of each.
+#[derive(Drop)]
+struct Parts {
+    passes: List<Pass>,
+    desks: List<Desk>,
+}
+
+// Takes one more session apart.
+fn add_parts(parts: &mut Parts, session: TraceSession) -> Result<(), NoMemory>
+    ensures passes { OnOk result (parts.new.passes ≡ parts.old.passes ++ session.pass ∷ []) }
+    ensures desks { OnOk result (parts.new.desks ≡ parts.old.desks ++ desk_of session ∷ []) }
+{
+    let (pass, desk) = session.into_parts();
+    parts.passes.push(pass)?;
+    parts.desks.push(desk)
+}
+
+// Takes each session apart.
+fn take_apart(alloc: Global, sessions: List<TraceSession>) -> Result<Parts, NoMemory>
+    ensures passes { IfOk result (λ parts. parts.passes ≡ map (λ (s : SessionView). s.pass) sessions) }
+    ensures desks { IfOk result (λ parts. parts.desks ≡ map desk_of sessions) }
+{
+    let mut parts = Parts {
+        passes: List::new(alloc),
+        desks: List::new(alloc),
+    };
+    for session in sessions.into_vec() {
+        add_parts(&mut parts, session)?;
+    }
+    Ok(parts)
+}
+
 // The sessions of these desks, each with its pass again.
 fn seat_all(
     alloc: Global,
@@ -76,6 +110,52 @@ fn seat_all(
         sessions.push(desk.with(pass))?;
     }
     Ok(sessions)
+}
+
+// What became of a broker that was to be closed, with the joined sessions put together again if it is handed back: these desks are the rest of them.
+fn after_close(alloc: Global, end: BrokerEnd, desks: List<Desk>) -> Result<Closing, NoMemory>
+    requires { (broker : BrokerView) × (joined : JoinedView) × HasEnded broker (passes_in joined) end × (desks ≡ map desk_of joined.sessions) }
+    ensures { IfOk result (λ closing. (broker : BrokerView) (joined : JoinedView) → HasEnded broker (passes_in joined) end → desks ≡ map desk_of joined.sessions
+        → HasClosed broker joined closing) }
+{
+    match end {
+        BrokerEnd::Closed(account) => Ok(Closing::Closed(account)),
+        BrokerEnd::Untaken { broker, passes } => put_together(alloc, broker, passes, desks),
+        BrokerEnd::NoMemory => Err(NoMemory),
+    }
+}
+
+// Hands everything back.
+fn put_together(
+    alloc: Global,
+    broker: Broker,
+    passes: List<Pass>,
+    desks: List<Desk>,
+) -> Result<Closing, NoMemory>
+    requires { (joined : JoinedView) × (passes ≡ passes_in joined) × (desks ≡ map desk_of joined.sessions) }
+    ensures { IfOk result (λ closing. (joined : JoinedView) → passes ≡ passes_in joined → desks ≡ map desk_of joined.sessions → closing ≡ Closing.Again broker joined) }
+{
+    let joined = JoinedSessions::of_parts(alloc, passes, desks)?;
+    Ok(Closing::Again { broker, joined })
+}
+
+// A broker that is yet to be closed, and the sessions of its run.
+#[derive(Drop)]
+struct Unclosed {
+    broker: Broker,
+    joined: JoinedSessions,
+}
+
+impl Unclosed {
+    // Lets the sessions and the clock go on until nobody can act, and then closes the broker, or hands everything back.
+    fn finish(self, rt: &impl Wait, alloc: Global, drain: bool) -> Result<Closing, NoMemory>
+        requires { (lines : Items TheLine) × (count : ℕ) × HasRun self.broker lines count drain self.joined × IsWhole self.broker count }
+        ensures { IfOk result (λ closing. (lines : Items TheLine) (count : ℕ) → HasRun self.broker lines count drain self.joined → HasGoneOn self.broker lines count drain closing) }
+    {
+        let Unclosed { broker, mut joined } = self;
+        joined.finish(rt, &broker, drain)?;
+        joined.try_close(rt, alloc, broker)
+    }
 }
 
 impl JoinedSessions {
@@ -161,20 +241,14 @@ impl JoinedSessions {
     }
 
     // The passes, the clock's as the last, and the rest of each session.
-    fn into_parts(self, alloc: Global) -> Result<(List<Pass>, List<Desk>), NoMemory>
-        ensures passes { IfOk result (λ parts. parts.0 ≡ passes_in self) }
-        ensures desks { IfOk result (λ parts. parts.1 ≡ map desk_of self.sessions) }
+    fn into_parts(self, alloc: Global) -> Result<Parts, NoMemory>
+        ensures passes { IfOk result (λ parts. parts.passes ≡ passes_in self) }
+        ensures desks { IfOk result (λ parts. parts.desks ≡ map desk_of self.sessions) }
     {
         let JoinedSessions { sessions, clock } = self;
-        let mut passes = List::new(alloc);
-        let mut desks = List::new(alloc);
-        for session in sessions.into_vec() {
-            let (pass, desk) = session.into_parts();
-            passes.push(pass)?;
-            desks.push(desk)?;
-        }
-        passes.push(clock)?;
-        Ok((passes, desks))
+        let mut parts = take_apart(alloc, sessions)?;
+        parts.passes.push(clock)?;
+        Ok(parts)
     }
 
     // The joined sessions, from what `into_parts` made of them.
@@ -199,15 +273,8 @@ impl JoinedSessions {
         requires whole { (lines : Items TheLine) × (count : ℕ) × HasJoined broker lines count self × IsWhole broker count }
         ensures { IfOk result (HasClosed broker self) }
     {
-        let (passes, desks) = self.into_parts(alloc)?;
-        match broker.close(rt, passes) {
-            BrokerEnd::Closed(account) => Ok(Closing::Closed(account)),
-            BrokerEnd::Untaken { broker, passes } => {
-                let joined = JoinedSessions::of_parts(alloc, passes, desks)?;
-                Ok(Closing::Again { broker, joined })
-            }
-            BrokerEnd::NoMemory => Err(NoMemory),
-        }
+        let Parts { passes, desks } = self.into_parts(alloc)?;
+        after_close(alloc, broker.close(rt, passes), desks)
     }
 
     /// Lets the sessions and the clock go on until nobody can act, and closes the broker. If a request was won meanwhile, does that again.
@@ -221,19 +288,14 @@ impl JoinedSessions {
         requires { (lines : Items TheLine) × (count : ℕ) × HasRun broker lines count drain self × IsWhole broker count }
         ensures { IfOk result (λ account. (lines : Items TheLine) (count : ℕ) → HasRun broker lines count drain self → CameTo broker lines count drain account) }
     {
-        let mut broker = broker;
-        let mut joined = self;
+        let mut left = Unclosed {
+            broker,
+            joined: self,
+        };
         for _ in rt.forever() {
-            joined.finish(rt, &broker, drain)?;
-            match joined.try_close(rt, alloc, broker)? {
+            match left.finish(rt, alloc, drain)? {
                 Closing::Closed(account) => return Ok(account),
-                Closing::Again {
-                    broker: again,
-                    joined: back,
-                } => {
-                    broker = again;
-                    joined = back;
-                }
+                Closing::Again { broker, joined } => left = Unclosed { broker, joined },
             }
         }
         unreachable!()

@@ -5,6 +5,6 @@ use Rattle.trace_workers.proofs.joined.JoinedSessions.close.Given as goal
 
 abbrev pub invariant-loop : goal.invariant-loop
 invariant-loop g l = record {
-  broker : l.broker ≡ l.fn.broker;
-  run : (lines : List Line) (count : ℕ) → HasRun l.fn.broker lines count l.drain l.fn.self → HasRun l.fn.broker lines count l.drain l.joined;
+  broker : l.left.broker ≡ l.fn.broker;
+  run : (lines : List Line) (count : ℕ) → HasRun l.fn.broker lines count l.drain l.fn.self → HasRun l.fn.broker lines count l.drain l.left.joined;
 }

@@ -1,0 +1,28 @@
+use Rattle.std.proofs.Common.{ℕ, Bool, List, ◌++◌, map, subst, sym}
+use Rattle.std.proofs.lemmas.Result.{IfOk-weaker}
+use Rattle.shared_broker.specs.Passes.{BrokerView}
+use Rattle.trace_file.specs.declared.line.Line.{Line}
+use Rattle.trace_file.specs.declared.line.Line.TheVariants.{Clock}
+use Rattle.trace_workers.specs.Closed.{HasClosed, HasGoneOn}
+use Rattle.trace_workers.specs.Joined.{HasCome, HasRun, JoinedView}
+use Rattle.trace_workers.specs.declared.joined.Closing.{Closing}
+use Rattle.trace_workers.proofs.joined.Unclosed.finish.Goals as goal
+
+pub try_close-requires : goal.try_close-requires
+try_close-requires g c =
+    let r = c.requires in
+    let h = c.in_ok-finish.ensures.run r.0 r.1 r.2 in
+    record { whole = (r.0 ++ map Clock h.added, r.1, h.whole, r.3) }
+
+gone_on : (broker : BrokerView) (lines : List Line) (count : ℕ) (drain : Bool) (joined : JoinedView) (closing : Closing) → HasRun broker lines count drain joined → HasCome drain joined
+    → HasClosed broker joined closing → HasGoneOn broker lines count drain closing
+gone_on broker lines count drain joined (Closing.Closed account) run come is = record { joined = joined; run = run; come = come; account_is = is }
+gone_on broker lines count drain joined (Closing.Again again back) run come is = (is.0, subst (HasRun broker lines count drain) (sym is.1) run)
+
+pub returns : goal.returns
+returns g c =
+    let broker = c.args.self.broker in
+    let drain = c.args.drain in
+    let joined = c.finish.new.self in
+    IfOk-weaker c.try_close.result (HasClosed broker joined) _
+    (λ closing is lines count run. gone_on broker lines count drain joined closing (c.in_ok-finish.ensures.run lines count run) c.in_ok-finish.ensures.come is) c.try_close.ensures
