@@ -29,19 +29,19 @@ module _ (room : RoomView) (followers : List ℕ) (passes : ℕ) (shape : room.t
   pub sources_dealt : AreFirst room.table (3 * length followers) left × (last ≡ fresh_source room.table (3 * length followers))
   sources_dealt = first_sources room.table left last (3 * length followers) (ap (λ (s : Shape). s.gauges) shape) (sym popped ∙ fresh)
 
-  module _ (parts : List (TurnLock PartView LogEntry)) (clock : TurnLock MomentView ClockEntry) (desk : MomentView) (as_many : length parts ≡ length followers) (named : AreFrom (IsPartLock room.table followers passes) 0 parts)
-      (desk_is : desk ≡ record { events = []; tickers = []; source = last }) (name : lock_name moment_name clock ≡ moment_name desk) (all : lock_passes clock ≡ passes) where
+  module _ (parts : List (TurnLock PartView LogEntry)) (clock : TurnLock MomentView ClockEntry) (as_many : length parts ≡ length followers) (named : AreFrom (IsPartLock room.table followers passes) 0 parts)
+      (name : lock_name moment_name clock ≡ desk_name last.table last.gauge) (all : lock_passes clock ≡ passes) where
     pub followers_made : followers_in (shared_view room parts clock) ≡ followers
     followers_made = new_followers room followers passes parts clock named as_many
 
     pub shared_made : AreShared (shared_view room parts clock) × HaveAllPasses room parts clock
     shared_made =
         let clock_name : lock_name moment_name clock ≡ desk_name room.table (3 * length followers) =
-        name ∙ ap moment_name desk_is ∙ ap (λ (source : SourceView). desk_name source.table source.gauge) sources_dealt.1 in
+        name ∙ ap (λ (source : SourceView). desk_name source.table source.gauge) sources_dealt.1 in
         (new_shared room followers passes parts clock named as_many (ap (λ (s : Shape). s.gauges) shape) clock_name, new_passes room followers passes parts clock named as_many (ap (λ (s : Shape). s.passes) shape) all)
 
     module _ (seats : List PassView) (rows : List (Vec (TurnPass PartView LogEntry) Global)) (keys : List (TurnPass MomentView ClockEntry)) (of_room : seats ≡ fresh_passes room) (rows_count : length rows ≡ passes)
-        (of_rows : AreFrom (IsFreshRow (map part_lock parts)) 0 rows) (keys_count : length keys ≡ passes) (of_keys : AreFresh (lock_id clock) (moment_name desk) keys) where
+        (of_rows : AreFrom (IsFreshRow (map part_lock parts)) 0 rows) (keys_count : length keys ≡ passes) (of_keys : AreFresh (lock_id clock) (desk_name last.table last.gauge) keys) where
       pub seats_count : length seats ≡ passes
       seats_count =
           ap (λ (l : List PassView). length l) of_room ∙ length-map (fresh_callers room.table) (with_locks room.locks) ∙ length-map-range_with_len (fresh_caller room.table) 0 room.table.shape.passes

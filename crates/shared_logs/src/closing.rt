@@ -1,5 +1,5 @@
 //! The end of the logs, once the threads are joined: the room becomes still, and every lock is closed with all of its passes.
-ghost use Rattle.std.specs.Prelude.{◌≡◌, All, IfOk, length, map};
+ghost use Rattle.std.specs.Prelude.{◌≡◌, [], ◌∷◌, ◌++◌, All, IfOk, OnOk, length, map};
 ghost use Rattle.turn_lock.specs.Locks.{lock_passes};
 ghost use Rattle.room_table.specs.Seats.{TableView, caller_now};
 ghost use Rattle.purgatory.specs.Making.{AreFrom};
@@ -48,6 +48,16 @@ struct ClosedParts {
     hands: List<Hand>,
 }
 
+// Puts the sources of a partition's gauges at the end.
+fn put_sources(sources: &mut List<Source>, three: PartSources) -> Result<(), NoMemory>
+    ensures { OnOk result (sources.new ≡ ((sources.old ++ three.high ∷ []) ++ three.visible ∷ []) ++ three.end ∷ []) }
+{
+    let PartSources { high, visible, end } = three;
+    sources.push(high)?;
+    sources.push(visible)?;
+    sources.push(end)
+}
+
 // The partitions' locks are closed, each with the passes that all hands have of it.
 #[tactic(auto, using(crate::proofs::Gone::gone_none, crate::proofs::Gone::tell_none))]
 fn close_parts(
@@ -68,10 +78,8 @@ fn close_parts(
     for lock in locks {
         let (rest, passes) = first_of_each(alloc, hands)?;
         hands = rest;
-        let (log, PartSources { high, visible, end }) = lock.close(passes).into_parts();
-        sources.push(high)?;
-        sources.push(visible)?;
-        sources.push(end)?;
+        let (log, three) = lock.close(passes).into_parts();
+        put_sources(&mut sources, three)?;
         logs.push(log)?;
     }
     Ok(ClosedParts {

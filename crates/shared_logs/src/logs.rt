@@ -4,7 +4,7 @@ ghost use Rattle.std.specs.Prelude.{◌≡◌, ◌≤◌, IfOk, length};
 ghost use Rattle.shared_logs.specs.Making.{fresh_log_passes};
 ghost use Rattle.shared_logs.specs.Shared.{followers_in};
 
-use crate::making::{log_passes, part_locks};
+use crate::making::{NewLocks, log_passes, new_locks};
 use crate::pass::LogPass;
 use crate::{MomentDesk, PartDesk};
 use kbytes::{List, NoMemory};
@@ -56,10 +56,13 @@ impl SharedLogs {
         let Some(last) = sources.pop() else {
             unreachable!()
         };
-        let (parts, rows) = part_locks(alloc, followers, sources, passes)?;
-        let desk = MomentDesk::make(alloc, last);
-        let (clock, keys) = TurnLock::make(alloc, desk, passes)?;
-        let passes = log_passes(alloc, seats, rows, keys)?;
+        let NewLocks {
+            parts,
+            rows,
+            clock,
+            clocks,
+        } = new_locks(alloc, followers, sources, last, passes)?;
+        let passes = log_passes(alloc, seats, rows, clocks)?;
         let logs = SharedLogs {
             alloc,
             room,

@@ -2,8 +2,11 @@
 ghost use Rattle.std.specs.Prelude.{◌≡◌, ◌*◌, ◌≤◌, List as Items, [], ◌∷◌, ◌++◌, IfOk, length, map};
 ghost use Rattle.purgatory.specs.Making.{AreFrom};
 ghost use Rattle.purgatory.specs.Rooms.{LockView};
-ghost use Rattle.room_table.specs.Seats.{TableView};
+ghost use Rattle.room_scans.specs.Desks.{desk_name};
+ghost use Rattle.room_table.specs.Seats.{TableView, source_now};
+ghost use Rattle.turn_lock.specs.Locks.{AreFresh, lock_id, lock_name, lock_passes};
 ghost use Rattle.shared_logs.specs.Dealt.{AreDealt, AreFirst, IsFreshOf, IsFreshRow, IsPartLock};
+ghost use Rattle.shared_logs.specs.Desks.{moment_name};
 ghost use Rattle.shared_logs.specs.Locked.{part_lock};
 ghost use Rattle.shared_logs.specs.Making.{fresh_log_passes};
 ghost use Rattle.shared_logs.specs.Shared.{SharedView};
@@ -15,8 +18,46 @@ use purgatory::{RoomPass, Source};
 use std::alloc::Global;
 use turn_lock::{TurnLock, TurnPass};
 
-/// The locks of the partitions by their numbers, and for each pass of the logs a row of their passes.
-pub(crate) fn part_locks(
+/// The locks of the partitions by their numbers, and the clock's. For each pass of the logs there is a row of the partitions' passes and one
+/// of the clock's.
+pub(crate) struct NewLocks {
+    pub(crate) parts: Vec<TurnLock<PartDesk>>,
+    pub(crate) rows: List<Vec<TurnPass<PartDesk>>>,
+    pub(crate) clock: TurnLock<MomentDesk>,
+    pub(crate) clocks: List<TurnPass<MomentDesk>>,
+}
+
+/// The locks of new logs, from the sources of the partitions' gauges and that of the clock's.
+pub(crate) fn new_locks(
+    alloc: Global,
+    followers: &[u32],
+    sources: List<Source>,
+    last: Source,
+    passes: u32,
+) -> Result<NewLocks, NoMemory>
+    requires parts { length followers.now ≤ 64 }
+    requires some { 1 ≤ passes }
+    requires sources { (table : TableView) × AreFirst table (3 * length followers.now) sources }
+    requires stored { (source_now last).stored ≡ 0 }
+    ensures count { IfOk result (λ made. length made.parts.items ≡ length followers.now) }
+    ensures locks { IfOk result (λ made. (table : TableView) → AreFirst table (3 * length followers.now) sources → AreFrom (IsPartLock table followers.now passes) 0 made.parts.items) }
+    ensures rows { IfOk result (λ made. (length made.rows ≡ passes) × AreFrom (IsFreshRow (map part_lock made.parts.items)) 0 made.rows) }
+    ensures clock { IfOk result (λ made. (lock_name moment_name made.clock ≡ desk_name last.table last.gauge) × (lock_passes made.clock ≡ passes)) }
+    ensures clocks { IfOk result (λ made. (length made.clocks ≡ passes) × AreFresh (lock_id made.clock) (desk_name last.table last.gauge) made.clocks) }
+{
+    let (parts, rows) = part_locks(alloc, followers, sources, passes)?;
+    let desk = MomentDesk::make(alloc, last);
+    let (clock, clocks) = TurnLock::make(alloc, desk, passes)?;
+    Ok(NewLocks {
+        parts,
+        rows,
+        clock,
+        clocks,
+    })
+}
+
+// The locks of the partitions by their numbers, and for each pass of the logs a row of their passes.
+fn part_locks(
     alloc: Global,
     followers: &[u32],
     sources: List<Source>,

@@ -1,4 +1,4 @@
-use Rattle.std.proofs.Common.{◌≡◌, ◌∙◌, List, [], ◌∷◌, ◌++◌, ap, arith, length, map, subst, sym}
+use Rattle.std.proofs.Common.{◌≡◌, ◌∙◌, List, ◌∷◌, ◌++◌, ap, arith, length, map, subst, sym}
 use Rattle.std.specs.Prelude.{All}
 use Rattle.std.specs.Vec.Iter.{into_iter_items}
 use Rattle.std.proofs.lemmas.List.{length_push}
@@ -8,7 +8,6 @@ use Rattle.turn_lock.specs.declared.lock.TurnLock.{TurnLock}
 use Rattle.turn_lock.specs.Locks.{lock_passes}
 use Rattle.shared_logs.specs.declared.entries.LogEntry.{LogEntry}
 use Rattle.shared_logs.specs.Desks.{PartView}
-use Rattle.room_table.specs.Seats.{SourceView}
 use Rattle.purgatory.specs.Making.{AreFrom}
 use Rattle.shared_logs.specs.Apart.{IsOfLocks}
 use Rattle.shared_logs.specs.Gone.{HaveGone, IsNamed, followers_named}
@@ -52,10 +51,9 @@ loop-lock-preserved c =
     let log = c.into_parts-log.result.0 in
     let three = c.into_parts-log.result.1 in
     let logs = c.loop-lock.logs in
-    let more = c.in_ok-push-4.ensures.ok in
+    let more = c.in_ok-push.ensures.ok in
     let size = ap (λ (l : List History). length l) more ∙ length_push logs log in
-    let sources =
-    c.in_ok-push-3.ensures.ok ∙ ap (λ (l : List SourceView). l ++ three.end ∷ []) (c.in_ok-push-2.ensures.ok ∙ ap (λ (l : List SourceView). l ++ three.visible ∷ []) c.in_ok-push.ensures.ok) in
+    let sources = c.in_ok-put_sources.ensures in
     record {
       len = omega (arith, len, gone, shorter);
       gone = subst (λ (l : List History). HaveGone l c.args.hands c.in_ok-rest.rest) (sym more)
