@@ -1,5 +1,7 @@
 //! What is printed of the worked account of three calls that waited, put together by hand.
-ghost use Rattle.std.specs.Prelude.{◌≡◌, ◌∷◌, [], IfOk};
+ghost use Rattle.std.specs.Prelude.{◌≡◌, ◌≤◌, ◌∷◌, [], IfOk};
+ghost use Rattle.account_print.specs.Tellable.{IsTellable};
+ghost use Rattle.audit.specs.Printable.{IsPrintable};
 ghost use Rattle.audit.specs.Worked.{cut_call, expired_call, parked_call, three_waits, two_parts};
 
 use account_print::{print_workers, workers_text};
@@ -12,6 +14,7 @@ use kwire::Config;
 use partlog::{ClockEvent, PartEvent};
 use std::alloc::Global;
 use std::test::*;
+use std::thread::Threads;
 
 // The sums over the three calls, and the line of each as of a link. The first two have no end.
 const SUMMED_UP: &str = "\
@@ -235,28 +238,75 @@ fn account(alloc: Global) -> Result<Account, NoMemory>
     })
 }
 
-#[test]
-fn a_worked_account_is_told(rt: HostRuntime) -> Result<(), Fail> {
+// The same, of which laws say that it can be told.
+fn tellable(alloc: Global) -> Result<Account, NoMemory>
+    ensures told { IfOk result IsTellable }
+    ensures printed { IfOk result IsPrintable }
+{
     worked_requests();
     worked_account();
-    let alloc = rt.alloc();
     let account = account(alloc)?;
+    Ok(account)
+}
+
+fn is_told(alloc: Global, account: &Account) -> Result<bool, NoMemory>
+    requires { IsTellable account.now }
+{
     let mut out = Bytes::new(alloc);
-    assert!(rt; print_workers(alloc, &account, &mut out).is_ok());
-    assert!(rt; out.as_slice() == PRINTED.as_bytes());
-    let mut storm = Bytes::new(alloc);
-    assert!(rt; print_storm(alloc, &account, &mut storm).is_ok());
-    assert!(rt; storm.as_slice() == SUMMED_UP.as_bytes());
-    let mut served = Bytes::new(alloc);
-    assert!(rt; print_serve(alloc, &account, &mut served).is_ok());
-    assert!(rt; served.as_slice() == AS_LINKS.as_bytes());
+    print_workers(alloc, account, &mut out)?;
+    Ok(out.as_slice() == PRINTED.as_bytes())
+}
+
+fn is_summed_up(alloc: Global, account: &Account) -> Result<bool, NoMemory>
+    requires { IsPrintable account.now }
+{
+    let mut out = Bytes::new(alloc);
+    print_storm(alloc, account, &mut out)?;
+    Ok(out.as_slice() == SUMMED_UP.as_bytes())
+}
+
+fn is_told_as_links(alloc: Global, account: &Account) -> Result<bool, NoMemory>
+    requires { IsPrintable account.now }
+{
+    let mut out = Bytes::new(alloc);
+    print_serve(alloc, account, &mut out)?;
+    Ok(out.as_slice() == AS_LINKS.as_bytes())
+}
+
+fn is_told_by<R: Threads + Sync>(
+    rt: &R,
+    alloc: Global,
+    account: &Account,
+    threads: u32,
+) -> Result<bool, NoMemory>
+    requires told { IsTellable account.now }
+    requires threads { 1 ≤ threads }
+{
+    let text = workers_text(rt, alloc, account, threads)?;
+    Ok(text.as_slice() == PRINTED.as_bytes())
+}
+
+// By one thread up to four.
+fn is_told_by_each<R: Threads + Sync>(
+    rt: &R,
+    alloc: Global,
+    account: &Account,
+) -> Result<bool, NoMemory>
+    requires { IsTellable account.now }
+{
     for threads in 1..5 {
-        assert!(rt;
-            matches!(
-                workers_text(&rt, alloc, &account, threads),
-                Ok(text) if text.as_slice() == PRINTED.as_bytes()
-            )
-        );
+        if !is_told_by(rt, alloc, account, threads)? {
+            return Ok(false);
+        }
     }
-    Ok(())
+    Ok(true)
+}
+
+#[test]
+fn a_worked_account_is_told(rt: HostRuntime) {
+    let account = tellable(rt.alloc()).expect(&rt, "memory");
+    assert!(rt; is_told(rt.alloc(), &account) == Ok(true));
+    assert!(rt; is_summed_up(rt.alloc(), &account) == Ok(true));
+    assert!(rt; is_told_as_links(rt.alloc(), &account) == Ok(true));
+    assert!(rt; is_told_by_each(&rt, rt.alloc(), &account) == Ok(true));
 }

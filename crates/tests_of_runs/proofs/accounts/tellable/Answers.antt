@@ -7,7 +7,7 @@ use Rattle.audit.specs.Printed.{transcripts_of}
 use Rattle.audit.specs.Worked.{three_waits, fetch_one, fetch_both}
 use Rattle.account_print.specs.Tellable.{IsTellable}
 use Rattle.tests_of_runs.specs.declared.accounts.TheConstants.{FETCH_ONE, FETCH_BOTH}
-use Rattle.tests_of_runs.proofs.accounts.a_worked_account_is_told.Goals as goal
+use Rattle.tests_of_runs.proofs.accounts.tellable.Goals as goal
 
 numbered_apart : (one both : List ℕ) → AllPairs (λ a b. a.number ≢ b.number) (transcripts_of (three_waits one both))
 numbered_apart one both zero zero d lt within = absurd (omega (arith, lt))
@@ -31,26 +31,14 @@ told one both lawful = record {
 }
 
 -- the two bodies spell out the two requests
-pub print_workers-requires : goal.print_workers-requires
-print_workers-requires g c =
+pub returns-clause-told : goal.returns-clause-told
+returns-clause-told c =
     let one : IsRequest FETCH_ONE fetch_one = c.worked_requests.ensures.one in
     let both : IsRequest FETCH_BOTH fetch_both = c.worked_requests.ensures.both in
     subst IsTellable (sym c.in_ok-account.ensures) (told FETCH_ONE FETCH_BOTH (c.worked_account.ensures.lawful FETCH_ONE FETCH_BOTH one both))
 
-pub loop-threads-init : goal.loop-threads-init
-loop-threads-init g c =
-    let one : IsRequest FETCH_ONE fetch_one = c.worked_requests.ensures.one in
-    let both : IsRequest FETCH_BOTH fetch_both = c.worked_requests.ensures.both in
-    subst IsTellable (sym c.in_ok-account.ensures) (told FETCH_ONE FETCH_BOTH (c.worked_account.ensures.lawful FETCH_ONE FETCH_BOTH one both))
-
-pub print_storm-requires : goal.print_storm-requires
-print_storm-requires g c =
-    let one : IsRequest FETCH_ONE fetch_one = c.worked_requests.ensures.one in
-    let both : IsRequest FETCH_BOTH fetch_both = c.worked_requests.ensures.both in
-    subst IsPrintable (sym c.in_ok-account.ensures) (told FETCH_ONE FETCH_BOTH (c.worked_account.ensures.lawful FETCH_ONE FETCH_BOTH one both)).printable
-
-pub print_serve-requires : goal.print_serve-requires
-print_serve-requires g c =
+pub returns-clause-printed : goal.returns-clause-printed
+returns-clause-printed c =
     let one : IsRequest FETCH_ONE fetch_one = c.worked_requests.ensures.one in
     let both : IsRequest FETCH_BOTH fetch_both = c.worked_requests.ensures.both in
     subst IsPrintable (sym c.in_ok-account.ensures) (told FETCH_ONE FETCH_BOTH (c.worked_account.ensures.lawful FETCH_ONE FETCH_BOTH one both)).printable
