@@ -10,7 +10,9 @@ use kanswer::{
 };
 use kbatch::{BatchView, view_batch};
 use kbytes::{List, NoMemory};
-use kwire::{AskView, Config, FetchPart, ProducePartView, ProduceTopicView, RequestView, Told};
+use kwire::{
+    AskView, Config, FetchPart, ProducePartView, ProduceTopicView, Reply, RequestView, Told,
+};
 use partlog::{PartEvent, PartLog, Who};
 use std::alloc::{AllocError, Global};
 use std::test::*;
@@ -22,26 +24,36 @@ const VISITOR: Visitor = Visitor {
     moment: 500,
 };
 
-// A limit of 1 byte: the first batch is given whole, and nothing after it.
-#[test]
-fn one_batch_at_least(rt: HostRuntime) {
-    let batch = view_batch(&ONE).expect(&rt, "a batch");
-    let mut log = PartLog::new(rt.alloc(), 0).expect(&rt, "memory");
-    assert!(rt; log.append_view(WHO, &batch).is_ok() && log.append_view(WHO, &batch).is_ok());
+// Whether just these bytes are read from this place, with a limit of 1 byte.
+fn reads(
+    alloc: Global,
+    log: &PartLog,
+    start: u64,
+    budget: &mut Budget,
+    records: &[u8],
+) -> Result<bool, NoMemory> {
     let asked = FetchPart {
         index: 0,
         offset: 0,
         log_start: -1,
         most: 1,
     };
+    let reading = read_asked(alloc, -1, &asked, start, log, budget)?;
+    Ok(reading.records.as_slice() == records)
+}
+
+// The first batch is given whole, and nothing after it.
+#[test]
+fn one_batch_at_least(rt: HostRuntime) {
+    let batch = view_batch(&ONE).expect(&rt, "a batch");
+    let mut log = PartLog::new(rt.alloc(), 0).expect(&rt, "memory");
+    assert!(rt; log.append_view(WHO, &batch).is_ok() && log.append_view(WHO, &batch).is_ok());
     let mut budget = Budget {
         left: 500,
         any: false,
     };
     for (start, records) in [(0, ONE.as_slice()), (69, &[])] {
-        let reading = read_asked(rt.alloc(), -1, &asked, start, &log, &mut budget);
-        let reading = reading.expect(&rt, "memory");
-        assert!(rt; reading.records.as_slice() == records);
+        assert!(rt; reads(rt.alloc(), &log, start, &mut budget, records) == Ok(true));
         assert!(rt; (budget.left, budget.any) == (431, true));
     }
 }
@@ -269,34 +281,74 @@ fn is_refused_and_put(told: &Told, asked: i16, code: i16) -> bool {
     *version == asked && is_refused && is_put
 }
 
+// The reply where the first is refused with this code, and the second takes its batch.
+fn reply_of_two(
+    alloc: Global,
+    config: &Config,
+    request: &RequestView<'_>,
+    log: &PartLog,
+    code: i16,
+) -> Result<Reply, NoMemory>
+    requires { named_count request.now.ask ≡ 2 }
+{
+    let became = [Accepted::Refused { code }, APPENDED];
+    let readings = [read_nothing(alloc), read_numbers(alloc, log)];
+    answer(alloc, config, request, &became, &readings)
+}
+
+// Whether such a produce in this version is told so.
+fn is_told(
+    alloc: Global,
+    config: &Config,
+    log: &PartLog,
+    version: i16,
+    code: i16,
+) -> Result<bool, NoMemory> {
+    let request = a_produce_of_two(alloc, version)?;
+    let reply = reply_of_two(alloc, config, &request, log, code)?;
+    Ok(reply.correlation == 9 && is_refused_and_put(&reply.told, version, code))
+}
+
 #[test]
 fn the_reply_where_one_of_two_partitions_is_full(rt: HostRuntime) {
     let config = Config::new(rt.alloc(), 9092);
     let log = PartLog::new(rt.alloc(), 1).expect(&rt, "memory");
-    let readings = [read_nothing(rt.alloc()), read_numbers(rt.alloc(), &log)];
     for (version, code) in [(3, 6), (4, 56), (5, 56)] {
-        let request = a_produce_of_two(rt.alloc(), version).expect(&rt, "memory");
-        let became = [Accepted::Refused { code }, APPENDED];
-        let reply = answer(rt.alloc(), &config, &request, &became, &readings);
-        let reply = reply.expect(&rt, "memory");
-        assert!(rt; reply.correlation == 9 && is_refused_and_put(&reply.told, version, code));
+        assert!(rt; is_told(rt.alloc(), &config, &log, version, code) == Ok(true));
     }
 }
 
-// What a produce with acks -1 is told of the batch of one record at the offset 0 of partition 4.
-fn told_code(alloc: Global, config: &Config, log: &PartLog) -> Option<i16> {
-    let request = a_produce(alloc).ok()?;
+// The reply to such a produce, of which one record was put at the offset 0.
+fn reply_of_one(
+    alloc: Global,
+    config: &Config,
+    request: &RequestView<'_>,
+    log: &PartLog,
+) -> Result<Reply, NoMemory>
+    requires { named_count request.now.ask ≡ 1 }
+{
     let became = [Accepted::Appended {
         part: 4,
         base: 0,
         count: 1,
     }];
     let readings = [read_numbers(alloc, log)];
-    let reply = answer(alloc, config, &request, &became, &readings).ok()?;
-    let Told::Produced { topics, .. } = reply.told else {
+    answer(alloc, config, request, &became, &readings)
+}
+
+// What the first partition of a produce is told.
+fn code_of(told: &Told) -> Option<i16> {
+    let Told::Produced { topics, .. } = told else {
         return None;
     };
     Some(topics.get(0)?.parts.get(0)?.code)
+}
+
+// What a produce with acks -1 is told of the batch of one record at the offset 0 of partition 4.
+fn told_code(alloc: Global, config: &Config, log: &PartLog) -> Option<i16> {
+    let request = a_produce(alloc).ok()?;
+    let reply = reply_of_one(alloc, config, &request, log).ok()?;
+    code_of(&reply.told)
 }
 
 // A batch of one record at this offset of partition 4.
