@@ -1,6 +1,6 @@
 //! `Engine::close` makes the account of a run here, from the histories and from what each session did.
 
-ghost use Rattle.std.specs.Prelude.{◌≡◌, ◌≤◌, List as Items, length, map, count_by, option_to_list, reverse, IfOk, OnOk};
+ghost use Rattle.std.specs.Prelude.{◌≡◌, ◌≤◌, [], ◌∷◌, List as Items, length, map, count_by, option_to_list, reverse, IfOk, OnOk};
 ghost use Rattle.std.specs.List.{flat_map};
 ghost use Rattle.audit.specs.IsLawful.{is_won_by};
 ghost use Rattle.audit.specs.Histories.{part_account};
@@ -8,7 +8,7 @@ ghost use Rattle.broker_spec.specs.Board.{Waiting, account_of, most_sessions, pa
 ghost use Rattle.audit.specs.Histories.{calls_in};
 
 use crate::desk::Desk;
-use audit::{Account, Transcript, part_accounts};
+use audit::{Account, PartAccount, Transcript, part_accounts};
 use kbytes::{List, NoMemory};
 use kwire::Config;
 use partlog::{ClockLog, PartLog};
@@ -70,6 +70,31 @@ fn won(desks: &[Desk]) -> u64
     count
 }
 
+// What an account has of the partitions and of the sessions.
+struct Books {
+    parts: List<PartAccount>,
+    passes: List<List<Transcript>>,
+    wins: List<u64>,
+}
+
+// What is told of these partitions and sessions.
+fn take_books(alloc: Global, parts: List<PartLog>, desks: List<Desk>) -> Result<Books, NoMemory>
+    requires { length desks ≤ most_sessions }
+    ensures parts { IfOk result (λ books. books.parts ≡ map part_account parts) }
+    ensures passes { IfOk result (λ books. books.passes ≡ passes_of desks) }
+    ensures wins { IfOk result (λ books. books.wins ≡ count_by (is_won_by 0) (flat_map calls_in (passes_of desks)) ∷ []) }
+{
+    let mut wins = List::new(alloc);
+    wins.push(won(desks.as_slice()))?;
+    let parts = part_accounts(alloc, parts)?;
+    let passes = passes_of(alloc, desks)?;
+    Ok(Books {
+        parts,
+        passes,
+        wins,
+    })
+}
+
 /// The account of a run: the histories, what each session did, and how many calls the one winner completed.
 pub fn account(
     alloc: Global,
@@ -87,10 +112,11 @@ pub fn account(
       waiting = waiting;
     })) }
 {
-    let mut wins = List::new(alloc);
-    wins.push(won(desks.as_slice()))?;
-    let accounts = part_accounts(alloc, parts)?;
-    let passes = passes_of(alloc, desks)?;
+    let Books {
+        parts: accounts,
+        passes,
+        wins,
+    } = take_books(alloc, parts, desks)?;
     Ok(Account {
         config,
         parts: accounts,

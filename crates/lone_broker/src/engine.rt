@@ -25,7 +25,7 @@ use crate::closing::account;
 use crate::completing::{is_reached, look_at_clock, look_at_parts};
 use crate::desk::Desk;
 use crate::handling::handle;
-use crate::opening::{open_desks, open_parked, open_parts};
+use crate::opening::open_lists;
 use crate::parked::Parked;
 use crate::reply::reply_frame;
 use crate::shrinking::shrink_parts;
@@ -69,10 +69,8 @@ impl Engine {
     pub fn make(alloc: Global, config: Config) -> Result<Engine, NoMemory>
         ensures { IfOk result (λ engine. StandsFor engine (opening config)) }
     {
-        let parts = open_parts(alloc, &config)?;
-        let desks = open_desks(alloc)?;
-        let parked = open_parked(alloc)?;
         let digits = Digits::make(alloc)?;
+        let (parts, desks, parked) = open_lists(alloc, &config)?;
         Ok(Engine {
             alloc,
             digits,

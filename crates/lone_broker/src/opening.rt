@@ -29,9 +29,9 @@ fn put_parts(
     Ok(())
 }
 
-/// A log without entries for each partition of the configuration, in order.
+// A log without entries for each partition of the configuration, in order.
 #[tactic(auto, using(crate::proofs::Openings::logs_more))]
-pub fn open_parts(alloc: Global, config: &Config) -> Result<List<PartLog>, NoMemory>
+fn open_parts(alloc: Global, config: &Config) -> Result<List<PartLog>, NoMemory>
     ensures logs { IfOk result (λ parts. parts ≡ map empty_history (followers_of config.now.topics)) }
     ensures declared { OnOk result (AreDeclared config.now.topics) }
 {
@@ -43,9 +43,9 @@ pub fn open_parts(alloc: Global, config: &Config) -> Result<List<PartLog>, NoMem
     Ok(parts)
 }
 
-/// A desk for each session that there can be, none of which a line has named.
+// A desk for each session that there can be, none of which a line has named.
 #[tactic(auto, using(std::proofs::lemmas::List::replicate_more))]
-pub fn open_desks(alloc: Global) -> Result<List<Desk>, NoMemory>
+fn open_desks(alloc: Global) -> Result<List<Desk>, NoMemory>
     ensures { IfOk result (λ desks. desks ≡ replicate most_sessions empty_seat) }
 {
     let mut desks = List::new(alloc);
@@ -55,9 +55,9 @@ pub fn open_desks(alloc: Global) -> Result<List<Desk>, NoMemory>
     Ok(desks)
 }
 
-/// No request waits, for each session that there can be.
+// No request waits, for each session that there can be.
 #[tactic(auto, using(std::proofs::lemmas::List::replicate_more))]
-pub fn open_parked(alloc: Global) -> Result<List<Option<Parked>>, NoMemory>
+fn open_parked(alloc: Global) -> Result<List<Option<Parked>>, NoMemory>
     ensures { IfOk result (λ parked. parked ≡ replicate most_sessions None) }
 {
     let mut parked = List::new(alloc);
@@ -65,4 +65,20 @@ pub fn open_parked(alloc: Global) -> Result<List<Option<Parked>>, NoMemory>
         parked.push(None)?;
     }
     Ok(parked)
+}
+
+/// The logs, the desks and what is kept of requests, before the first line.
+pub fn open_lists(
+    alloc: Global,
+    config: &Config,
+) -> Result<(List<PartLog>, List<Desk>, List<Option<Parked>>), NoMemory>
+    ensures logs { IfOk result (λ lists. lists.0 ≡ map empty_history (followers_of config.now.topics)) }
+    ensures declared { OnOk result (AreDeclared config.now.topics) }
+    ensures desks { IfOk result (λ lists. lists.1 ≡ replicate most_sessions empty_seat) }
+    ensures parked { IfOk result (λ lists. lists.2 ≡ replicate most_sessions None) }
+{
+    let parts = open_parts(alloc, config)?;
+    let desks = open_desks(alloc)?;
+    let parked = open_parked(alloc)?;
+    Ok((parts, desks, parked))
 }

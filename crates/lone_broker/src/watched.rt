@@ -10,7 +10,7 @@ ghost use Rattle.partlog.specs.Gauges.{numbers_of};
 ghost use Rattle.partlog.specs.State.{state_of};
 ghost use Rattle.lone_waiters.specs.Index.{IsSuspect, WaitsFor, moment_of};
 ghost use Rattle.lone_waiters.specs.Sessions.{Has};
-ghost use Rattle.lone_waiters.specs.Waiting.{WaitsOn};
+ghost use Rattle.lone_waiters.specs.Waiting.{IsIdle, WaitsOn};
 ghost use Rattle.broker_spec.specs.Acting.{Acts};
 ghost use Rattle.broker_spec.specs.Board.{Board, account_of, most_sessions, next_call, opening};
 ghost use Rattle.broker_spec.specs.Completing.{answered_in, scanned};
@@ -162,6 +162,17 @@ fn park(engine: &Engine, waiters: &mut Waiters, session: u32)
     waiters.wait(session, generation, op);
 }
 
+// The index before the first line: the numbers of each partition's log, and that no session waits.
+fn new_index(alloc: Global, parts: &[PartLog]) -> Result<(List<Numbers>, Waiters), NoMemory>
+    ensures told { IfOk result (λ index. index.0 ≡ map (λ h. numbers_of (state_of h)) parts.now) }
+    ensures idle { IfOk result (λ index. IsIdle index.1) }
+    ensures suspects { IfOk result (λ index. (session : ℕ) → ¬ IsSuspect index.1 session) }
+{
+    let told = numbers_of(alloc, parts)?;
+    let waiters = Waiters::new(alloc)?;
+    Ok((told, waiters))
+}
+
 impl Watched {
     /// A broker with these topics, before the first line.
     pub fn make(alloc: Global, config: Config) -> Result<Watched, NoMemory>
@@ -169,8 +180,7 @@ impl Watched {
         ensures stands { IfOk result (λ w. StandsFor w.engine (opening config)) }
     {
         let engine = Engine::make(alloc, config)?;
-        let told = numbers_of(alloc, engine.parts())?;
-        let waiters = Waiters::new(alloc)?;
+        let (told, waiters) = new_index(alloc, engine.parts())?;
         Ok(Watched {
             engine,
             told,
