@@ -62,17 +62,6 @@ impl Came {
         Ok(())
     }
 
-    /// The request left this point besides those of its partitions.
-    pub fn note_point(&mut self, part: u32, place: u64) -> Result<(), NoMemory>
-        ensures { OnOk result (self.new ≡ record {
-          accepted = self.old.accepted;
-          points = self.old.points ++ record { part = part; place = place } ∷ [];
-        }) }
-    {
-        self.points.push(Point { part, place })?;
-        Ok(())
-    }
-
     /// The results.
     pub fn accepted(&self) -> &[Accepted]
         ensures results { result.now ≡ self.now.accepted }

@@ -80,7 +80,7 @@ fn park(
     call: &Asking<'_>,
     clock: &mut ClockLog,
     request: &RequestView<'_>,
-    mut came: Came,
+    came: Came,
 ) -> Result<Handled, NoMemory>
     requires { AreResults request.now.ask came.accepted }
     ensures looked { OnOk result (clock.new ≡ looked_by call.now.visitor.who.by call.now.visitor.who.seq clock.old) }
@@ -93,10 +93,12 @@ fn park(
     })) }
 {
     let place = clock.look(call.visitor.who)?;
-    // before anything is taken out of `came`, so that it is all that there is to drop if memory runs out
-    came.note_point(CLOCK_PART, place)?;
     let op = op_of(call.alloc, request, came.accepted(), clock.now())?;
-    let (accepted, accept) = came.into_parts();
+    let (accepted, mut accept) = came.into_parts();
+    accept.push(Point {
+        part: CLOCK_PART,
+        place,
+    })?;
     Ok(Handled {
         accept,
         how: CallHow::Parked,
