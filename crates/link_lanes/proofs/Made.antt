@@ -27,6 +27,17 @@ module _ (L : Type 0) where
   seated_map f g h [] = refl
   seated_map f g h (n ∷ ns) = ap (λ (ss : List (ServerView L)). record { pass = f n; seat = g n; key = h n } ∷ ss) (seated_map f g h ns)
 
+  -- as many servers as passes
+  pub as_many_seated : (passes : List broker.PassView) (seats : List clock.PassView) (keys : List (port.PassView L)) → length seats ≡ length passes → length keys ≡ length passes → length (seated passes seats keys) ≡ length passes
+  as_many_seated [] seats keys as_seats as_keys = refl
+  as_many_seated (pass ∷ passes) [] keys as_seats as_keys = absurd (omega (arith, as_seats))
+  as_many_seated (pass ∷ passes) (seat ∷ seats) [] as_seats as_keys = absurd (omega (arith, as_keys))
+  as_many_seated (pass ∷ passes) (seat ∷ seats) (key ∷ keys) as_seats as_keys =
+      let seats_same : length seats ≡ length passes = omega (arith, as_seats) in
+      let keys_same : length keys ≡ length passes = omega (arith, as_keys) in
+      let same = as_many_seated passes seats keys seats_same keys_same in
+      omega (arith, same)
+
   -- the last of the new keys, and those before it
   pub last_key : (hall : HallView) (count : ℕ) (front : List (port.PassView L)) (last : port.PassView L) → front ++ last ∷ [] ≡ port_fresh.fresh_passes hall.port.id hall.port.terms (count + 1)
       → (front ≡ port_fresh.fresh_passes hall.port.id hall.port.terms count) × (last ≡ port_fresh.fresh_pass hall.port.id hall.port.terms count)

@@ -1,5 +1,6 @@
 -- The passes of the servers of a hall, as they are when the hall is closed.
-use Rattle.std.proofs.Common.{◌≡◌, ◌∙◌, ℕ, ◌+◌, List, [], ◌∷◌, ◌++◌, All, ap, subst, sym}
+use Rattle.std.proofs.Common.{◌≡◌, ◌∙◌, ℕ, ◌+◌, List, [], ◌∷◌, ◌++◌, All, ap, length, subst, sym}
+use Rattle.std.proofs.lemmas.List.{length-append, length-map}
 use Rattle.std.proofs.lemmas.List.Elements.{All-cons, All-map, All-nil, All-push}
 use Rattle.link_lanes.specs.books.LaneBook.{LaneBook}
 use Rattle.link_lanes.specs.books.Shown.{ShownLink}
@@ -21,34 +22,42 @@ module _ {L : Type 0} (see : L → ShownLink) (hall : HallView) where
   all_serving P each at (book ∷ books) (server ∷ servers) have =
       All-cons P server servers (each at book.put book.taken server have.1) (all_serving P each (at + 1) books servers have.2)
 
-  module _ (servers : List (ServerView L)) (idle : AreIdle see hall servers) (there : HallView) (is : there ≡ hall) where
-    abbrev OfPort : HallView → port.PassView L → Type 0
-    OfPort h key = port.IsPassOf h.port key
+  module _ (servers : List (ServerView L)) (idle : AreIdle see hall servers) where
+    abbrev OfPort : port.PassView L → Type 0
+    OfPort key = port.IsPassOf hall.port key
 
-    abbrev OfClock : HallView → clock.PassView → Type 0
-    OfClock h seat = clock.IsPassOf h.clock seat
+    abbrev OfClock : clock.PassView → Type 0
+    OfClock seat = clock.IsPassOf hall.clock seat
 
-    abbrev OfBroker : HallView → broker.PassView → Type 0
-    OfBroker h pass = broker.made_with pass ≡ h.broker
+    abbrev OfBroker : broker.PassView → Type 0
+    OfBroker pass = broker.made_with pass ≡ hall.broker
 
     -- all keys are the port's
-    pub keys_of_port : (opener : port.PassView L) (keys pushed : List (port.PassView L)) → keys ≡ keys_of servers → pushed ≡ keys ++ opener ∷ [] → OfPort hall opener → All (OfPort there) pushed
-    keys_of_port opener keys pushed keys_are pushed_are of_port =
-        let all : All (OfPort hall) (keys_of servers) = All-map (OfPort hall) (λ (server : ServerView L). server.key) servers
-        (all_serving (λ (server : ServerView L). OfPort hall server.key) (λ at put taken server serving. serving.key) 0 idle.books servers idle.have) in
-        subst (λ (h : HallView). All (OfPort h) pushed) (sym is)
-        (subst (All (OfPort hall)) (sym (pushed_are ∙ ap (λ (ks : List (port.PassView L)). ks ++ opener ∷ []) keys_are)) (All-push (OfPort hall) (keys_of servers) opener all of_port))
+    pub keys_of_port : (opener : port.PassView L) (keys : List (port.PassView L)) → keys ≡ keys_of servers ++ opener ∷ [] → OfPort opener → All OfPort keys
+    keys_of_port opener keys keys_are of_port =
+        let all : All OfPort (keys_of servers) = All-map OfPort (λ (server : ServerView L). server.key) servers
+        (all_serving (λ (server : ServerView L). OfPort server.key) (λ at put taken server serving. serving.key) 0 idle.books servers idle.have) in
+        subst (All OfPort) (sym keys_are) (All-push OfPort (keys_of servers) opener all of_port)
 
     -- all seats are the clock's
-    pub seats_of_clock : (seats : List clock.PassView) → seats ≡ seats_of servers → All (OfClock there) seats
+    pub seats_of_clock : (seats : List clock.PassView) → seats ≡ seats_of servers → All OfClock seats
     seats_of_clock seats seats_are =
-        let all : All (OfClock hall) (seats_of servers) = All-map (OfClock hall) (λ (server : ServerView L). server.seat) servers
-        (all_serving (λ (server : ServerView L). OfClock hall server.seat) (λ at put taken server serving. serving.seat) 0 idle.books servers idle.have) in
-        subst (λ (h : HallView). All (OfClock h) seats) (sym is) (subst (All (OfClock hall)) (sym seats_are) all)
+        subst (All OfClock) (sym seats_are) (All-map OfClock (λ (server : ServerView L). server.seat) servers
+        (all_serving (λ (server : ServerView L). OfClock server.seat) (λ at put taken server serving. serving.seat) 0 idle.books servers idle.have))
 
     -- all passes are the broker's
-    pub passes_of_broker : (passes : List broker.PassView) → passes ≡ passes_of servers → All (OfBroker there) passes
+    pub passes_of_broker : (passes : List broker.PassView) → passes ≡ passes_of servers → All OfBroker passes
     passes_of_broker passes passes_are =
-        let all : All (OfBroker hall) (passes_of servers) = All-map (OfBroker hall) (λ (server : ServerView L). server.pass) servers
-        (all_serving (λ (server : ServerView L). OfBroker hall server.pass) (λ at put taken server serving. serving.book.made) 0 idle.books servers idle.have) in
-        subst (λ (h : HallView). All (OfBroker h) passes) (sym is) (subst (All (OfBroker hall)) (sym passes_are) all)
+        subst (All OfBroker) (sym passes_are) (All-map OfBroker (λ (server : ServerView L). server.pass) servers
+        (all_serving (λ (server : ServerView L). OfBroker server.pass) (λ at put taken server serving. serving.book.made) 0 idle.books servers idle.have))
+
+-- as many of each kind as there are servers
+module _ {L : Type 0} (servers : List (ServerView L)) where
+  pub as_many_passes : (passes : List broker.PassView) → passes ≡ passes_of servers → length passes ≡ length servers
+  as_many_passes passes are = ap length are ∙ length-map servers (λ (server : ServerView L). server.pass)
+
+  pub as_many_seats : (seats : List clock.PassView) → seats ≡ seats_of servers → length seats ≡ length servers
+  as_many_seats seats are = ap length are ∙ length-map servers (λ (server : ServerView L). server.seat)
+
+  pub as_many_keys : (opener : port.PassView L) (keys : List (port.PassView L)) → keys ≡ keys_of servers ++ opener ∷ [] → length keys ≡ length servers + 1
+  as_many_keys opener keys are = ap length are ∙ length-append (keys_of servers) (opener ∷ []) ∙ ap (λ (n : ℕ). n + 1) (length-map servers (λ (server : ServerView L). server.key))

@@ -21,6 +21,8 @@ mod port;
 mod queue;
 mod runs;
 mod server;
+mod server_parts;
+mod sharing;
 
 pub use books::{books_are_served, served_accounts_are_printable, served_links_are_booked};
 pub use queue::{AnyLink, Condition, LinkQueue, Numbered, PARTS, QueuePass};

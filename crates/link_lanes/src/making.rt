@@ -8,6 +8,7 @@ use crate::lane::Lane;
 use crate::port::PortPass;
 use crate::queue::QueuePass;
 use crate::server::Server;
+use crate::server_parts::ServerParts;
 use kbytes::{List, NoMemory};
 use outside::{Clock, Port};
 use session::ClockPass;
@@ -61,4 +62,26 @@ pub fn make_lanes<P: Port, C: Clock>(
         })?;
     }
     Ok(lanes)
+}
+
+/// A lane for each server that has its share of these parts, in their order, each with one part of the first pass of the queue.
+pub fn seat_lanes<P: Port, C: Clock>(
+    hall: &Hall<P, C>,
+    first: &mut QueuePass<P::Link>,
+    parts: ServerParts<P, C>,
+) -> Result<List<Lane<P, C>>, NoMemory>
+    requires seats { length parts.seats ≡ length parts.passes }
+    requires keys { length parts.keys ≡ length parts.passes }
+    requires queue { IsPassOf hall.now.queue first.old }
+    requires room { length parts.passes < first.old.parts }
+    ensures lanes { IfOk result (λ lanes. lanes ≡ map (new_lane hall.now.queue) (seated parts.passes parts.seats parts.keys)) }
+    ensures first { OnOk result (first.new ≡ with_fewer_parts (length parts.passes) first.old) }
+{
+    let ServerParts {
+        passes,
+        seats,
+        keys,
+    } = parts;
+    let servers = seat_servers(hall.alloc, passes, seats, keys)?;
+    make_lanes(hall, first, servers)
 }

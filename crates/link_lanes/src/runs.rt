@@ -16,16 +16,15 @@ use crate::books::books_are_served;
 use crate::gathering::{finish, gather};
 use crate::hall::Hall;
 use crate::lane::Lane;
-use crate::making::{make_lanes, seat_servers};
-use crate::port::{Opening, PortPass, SharedPort};
-use crate::queue::{LinkQueue, QueuePass};
+use crate::making::seat_lanes;
+use crate::port::{Opening, PortPass};
+use crate::queue::QueuePass;
 use crate::server::Server;
+use crate::sharing::{NewHall, make_hall};
 use audit::Account;
 use kbytes::{List, NoMemory};
 use kwire::Config;
 use outside::{Clock, Port};
-use session::Shared;
-use shared_broker::Broker;
 use std::alloc::Global;
 use std::sync::Wait;
 use std::thread;
@@ -76,22 +75,13 @@ where
     requires lanes { (1 ≤ serving.lanes) × (serving.lanes ≤ MOST_LANES) }
     ensures { IfOk result (λ begun. HasBegun config serving.lanes serving.most (P.faults port) begun.hall begun.lanes begun.opener begun.first) }
 {
-    let (broker, passes) = Broker::make(alloc, config, serving.lanes)?;
-    let (clock, seats) = Shared::make(alloc, clock, serving.lanes)?;
-    let (port, mut keys) = SharedPort::make(alloc, port, serving.most, serving.lanes + 1)?;
-    let (queue, mut first) = LinkQueue::make(alloc, serving.lanes as usize)?;
-    let Some(opener) = keys.pop() else {
-        unreachable!()
-    };
-    let servers = seat_servers(alloc, passes, seats, keys)?;
-    let hall = Hall {
-        alloc,
-        broker,
-        clock,
-        port,
-        queue,
-    };
-    let lanes = make_lanes(&hall, &mut first, servers)?;
+    let NewHall {
+        hall,
+        parts,
+        opener,
+        mut first,
+    } = make_hall(alloc, config, port, clock, serving.lanes, serving.most)?;
+    let lanes = seat_lanes(&hall, &mut first, parts)?;
     Ok(Begun {
         hall,
         lanes,

@@ -4,7 +4,7 @@ use Rattle.link_lanes.proofs.closing.take_apart.Given as goal
 
 abbrev pub invariant-loop-server : goal.invariant-loop-server
 invariant-loop-server g l = record {
-  passes : l.passes ≡ passes_of l.yielded;
-  seats : l.seats ≡ seats_of l.yielded;
-  keys : l.keys ≡ keys_of l.yielded;
+  passes : l.parts.passes ≡ passes_of l.yielded;
+  seats : l.parts.seats ≡ seats_of l.yielded;
+  keys : l.parts.keys ≡ keys_of l.yielded;
 }
