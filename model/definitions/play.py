@@ -25,7 +25,7 @@ from model.definitions.requests import (
     Configuration, flat_map, followers_of, IsRefused, IsRequest, minus, next_frame_of, record, slice_get, slice_set,
 )
 
-# ==== broker_spec/specs/Board.antt
+# ==== audit/specs/broker/Board.antt
 
 
 @record
@@ -104,7 +104,7 @@ def account_of(board):
                    (sum(is_won_by(0, call) for call in flat_map(calls_in, passes)),))
 
 
-# ==== broker_spec/specs/Entering.antt
+# ==== audit/specs/broker/Entering.antt
 
 
 def entered(h, by, seq, t, entry):
@@ -144,7 +144,7 @@ def shown_of(noted):
     return tuple(Shown(n.step.result, n.state) for n in noted)
 
 
-# ==== broker_spec/specs/Turns.antt
+# ==== audit/specs/broker/Turns.antt
 
 
 @record
@@ -198,7 +198,7 @@ def ended(board, session, end):
     return Turned(replace(board, seats=slice_set(board.seats, session, seat)), end_line(session, end))
 
 
-# ==== broker_spec/specs/Completing.antt
+# ==== audit/specs/broker/Completing.antt
 
 
 def present(parts, part):
@@ -275,7 +275,7 @@ def scanned(board):
     return scan_sessions(range(most_sessions), board)
 
 
-# ==== broker_spec/specs/Acting.antt
+# ==== audit/specs/broker/Acting.antt
 
 
 def is_there(end):
@@ -329,7 +329,7 @@ def Acts(board, session):
     return ActsOn(board, session, next_frame_of(seat_at(board, session).inbox))
 
 
-# ==== broker_spec/specs/Play.antt
+# ==== audit/specs/broker/Play.antt
 
 
 def with_seat(board, session, inbox, is_shut_):

@@ -22,8 +22,8 @@ use Rattle.kanswer.specs.Decisions.{Decision, Refuse, AskLog, Decides, ProduceDe
 use Rattle.kanswer.specs.LogReadings.{named_count}
 use Rattle.kanswer.specs.Waiting.{Shown}
 use Rattle.kanswer.proofs.Laws.{decided_once}
-use Rattle.broker_spec.specs.Board.{history_at, empty_history}
-use Rattle.broker_spec.proofs.Laws.{IsFair, decides_fair}
+use Rattle.audit.specs.broker.Board.{history_at, empty_history}
+use Rattle.audit.proofs.broker.Laws.{IsFair, decides_fair}
 use Rattle.audit.specs.declared.account.Account.{Account}
 use Rattle.audit.specs.declared.account.Call.{Call}
 use Rattle.audit.specs.declared.account.CallHow.{CallHow}

@@ -26,7 +26,7 @@ use Rattle.audit.specs.IsLawful.{HasLogs, IsLawful, IsWholeLog}
 use Rattle.audit.specs.LawfulCall.{IsEntry}
 use Rattle.kbytes.proofs.Laws.{some_is}
 use Rattle.audit.proofs.Laws.{entry_owned, entry_shows}
-use Rattle.broker_spec.proofs.Laws.{followers_size}
+use Rattle.audit.proofs.broker.Laws.{followers_size}
 use Rattle.account_print.specs.Playable.{CanPlay, IsPlayable, put_at}
 use Rattle.account_print.proofs.Sound.{IsSound, IsSoundEntry, decided_soundly}
 

@@ -9,7 +9,7 @@ use Rattle.audit.specs.declared.account.PartAccount.{PartAccount}
 use Rattle.audit.specs.Histories.{history_of}
 use Rattle.audit.specs.IsLawful.{IsLawful}
 use Rattle.audit.proofs.Laws.{logs_bounded}
-use Rattle.broker_spec.proofs.Laws.{part_within}
+use Rattle.audit.proofs.broker.Laws.{part_within}
 use Rattle.account_print.specs.Playable.{IsPlayable}
 use Rattle.account_print.proofs.LawfulParts.{all_playable, at_place, parts_long}
 

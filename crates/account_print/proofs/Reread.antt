@@ -12,7 +12,7 @@ use Rattle.kwire.specs.declared.request.Ask.{Ask}
 use Rattle.kwire.specs.declared.request.Ask.TheVariants.{Produce, Fetch, Metadata, Versions}
 use Rattle.kwire.specs.declared.request.FetchPart.{FetchPart}
 use Rattle.kwire.specs.declared.request.FetchTopic.{FetchTopic}
-use Rattle.broker_spec.specs.Board.{history_at, empty_history}
+use Rattle.audit.specs.broker.Board.{history_at, empty_history}
 use Rattle.kanswer.specs.declared.accepted.Accepted.{Accepted}
 use Rattle.kanswer.specs.declared.accepted.Accepted.TheVariants.{Refused, Appended, Seen}
 use Rattle.kanswer.specs.declared.accepted.Reading.{Reading}

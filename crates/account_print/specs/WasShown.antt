@@ -2,7 +2,7 @@
 use Rattle.std.specs.Prelude.{ℕ, ◌≡◌, ◌<◌, List, [], ◌∷◌, drop, ⊤}
 use Rattle.partlog.specs.History.{History}
 use Rattle.partlog.specs.State.{PartState as State, state_at}
-use Rattle.broker_spec.specs.Board.{history_at}
+use Rattle.audit.specs.broker.Board.{history_at}
 use Rattle.kanswer.specs.declared.accepted.Accepted.{Accepted}
 use Rattle.kanswer.specs.declared.accepted.Accepted.TheVariants.{Refused, Appended, Seen}
 use Rattle.kanswer.specs.Waiting.{Shown}

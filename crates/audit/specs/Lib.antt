@@ -18,6 +18,8 @@ pub mod ServePrint
 pub mod Printable
 -- small accounts, written out
 pub mod Worked
+-- the specification of the broker; broker.antt says what is in it
+pub mod broker
 -- ==== the words of private functions
 
 -- entries of which the replicas can be told

@@ -4,6 +4,7 @@
 #![tactic(auto)]
 
 mod account;
+pub mod broker;
 mod ending;
 mod input_end;
 mod numbers;

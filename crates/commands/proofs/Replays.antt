@@ -5,11 +5,11 @@ use Rattle.std.specs.Io.KnownBytes.{Consumes, IsAtEnd}
 use Rattle.std.specs.List.{count_by, AllByRecursion, AllZip}
 use Rattle.audit.specs.declared.account.Account.{Account}
 use Rattle.trace_file.specs.declared.line.Line.{Line}
-use Rattle.broker_spec.specs.Board.{Board, opening, account_of}
+use Rattle.audit.specs.broker.Board.{Board, opening, account_of}
 use Rattle.kwire.specs.Configuration.{Configuration}
-use Rattle.broker_spec.specs.Turns.{Turned}
+use Rattle.audit.specs.broker.Turns.{Turned}
 use Rattle.commands.specs.LinesFront.{IsLinesFront}
-use Rattle.broker_spec.specs.Play.{Plays, IsPlay}
+use Rattle.audit.specs.broker.Play.{Plays, IsPlay}
 use Rattle.audit.specs.Printable.{IsPrintable}
 use Rattle.account_print.proofs.Laws.{printable}
 use Rattle.audit.specs.Printed.{summary_of}
@@ -20,7 +20,7 @@ use Rattle.trace_file.specs.IsLine.{IsLine}
 use Rattle.trace_file.specs.Trace.{IsTrace, pieces_of}
 use Rattle.trace_file.specs.declared.line.Line.TheVariants.{Topic, Feed, Shut, Clock, End}
 use Rattle.lone_broker.specs.Kept.{IsPlayable}
-use Rattle.broker_spec.proofs.Laws.{play_is_lawful, play_is_run, trace_declared, play_is_one, front_of_play, trace_plays, lines_left}
+use Rattle.audit.proofs.broker.Laws.{play_is_lawful, play_is_run, trace_declared, play_is_one, front_of_play, trace_plays, lines_left}
 use Rattle.trace_file.specs.declared.line.TheConstants.{MOST_TRACE_BYTES, REPLAY_PORT}
 use Rattle.trace_file.specs.declared.line.LineFault.{LineFault}
 use Rattle.trace_file.specs.declared.line.TraceFault.{TraceFault}

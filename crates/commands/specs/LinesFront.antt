@@ -2,9 +2,9 @@
 use Rattle.std.specs.Prelude.{ℕ, ◌≡◌, ◌++◌, List, take, Option}
 use Rattle.std.specs.Io.KnownBytes.{Appends}
 use Rattle.trace_file.specs.declared.line.Line.{Line}
-use Rattle.broker_spec.specs.Board.{Board}
-use Rattle.broker_spec.specs.Turns.{Turned}
-use Rattle.broker_spec.specs.Play.{Plays}
+use Rattle.audit.specs.broker.Board.{Board}
+use Rattle.audit.specs.broker.Turns.{Turned}
+use Rattle.audit.specs.broker.Play.{Plays}
 use Rattle.lone_broker.specs.Kept.{Kept, StandsFor}
 
 -- a prefix of what the first of these lines print

@@ -4,7 +4,7 @@ use Rattle.audit.specs.declared.account.Account.{Account}
 use Rattle.trace_file.specs.declared.line.Line.{Line}
 use Rattle.trace_file.specs.declared.line.TheConstants.{REPLAY_PORT}
 use Rattle.audit.specs.IsLawful.{IsLawful}
-use Rattle.broker_spec.specs.Play.{IsPlay}
+use Rattle.audit.specs.broker.Play.{IsPlay}
 use Rattle.audit.specs.RunOf.{IsRunOf}
 use Rattle.trace_file.specs.declared.line.LineFault.{LineFault}
 use Rattle.trace_file.specs.Contents.{configuration_of}

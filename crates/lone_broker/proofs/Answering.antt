@@ -7,9 +7,9 @@ use Rattle.kwire.specs.Spelling.{spelling}
 use Rattle.kanswer.specs.Answer.{answer}
 use Rattle.audit.specs.declared.account.CallHow.{CallHow}
 use Rattle.trace_file.specs.PrintedLine.{line_of, reply_line}
-use Rattle.broker_spec.specs.Board.{Board, Waiting}
-use Rattle.broker_spec.specs.Completing.{answered_in, shown_now}
-use Rattle.broker_spec.specs.Turns.{Turned}
+use Rattle.audit.specs.broker.Board.{Board, Waiting}
+use Rattle.audit.specs.broker.Completing.{answered_in, shown_now}
+use Rattle.audit.specs.broker.Turns.{Turned}
 use Rattle.lone_broker.specs.Kept.{Kept, StandsFor, TurnsBy, waiting_in}
 use Rattle.lone_broker.specs.Looks.{due_in, finished}
 use Rattle.lone_broker.proofs.Completes.{something_due}

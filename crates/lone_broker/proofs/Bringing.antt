@@ -4,10 +4,10 @@ use Rattle.audit.specs.Printed.{end_line}
 use Rattle.audit.specs.declared.account.SessionEnd.{SessionEnd}
 use Rattle.audit.specs.declared.account.Transcript.{Transcript}
 use Rattle.trace_file.specs.declared.line.Line.TheVariants.{Feed, Shut}
-use Rattle.broker_spec.specs.Acting.{has_ended, is_there}
-use Rattle.broker_spec.specs.Board.{Board, Seat, new_transcript, seat_at, transcript_at}
-use Rattle.broker_spec.specs.Play.{brought}
-use Rattle.broker_spec.specs.Turns.{Turned, ended}
+use Rattle.audit.specs.broker.Acting.{has_ended, is_there}
+use Rattle.audit.specs.broker.Board.{Board, Seat, new_transcript, seat_at, transcript_at}
+use Rattle.audit.specs.broker.Play.{brought}
+use Rattle.audit.specs.broker.Turns.{Turned, ended}
 use Rattle.lone_broker.specs.Desks.{transcript_of}
 use Rattle.lone_broker.specs.Kept.{Kept, StandsFor, TurnsBy, with_waiting}
 use Rattle.lone_broker.proofs.Standing.{are_reseated, by_waiting, reseated, stands_of}

@@ -11,7 +11,7 @@ use Rattle.audit.specs.declared.account.Account.{Account}
 use Rattle.audit.specs.declared.account.PartAccount.{PartAccount}
 use Rattle.audit.specs.declared.account.Transcript.{Transcript}
 use Rattle.audit.specs.Histories.{part_account}
-use Rattle.broker_spec.specs.Board.{Seat, Waiting, new_transcript, put_before, passes_of, account_of}
+use Rattle.audit.specs.broker.Board.{Seat, Waiting, new_transcript, put_before, passes_of, account_of}
 use Rattle.kwire.specs.Configuration.{Configuration}
 use Rattle.audit.specs.Histories.{calls_in}
 use Rattle.lone_broker.specs.Desks.{transcript_of}

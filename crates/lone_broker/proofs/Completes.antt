@@ -21,11 +21,11 @@ use Rattle.audit.specs.declared.account.CallHow.{CallHow}
 use Rattle.audit.specs.declared.account.CallHow.TheVariants.{Expired, Satisfied}
 use Rattle.audit.specs.declared.account.Point.{Point}
 use Rattle.trace_file.specs.PrintedLine.{reply_line}
-use Rattle.broker_spec.specs.Board.{Board, Seat, Waiting, history_at, next_call, seat_at, transcript_at}
-use Rattle.broker_spec.specs.Completing.{answered_in, completed, finish_last, is_answerable_now, is_overdue_now, is_satisfied_now, look_all, shown_now, unless_none}
+use Rattle.audit.specs.broker.Board.{Board, Seat, Waiting, history_at, next_call, seat_at, transcript_at}
+use Rattle.audit.specs.broker.Completing.{answered_in, completed, finish_last, is_answerable_now, is_overdue_now, is_satisfied_now, look_all, shown_now, unless_none}
 use Rattle.lone_broker.specs.Desks.{transcript_of}
 use Rattle.lone_broker.specs.Kept.{AreKept, IsKeptOf, Kept, MatchesWaiting, StandsFor, last_frame, waiting_in, with_waiting}
-use Rattle.broker_spec.specs.Board.{gauge_now}
+use Rattle.audit.specs.broker.Board.{gauge_now}
 use Rattle.lone_broker.specs.Looks.{clock_after, clock_points, due_as, due_in, finished}
 use Rattle.lone_broker.specs.declared.parked.Parked.{Parked}
 use Rattle.lone_broker.proofs.Followers.{set_followers}

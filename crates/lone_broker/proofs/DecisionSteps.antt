@@ -14,9 +14,9 @@ use Rattle.kanswer.specs.Waiting.{results_of}
 use Rattle.audit.specs.declared.account.Point.{Point}
 use Rattle.audit.specs.Histories.{no_state}
 use Rattle.audit.specs.LawfulCall.{step_points, Step}
-use Rattle.broker_spec.specs.Board.{history_at, empty_history}
+use Rattle.audit.specs.broker.Board.{history_at, empty_history}
 use Rattle.kanswer.specs.WithEntry.{entered}
-use Rattle.broker_spec.specs.Entering.{Noted, accept_all, steps_of, shown_of}
+use Rattle.audit.specs.broker.Entering.{Noted, accept_all, steps_of, shown_of}
 use Rattle.kanswer.specs.declared.entered.Entered.{Entered}
 use Rattle.kanswer.specs.Entered.{HasEntered}
 use Rattle.lone_broker.specs.Carried.{Came, IsEntered, IsCarried}

@@ -20,10 +20,10 @@ use Rattle.kanswer.specs.declared.accepted.Accepted.TheVariants.{Refused, Append
 use Rattle.opcond.specs.Tally.{IsOverdue, IsSatisfied}
 use Rattle.audit.specs.declared.account.CallHow.TheVariants.{Expired, Satisfied}
 use Rattle.audit.specs.declared.account.Point.{Point}
-use Rattle.broker_spec.specs.Board.{Board, Waiting, transcript_at}
-use Rattle.broker_spec.specs.Completing.{is_overdue_now, is_satisfied_now, look_all, shown_now}
+use Rattle.audit.specs.broker.Board.{Board, Waiting, transcript_at}
+use Rattle.audit.specs.broker.Completing.{is_overdue_now, is_satisfied_now, look_all, shown_now}
 use Rattle.lone_broker.specs.Kept.{AreKept, IsKeptOf, Kept, MatchesWaiting, StandsFor, Stands, last_frame, parked_at, waiting_in, with_waiting}
-use Rattle.broker_spec.specs.Board.{gauge_now}
+use Rattle.audit.specs.broker.Board.{gauge_now}
 use Rattle.lone_broker.specs.Looks.{HasGauge, due_as, due_in}
 use Rattle.lone_broker.specs.Replying.{HasLog, ShowsLogs}
 use Rattle.lone_broker.specs.declared.parked.Parked.{Parked}

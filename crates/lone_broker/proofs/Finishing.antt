@@ -10,8 +10,8 @@ use Rattle.kanswer.specs.declared.accepted.Accepted.{Accepted}
 use Rattle.audit.specs.LawfulCall.{Step}
 use Rattle.audit.specs.declared.account.CallHow.{CallHow}
 use Rattle.audit.specs.declared.account.Point.{Point}
-use Rattle.broker_spec.specs.Board.{Board, Seat, Waiting, empty_history, empty_seat, next_call, opening, seat_at, transcript_at}
-use Rattle.broker_spec.specs.Completing.{look_all}
+use Rattle.audit.specs.broker.Board.{Board, Seat, Waiting, empty_history, empty_seat, next_call, opening, seat_at, transcript_at}
+use Rattle.audit.specs.broker.Completing.{look_all}
 use Rattle.kwire.specs.DeclaredTopics.{AreDeclared}
 use Rattle.lone_broker.specs.Kept.{Kept, MatchesWaiting, StandsFor, last_frame, parked_at, waiting_in}
 use Rattle.lone_broker.specs.Looks.{clock_after, clock_points, finished}

@@ -7,9 +7,9 @@ use Rattle.partlog.specs.State.{state_of}
 use Rattle.kwire.specs.declared.config.Topic.{Topic}
 use Rattle.kwire.specs.Configuration.{followers_of, partitions_of}
 use Rattle.kanswer.specs.Decisions.{Entry, Put, Looked, Followed, Decision, Refuse, AskLog}
-use Rattle.broker_spec.specs.Board.{history_at}
+use Rattle.audit.specs.broker.Board.{history_at}
 use Rattle.kanswer.specs.WithEntry.{entered}
-use Rattle.broker_spec.specs.Entering.{accept_all}
+use Rattle.audit.specs.broker.Entering.{accept_all}
 use Rattle.lone_broker.specs.Carried.{Came, IsCarried}
 
 pub followers_at : (parts : List History) (part : ℕ) (h : History) → part < length parts → get_or (map (λ (x : History). x.followers) parts) part 0 ≡ (get_or parts part h).followers

@@ -21,8 +21,8 @@ use Rattle.audit.specs.Histories.{clock_part}
 use Rattle.audit.specs.declared.account.CallHow.TheVariants.{Parked as Waits}
 use Rattle.audit.specs.declared.account.Point.{Point}
 use Rattle.kwire.specs.DeclaredTopics.{AreDeclared}
-use Rattle.broker_spec.specs.Entering.{Noted, accept_all, shown_of}
-use Rattle.broker_spec.specs.Turns.{how_at_once, text_at_once}
+use Rattle.audit.specs.broker.Entering.{Noted, accept_all, shown_of}
+use Rattle.audit.specs.broker.Turns.{how_at_once, text_at_once}
 use Rattle.lone_broker.specs.Carried.{Came, IsCarried}
 use Rattle.lone_broker.specs.Gathered.{numbers_in, part_numbers}
 use Rattle.lone_broker.specs.Handled.{IsAnswered, IsHandled, IsParked, looked_by}

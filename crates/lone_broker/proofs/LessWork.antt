@@ -1,10 +1,10 @@
 -- What the broker keeps has as much left to do after a scan, and less after an act, by the measure of the definition's board.
 use Rattle.std.proofs.Common.{◌≡◌, ℕ, ◌<◌, List, Some, length, sym, ap, ◌∙◌, arith}
-use Rattle.broker_spec.specs.Acting.{next_to_act, Acts}
-use Rattle.broker_spec.specs.Board.{Board}
-use Rattle.broker_spec.specs.Completing.{scanned}
-use Rattle.broker_spec.specs.Turns.{Turned}
-use Rattle.broker_spec.proofs.Laws.{acts_less, its_turn, scanned_as_much, work_on}
+use Rattle.audit.specs.broker.Acting.{next_to_act, Acts}
+use Rattle.audit.specs.broker.Board.{Board}
+use Rattle.audit.specs.broker.Completing.{scanned}
+use Rattle.audit.specs.broker.Turns.{Turned}
+use Rattle.audit.proofs.broker.Laws.{acts_less, its_turn, scanned_as_much, work_on}
 use Rattle.lone_broker.specs.Kept.{Kept, Stands, StandsFor, TurnsBy}
 
 pub scan_leaves : (kept after : Kept) (text more : List ℕ) → Stands kept → TurnsBy (λ board t. t ≡ scanned board) kept after text more → work_on after.board.seats ≡ work_on kept.board.seats

@@ -14,10 +14,10 @@ use Rattle.kanswer.specs.Decisions.{fetch_parts}
 use Rattle.kanswer.specs.Waiting.{fetch_need, is_consumer, needs_of, produce_need, results_of, values_of}
 use Rattle.kanswer.proofs.Laws.{values_by_part}
 use Rattle.audit.specs.LawfulCall.{Step, part_in}
-use Rattle.broker_spec.specs.Board.{Board, Waiting, history_at}
-use Rattle.broker_spec.specs.Completing.{present, shown_now}
+use Rattle.audit.specs.broker.Board.{Board, Waiting, history_at}
+use Rattle.audit.specs.broker.Completing.{present, shown_now}
 use Rattle.lone_broker.specs.Kept.{IsKeptOf}
-use Rattle.broker_spec.specs.Board.{gauge_now}
+use Rattle.audit.specs.broker.Board.{gauge_now}
 use Rattle.lone_broker.specs.Looks.{HasGauge}
 use Rattle.lone_broker.specs.Replying.{HasLog, ShowsLogs}
 use Rattle.lone_broker.specs.declared.parked.Parked.{Parked}

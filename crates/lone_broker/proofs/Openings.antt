@@ -6,7 +6,7 @@ use Rattle.std.specs.List.{flat_map}
 use Rattle.partlog.specs.History.{History}
 use Rattle.kwire.specs.declared.config.Topic.{Topic}
 use Rattle.kwire.specs.Configuration.{followers_of}
-use Rattle.broker_spec.specs.Board.{empty_history}
+use Rattle.audit.specs.broker.Board.{empty_history}
 
 pub one_more_behind : {X : Type 0} (front : List X) (n : ℕ) (x : X) → (front ++ replicate n x) ++ x ∷ [] ≡ front ++ replicate (n + 1) x
 one_more_behind front n x = append_assoc front (replicate n x) (x ∷ []) ∙ ap (λ (xs : List _). front ++ xs) (replicate_more n x)

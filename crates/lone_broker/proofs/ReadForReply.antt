@@ -18,7 +18,7 @@ use Rattle.kanswer.specs.declared.accepted.Accepted.{Accepted}
 use Rattle.kanswer.specs.declared.accepted.Accepted.TheVariants.{Refused, Appended, Seen}
 use Rattle.kanswer.specs.declared.accepted.Reading.{Reading}
 use Rattle.kanswer.specs.declared.accepted.Budget.{Budget}
-use Rattle.broker_spec.specs.Board.{history_at, empty_history}
+use Rattle.audit.specs.broker.Board.{history_at, empty_history}
 use Rattle.kanswer.specs.Answer.{read_of, batches_as, budget_after, first_budget}
 use Rattle.kanswer.specs.LogReadings.{AreReadings, HasNumbers, ProduceReadings, HasRecords, FetchReadings, named_count, budget_of}
 use Rattle.lone_broker.specs.Gathered.{numbers_now, state_now, shown_in_logs, reading_now, left_now, readings_now, left_behind}

@@ -13,9 +13,9 @@ use Rattle.kanswer.specs.Decisions.{Entry, Decision, Refuse, AskLog, Decides}
 use Rattle.kanswer.specs.LogReadings.{IsCarriable}
 use Rattle.kanswer.specs.Results.{AreResults, IsBounded, parts_asked}
 use Rattle.kanswer.specs.Waiting.{results_of}
-use Rattle.broker_spec.specs.Board.{history_at, empty_history}
+use Rattle.audit.specs.broker.Board.{history_at, empty_history}
 use Rattle.kanswer.specs.WithEntry.{entered}
-use Rattle.broker_spec.specs.Entering.{accept_all, shown_of}
+use Rattle.audit.specs.broker.Entering.{accept_all, shown_of}
 use Rattle.lone_broker.specs.Replying.{HasLog, ShowsLog, ShowsLogs}
 use Rattle.kanswer.specs.Deciding.{AskOnce, AsksOther, AsksWithin, IsHonest, IsHonestAs, IsSound}
 use Rattle.kanswer.proofs.Laws.{decided_within, request_asks_once, sound, decides_honest, Differs, result_other, all_at, one_more_part, none_paired, decided_count, all_bounded, few_named}

@@ -15,8 +15,8 @@ use Rattle.partlog.specs.Shrunk.{all_shrunk}
 use Rattle.partlog.specs.Ticked.{ticked}
 use Rattle.kwire.specs.Configuration.{Configuration}
 use Rattle.trace_file.specs.declared.line.Line.TheVariants.{Clock}
-use Rattle.broker_spec.specs.Board.{Board, Seat, Waiting}
-use Rattle.broker_spec.specs.Play.{brought, ticked as risen}
+use Rattle.audit.specs.broker.Board.{Board, Seat, Waiting}
+use Rattle.audit.specs.broker.Play.{brought, ticked as risen}
 use Rattle.lone_broker.specs.Kept.{AreKept, Kept, StandsFor, with_waiting}
 use Rattle.lone_broker.specs.Steps.{IsTicked}
 use Rattle.lone_broker.specs.declared.parked.Parked.{Parked}

@@ -11,9 +11,9 @@ use Rattle.kwire.specs.Configuration.{Configuration}
 use Rattle.lone_waiters.specs.Index.{Index, IsSuspect, moment_of}
 use Rattle.lone_waiters.specs.Sessions.{Has, IsLeastFrom}
 use Rattle.lone_waiters.specs.Waiting.{IsIdle}
-use Rattle.broker_spec.specs.Acting.{has_work, next_to_act}
-use Rattle.broker_spec.specs.Board.{Board, Seat, empty_seat, opening, seat_at}
-use Rattle.broker_spec.specs.Completing.{answered_in}
+use Rattle.audit.specs.broker.Acting.{has_work, next_to_act}
+use Rattle.audit.specs.broker.Board.{Board, Seat, empty_seat, opening, seat_at}
+use Rattle.audit.specs.broker.Completing.{answered_in}
 use Rattle.lone_broker.specs.Kept.{Kept, MatchesWaiting, StandsFor, TurnsBy, parked_at}
 use Rattle.lone_broker.specs.Steps.{is_ready}
 use Rattle.lone_broker.specs.Watching.{AreTold, IsIndexed, IsQuiet, IsWatched, numbers_now, told_at}

@@ -5,8 +5,8 @@ use Rattle.audit.specs.declared.account.Call.{Call}
 use Rattle.audit.specs.declared.account.CallHow.{CallHow}
 use Rattle.audit.specs.declared.account.Point.{Point}
 use Rattle.audit.specs.declared.account.Transcript.{Transcript}
-use Rattle.broker_spec.specs.Board.{Seat, new_transcript}
-use Rattle.broker_spec.specs.Completing.{finish_last}
+use Rattle.audit.specs.broker.Board.{Seat, new_transcript}
+use Rattle.audit.specs.broker.Completing.{finish_last}
 use Rattle.lone_broker.specs.Desks.{transcript_of}
 use Rattle.lone_broker.specs.Kept.{last_frame}
 use Rattle.lone_broker.specs.Steps.{last_points}

@@ -7,7 +7,7 @@ use Rattle.partlog.specs.declared.clock_event.ClockEvent.{ClockEvent}
 use Rattle.partlog.specs.History.{History}
 use Rattle.kwire.specs.Configuration.{Configuration, partitions_of}
 use Rattle.audit.specs.declared.account.Call.{Call}
-use Rattle.broker_spec.specs.Board.{Board, Seat, Waiting, empty_seat, seat_at, transcript_at}
+use Rattle.audit.specs.broker.Board.{Board, Seat, Waiting, empty_seat, seat_at, transcript_at}
 use Rattle.lone_broker.specs.Desks.{transcript_of}
 use Rattle.lone_broker.specs.Kept.{AreKept, Kept, MatchesWaiting, StandsFor, last_frame, parked_at, waiting_in, with_waiting}
 use Rattle.lone_broker.specs.declared.parked.Parked.{Parked}

@@ -31,15 +31,15 @@ use Rattle.audit.specs.declared.account.Call.{Call}
 use Rattle.audit.specs.declared.account.CallHow.{CallHow}
 use Rattle.audit.specs.declared.account.CallHow.TheVariants.{Quiet, AtOnce, Satisfied, Expired, Parked as Waits, Cut}
 use Rattle.audit.specs.declared.account.Point.{Point}
-use Rattle.broker_spec.specs.Board.{Seat, empty_history, empty_seat, history_at, next_call, seat_at, transcript_at}
-use Rattle.broker_spec.specs.Completing.{finish_last, look_all}
+use Rattle.audit.specs.broker.Board.{Seat, empty_history, empty_seat, history_at, next_call, seat_at, transcript_at}
+use Rattle.audit.specs.broker.Completing.{finish_last, look_all}
 use Rattle.kanswer.specs.WithEntry.{entered}
-use Rattle.broker_spec.specs.Entering.{accept_all, shown_of, steps_of}
-use Rattle.broker_spec.proofs.Laws.{looked_moment, looked_state}
+use Rattle.audit.specs.broker.Entering.{accept_all, shown_of, steps_of}
+use Rattle.audit.proofs.broker.Laws.{looked_moment, looked_state}
 use Rattle.lone_broker.specs.Desks.{next_of, transcript_of}
 use Rattle.lone_broker.specs.Handled.{IsAnswered, IsHandled, IsParked}
 use Rattle.lone_broker.specs.Kept.{Kept, Stands, parked_at}
-use Rattle.broker_spec.specs.Board.{gauge_now}
+use Rattle.audit.specs.broker.Board.{gauge_now}
 use Rattle.lone_broker.specs.Looks.{clock_after, clock_points}
 use Rattle.lone_broker.specs.Steps.{AnyLeft, HasPart, IsActed, IsAlone, IsFreed, IsLeft, IsReseated, last_points}
 use Rattle.lone_broker.specs.declared.handling.Handled.{Handled}

@@ -25,10 +25,10 @@ use Rattle.audit.specs.declared.account.Point.{Point}
 use Rattle.audit.specs.declared.account.SessionEnd.{SessionEnd}
 use Rattle.audit.specs.declared.account.SessionEnd.TheVariants.{CallsFull, FrameTooLong, Refused}
 use Rattle.audit.specs.declared.account.TheConstants.{MOST_CALLS}
-use Rattle.broker_spec.specs.Acting.{Acts, HandlesFrame, end_of_input}
-use Rattle.broker_spec.specs.Board.{Board, Seat, Waiting, next_call, seat_at, transcript_at}
-use Rattle.broker_spec.specs.Entering.{Noted, accept_all, shown_of, steps_of}
-use Rattle.broker_spec.specs.Turns.{Turned, answered_at_once, ended, handled, how_at_once, left_waiting, seat_with}
+use Rattle.audit.specs.broker.Acting.{Acts, HandlesFrame, end_of_input}
+use Rattle.audit.specs.broker.Board.{Board, Seat, Waiting, next_call, seat_at, transcript_at}
+use Rattle.audit.specs.broker.Entering.{Noted, accept_all, shown_of, steps_of}
+use Rattle.audit.specs.broker.Turns.{Turned, answered_at_once, ended, handled, how_at_once, left_waiting, seat_with}
 use Rattle.lone_broker.specs.Desks.{front_body, transcript_of}
 use Rattle.lone_broker.specs.Handled.{IsAnswered, IsHandled, IsParked, looked_by}
 use Rattle.lone_broker.specs.Kept.{AreKept, IsKeptOf, Kept, MatchesWaiting, StandsFor, TurnsBy, last_frame, parked_at, waiting_in, with_waiting}

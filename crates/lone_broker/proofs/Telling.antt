@@ -15,7 +15,7 @@ use Rattle.kbytes.proofs.Laws.{get_set_other, get_set_same, same_or_not}
 use Rattle.audit.specs.declared.account.Point.{Point}
 use Rattle.lone_waiters.specs.Index.{Index, IsSuspect, WaitsFor, moment_of}
 use Rattle.lone_waiters.specs.Waiting.{Names, WaitsOn}
-use Rattle.broker_spec.specs.Board.{empty_history, history_at}
+use Rattle.audit.specs.broker.Board.{empty_history, history_at}
 use Rattle.lone_broker.specs.Steps.{HasPart}
 use Rattle.lone_broker.specs.Telling.{AreToldOf, AreWarned, IsToldOf, IsWarned, StayWatched}
 use Rattle.lone_broker.specs.Watching.{AreTold, IsIndexed, IsQuiet, numbers_now, told_at, told_value}

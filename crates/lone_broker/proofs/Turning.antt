@@ -2,11 +2,11 @@
 use Rattle.std.proofs.Common.{◌≡◌, ℕ, zero, suc, ◌+◌, ◌<◌, Bool, true, false, cond, not, ◌&&◌, ◌||◌, List, [], ◌∷◌, ◌++◌, Option, Some, None, unwrap_or, refl, sym, ap, subst, ◌∙◌, arith, append_assoc, append-nil, zero-add, add-one}
 use Rattle.std.specs.Prelude.{◌==◌, is_some}
 use Rattle.std.specs.List.{find, list_any, range_with_len}
-use Rattle.broker_spec.specs.Acting.{Acts, can_act, has_ended, has_work, is_there, next_to_act, shows_work}
-use Rattle.broker_spec.specs.Board.{Board, Waiting, new_transcript, seat_at}
-use Rattle.broker_spec.specs.Completing.{answered_in, scan_sessions, scanned}
-use Rattle.broker_spec.specs.Play.{PlaysLine, Rests, brought}
-use Rattle.broker_spec.specs.Turns.{Turned}
+use Rattle.audit.specs.broker.Acting.{Acts, can_act, has_ended, has_work, is_there, next_to_act, shows_work}
+use Rattle.audit.specs.broker.Board.{Board, Waiting, new_transcript, seat_at}
+use Rattle.audit.specs.broker.Completing.{answered_in, scan_sessions, scanned}
+use Rattle.audit.specs.broker.Play.{PlaysLine, Rests, brought}
+use Rattle.audit.specs.broker.Turns.{Turned}
 use Rattle.audit.specs.declared.account.Transcript.{Transcript}
 use Rattle.trace_file.specs.declared.line.Line.{Line}
 use Rattle.kwire.specs.Frames.{next_frame_of}

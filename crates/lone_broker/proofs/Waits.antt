@@ -4,7 +4,7 @@ use Rattle.std.proofs.lemmas.Bool.{eqb-true, ne_eqb}
 use Rattle.std.proofs.lemmas.List.Folds.{find-append}
 use Rattle.std.specs.Option.{option_or}
 use Rattle.std.specs.Prelude.{◌==◌}
-use Rattle.broker_spec.specs.Board.{Waiting}
+use Rattle.audit.specs.broker.Board.{Waiting}
 use Rattle.lone_broker.specs.Kept.{waiting_in}
 use Rattle.kbytes.proofs.Laws.{some_is}
 

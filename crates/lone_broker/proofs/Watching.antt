@@ -18,12 +18,12 @@ use Rattle.audit.specs.declared.account.CallHow.TheVariants.{Expired, Satisfied}
 use Rattle.lone_waiters.specs.Index.{ComesBy, Index, IsSuspect, coming_of, last_of, moment_of}
 use Rattle.lone_waiters.specs.Sessions.{Has}
 use Rattle.lone_waiters.specs.Waiting.{WaitsNoMore, WaitsOn, WatchesOn}
-use Rattle.broker_spec.specs.Acting.{can_act, has_work}
-use Rattle.broker_spec.specs.Board.{Board, Seat, empty_seat, history_at, next_call, seat_at, transcript_at}
-use Rattle.broker_spec.specs.Completing.{is_overdue_now, is_satisfied_now}
+use Rattle.audit.specs.broker.Acting.{can_act, has_work}
+use Rattle.audit.specs.broker.Board.{Board, Seat, empty_seat, history_at, next_call, seat_at, transcript_at}
+use Rattle.audit.specs.broker.Completing.{is_overdue_now, is_satisfied_now}
 use Rattle.lone_broker.specs.Desks.{next_of}
 use Rattle.lone_broker.specs.Kept.{Kept, StandsFor, Stands, parked_at, waiting_in, with_waiting}
-use Rattle.broker_spec.specs.Board.{gauge_now}
+use Rattle.audit.specs.broker.Board.{gauge_now}
 use Rattle.lone_broker.specs.Looks.{HasGauge, due_in}
 use Rattle.lone_broker.specs.Steps.{AnyLeft, IsActed, IsAlone, IsFreed, IsLeft, IsReseated, IsTicked, is_ready, last_points, operation_at, operation_in}
 use Rattle.lone_broker.specs.Telling.{AreToldOf}

@@ -12,7 +12,7 @@ use Rattle.kwire.specs.Configuration.{Configuration}
 use Rattle.partlog.specs.State.{PartState as State, state_of}
 use Rattle.kanswer.specs.Decisions.{Outcome, Decision, ProduceDecides, produce_parts}
 use Rattle.kanswer.specs.WithEntry.{entered}
-use Rattle.broker_spec.specs.Entering.{accept_all, steps_of, shown_of}
+use Rattle.audit.specs.broker.Entering.{accept_all, steps_of, shown_of}
 use Rattle.kanswer.specs.Waiting.{results_of}
 use Rattle.audit.specs.LawfulCall.{step_points}
 

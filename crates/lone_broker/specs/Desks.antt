@@ -2,7 +2,7 @@
 use Rattle.std.specs.Prelude.{ℕ, ◌≡◌, ◌+◌, ◌-◌, ◌≤◌, List, length, take, drop, Option, Some, None, unwrap_or}
 use Rattle.audit.specs.declared.account.TheConstants.{MOST_CALLS}
 use Rattle.audit.specs.declared.account.Transcript.{Transcript}
-use Rattle.broker_spec.specs.Board.{Seat, new_transcript}
+use Rattle.audit.specs.broker.Board.{Seat, new_transcript}
 
 abbrev pub transcript_of : ℕ → Seat → Transcript
 transcript_of session seat = unwrap_or seat.transcript (new_transcript session)

@@ -11,7 +11,7 @@ use Rattle.kanswer.specs.declared.accepted.Accepted.{Accepted}
 use Rattle.kanswer.specs.declared.accepted.Accepted.TheVariants.{Refused, Appended, Seen}
 use Rattle.kanswer.specs.declared.accepted.Reading.{Reading}
 use Rattle.kanswer.specs.declared.accepted.Budget.{Budget}
-use Rattle.broker_spec.specs.Board.{history_at, empty_history}
+use Rattle.audit.specs.broker.Board.{history_at, empty_history}
 use Rattle.kanswer.specs.Waiting.{Shown}
 use Rattle.kanswer.specs.Answer.{read_of, budget_after}
 

@@ -12,8 +12,8 @@ use Rattle.kwire.specs.Configuration.{Configuration}
 use Rattle.kanswer.specs.Decisions.{Decision, Decides}
 use Rattle.kanswer.specs.Results.{AreResults}
 use Rattle.kanswer.specs.Waiting.{becomes_delayed, operation_of, results_of}
-use Rattle.broker_spec.specs.Entering.{Noted, accept_all, shown_of, steps_of}
-use Rattle.broker_spec.specs.Turns.{how_at_once, text_at_once}
+use Rattle.audit.specs.broker.Entering.{Noted, accept_all, shown_of, steps_of}
+use Rattle.audit.specs.broker.Turns.{how_at_once, text_at_once}
 use Rattle.lone_broker.specs.declared.handling.Handled.{Handled}
 
 abbrev pub looked_by : ℕ → ℕ → List ClockEvent → List ClockEvent

@@ -10,9 +10,9 @@ use Rattle.kwire.specs.IsRequest.{IsRequest}
 use Rattle.audit.specs.declared.account.Call.{Call}
 use Rattle.trace_file.specs.declared.line.Line.{Line}
 use Rattle.trace_file.specs.declared.line.Line.TheVariants as lines
-use Rattle.broker_spec.specs.Board.{Board, Waiting, most_sessions, transcript_at}
+use Rattle.audit.specs.broker.Board.{Board, Waiting, most_sessions, transcript_at}
 use Rattle.kwire.specs.DeclaredTopics.{AreDeclared}
-use Rattle.broker_spec.specs.Turns.{Turned}
+use Rattle.audit.specs.broker.Turns.{Turned}
 use Rattle.lone_broker.specs.Replying.{HasLog}
 use Rattle.lone_broker.specs.declared.parked.Parked.{Parked}
 

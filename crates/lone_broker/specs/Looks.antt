@@ -7,9 +7,9 @@ use Rattle.audit.specs.declared.account.CallHow.TheVariants.{Quiet, AtOnce, Sati
 use Rattle.audit.specs.declared.account.Point.{Point}
 use Rattle.audit.specs.Histories.{clock_part}
 use Rattle.kanswer.specs.PartitionGauges.{partition_of}
-use Rattle.broker_spec.specs.Board.{Board, Waiting}
+use Rattle.audit.specs.broker.Board.{Board, Waiting}
 use Rattle.audit.specs.LawfulCall.{operation_parts}
-use Rattle.broker_spec.specs.Completing.{completed_as, is_overdue_now, is_satisfied_now, last_call, look_all}
+use Rattle.audit.specs.broker.Completing.{completed_as, is_overdue_now, is_satisfied_now, last_call, look_all}
 use Rattle.lone_broker.specs.Handled.{looked_by}
 
 -- with `count` partitions, its gauge is one of theirs

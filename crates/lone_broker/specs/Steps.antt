@@ -9,10 +9,10 @@ use Rattle.audit.specs.declared.account.Call.{Call}
 use Rattle.audit.specs.declared.account.Point.{Point}
 use Rattle.trace_file.specs.declared.line.Line.{Line}
 use Rattle.trace_file.specs.declared.line.Line.TheVariants as lines
-use Rattle.broker_spec.specs.Acting.{has_work}
-use Rattle.broker_spec.specs.Board.{history_at, next_call, seat_at, transcript_at}
+use Rattle.audit.specs.broker.Acting.{has_work}
+use Rattle.audit.specs.broker.Board.{history_at, next_call, seat_at, transcript_at}
 use Rattle.lone_broker.specs.Kept.{Kept, parked_at}
-use Rattle.broker_spec.specs.Board.{gauge_now}
+use Rattle.audit.specs.broker.Board.{gauge_now}
 use Rattle.lone_broker.specs.declared.parked.Parked.{Parked}
 
 -- the points of the entries that the last of these calls left as it was accepted

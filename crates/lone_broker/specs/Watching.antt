@@ -13,7 +13,7 @@ use Rattle.kanswer.specs.Reached.{gauge_in}
 use Rattle.lone_waiters.specs.Index.{Index, IsSuspect, WaitsFor, coming_of, last_of, moment_of}
 use Rattle.lone_waiters.specs.Sessions.{Has}
 use Rattle.lone_waiters.specs.Waiting.{Names, WaitsWith}
-use Rattle.broker_spec.specs.Board.{empty_history, history_at, most_sessions, next_call}
+use Rattle.audit.specs.broker.Board.{empty_history, history_at, most_sessions, next_call}
 use Rattle.lone_broker.specs.Kept.{Stands, parked_at}
 use Rattle.lone_broker.specs.Steps.{is_ready}
 use Rattle.lone_broker.specs.declared.parked.Parked.{Parked}

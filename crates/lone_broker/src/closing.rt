@@ -4,7 +4,7 @@ ghost use Rattle.std.specs.Prelude.{◌≡◌, ◌≤◌, [], ◌∷◌, List as
 ghost use Rattle.std.specs.List.{flat_map};
 ghost use Rattle.audit.specs.IsLawful.{is_won_by};
 ghost use Rattle.audit.specs.Histories.{part_account};
-ghost use Rattle.broker_spec.specs.Board.{Waiting, account_of, most_sessions, passes_of, put_before};
+ghost use Rattle.audit.specs.broker.Board.{Waiting, account_of, most_sessions, passes_of, put_before};
 ghost use Rattle.audit.specs.Histories.{calls_in};
 
 use crate::desk::Desk;

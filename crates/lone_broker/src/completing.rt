@@ -8,9 +8,9 @@ ghost use Rattle.kanswer.specs.Results.{parts_asked};
 ghost use Rattle.kanswer.specs.Waiting.{gauge_value};
 ghost use Rattle.opcond.specs.Tally.{IsSatisfied};
 ghost use Rattle.partlog.specs.State.{state_of};
-ghost use Rattle.broker_spec.specs.Board.{history_at};
-ghost use Rattle.broker_spec.specs.Completing.{look_all};
-ghost use Rattle.broker_spec.specs.Board.{gauge_now};
+ghost use Rattle.audit.specs.broker.Board.{history_at};
+ghost use Rattle.audit.specs.broker.Completing.{look_all};
+ghost use Rattle.audit.specs.broker.Board.{gauge_now};
 ghost use Rattle.lone_broker.specs.Looks.{HasGauge, clock_after, clock_points};
 ghost use Rattle.lone_broker.specs.Replying.{HasLog};
 

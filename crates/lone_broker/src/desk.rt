@@ -3,9 +3,9 @@
 ghost use Rattle.std.specs.Prelude.{◌≡◌, ℕ, ◌<◌, ◌≤◌, ◌∷◌, [], ◌++◌, length, drop, true, Some, None, if◌then◌else◌, count_by, IfOk, OnOk};
 ghost use Rattle.audit.specs.IsLawful.{is_won_by};
 ghost use Rattle.audit.specs.declared.account.TheConstants.{MOST_CALLS};
-ghost use Rattle.broker_spec.specs.Acting.{has_ended, has_work};
-ghost use Rattle.broker_spec.specs.Board.{empty_seat, new_transcript};
-ghost use Rattle.broker_spec.specs.Completing.{finish_last};
+ghost use Rattle.audit.specs.broker.Acting.{has_ended, has_work};
+ghost use Rattle.audit.specs.broker.Board.{empty_seat, new_transcript};
+ghost use Rattle.audit.specs.broker.Completing.{finish_last};
 ghost use Rattle.lone_broker.specs.Desks.{front_body, next_of, transcript_of};
 ghost use Rattle.lone_broker.specs.Kept.{last_frame};
 ghost use Rattle.lone_broker.specs.Steps.{last_points};
@@ -27,7 +27,7 @@ pub struct Desk {
 }
 
 impl Model for Desk {
-    ghost use Rattle.broker_spec.specs.Board.{Seat};
+    ghost use Rattle.audit.specs.broker.Board.{Seat};
     ghost use Rattle.lone_broker.specs.Desks.{IsNumbered};
 
     ghost Value = { Seat };

@@ -11,7 +11,7 @@ ghost use Rattle.kwire.specs.Configuration.{followers_of};
 ghost use Rattle.kwire.specs.IsRequest.{IsRequest};
 ghost use Rattle.kwire.specs.Views.{ask_of};
 ghost use Rattle.partlog.specs.Moment.{moment_of};
-ghost use Rattle.broker_spec.specs.Turns.{how_at_once, text_at_once};
+ghost use Rattle.audit.specs.broker.Turns.{how_at_once, text_at_once};
 ghost use Rattle.lone_broker.specs.Gathered.{numbers_in};
 ghost use Rattle.lone_broker.specs.Handled.{IsHandled, looked_by};
 ghost use Rattle.lone_broker.specs.Replying.{HasLog, ShowsLogs};

@@ -1,8 +1,8 @@
 //! The one-thread broker that callers make: `Watched`, and whether memory ran out in the middle of a line.
 
 ghost use Rattle.std.specs.Prelude.{◌≡◌, true, false, IfOk, OnErr, OnOk};
-ghost use Rattle.broker_spec.specs.Board.{Board, account_of, opening};
-ghost use Rattle.broker_spec.specs.Play.{PlaysLine};
+ghost use Rattle.audit.specs.broker.Board.{Board, account_of, opening};
+ghost use Rattle.audit.specs.broker.Play.{PlaysLine};
 ghost use Rattle.lone_broker.specs.Kept.{IsPlayable, StandsFor, TurnsBy};
 ghost use Rattle.lone_broker.specs.Held.{IsSound};
 

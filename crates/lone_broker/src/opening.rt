@@ -1,7 +1,7 @@
 //! What `Engine::make` begins with: logs without entries, desks that no line has named, and no request that waits.
 
 ghost use Rattle.std.specs.Prelude.{◌≡◌, ◌++◌, None, map, replicate, IfOk, OnOk};
-ghost use Rattle.broker_spec.specs.Board.{empty_history, empty_seat, most_sessions};
+ghost use Rattle.audit.specs.broker.Board.{empty_history, empty_seat, most_sessions};
 ghost use Rattle.kwire.specs.Configuration.{followers_of};
 ghost use Rattle.kwire.specs.DeclaredTopics.{AreDeclared};
 

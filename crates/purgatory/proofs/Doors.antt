@@ -13,7 +13,7 @@ use Rattle.room_core.specs.declared.shape.Shape.{Shape}
 use Rattle.room_core.specs.Gauges.{IsGaugeOf, clock_of, scanner_of}
 use Rattle.room_core.specs.Numbers.{clock_scanner}
 use Rattle.room_table.specs.Seats.{TableView}
-use Rattle.room_scans.specs.Desks.{ClockView, ShardView, desk_name, id_numbers, shape_numbers}
+use Rattle.purgatory.specs.scans.Desks.{ClockView, ShardView, desk_name, id_numbers, shape_numbers}
 use Rattle.purgatory.specs.Rooms.{AreNamed, LockView}
 use Rattle.purgatory.specs.Turning.{AreKeys, IsKey, clock_name, key_view, key_views, lock_view, lock_views, name_shown, shard_name}
 

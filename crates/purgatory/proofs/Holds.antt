@@ -9,8 +9,8 @@ use Rattle.turn_lock.specs.Locks.{IsPassOf, IsReady, lock_name}
 use Rattle.room_core.specs.Scans.{HasNoDuty}
 use Rattle.room_table.specs.Closing.{ClosingView, with_scanner}
 use Rattle.room_table.specs.Seats.{ScanView, TableView, scanner_now}
-use Rattle.room_scans.specs.Desks.{ClockView, ShardView, desk_name}
-use Rattle.room_scans.proofs.Laws.{name_number, name_table}
+use Rattle.purgatory.specs.scans.Desks.{ClockView, ShardView, desk_name}
+use Rattle.purgatory.proofs.scans.Laws.{name_number, name_table}
 use Rattle.purgatory.specs.declared.holding.Held.{Held}
 use Rattle.purgatory.specs.Ends.{IsScannerSeat, won_by_scanners}
 use Rattle.purgatory.specs.Holding.{AreHeld, AreKeysFrom, IsHeldFor}

@@ -8,7 +8,7 @@ use Rattle.room_core.specs.Gauges.{IsShape}
 use Rattle.room_core.specs.Numbers.{scanner_numbers}
 use Rattle.room_table.specs.Handed.{fresh_caller, fresh_callers, fresh_scanner, fresh_scanners, fresh_source, fresh_sources}
 use Rattle.room_table.specs.Seats.{ScanView, TableView}
-use Rattle.room_scans.specs.Desks.{desk_name}
+use Rattle.purgatory.specs.scans.Desks.{desk_name}
 use Rattle.purgatory.specs.Making.{AreFrom, IsFreshCaller, IsFreshScanner, IsFreshSource, names_of}
 use Rattle.purgatory.specs.Rooms.{AreNamed, LockView}
 

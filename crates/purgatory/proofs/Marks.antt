@@ -10,7 +10,7 @@ use Rattle.room_core.specs.State.{Caller}
 use Rattle.room_core.proofs.Laws.{put_else, put_here}
 use Rattle.room_table.specs.declared.part.CallerStep.{CallerStep}
 use Rattle.room_table.specs.Seats.{CallerView, caller_did, caller_now}
-use Rattle.room_scans.specs.Listing.{open_at}
+use Rattle.purgatory.specs.scans.Listing.{open_at}
 use Rattle.purgatory.specs.Listed.{BeginsCheck, GoesListing, HasSeenBelow}
 use Rattle.purgatory.specs.Polled.{found_open}
 use Rattle.purgatory.proofs.Goes.{keeps_by, keeps_far, keeps_same}

@@ -11,7 +11,7 @@ use Rattle.turn_lock.specs.Locks.{AreFresh, IsReady, known, lock_id, lock_name}
 use Rattle.turn_lock.specs.Passes.{at_stage, known_of}
 use Rattle.turn_lock.specs.declared.known.Stage.TheVariants.{Idle}
 use Rattle.purgatory.specs.Rooms.{LockView}
-use Rattle.room_scans.specs.Desks.{ClockView, ShardView, desk_name}
+use Rattle.purgatory.specs.scans.Desks.{ClockView, ShardView, desk_name}
 use Rattle.room_table.specs.Seats.{ScanView}
 use Rattle.purgatory.specs.Making.{names_of}
 use Rattle.purgatory.specs.Turning.{AreKeys, IsKeyOf, IsKeyring, clock_name, key_view, lock_view, lock_views, name_shown, shard_name}

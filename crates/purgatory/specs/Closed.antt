@@ -9,7 +9,7 @@ use Rattle.room_core.specs.State.{State}
 use Rattle.room_core.specs.Wins.{wins_of}
 use Rattle.room_table.specs.Handed.{AreShown}
 use Rattle.room_table.specs.Seats.{CallerView, SourceView, caller_now}
-use Rattle.room_scans.specs.Listing.{open_at}
+use Rattle.purgatory.specs.scans.Listing.{open_at}
 use Rattle.purgatory.specs.Ends.{StillView}
 use Rattle.purgatory.specs.Rooms.{winners}
 

@@ -2,7 +2,7 @@
 use Rattle.std.specs.Prelude.{◌≡◌, ℕ, ◌+◌, ◌<◌, ◌≤◌, List, [], All, length, map, slice_index, slice_index_or, ⊤}
 use Rattle.turn_lock.specs.declared.pass.TurnPass.{TurnPass}
 use Rattle.room_core.specs.Numbers.{clock_scanner, scanner_numbers}
-use Rattle.room_scans.specs.Desks.{ClockView, ShardView}
+use Rattle.purgatory.specs.scans.Desks.{ClockView, ShardView}
 use Rattle.room_table.specs.Closing.{ClosingView}
 use Rattle.room_table.specs.Seats.{ScanView, TableView}
 use Rattle.purgatory.specs.declared.holding.Held.{Held}

@@ -14,6 +14,8 @@ pub mod Ends
 pub mod Ended
 -- what is so of a room that was closed
 pub mod Closed
+-- what is behind the room's locks; scans.antt says what is in it
+pub mod scans
 -- ==== the words of private functions
 
 -- locks and their passes, as views show them

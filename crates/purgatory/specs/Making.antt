@@ -4,7 +4,7 @@ use Rattle.room_core.specs.declared.shape.Shape.{Shape}
 use Rattle.room_core.specs.Gauges.{IsGauge, IsPass, IsShape}
 use Rattle.room_core.specs.Numbers.{most_gauges, scanner_numbers}
 use Rattle.room_table.specs.Seats.{CallerView, ScanView, SourceView, source_now}
-use Rattle.room_scans.specs.Desks.{desk_name}
+use Rattle.purgatory.specs.scans.Desks.{desk_name}
 
 -- the items are such, with the numbers from the first one on
 abbrev pub AreFrom : {A : Type 0} → (ℕ → A → Type 0) → ℕ → List A → Type 0

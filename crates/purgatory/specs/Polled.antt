@@ -7,7 +7,7 @@ use Rattle.room_core.specs.declared.parts.Taken.{Taken}
 use Rattle.room_core.specs.State.{Caller}
 use Rattle.room_table.specs.declared.part.CallerStep.{CallerStep}
 use Rattle.room_table.specs.Seats.{CallerView, caller_did, caller_now}
-use Rattle.room_scans.specs.Listing.{open_at}
+use Rattle.purgatory.specs.scans.Listing.{open_at}
 use Rattle.purgatory.specs.declared.outcome.Done.{Done}
 
 -- a session word that is won so, at this generation

@@ -6,7 +6,7 @@ use Rattle.room_core.specs.Gauges.{IsShape}
 use Rattle.room_core.specs.Numbers.{scanner_numbers}
 use Rattle.room_table.specs.Handed.{fresh_callers}
 use Rattle.room_table.specs.Seats.{TableView, SourceView, CallerView}
-use Rattle.room_scans.specs.Desks.{desk_name}
+use Rattle.purgatory.specs.scans.Desks.{desk_name}
 
 -- which lock it is, and its name
 pub record LockView : Type 0 where

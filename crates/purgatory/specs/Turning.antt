@@ -5,7 +5,7 @@ use Rattle.turn_lock.specs.declared.lock.TurnLock.{TurnLock}
 use Rattle.turn_lock.specs.declared.pass.TurnPass.{TurnPass}
 use Rattle.turn_lock.specs.Locks.{IsReady, lock_id, lock_name, known}
 use Rattle.room_core.specs.Numbers.{clock_scanner}
-use Rattle.room_scans.specs.Desks.{ShardView, ClockView, desk_name}
+use Rattle.purgatory.specs.scans.Desks.{ShardView, ClockView, desk_name}
 use Rattle.purgatory.specs.Rooms.{LockView}
 
 -- the names of what stands behind the locks

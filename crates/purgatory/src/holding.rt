@@ -3,16 +3,16 @@
 //! each desk is taken out of its lock for good.
 ghost use Rattle.std.specs.Prelude.{◌≡◌, ◌+◌, ◌-◌, ◌<◌, ◌≤◌, ◌^◌, length, min};
 ghost use Rattle.room_core.specs.Numbers.{clock_scanner, scanner_numbers};
-ghost use Rattle.room_scans.specs.Desks.{desk_name};
+ghost use Rattle.purgatory.specs.scans.Desks.{desk_name};
 ghost use Rattle.turn_lock.specs.Locks.{IsPassOf, IsReady, lock_name};
 ghost use Rattle.purgatory.specs.Holding.{AreBack, AreKept, AreKeysFrom, AreNotedFrom, IfUntaken, IsClockKey, WereHeld};
 ghost use Rattle.purgatory.specs.Rooms.{IsRoom};
 ghost use Rattle.purgatory.specs.Turning.{IsKey, clock_name};
 
 use crate::locks::{Keys, Locks};
+use crate::scans::{ClockDesk, ShardDesk};
 use kbytes::List;
 use room_core::{CLOCK_SCANNER, SHARDS};
-use room_scans::{ClockDesk, ShardDesk};
 use room_table::{Closing, RoomTable};
 use std::sync::Wait;
 use turn_lock::{TurnLock, TurnPass};

@@ -60,6 +60,7 @@ mod polling;
 mod raising;
 mod registering;
 mod room;
+pub mod scans;
 mod settling;
 mod source;
 mod still;

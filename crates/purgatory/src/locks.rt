@@ -3,17 +3,17 @@
 ghost use Rattle.std.specs.Prelude.{◌≡◌, ◌≤◌, ◌<◌, ◌%◌, ℕ, length};
 ghost use Rattle.room_core.specs.Gauges.{IsGauge, IsGaugeOf, IsPass, clock_of};
 ghost use Rattle.room_core.specs.Numbers.{clock_scanner, most_needs, shards};
-ghost use Rattle.room_scans.specs.Desks.{desk_name};
-ghost use Rattle.room_scans.specs.Going.{GoesOn};
-ghost use Rattle.room_scans.specs.Listing.{HasListedDeadline, HasListedNeed};
-ghost use Rattle.room_scans.specs.Scanned.{HasScanned};
+ghost use Rattle.purgatory.specs.scans.Desks.{desk_name};
+ghost use Rattle.purgatory.specs.scans.Going.{GoesOn};
+ghost use Rattle.purgatory.specs.scans.Listing.{HasListedDeadline, HasListedNeed};
+ghost use Rattle.purgatory.specs.scans.Scanned.{HasScanned};
 ghost use Rattle.turn_lock.specs.Locks.{IsPassOf, IsReady, lock_name};
 ghost use Rattle.purgatory.specs.Rooms.{IsRoom};
 ghost use Rattle.purgatory.specs.Turning.{clock_name, shard_name};
 
+use crate::scans::{ClockDesk, ShardDesk};
 use opcond::Need;
 use room_core::{SHARDS, Shape};
-use room_scans::{ClockDesk, ShardDesk};
 use room_table::RoomTable;
 use std::marker::Model;
 use std::sync::Wait;

@@ -13,10 +13,10 @@ ghost use Rattle.purgatory.specs.Turning.{IsKeyOf, IsKeyring, lock_view, shard_n
 use crate::locks::{Keys, Locks};
 use crate::owner::Owner;
 use crate::pass::RoomPass;
+use crate::scans::{ClockDesk, ShardDesk};
 use crate::source::Source;
 use kbytes::{List, NoMemory};
 use room_core::Shape;
-use room_scans::{ClockDesk, ShardDesk};
 use room_table::{CallerSeat, ScanSeat, SourceSeat};
 use std::alloc::Global;
 use turn_lock::{TurnLock, TurnPass};

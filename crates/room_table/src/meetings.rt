@@ -1,5 +1,5 @@
 //! The steps of a scanner that meets a pass: it sees whether the pass's operation is open, learns it, and lists it. A desk of
-//! `room_scans` makes them, both to list an operation and before it checks one.
+//! `purgatory` makes them, both to list an operation and before it checks one.
 ghost use Rattle.std.specs.Prelude.{◌≡◌, ◌≤◌};
 ghost use Rattle.room_core.specs.Gauges.{IsPass, IsScanner};
 ghost use Rattle.room_core.specs.Meetings.{MayLearn, MayMark, generation_met};

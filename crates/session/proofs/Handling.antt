@@ -11,7 +11,7 @@ use Rattle.audit.specs.declared.account.SessionEnd.TheVariants.{NoMemory}
 use Rattle.audit.specs.declared.account.Transcript.{Transcript}
 use Rattle.audit.specs.Fits.{is_answered}
 use Rattle.audit.specs.Histories.{calls_in}
-use Rattle.broker_spec.specs.books.Told.{is_cut}
+use Rattle.audit.specs.broker.books.Told.{is_cut}
 use Rattle.purgatory.specs.declared.outcome.Done.{Done}
 use Rattle.room_core.specs.declared.event.How.{How}
 use Rattle.room_table.specs.Seats.{CallerView}
@@ -25,8 +25,8 @@ use Rattle.shared_broker.specs.Collecting.{HasCompleted}
 use Rattle.shared_broker.specs.Passes.{PassView, calls_made}
 use Rattle.shared_broker.specs.Sessions.{is_cut_off}
 use Rattle.shared_logs.specs.Coming.{HasStepped}
-use Rattle.broker_spec.specs.GoesOn.{HaveGrown}
-use Rattle.broker_spec.proofs.Laws.{grown_self}
+use Rattle.audit.specs.broker.GoesOn.{HaveGrown}
+use Rattle.audit.proofs.broker.Laws.{grown_self}
 use Rattle.partlog.specs.declared.clock_event.ClockEvent.{ClockEvent}
 use Rattle.partlog.specs.History.{History}
 

@@ -5,7 +5,7 @@ use Rattle.std.proofs.lemmas.List.Concat.{flat_map-append}
 use Rattle.audit.specs.declared.account.Call.{Call}
 use Rattle.kbytes.proofs.Laws.{all_append}
 use Rattle.kwire.specs.Frames.{IsFrameBody, framed}
-use Rattle.broker_spec.specs.books.Told.{is_cut, last_is_cut}
+use Rattle.audit.specs.broker.books.Told.{is_cut, last_is_cut}
 use Rattle.session.specs.Asked.{AreReads, Reading}
 use Rattle.session.specs.Handled.{HasFrames}
 

@@ -5,8 +5,8 @@ use Rattle.std.proofs.lemmas.List.Concat.{flat_map-append}
 use Rattle.std.proofs.lemmas.List.Elements.{filter-append}
 use Rattle.audit.specs.declared.account.Call.{Call}
 use Rattle.audit.specs.Fits.{HasReplies, IsReplyOf, answered_of, is_answered, sent}
-use Rattle.broker_spec.specs.GoesOn.{Carried}
-use Rattle.broker_spec.proofs.Laws.{carried_on}
+use Rattle.audit.specs.broker.GoesOn.{Carried}
+use Rattle.audit.proofs.broker.Laws.{carried_on}
 use Rattle.kwire.specs.Configuration.{Configuration}
 use Rattle.kwire.specs.declared.reply.Reply.{Reply}
 use Rattle.kwire.specs.Spelling.{spelling}

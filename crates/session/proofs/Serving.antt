@@ -17,7 +17,7 @@ use Rattle.kwire.specs.declared.frame.Frame.TheVariants.{NotYet, TooLong, Whole}
 use Rattle.kwire.specs.Frames.{IsFrameBody, framed, next_frame_of}
 use Rattle.outside.specs.Causes.{Rose}
 use Rattle.outside.specs.Count.{one_more}
-use Rattle.broker_spec.specs.books.Told.{is_cut, last_is_cut}
+use Rattle.audit.specs.broker.books.Told.{is_cut, last_is_cut}
 use Rattle.session.specs.Asked.{AreReads, Reading}
 use Rattle.session.specs.declared.intake.TheConstants.{MOST_READ}
 use Rattle.session.specs.Answering.{HasAnswered, HasOneMore, HasOnlyLooked, IsAnsweredBy}

@@ -6,7 +6,7 @@ use Rattle.audit.specs.declared.account.Point.{Point}
 use Rattle.audit.specs.declared.account.SessionEnd.TheVariants.{NoMemory}
 use Rattle.audit.specs.declared.account.Transcript.{Transcript}
 use Rattle.audit.specs.Fits.{is_answered}
-use Rattle.broker_spec.specs.books.Told.{is_cut}
+use Rattle.audit.specs.broker.books.Told.{is_cut}
 use Rattle.session.specs.declared.answers.Answered.{Answered}
 use Rattle.session.specs.Onwards.{HasGoneOn}
 use Rattle.shared_broker.specs.Calling.{IsEndFor, IsRepliedTo}

@@ -1,6 +1,6 @@
 -- A pass that goes on: others added to the histories, and it may have made calls and ticked.
 use Rattle.std.specs.Prelude.{◌≡◌, ◌≤◌, ℕ, fold, max}
-use Rattle.broker_spec.specs.GoesOn.{HaveGrown}
+use Rattle.audit.specs.broker.GoesOn.{HaveGrown}
 use Rattle.shared_broker.specs.Passes.{PassView, made_with}
 
 -- the greatest moment that it ticked, or 0

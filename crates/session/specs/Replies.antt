@@ -4,7 +4,7 @@ use Rattle.audit.specs.declared.account.Call.{Call}
 use Rattle.audit.specs.declared.account.SessionEnd.{SessionEnd}
 use Rattle.audit.specs.declared.account.SessionEnd.TheVariants.{Closed, Truncated, FrameTooLong, Refused, CallsFull, ReadFault, WriteFault, NoMemory}
 use Rattle.audit.specs.Fits.{HasReplies, IsReplyOf, sent}
-use Rattle.broker_spec.specs.GoesOn.{Carried}
+use Rattle.audit.specs.broker.GoesOn.{Carried}
 use Rattle.kwire.specs.declared.reply.Reply.{Reply}
 use Rattle.kwire.specs.Spelling.{spelling}
 use Rattle.shared_broker.specs.Passes.{PassView}

@@ -6,7 +6,7 @@ use Rattle.audit.specs.declared.account.Transcript.{Transcript}
 use Rattle.audit.specs.Fits.{EndFits}
 use Rattle.audit.specs.Histories.{calls_in}
 use Rattle.outside.specs.Causes.{Rose}
-use Rattle.broker_spec.specs.books.Told.{last_is_cut}
+use Rattle.audit.specs.broker.books.Told.{last_is_cut}
 use Rattle.session.specs.Asked.{AreReads, Reading}
 use Rattle.session.specs.Causes.{HasItsCause}
 use Rattle.session.specs.Flows.{HasEndedSo, HasFlowed, LinkView}

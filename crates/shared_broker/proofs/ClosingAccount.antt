@@ -17,13 +17,13 @@ use Rattle.audit.specs.Histories.{ticks_of}
 use Rattle.audit.specs.IsLawful.{IsLawful}
 use Rattle.kbytes.proofs.Laws.{some_is}
 use Rattle.kwire.specs.Configuration.{followers_of}
-use Rattle.broker_spec.specs.books.Book.{Book}
-use Rattle.broker_spec.specs.books.Together.{account_of}
-use Rattle.broker_spec.specs.books.Told.{told}
+use Rattle.audit.specs.broker.books.Book.{Book}
+use Rattle.audit.specs.broker.books.Together.{account_of}
+use Rattle.audit.specs.broker.books.Told.{told}
 use Rattle.audit.specs.Histories.{part_account}
 use Rattle.kwire.specs.DeclaredTopics.{AreDeclared}
-use Rattle.broker_spec.specs.GoesOn.{GoesOn}
-use Rattle.broker_spec.proofs.Laws.{get_map, map_get}
+use Rattle.audit.specs.broker.GoesOn.{GoesOn}
+use Rattle.audit.proofs.broker.Laws.{get_map, map_get}
 use Rattle.purgatory.specs.Ends.{IsUntaken}
 use Rattle.purgatory.specs.Rooms.{PassView as RoomPassView}
 use Rattle.purgatory.specs.Going.{OwesNothing}

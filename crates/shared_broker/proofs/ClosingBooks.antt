@@ -25,19 +25,19 @@ use Rattle.kanswer.specs.Waiting.{Shown, needs_of, results_of, values_of}
 use Rattle.kanswer.proofs.Laws.{values_by_part}
 use Rattle.kwire.specs.declared.request.Ask.{Ask}
 use Rattle.kwire.specs.Configuration.{Configuration, followers_of}
-use Rattle.broker_spec.specs.books.Book.{Book}
-use Rattle.broker_spec.specs.books.IsBook.{IsBook}
-use Rattle.broker_spec.specs.books.Owned.{OwnWithin}
-use Rattle.broker_spec.specs.books.Told.{told}
-use Rattle.broker_spec.specs.books.Together.{AreTogether, GoesWith, IsAnswerableIn, account_of, all_calls_in, shown_in, won_by}
-use Rattle.broker_spec.proofs.books.Laws.{books_lawful, won_all}
-use Rattle.broker_spec.specs.Board.{Waiting, history_at}
-use Rattle.broker_spec.specs.Completing.{present}
+use Rattle.audit.specs.broker.books.Book.{Book}
+use Rattle.audit.specs.broker.books.IsBook.{IsBook}
+use Rattle.audit.specs.broker.books.Owned.{OwnWithin}
+use Rattle.audit.specs.broker.books.Told.{told}
+use Rattle.audit.specs.broker.books.Together.{AreTogether, GoesWith, IsAnswerableIn, account_of, all_calls_in, shown_in, won_by}
+use Rattle.audit.proofs.broker.books.Laws.{books_lawful, won_all}
+use Rattle.audit.specs.broker.Board.{Waiting, history_at}
+use Rattle.audit.specs.broker.Completing.{present}
 use Rattle.kwire.specs.DeclaredTopics.{AreDeclared}
-use Rattle.broker_spec.specs.GoesOn.{the_owner}
-use Rattle.broker_spec.specs.Kept.{owners_at}
-use Rattle.broker_spec.specs.Sound.{AreHistories}
-use Rattle.broker_spec.proofs.Laws.{get_map, map_get, parts_size}
+use Rattle.audit.specs.broker.GoesOn.{the_owner}
+use Rattle.audit.specs.broker.Kept.{owners_at}
+use Rattle.audit.specs.broker.Sound.{AreHistories}
+use Rattle.audit.proofs.broker.Laws.{get_map, map_get, parts_size}
 use Rattle.purgatory.specs.Rooms.{winners}
 use Rattle.purgatory.proofs.Laws.{sum_keyed}
 use Rattle.room_core.specs.declared.parts.Stage.{Stage}
@@ -48,7 +48,7 @@ use Rattle.room_table.specs.Seats.{caller_now}
 use Rattle.shared_broker.specs.declared.parked.Parked.{Parked}
 use Rattle.shared_broker.specs.Passes.{BrokerView, PassView, book_of, made_with, transcripts_of}
 use Rattle.shared_broker.specs.Standing.{HoldsBook, IsKeptOf, Sits, Stands}
-use Rattle.broker_spec.specs.Board.{gauge_now}
+use Rattle.audit.specs.broker.Board.{gauge_now}
 use Rattle.shared_logs.specs.Closing.{AreClosed, IsUnanswerable, taken_from}
 use Rattle.shared_logs.specs.Coming.{OthersCame}
 use Rattle.shared_logs.specs.Shared.{LogPassView, followers_in}

@@ -10,7 +10,7 @@ use Rattle.audit.specs.declared.account.CallHow.{CallHow}
 use Rattle.audit.specs.declared.account.CallHow.TheVariants.{Quiet, AtOnce, Satisfied, Expired, Parked, Cut}
 use Rattle.audit.specs.declared.account.Transcript.{Transcript}
 use Rattle.kbytes.proofs.Laws.{get_set_other, get_set_same, some_is}
-use Rattle.broker_spec.specs.books.Told.{is_cut, last_is_cut, told}
+use Rattle.audit.specs.broker.books.Told.{is_cut, last_is_cut, told}
 use Rattle.shared_broker.specs.declared.closing.Sheet.{Sheet}
 use Rattle.shared_broker.specs.Closed.{IsJoined, IsPutFrom, gathered, joined, transcripts_in}
 use Rattle.shared_broker.specs.Passes.{PassView}

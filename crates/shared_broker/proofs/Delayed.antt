@@ -20,16 +20,16 @@ use Rattle.kanswer.specs.Results.{parts_asked}
 use Rattle.kanswer.specs.Waiting.{operation_of, results_of}
 use Rattle.kwire.specs.Configuration.{Configuration, followers_of}
 use Rattle.kwire.specs.declared.request.Request.{Request}
-use Rattle.broker_spec.specs.books.Accepting.{IsAccepting, clock_seen, left_waiting}
-use Rattle.broker_spec.specs.books.Finishing.{IsDelayed}
-use Rattle.broker_spec.specs.books.IsBook.{IsBook}
-use Rattle.broker_spec.specs.books.Owned.{OwnWithin}
-use Rattle.broker_spec.specs.books.Underway.{Underway, book_amid, seq_of}
-use Rattle.broker_spec.proofs.books.Laws.{accepting_cut, accepting_delayed, delayed_cut, others_accepting}
-use Rattle.broker_spec.specs.Entering.{Noted, shown_of, steps_of}
-use Rattle.broker_spec.specs.GoesOn.{HaveGrown}
-use Rattle.broker_spec.specs.Sound.{AllBelow}
-use Rattle.broker_spec.proofs.Laws.{all_longer_self, grown_clock, looked_moment, ticks_looked}
+use Rattle.audit.specs.broker.books.Accepting.{IsAccepting, clock_seen, left_waiting}
+use Rattle.audit.specs.broker.books.Finishing.{IsDelayed}
+use Rattle.audit.specs.broker.books.IsBook.{IsBook}
+use Rattle.audit.specs.broker.books.Owned.{OwnWithin}
+use Rattle.audit.specs.broker.books.Underway.{Underway, book_amid, seq_of}
+use Rattle.audit.proofs.broker.books.Laws.{accepting_cut, accepting_delayed, delayed_cut, others_accepting}
+use Rattle.audit.specs.broker.Entering.{Noted, shown_of, steps_of}
+use Rattle.audit.specs.broker.GoesOn.{HaveGrown}
+use Rattle.audit.specs.broker.Sound.{AllBelow}
+use Rattle.audit.proofs.broker.Laws.{all_longer_self, grown_clock, looked_moment, ticks_looked}
 use Rattle.purgatory.specs.Going.{KeepsOperation, OwesNothing}
 use Rattle.room_core.specs.declared.parts.Stage.{Stage}
 use Rattle.room_table.specs.Seats.{caller_now}

@@ -17,11 +17,11 @@ use Rattle.kanswer.specs.Results.{AreResults}
 use Rattle.kanswer.specs.Waiting.{operation_of}
 use Rattle.kwire.specs.Configuration.{Configuration}
 use Rattle.kwire.specs.declared.request.Request.{Request}
-use Rattle.broker_spec.specs.books.Finishing.{IsDelayed}
-use Rattle.broker_spec.specs.books.Underway.{Underway, seq_of, with_end}
-use Rattle.broker_spec.proofs.books.Laws.{delayed_as, delayed_parked}
-use Rattle.broker_spec.specs.GoesOn.{HaveGrown}
-use Rattle.broker_spec.proofs.Laws.{grown_self}
+use Rattle.audit.specs.broker.books.Finishing.{IsDelayed}
+use Rattle.audit.specs.broker.books.Underway.{Underway, seq_of, with_end}
+use Rattle.audit.proofs.broker.books.Laws.{delayed_as, delayed_parked}
+use Rattle.audit.specs.broker.GoesOn.{HaveGrown}
+use Rattle.audit.proofs.broker.Laws.{grown_self}
 use Rattle.purgatory.specs.declared.outcome.Done.{Done}
 use Rattle.purgatory.specs.Going.{OwesNothing}
 use Rattle.purgatory.specs.Polled.{item_of}

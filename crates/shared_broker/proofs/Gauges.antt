@@ -11,7 +11,7 @@ use Rattle.kanswer.specs.declared.accepted.Accepted.TheVariants.{Refused, Append
 use Rattle.kanswer.specs.Decisions.{fetch_parts}
 use Rattle.kanswer.specs.Results.{parts_asked}
 use Rattle.kanswer.specs.Waiting.{fetch_need, is_consumer, needs_of, operation_of, produce_need}
-use Rattle.broker_spec.specs.Sound.{AllBelow}
+use Rattle.audit.specs.broker.Sound.{AllBelow}
 
 abbrev HasGauge : ℕ → Need → Type 0
 HasGauge n need = need.gauge < 3 * n

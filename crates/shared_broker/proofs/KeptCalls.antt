@@ -14,13 +14,13 @@ use Rattle.kwire.specs.Configuration.{Configuration}
 use Rattle.kwire.specs.declared.request.Request.{Request}
 use Rattle.kwire.specs.IsRequest.{IsRequest}
 use Rattle.kwire.proofs.Laws.{same_request}
-use Rattle.broker_spec.specs.books.Finishing.{IsDelayed}
-use Rattle.broker_spec.specs.books.Underway.{Underway, with_end}
-use Rattle.broker_spec.proofs.books.Laws.{finishing_as, finishing_cut, finishing_won, waits_delayed}
+use Rattle.audit.specs.broker.books.Finishing.{IsDelayed}
+use Rattle.audit.specs.broker.books.Underway.{Underway, with_end}
+use Rattle.audit.proofs.broker.books.Laws.{finishing_as, finishing_cut, finishing_won, waits_delayed}
 use Rattle.audit.specs.Histories.{part_account}
-use Rattle.broker_spec.specs.GoesOn.{GoesOn}
-use Rattle.broker_spec.specs.Sound.{AllBelow}
-use Rattle.broker_spec.proofs.Laws.{grown_self, longer_self, map_get}
+use Rattle.audit.specs.broker.GoesOn.{GoesOn}
+use Rattle.audit.specs.broker.Sound.{AllBelow}
+use Rattle.audit.proofs.broker.Laws.{grown_self, longer_self, map_get}
 use Rattle.purgatory.specs.declared.outcome.Done.{Done}
 use Rattle.purgatory.specs.Going.{OwesNothing}
 use Rattle.room_table.specs.Seats.{caller_now}

@@ -14,13 +14,13 @@ use Rattle.audit.specs.IsLawful.{is_won_as, is_won_by}
 use Rattle.shared_logs.specs.Amid.{amid}
 use Rattle.shared_logs.proofs.Laws.{left_on, left_stepped}
 use Rattle.kwire.specs.Configuration.{Configuration}
-use Rattle.broker_spec.specs.books.Book.{Book}
-use Rattle.broker_spec.specs.books.IsBook.{with_call}
-use Rattle.broker_spec.specs.books.Together.{won_by}
-use Rattle.broker_spec.specs.books.Underway.{book_amid}
-use Rattle.broker_spec.proofs.books.Laws.{calls_with, waits_delayed, won_amid}
+use Rattle.audit.specs.broker.books.Book.{Book}
+use Rattle.audit.specs.broker.books.IsBook.{with_call}
+use Rattle.audit.specs.broker.books.Together.{won_by}
+use Rattle.audit.specs.broker.books.Underway.{book_amid}
+use Rattle.audit.proofs.broker.books.Laws.{calls_with, waits_delayed, won_amid}
 use Rattle.audit.specs.Fits.{IsReplyOf}
-use Rattle.broker_spec.specs.GoesOn.{Carried, HaveGrown}
+use Rattle.audit.specs.broker.GoesOn.{Carried, HaveGrown}
 use Rattle.purgatory.specs.declared.outcome.Done.{Done}
 use Rattle.purgatory.specs.Going.{OwesNothing}
 use Rattle.purgatory.specs.Polled.{HasPolled, HasTaken, found_open}

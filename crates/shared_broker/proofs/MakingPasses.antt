@@ -5,9 +5,9 @@ use Rattle.std.specs.List.{range_with_len}
 use Rattle.std.specs.Prelude.{All, IsSome}
 use Rattle.audit.specs.declared.account.Transcript.{Transcript}
 use Rattle.kwire.specs.Configuration.{Configuration, followers_of}
-use Rattle.broker_spec.specs.books.IsBook.{IsBook}
-use Rattle.broker_spec.proofs.books.Laws.{opened}
-use Rattle.broker_spec.specs.Board.{empty_history}
+use Rattle.audit.specs.broker.books.IsBook.{IsBook}
+use Rattle.audit.proofs.broker.books.Laws.{opened}
+use Rattle.audit.specs.broker.Board.{empty_history}
 use Rattle.kwire.specs.DeclaredTopics.{AreDeclared}
 use Rattle.shared_broker.specs.Fresh.{IsFresh, IsNewOf, pass_with}
 use Rattle.shared_broker.specs.Making.{fresh_pass as made_pass, fresh_passes}

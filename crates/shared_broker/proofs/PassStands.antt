@@ -15,10 +15,10 @@ use Rattle.kanswer.specs.Decisions.{Decides, Decision}
 use Rattle.kwire.specs.Configuration.{Configuration}
 use Rattle.kwire.specs.declared.request.Request.{Request}
 use Rattle.kwire.specs.IsRequest.{IsRequest}
-use Rattle.broker_spec.specs.books.IsBook.{IsBook}
-use Rattle.broker_spec.specs.books.Told.{last_is_cut}
-use Rattle.broker_spec.proofs.books.Laws.{accepting_cut, called_accepting, calls_with, won_amid}
-use Rattle.broker_spec.proofs.Laws.{grown_self}
+use Rattle.audit.specs.broker.books.IsBook.{IsBook}
+use Rattle.audit.specs.broker.books.Told.{last_is_cut}
+use Rattle.audit.proofs.broker.books.Laws.{accepting_cut, called_accepting, calls_with, won_amid}
+use Rattle.audit.proofs.broker.Laws.{grown_self}
 use Rattle.room_core.specs.declared.parts.Stage.{Stage}
 use Rattle.room_table.specs.Seats.{caller_now}
 use Rattle.shared_broker.specs.declared.calling.Became.{Became}

@@ -18,12 +18,12 @@ use Rattle.kanswer.specs.Waiting.{Shown, becomes_delayed, results_of}
 use Rattle.kwire.specs.Configuration.{Configuration}
 use Rattle.kwire.specs.declared.request.Request.{Request}
 use Rattle.kwire.specs.Spelling.{spelling}
-use Rattle.broker_spec.specs.books.Accepting.{IsAccepting}
-use Rattle.broker_spec.specs.books.IsBook.{IsBook}
-use Rattle.broker_spec.specs.books.Underway.{Underway, book_amid, with_end}
-use Rattle.broker_spec.proofs.books.Laws.{accepting_as, accepting_cut, answered_book, answered_reply}
-use Rattle.broker_spec.specs.Entering.{Noted, shown_of}
-use Rattle.broker_spec.specs.Turns.{how_at_once}
+use Rattle.audit.specs.broker.books.Accepting.{IsAccepting}
+use Rattle.audit.specs.broker.books.IsBook.{IsBook}
+use Rattle.audit.specs.broker.books.Underway.{Underway, book_amid, with_end}
+use Rattle.audit.proofs.broker.books.Laws.{accepting_as, accepting_cut, answered_book, answered_reply}
+use Rattle.audit.specs.broker.Entering.{Noted, shown_of}
+use Rattle.audit.specs.broker.Turns.{how_at_once}
 use Rattle.purgatory.specs.Going.{KeepsOperation, OwesNothing}
 use Rattle.room_core.specs.declared.parts.Stage.{Stage}
 use Rattle.room_table.specs.Seats.{caller_now}

@@ -16,15 +16,15 @@ use Rattle.audit.specs.declared.account.Transcript.{Transcript}
 use Rattle.audit.specs.Histories.{calls_in, ticks_of}
 use Rattle.audit.specs.IsLawful.{is_won_by}
 use Rattle.kwire.specs.Configuration.{Configuration, followers_of}
-use Rattle.broker_spec.specs.books.Book.{Book}
-use Rattle.broker_spec.specs.books.IsBook.{IsBook}
-use Rattle.broker_spec.specs.books.TakenOut.{HasTakenOut}
-use Rattle.broker_spec.specs.books.Told.{last_is_cut}
-use Rattle.broker_spec.proofs.books.Laws.{begun, ended, others_came, taken_out, ticked}
-use Rattle.broker_spec.specs.Board.{Waiting}
+use Rattle.audit.specs.broker.books.Book.{Book}
+use Rattle.audit.specs.broker.books.IsBook.{IsBook}
+use Rattle.audit.specs.broker.books.TakenOut.{HasTakenOut}
+use Rattle.audit.specs.broker.books.Told.{last_is_cut}
+use Rattle.audit.proofs.broker.books.Laws.{begun, ended, others_came, taken_out, ticked}
+use Rattle.audit.specs.broker.Board.{Waiting}
 use Rattle.kwire.specs.DeclaredTopics.{AreDeclared}
-use Rattle.broker_spec.specs.Sound.{AreHistories}
-use Rattle.broker_spec.proofs.Laws.{parts_size}
+use Rattle.audit.specs.broker.Sound.{AreHistories}
+use Rattle.audit.proofs.broker.Laws.{parts_size}
 use Rattle.purgatory.specs.Going.{KeepsOperation, OwesNothing}
 use Rattle.room_core.specs.declared.parts.Taken.{Taken}
 use Rattle.room_core.specs.Described.{operation_of as described}

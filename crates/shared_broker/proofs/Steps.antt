@@ -13,9 +13,9 @@ use Rattle.shared_logs.specs.Left.{AreLeft}
 use Rattle.shared_logs.proofs.Laws.{grown_on, left_on, went_on}
 use Rattle.kwire.specs.Configuration.{Configuration, followers_of}
 use Rattle.kwire.specs.declared.request.Request.{Request}
-use Rattle.broker_spec.specs.books.IsBook.{IsBook}
-use Rattle.broker_spec.specs.books.Underway.{book_amid}
-use Rattle.broker_spec.specs.Sound.{AreHistories}
+use Rattle.audit.specs.broker.books.IsBook.{IsBook}
+use Rattle.audit.specs.broker.books.Underway.{book_amid}
+use Rattle.audit.specs.broker.Sound.{AreHistories}
 use Rattle.purgatory.specs.Going.{KeepsOperation, OwesNothing}
 use Rattle.room_core.specs.declared.parts.Stage.{Stage}
 use Rattle.room_core.specs.declared.parts.Taken.{Taken}

@@ -20,12 +20,12 @@ use Rattle.kanswer.specs.Waiting.{Shown}
 use Rattle.kwire.specs.Configuration.{Configuration}
 use Rattle.kwire.specs.declared.request.Request.{Request}
 use Rattle.kwire.specs.Spelling.{spelling}
-use Rattle.broker_spec.specs.books.Finishing.{IsFinishing, shown_with}
-use Rattle.broker_spec.specs.books.IsBook.{IsBook}
-use Rattle.broker_spec.specs.books.Underway.{Underway, book_amid, with_end}
-use Rattle.broker_spec.proofs.books.Laws.{expired_reply, finishing_as, finishing_cut, finishing_expired, finishing_satisfied, satisfied_reply}
-use Rattle.broker_spec.specs.Board.{Waiting}
-use Rattle.broker_spec.specs.GoesOn.{Carried, HaveGrown}
+use Rattle.audit.specs.broker.books.Finishing.{IsFinishing, shown_with}
+use Rattle.audit.specs.broker.books.IsBook.{IsBook}
+use Rattle.audit.specs.broker.books.Underway.{Underway, book_amid, with_end}
+use Rattle.audit.proofs.broker.books.Laws.{expired_reply, finishing_as, finishing_cut, finishing_expired, finishing_satisfied, satisfied_reply}
+use Rattle.audit.specs.broker.Board.{Waiting}
+use Rattle.audit.specs.broker.GoesOn.{Carried, HaveGrown}
 use Rattle.purgatory.specs.declared.outcome.Done.{Done}
 use Rattle.purgatory.specs.Going.{KeepsOperation, OwesNothing}
 use Rattle.room_core.specs.declared.event.How.{How}

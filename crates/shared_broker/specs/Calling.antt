@@ -17,7 +17,7 @@ use Rattle.kwire.specs.declared.request.Request.{Request}
 use Rattle.kwire.specs.IsRequest.{IsRequest}
 use Rattle.kwire.specs.Refusal.{IsRefused}
 use Rattle.kwire.specs.Spelling.{spelling}
-use Rattle.broker_spec.specs.GoesOn.{Carried, HaveGrown}
+use Rattle.audit.specs.broker.GoesOn.{Carried, HaveGrown}
 use Rattle.purgatory.specs.declared.outcome.Done.{Done}
 use Rattle.purgatory.specs.declared.outcome.Registered.{Registered}
 use Rattle.purgatory.specs.Going.{GoesOn}

@@ -2,7 +2,7 @@
 use Rattle.std.specs.Prelude.{◌≡◌, List, [], ◌∷◌, ◌++◌, Some, length, map, option_to_list, slice_get}
 use Rattle.audit.specs.declared.account.Transcript.{Transcript}
 use Rattle.audit.specs.Histories.{calls_in}
-use Rattle.broker_spec.specs.books.Told.{told}
+use Rattle.audit.specs.broker.books.Told.{told}
 use Rattle.shared_broker.specs.declared.closing.Sheet.{Sheet}
 use Rattle.shared_broker.specs.Passes.{PassView}
 use Rattle.shared_broker.specs.Standing.{Stands}

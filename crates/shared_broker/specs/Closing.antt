@@ -6,8 +6,8 @@ use Rattle.audit.specs.declared.account.Account.{Account}
 use Rattle.audit.specs.declared.account.Transcript.{Transcript}
 use Rattle.audit.specs.IsLawful.{IsLawful}
 use Rattle.partlog.specs.Moment.{moment_of}
-use Rattle.broker_spec.specs.GoesOn.{GoesOn}
-use Rattle.broker_spec.specs.books.Told.{told}
+use Rattle.audit.specs.broker.GoesOn.{GoesOn}
+use Rattle.audit.specs.broker.books.Told.{told}
 use Rattle.purgatory.specs.Ends.{IsUntaken}
 use Rattle.room_core.specs.Numbers.{scanner_numbers}
 use Rattle.shared_broker.specs.declared.closing.BrokerEnd.{BrokerEnd}

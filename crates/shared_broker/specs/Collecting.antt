@@ -5,7 +5,7 @@ use Rattle.audit.specs.declared.account.CallHow.{CallHow}
 use Rattle.audit.specs.declared.account.CallHow.TheVariants.{Cut, Parked as Waits}
 use Rattle.audit.specs.declared.account.Point.{Point}
 use Rattle.audit.specs.declared.account.Transcript.{Transcript}
-use Rattle.broker_spec.specs.GoesOn.{HaveGrown}
+use Rattle.audit.specs.broker.GoesOn.{HaveGrown}
 use Rattle.purgatory.specs.declared.outcome.Done.{Done}
 use Rattle.purgatory.specs.Going.{GoesOn}
 use Rattle.purgatory.specs.Polled.{HasPolled}

@@ -3,7 +3,7 @@ use Rattle.std.specs.Prelude.{ℕ, List, ◌++◌, Option, length, option_to_lis
 use Rattle.audit.specs.declared.account.Transcript.{Transcript}
 use Rattle.audit.specs.Histories.{calls_in}
 use Rattle.kwire.specs.Configuration.{Configuration}
-use Rattle.broker_spec.specs.books.Book.{Book}
+use Rattle.audit.specs.broker.books.Book.{Book}
 use Rattle.shared_broker.specs.declared.parked.Parked.{Parked}
 use Rattle.shared_logs.specs.Shared.{LogPassView, SharedView}
 

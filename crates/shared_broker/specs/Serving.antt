@@ -20,13 +20,13 @@ use Rattle.kwire.specs.declared.reply.Reply.{Reply}
 use Rattle.kwire.specs.declared.request.Request.{Request}
 use Rattle.kwire.specs.IsRequest.{IsRequest}
 use Rattle.kwire.specs.Spelling.{spelling}
-use Rattle.broker_spec.specs.books.Accepting.{IsAccepting}
-use Rattle.broker_spec.specs.books.IsBook.{IsBook}
-use Rattle.broker_spec.specs.books.Told.{last_is_cut}
-use Rattle.broker_spec.specs.books.Underway.{book_amid, seq_of}
-use Rattle.broker_spec.specs.Board.{Waiting}
-use Rattle.broker_spec.specs.Entering.{Noted, shown_of}
-use Rattle.broker_spec.specs.GoesOn.{Carried, HaveGrown}
+use Rattle.audit.specs.broker.books.Accepting.{IsAccepting}
+use Rattle.audit.specs.broker.books.IsBook.{IsBook}
+use Rattle.audit.specs.broker.books.Told.{last_is_cut}
+use Rattle.audit.specs.broker.books.Underway.{book_amid, seq_of}
+use Rattle.audit.specs.broker.Board.{Waiting}
+use Rattle.audit.specs.broker.Entering.{Noted, shown_of}
+use Rattle.audit.specs.broker.GoesOn.{Carried, HaveGrown}
 use Rattle.purgatory.specs.declared.outcome.Done.{Done}
 use Rattle.purgatory.specs.Going.{GoesOn, OwesNothing}
 use Rattle.room_core.specs.declared.parts.Stage.{Stage}

@@ -5,7 +5,7 @@ use Rattle.audit.specs.declared.account.SessionEnd.TheVariants.{NoMemory}
 use Rattle.audit.specs.declared.account.Transcript.{Transcript}
 use Rattle.audit.specs.Histories.{calls_in}
 use Rattle.partlog.specs.Moment.{moment_of}
-use Rattle.broker_spec.specs.books.Told.{last_is_cut}
+use Rattle.audit.specs.broker.books.Told.{last_is_cut}
 use Rattle.shared_broker.specs.Passes.{PassView}
 use Rattle.shared_logs.specs.Coming.{HasStepped}
 use Rattle.shared_logs.specs.Shared.{LogPassView}

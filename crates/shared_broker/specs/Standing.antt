@@ -7,10 +7,10 @@ use Rattle.kanswer.specs.LogReadings.{IsCarriable}
 use Rattle.kanswer.specs.Results.{AreResults}
 use Rattle.kanswer.specs.Waiting.{operation_of}
 use Rattle.kwire.specs.Configuration.{followers_of}
-use Rattle.broker_spec.specs.books.Book.{Book}
-use Rattle.broker_spec.specs.books.IsBook.{IsBook}
-use Rattle.broker_spec.specs.books.Together.{won_by}
-use Rattle.broker_spec.specs.Board.{Waiting}
+use Rattle.audit.specs.broker.books.Book.{Book}
+use Rattle.audit.specs.broker.books.IsBook.{IsBook}
+use Rattle.audit.specs.broker.books.Together.{won_by}
+use Rattle.audit.specs.broker.Board.{Waiting}
 use Rattle.kwire.specs.DeclaredTopics.{AreDeclared}
 use Rattle.purgatory.specs.Going.{OwesNothing}
 use Rattle.room_core.specs.declared.parts.Stage.{Stage}

@@ -9,7 +9,7 @@ ghost use Rattle.kanswer.specs.Results.{AreResults, parts_asked};
 ghost use Rattle.kanswer.specs.Waiting.{Shown, is_quiet, operation_of};
 ghost use Rattle.kwire.specs.declared.request.Request.{Request};
 ghost use Rattle.kwire.specs.IsRequest.{IsRequest};
-ghost use Rattle.broker_spec.specs.Sound.{AllBelow};
+ghost use Rattle.audit.specs.broker.Sound.{AllBelow};
 ghost use Rattle.kanswer.specs.BytesRead.{bytes_read, most_left};
 ghost use Rattle.shared_broker.specs.Calling.{HasHandled};
 ghost use Rattle.shared_broker.specs.Passes.{PassView, calls_made, made_with};

@@ -3,7 +3,7 @@
 ghost use Rattle.std.specs.Prelude.{◌≡◌, ◌<◌, ◌==◌, ℕ, All, IfOk, count_by, length, map, slice_set};
 ghost use Rattle.std.specs.List.{AllZip};
 ghost use Rattle.audit.specs.declared.account.Account.{Account as AccountView};
-ghost use Rattle.broker_spec.specs.books.Told.{last_is_cut, told};
+ghost use Rattle.audit.specs.broker.books.Told.{last_is_cut, told};
 ghost use Rattle.audit.specs.Histories.{part_account};
 ghost use Rattle.shared_broker.specs.Closed.{IsJoined, IsPutFrom, gathered, transcripts_in};
 ghost use Rattle.shared_broker.specs.Closing.{HasClosed};

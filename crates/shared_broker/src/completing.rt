@@ -7,7 +7,7 @@ ghost use Rattle.kanswer.specs.LogReadings.{IsCarriable};
 ghost use Rattle.kanswer.specs.Results.{AreResults, parts_asked};
 ghost use Rattle.kanswer.specs.Waiting.{operation_of};
 ghost use Rattle.kwire.specs.IsRequest.{IsRequest};
-ghost use Rattle.broker_spec.specs.Sound.{AllBelow};
+ghost use Rattle.audit.specs.broker.Sound.{AllBelow};
 ghost use Rattle.shared_broker.specs.Calling.{told_as};
 ghost use Rattle.shared_broker.specs.Serving.{HasFinished, WillSit, finished_as};
 ghost use Rattle.shared_logs.specs.Seen.{HasSeen};

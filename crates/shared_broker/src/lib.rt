@@ -23,7 +23,7 @@
 //! ```
 //!
 //! However the threads interleave, the account of `close` is lawful (`HasClosed`): each pass keeps a book of what it saw and did
-//! (`broker_spec`), and the books of all passes make one account.
+//! (`books` of `audit`), and the books of all passes make one account.
 #![tactic(auto)]
 
 mod broker;

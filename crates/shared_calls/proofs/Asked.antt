@@ -3,7 +3,7 @@ use Rattle.std.proofs.Common.{ℕ, zero, suc, ◌<◌, List, [], ◌∷◌, leng
 use Rattle.kanswer.specs.declared.accepted.Accepted.{Accepted}
 use Rattle.kanswer.specs.declared.accepted.Accepted.TheVariants.{Refused, Appended, Seen}
 use Rattle.kanswer.specs.Results.{parts_asked}
-use Rattle.broker_spec.specs.Sound.{AllBelow}
+use Rattle.audit.specs.broker.Sound.{AllBelow}
 
 module _ (n : ℕ) where
   abbrev pub AreBelow : List Accepted → Type 0

@@ -9,9 +9,9 @@ use Rattle.audit.specs.declared.account.Transcript.{Transcript}
 use Rattle.kanswer.specs.Decisions.{Decision}
 use Rattle.kwire.specs.Configuration.{Configuration}
 use Rattle.kwire.specs.declared.request.Request.{Request}
-use Rattle.broker_spec.specs.Entering.{Noted}
-use Rattle.broker_spec.proofs.Laws.{grown_self}
-use Rattle.broker_spec.specs.books.Accepting.{IsAccepting}
+use Rattle.audit.specs.broker.Entering.{Noted}
+use Rattle.audit.proofs.broker.Laws.{grown_self}
+use Rattle.audit.specs.broker.books.Accepting.{IsAccepting}
 use Rattle.shared_logs.specs.Shared.{LogPassView}
 use Rattle.shared_logs.specs.Amid.{amid}
 use Rattle.shared_logs.proofs.Laws.{grown_on, left_on, left_self, same_on, same_self}

@@ -18,7 +18,7 @@ use Rattle.kwire.specs.Configuration.{Configuration}
 use Rattle.kwire.specs.declared.request.FetchPart.{FetchPart}
 use Rattle.kwire.specs.declared.request.ProducePart.{ProducePart}
 use Rattle.kanswer.specs.declared.terms.Terms.{Terms}
-use Rattle.broker_spec.specs.Entering.{Noted, shown_of}
+use Rattle.audit.specs.broker.Entering.{Noted, shown_of}
 use Rattle.shared_logs.specs.Shared.{LogPassView}
 use Rattle.shared_calls.specs.Stand.{HasCome, HasFetched, HasProduced, IsResultOf, IsStopped, OnProduce, Stand}
 use Rattle.shared_calls.proofs.Carrying.{carried_on, none_carried, stopped_before, stopped_on}

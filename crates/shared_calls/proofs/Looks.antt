@@ -14,11 +14,11 @@ use Rattle.partlog.specs.declared.numbers.Numbers.{Numbers}
 use Rattle.partlog.specs.History.{History}
 use Rattle.partlog.specs.Looked.{looked}
 use Rattle.partlog.specs.State.{PartState as State, state_of}
-use Rattle.broker_spec.specs.Board.{history_at}
-use Rattle.broker_spec.proofs.Laws.{grown_self}
-use Rattle.broker_spec.specs.books.Finishing.{IsFinishing, part_seen}
-use Rattle.broker_spec.specs.books.Underway.{Underway, seq_of}
-use Rattle.broker_spec.proofs.books.Laws.{finishing_on, others_finishing}
+use Rattle.audit.specs.broker.Board.{history_at}
+use Rattle.audit.proofs.broker.Laws.{grown_self}
+use Rattle.audit.specs.broker.books.Finishing.{IsFinishing, part_seen}
+use Rattle.audit.specs.broker.books.Underway.{Underway, seq_of}
+use Rattle.audit.proofs.broker.books.Laws.{finishing_on, others_finishing}
 use Rattle.shared_logs.specs.Asked.{HasLooked}
 use Rattle.shared_logs.specs.Coming.{HasCaughtUp}
 use Rattle.shared_logs.specs.Seen.{HasSeen}

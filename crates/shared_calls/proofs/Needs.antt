@@ -12,7 +12,7 @@ use Rattle.kwire.specs.declared.request.Ask.TheVariants.{Produce, Fetch, Metadat
 use Rattle.kwire.specs.declared.request.FetchPart.{FetchPart}
 use Rattle.opcond.specs.declared.need.Need.{Need}
 use Rattle.opcond.specs.Operation.{Operation}
-use Rattle.broker_spec.specs.Sound.{AllBelow}
+use Rattle.audit.specs.broker.Sound.{AllBelow}
 use Rattle.kanswer.specs.PartitionGauges.{fetched_gauge}
 
 module _ (n : ℕ) where

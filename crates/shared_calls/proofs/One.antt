@@ -22,8 +22,8 @@ use Rattle.kwire.specs.declared.request.ProducePart.{ProducePart}
 use Rattle.kanswer.specs.declared.entered.Entered.{Entered}
 use Rattle.kanswer.specs.OnTerms.{OnTerms}
 use Rattle.kanswer.specs.declared.terms.Terms.{Terms}
-use Rattle.broker_spec.specs.Board.{history_at}
-use Rattle.broker_spec.specs.Entering.{Noted}
+use Rattle.audit.specs.broker.Board.{history_at}
+use Rattle.audit.specs.broker.Entering.{Noted}
 use Rattle.kanswer.proofs.Laws.{bytes_push, seen_room}
 use Rattle.kanswer.specs.BytesRead.{bytes_read, most_left}
 use Rattle.shared_logs.specs.Asked.{HasAsked, HasRead}

@@ -5,9 +5,9 @@ use Rattle.std.specs.Prelude.{slice_index}
 use Rattle.kwire.specs.Configuration.{Configuration}
 use Rattle.partlog.specs.declared.clock_event.ClockEvent.{ClockEvent}
 use Rattle.partlog.specs.History.{History}
-use Rattle.broker_spec.specs.GoesOn.{HaveGrown}
-use Rattle.broker_spec.proofs.Laws.{grown_self}
-use Rattle.broker_spec.specs.Sound.{AreHistories}
+use Rattle.audit.specs.broker.GoesOn.{HaveGrown}
+use Rattle.audit.proofs.broker.Laws.{grown_self}
+use Rattle.audit.specs.broker.Sound.{AreHistories}
 use Rattle.purgatory.specs.Rooms.{LockView}
 use Rattle.purgatory.specs.Going.{KeepsOperation}
 use Rattle.room_table.specs.declared.part.CallerStep.TheVariants.{Read}

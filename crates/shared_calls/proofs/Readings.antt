@@ -16,8 +16,8 @@ use Rattle.partlog.specs.Gauges.{numbers_of}
 use Rattle.partlog.specs.History.{History}
 use Rattle.partlog.specs.Looked.{looked as looked_at}
 use Rattle.partlog.specs.State.{PartState as State, state_of}
-use Rattle.broker_spec.specs.Board.{empty_history, history_at}
-use Rattle.broker_spec.proofs.Laws.{looked_state}
+use Rattle.audit.specs.broker.Board.{empty_history, history_at}
+use Rattle.audit.proofs.broker.Laws.{looked_state}
 use Rattle.shared_logs.specs.Asked.{HasLooked, HasRead}
 use Rattle.shared_logs.specs.Seen.{HasSeen}
 use Rattle.shared_logs.specs.Shared.{LogPassView}

@@ -7,7 +7,7 @@ use Rattle.kwire.specs.declared.request.FetchPart.{FetchPart}
 use Rattle.partlog.specs.declared.numbers.Numbers.{Numbers}
 use Rattle.partlog.specs.Gauges.{bytes_in}
 use Rattle.partlog.specs.State.{state_of}
-use Rattle.broker_spec.specs.Board.{history_at}
+use Rattle.audit.specs.broker.Board.{history_at}
 use Rattle.kanswer.proofs.Laws.{seen_room}
 use Rattle.kanswer.specs.BytesRead.{most_left}
 use Rattle.shared_logs.specs.Asked.{HasRead}

@@ -12,7 +12,7 @@ use Rattle.kanswer.specs.Results.{parts_asked}
 use Rattle.kanswer.specs.Waiting.{Shown, results_of}
 use Rattle.kwire.specs.declared.request.FetchPart.{FetchPart}
 use Rattle.partlog.specs.State.{PartState as State}
-use Rattle.broker_spec.specs.books.Finishing.{shown_with}
+use Rattle.audit.specs.broker.books.Finishing.{shown_with}
 use Rattle.shared_calls.specs.Seen.{seen_as}
 
 abbrev pub result_of : Step → Accepted

@@ -21,14 +21,14 @@ use Rattle.kanswer.specs.Decisions.{AskLog, Decision, Outcome, Refuse}
 use Rattle.kwire.specs.Configuration.{Configuration, followers_of, partitions_of}
 use Rattle.kwire.specs.declared.request.Request.{Request}
 use Rattle.kanswer.specs.declared.entered.Entered.{Entered}
-use Rattle.broker_spec.specs.Board.{empty_history, history_at}
+use Rattle.audit.specs.broker.Board.{empty_history, history_at}
 use Rattle.kanswer.specs.WithEntry.{entered}
-use Rattle.broker_spec.specs.Entering.{Noted}
-use Rattle.broker_spec.specs.Sound.{AreHistories}
-use Rattle.broker_spec.proofs.Laws.{IsFair, all_get, decides_fair, followers_size, grown_self, parts_size}
-use Rattle.broker_spec.specs.books.Accepting.{IsAccepting}
-use Rattle.broker_spec.specs.books.Underway.{Underway, seq_of}
-use Rattle.broker_spec.proofs.books.Laws.{accepting_on, accepting_refused, others_accepting}
+use Rattle.audit.specs.broker.Entering.{Noted}
+use Rattle.audit.specs.broker.Sound.{AreHistories}
+use Rattle.audit.proofs.broker.Laws.{IsFair, all_get, decides_fair, followers_size, grown_self, parts_size}
+use Rattle.audit.specs.broker.books.Accepting.{IsAccepting}
+use Rattle.audit.specs.broker.books.Underway.{Underway, seq_of}
+use Rattle.audit.proofs.broker.books.Laws.{accepting_on, accepting_refused, others_accepting}
 use Rattle.shared_logs.specs.Asked.{HasAsked}
 use Rattle.shared_logs.specs.Coming.{HasCaughtUp}
 use Rattle.shared_logs.specs.Seen.{HasSeen}

@@ -19,7 +19,7 @@ use Rattle.kwire.specs.declared.request.FetchTopic.{FetchTopic}
 use Rattle.kwire.specs.declared.request.ProduceTopic.{ProduceTopic}
 use Rattle.kwire.specs.declared.request.Request.{Request}
 use Rattle.kanswer.specs.declared.terms.Terms.{Terms}
-use Rattle.broker_spec.specs.Entering.{Noted, shown_of}
+use Rattle.audit.specs.broker.Entering.{Noted, shown_of}
 use Rattle.shared_logs.specs.Shared.{LogPassView}
 use Rattle.shared_calls.specs.Accepted.{WasAccepted}
 use Rattle.shared_calls.specs.Came.{CameView}

@@ -20,11 +20,11 @@ use Rattle.partlog.specs.declared.clock_event.ClockEvent.{ClockEvent}
 use Rattle.partlog.specs.declared.clock_event.ClockEvent.TheVariants as clocks
 use Rattle.partlog.specs.Moment.{moment_of}
 use Rattle.partlog.specs.State.{PartState as State}
-use Rattle.broker_spec.specs.Board.{Waiting}
-use Rattle.broker_spec.proofs.Laws.{clock_point, ticks_looked}
-use Rattle.broker_spec.specs.books.Finishing.{IsDelayed, IsFinishing, late_seen, shown_with}
-use Rattle.broker_spec.specs.books.Underway.{Underway, seq_of}
-use Rattle.broker_spec.proofs.books.Laws.{clock_histories, finishing_late, finishing_won, others_delayed, others_finishing}
+use Rattle.audit.specs.broker.Board.{Waiting}
+use Rattle.audit.proofs.broker.Laws.{clock_point, ticks_looked}
+use Rattle.audit.specs.broker.books.Finishing.{IsDelayed, IsFinishing, late_seen, shown_with}
+use Rattle.audit.specs.broker.books.Underway.{Underway, seq_of}
+use Rattle.audit.proofs.broker.books.Laws.{clock_histories, finishing_late, finishing_won, others_delayed, others_finishing}
 use Rattle.purgatory.specs.Going.{KeepsOperation}
 use Rattle.room_core.specs.declared.event.How.{How}
 use Rattle.room_table.specs.Seats.{caller_now}

@@ -7,7 +7,7 @@ use Rattle.kanswer.specs.Numbered.{AreNumbers}
 use Rattle.kanswer.specs.Waiting.{results_of}
 use Rattle.kwire.specs.Configuration.{Configuration}
 use Rattle.kwire.specs.declared.request.Request.{Request}
-use Rattle.broker_spec.specs.Entering.{Noted, shown_of}
+use Rattle.audit.specs.broker.Entering.{Noted, shown_of}
 use Rattle.shared_logs.specs.Shared.{LogPassView}
 use Rattle.shared_calls.specs.Came.{CameView}
 use Rattle.shared_calls.specs.Carried.{HasCarried}

@@ -6,10 +6,10 @@ use Rattle.audit.specs.declared.account.Transcript.{Transcript}
 use Rattle.kanswer.specs.Decisions.{Decision}
 use Rattle.kwire.specs.Configuration.{Configuration}
 use Rattle.kwire.specs.declared.request.Request.{Request}
-use Rattle.broker_spec.specs.Entering.{Noted}
-use Rattle.broker_spec.specs.GoesOn.{HaveGrown}
-use Rattle.broker_spec.specs.books.Accepting.{IsAccepting}
-use Rattle.broker_spec.specs.books.Underway.{seq_of}
+use Rattle.audit.specs.broker.Entering.{Noted}
+use Rattle.audit.specs.broker.GoesOn.{HaveGrown}
+use Rattle.audit.specs.broker.books.Accepting.{IsAccepting}
+use Rattle.audit.specs.broker.books.Underway.{seq_of}
 use Rattle.shared_logs.specs.Coming.{IsSamePass}
 use Rattle.shared_logs.specs.Shared.{LogPassView}
 use Rattle.shared_logs.specs.Amid.{amid}

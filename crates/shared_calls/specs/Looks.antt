@@ -12,10 +12,10 @@ use Rattle.kwire.specs.declared.request.Request.{Request}
 use Rattle.opcond.specs.Operation.{Operation}
 use Rattle.opcond.specs.Tally.{IsSatisfied}
 use Rattle.partlog.specs.State.{PartState as State}
-use Rattle.broker_spec.specs.Board.{Waiting}
-use Rattle.broker_spec.specs.GoesOn.{HaveGrown}
-use Rattle.broker_spec.specs.books.Finishing.{IsFinishing, shown_with}
-use Rattle.broker_spec.specs.books.Underway.{seq_of}
+use Rattle.audit.specs.broker.Board.{Waiting}
+use Rattle.audit.specs.broker.GoesOn.{HaveGrown}
+use Rattle.audit.specs.broker.books.Finishing.{IsFinishing, shown_with}
+use Rattle.audit.specs.broker.books.Underway.{seq_of}
 use Rattle.room_core.specs.declared.event.How.{How}
 use Rattle.shared_logs.specs.Coming.{IsSamePass}
 use Rattle.shared_logs.specs.Shared.{LogPassView}

@@ -20,7 +20,7 @@ use Rattle.kwire.specs.declared.request.ProducePart.{ProducePart}
 use Rattle.kwire.specs.declared.request.ProduceTopic.{ProduceTopic}
 use Rattle.kanswer.specs.OnTerms.{OnTerms}
 use Rattle.kanswer.specs.declared.terms.Terms.{Terms}
-use Rattle.broker_spec.specs.Entering.{Noted, shown_of}
+use Rattle.audit.specs.broker.Entering.{Noted, shown_of}
 use Rattle.shared_logs.specs.Shared.{LogPassView}
 use Rattle.shared_calls.specs.Came.{CameView}
 use Rattle.shared_calls.specs.Carried.{HasCarried, HasStopped}

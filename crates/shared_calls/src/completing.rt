@@ -3,7 +3,7 @@ ghost use Rattle.std.specs.Prelude.{◌≡◌, ◌≤◌, ◌*◌, ℕ, [], All,
 ghost use Rattle.kanswer.specs.LogReadings.{HasCarriable, budget_of};
 ghost use Rattle.kanswer.specs.Results.{AreResults, parts_asked};
 ghost use Rattle.kanswer.specs.Waiting.{operation_of};
-ghost use Rattle.broker_spec.specs.Sound.{AllBelow};
+ghost use Rattle.audit.specs.broker.Sound.{AllBelow};
 ghost use Rattle.kanswer.specs.BytesRead.{bytes_read, most_left};
 ghost use Rattle.shared_calls.specs.Finished.{WasFinished, WasStopped};
 ghost use Rattle.shared_calls.specs.Fresh.{IsFresh, gauge_for};

@@ -9,7 +9,7 @@ ghost use Rattle.kwire.specs.declared.config.TheConstants.{MOST_PARTITIONS};
 ghost use Rattle.partlog.specs.declared.part_log.TheConstants.{MOST_LOG_BYTES};
 ghost use Rattle.partlog.specs.Gauges.{numbers_of};
 ghost use Rattle.partlog.specs.State.{PartState};
-ghost use Rattle.broker_spec.specs.Sound.{AllBelow};
+ghost use Rattle.audit.specs.broker.Sound.{AllBelow};
 ghost use Rattle.kanswer.specs.BytesRead.{most_left};
 ghost use Rattle.shared_calls.specs.declared.values.TheConstants.{MOST_NEEDS};
 ghost use Rattle.kanswer.specs.PartitionGauges.{fetched_gauge, high_gauge};

@@ -6,7 +6,7 @@ ghost use Rattle.kanswer.specs.declared.accepted.Budget.{Budget as TheBudget};
 ghost use Rattle.kanswer.specs.declared.accepted.Reading.{Reading as TheReading};
 ghost use Rattle.kanswer.specs.LogReadings.{HasCarriable};
 ghost use Rattle.kanswer.specs.Results.{IsBounded, parts_asked};
-ghost use Rattle.broker_spec.specs.Sound.{AllBelow};
+ghost use Rattle.audit.specs.broker.Sound.{AllBelow};
 ghost use Rattle.kanswer.specs.BytesRead.{bytes_read, most_left};
 ghost use Rattle.shared_calls.specs.declared.values.TheConstants.{MOST_NEEDS};
 ghost use Rattle.kanswer.specs.PartitionGauges.{fetched_gauge, high_gauge};

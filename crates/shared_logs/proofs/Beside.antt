@@ -12,7 +12,7 @@ use Rattle.partlog.specs.Added.{added_bytes, bytes_of}
 use Rattle.partlog.specs.History.{History}
 use Rattle.audit.specs.Histories.{ticks_of}
 use Rattle.turn_lock.specs.StartsWith.{StartsWith}
-use Rattle.broker_spec.specs.GoesOn.{IsWhole, Longer}
+use Rattle.audit.specs.broker.GoesOn.{IsWhole, Longer}
 use Rattle.shared_logs.specs.declared.entries.ClockEntry.{ClockEntry}
 use Rattle.shared_logs.specs.declared.entries.LogEntry.{LogEntry}
 use Rattle.shared_logs.specs.Entries.{clock_entries, entries_from, log_entries}

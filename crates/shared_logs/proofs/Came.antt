@@ -9,10 +9,10 @@ use Rattle.partlog.specs.declared.clock_event.ClockEvent.{ClockEvent}
 use Rattle.partlog.specs.History.{History}
 use Rattle.partlog.specs.Kept.{IsKept}
 use Rattle.audit.specs.Histories.{clock_owner_of}
-use Rattle.broker_spec.specs.GoesOn.{Longer}
-use Rattle.broker_spec.specs.Timely.{pass_of}
-use Rattle.broker_spec.specs.books.Owned.{NotOf, OthersAlone}
-use Rattle.broker_spec.proofs.books.Laws.{others_behind}
+use Rattle.audit.specs.broker.GoesOn.{Longer}
+use Rattle.audit.specs.broker.Timely.{pass_of}
+use Rattle.audit.specs.broker.books.Owned.{NotOf, OthersAlone}
+use Rattle.audit.proofs.broker.books.Laws.{others_behind}
 use Rattle.turn_lock.specs.declared.pass.TurnPass.{TurnPass}
 use Rattle.turn_lock.specs.Locks.{known}
 use Rattle.turn_lock.specs.OfPass.{of_pass}

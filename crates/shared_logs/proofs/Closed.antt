@@ -13,10 +13,10 @@ use Rattle.partlog.specs.Kept.{IsKept}
 use Rattle.partlog.specs.Lagging.{LeftLate}
 use Rattle.partlog.specs.Moment.{moment_of}
 use Rattle.audit.specs.Histories.{clock_owner_of, ticks_of}
-use Rattle.broker_spec.specs.Board.{empty_history}
-use Rattle.broker_spec.specs.GoesOn.{AllWhole, the_owner}
-use Rattle.broker_spec.specs.Kept.{owners_here}
-use Rattle.broker_spec.specs.Timely.{events_at, pass_of}
+use Rattle.audit.specs.broker.Board.{empty_history}
+use Rattle.audit.specs.broker.GoesOn.{AllWhole, the_owner}
+use Rattle.audit.specs.broker.Kept.{owners_here}
+use Rattle.audit.specs.broker.Timely.{events_at, pass_of}
 use Rattle.turn_lock.specs.declared.lock.TurnLock.{TurnLock}
 use Rattle.turn_lock.specs.declared.pass.TurnPass.{TurnPass}
 use Rattle.turn_lock.specs.Locks.{known}

@@ -13,7 +13,7 @@ use Rattle.turn_lock.specs.Passes.{fresh, known_of}
 use Rattle.shared_logs.specs.declared.entries.ClockEntry.{ClockEntry}
 use Rattle.shared_logs.specs.declared.entries.LogEntry.{LogEntry}
 use Rattle.shared_logs.specs.Desks.{MomentView, PartView, moment_name, part_name}
-use Rattle.room_scans.specs.Desks.{desk_name}
+use Rattle.purgatory.specs.scans.Desks.{desk_name}
 use Rattle.room_table.specs.Handed.{fresh_source, fresh_sources}
 use Rattle.room_table.specs.Seats.{SourceView, TableView}
 use Rattle.purgatory.specs.Making.{AreFrom}

@@ -9,7 +9,7 @@ use Rattle.turn_lock.specs.Locks.{lock_name, lock_passes}
 use Rattle.shared_logs.specs.declared.entries.ClockEntry.{ClockEntry}
 use Rattle.shared_logs.specs.declared.entries.LogEntry.{LogEntry}
 use Rattle.shared_logs.specs.Desks.{MomentView, PartView, part_name}
-use Rattle.room_scans.specs.Desks.{desk_name}
+use Rattle.purgatory.specs.scans.Desks.{desk_name}
 use Rattle.room_table.specs.Seats.{CallerView, caller_now}
 use Rattle.purgatory.specs.Ends.{IsUntaken, IsWaiting, seats_of}
 use Rattle.purgatory.specs.Making.{AreFrom}

@@ -17,9 +17,9 @@ use Rattle.partlog.specs.Shrunk.{all_shrunk, late_at, shrinks_at, some_shrunk}
 use Rattle.partlog.specs.State.{PartState, state_of}
 use Rattle.kanswer.specs.Decisions.{Entry, Put, Followed, Looked, Outcome}
 use Rattle.kanswer.specs.WithEntry.{entered}
-use Rattle.broker_spec.specs.GoesOn.{IsWhole, Longer}
-use Rattle.broker_spec.specs.Timely.{pass_of}
-use Rattle.broker_spec.proofs.Laws.{entered_longer, looked_state}
+use Rattle.audit.specs.broker.GoesOn.{IsWhole, Longer}
+use Rattle.audit.specs.broker.Timely.{pass_of}
+use Rattle.audit.proofs.broker.Laws.{entered_longer, looked_state}
 use Rattle.turn_lock.specs.AddedBy.{AddedBy}
 use Rattle.kanswer.specs.declared.entered.Entered.{Entered}
 use Rattle.kanswer.specs.Entered.{HasEntered}

@@ -19,13 +19,13 @@ use Rattle.kbytes.proofs.Laws.{get_behind, get_set_other, get_set_same, get_ther
 use Rattle.kanswer.specs.Decisions.{AskLog, Entry, Outcome, Put, Followed, Looked}
 use Rattle.kwire.specs.Configuration.{Configuration}
 use Rattle.kanswer.specs.declared.entered.Entered.{Entered}
-use Rattle.broker_spec.specs.Board.{empty_history, history_at}
+use Rattle.audit.specs.broker.Board.{empty_history, history_at}
 use Rattle.kanswer.specs.WithEntry.{entered}
-use Rattle.broker_spec.specs.GoesOn.{AllWhole, IsWhole, Longer}
-use Rattle.broker_spec.specs.Sound.{AreHistories}
-use Rattle.broker_spec.specs.Timely.{pass_of}
-use Rattle.broker_spec.proofs.Laws.{IsFair, IsSized, all_from_get, entered_followers, set_same}
-use Rattle.broker_spec.specs.books.Turns.{Finds}
+use Rattle.audit.specs.broker.GoesOn.{AllWhole, IsWhole, Longer}
+use Rattle.audit.specs.broker.Sound.{AreHistories}
+use Rattle.audit.specs.broker.Timely.{pass_of}
+use Rattle.audit.proofs.broker.Laws.{IsFair, IsSized, all_from_get, entered_followers, set_same}
+use Rattle.audit.specs.broker.books.Turns.{Finds}
 use Rattle.shared_logs.specs.Asked.{HasAsked, HasLooked, LeftOne}
 use Rattle.shared_logs.specs.Seen.{HasSeen}
 use Rattle.shared_logs.specs.Shared.{LogPassView, followers_in}

@@ -23,8 +23,8 @@ use Rattle.shared_logs.specs.Entries.{clock_by, clock_entries, entry_by, log_ent
 use Rattle.shared_logs.specs.Keeps.{AreAt, AreOfPart, MomentKeeps, PartKeeps}
 use Rattle.purgatory.specs.Rooms.{LockView}
 use Rattle.room_core.specs.declared.parts.Source.{Source}
-use Rattle.room_scans.specs.Desks.{desk_name}
-use Rattle.room_scans.proofs.Laws.{name_number, name_table}
+use Rattle.purgatory.specs.scans.Desks.{desk_name}
+use Rattle.purgatory.proofs.scans.Laws.{name_number, name_table}
 use Rattle.room_table.specs.Seats.{SourceView, TableView, source_now}
 use Rattle.shared_logs.specs.declared.hands.Hand.{Hand}
 use Rattle.shared_logs.specs.Apart.{AreRests, IsOfClock, IsOfLocks, IsRest}

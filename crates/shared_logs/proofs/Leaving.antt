@@ -13,10 +13,10 @@ use Rattle.partlog.specs.State.{PartState as State, state_of}
 use Rattle.kbytes.proofs.Laws.{get_set_other, get_set_same, get_there, same_or_not}
 use Rattle.kanswer.specs.Decisions.{Entry, Outcome}
 use Rattle.kanswer.specs.declared.entered.Entered.{Entered}
-use Rattle.broker_spec.specs.Board.{empty_history, history_at}
+use Rattle.audit.specs.broker.Board.{empty_history, history_at}
 use Rattle.kanswer.specs.WithEntry.{entered}
-use Rattle.broker_spec.specs.GoesOn.{HaveGrown, Longer}
-use Rattle.broker_spec.proofs.Laws.{all_longer_self, entered_events, entered_longer, event_of, event_owner, grown_clock, grown_parts, set_longer}
+use Rattle.audit.specs.broker.GoesOn.{HaveGrown, Longer}
+use Rattle.audit.proofs.broker.Laws.{all_longer_self, entered_events, entered_longer, event_of, event_owner, grown_clock, grown_parts, set_longer}
 use Rattle.shared_logs.specs.Asked.{HasAsked, HasLooked, HasLookedAtClock, LeftOne}
 use Rattle.shared_logs.specs.Coming.{HasStepped}
 use Rattle.shared_logs.specs.Shared.{LogPassView}

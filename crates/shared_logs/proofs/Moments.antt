@@ -16,9 +16,9 @@ use Rattle.partlog.specs.Ticked.{ticked}
 use Rattle.audit.specs.Histories.{clock_owner_of, ticks_of}
 use Rattle.room_core.specs.Gauges.{IsPass}
 use Rattle.room_table.specs.Seats.{TableView, caller_now}
-use Rattle.broker_spec.specs.GoesOn.{Longer}
-use Rattle.broker_spec.specs.books.Owned.{NotOf, OthersAlone}
-use Rattle.broker_spec.proofs.books.Laws.{clock_came}
+use Rattle.audit.specs.broker.GoesOn.{Longer}
+use Rattle.audit.specs.broker.books.Owned.{NotOf, OthersAlone}
+use Rattle.audit.proofs.broker.books.Laws.{clock_came}
 use Rattle.turn_lock.specs.declared.known.Known.{Known}
 use Rattle.turn_lock.specs.declared.pass.TurnPass.{TurnPass}
 use Rattle.turn_lock.specs.declared.lock.TurnLock.{TurnLock}

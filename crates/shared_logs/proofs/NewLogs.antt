@@ -10,7 +10,7 @@ use Rattle.shared_logs.specs.declared.entries.ClockEntry.{ClockEntry}
 use Rattle.shared_logs.specs.declared.entries.LogEntry.{LogEntry}
 use Rattle.shared_logs.specs.Desks.{MomentView, PartView, moment_name}
 use Rattle.room_core.specs.declared.shape.Shape.{Shape}
-use Rattle.room_scans.specs.Desks.{desk_name}
+use Rattle.purgatory.specs.scans.Desks.{desk_name}
 use Rattle.room_table.specs.Handed.{fresh_caller, fresh_callers, fresh_source, fresh_sources}
 use Rattle.room_table.specs.Seats.{SourceView}
 use Rattle.purgatory.specs.Making.{AreFrom}

@@ -17,8 +17,8 @@ use Rattle.shared_logs.specs.declared.entries.LogEntry.{LogEntry}
 use Rattle.shared_logs.specs.Desks.{MomentView, PartView}
 use Rattle.shared_logs.specs.Entries.{clock_by, entry_by}
 use Rattle.shared_logs.specs.Histories.{events_of, history_of}
-use Rattle.broker_spec.specs.Board.{empty_history, history_at}
-use Rattle.broker_spec.specs.GoesOn.{AllWhole, IsWhole}
+use Rattle.audit.specs.broker.Board.{empty_history, history_at}
+use Rattle.audit.specs.broker.GoesOn.{AllWhole, IsWhole}
 use Rattle.room_core.specs.Gauges.{IsPass}
 use Rattle.purgatory.specs.Rooms.{LockView, PassView}
 use Rattle.shared_logs.specs.Dealt.{AreDealt, IsFreshHand, IsFreshOf, IsFreshRow, IsFreshSeat}

@@ -8,8 +8,8 @@ use Rattle.partlog.specs.declared.event.PartEvent.TheVariants.{Append, Follow, L
 use Rattle.partlog.specs.Added.{added_bytes}
 use Rattle.audit.specs.Histories.{Owner, clock_owner_of, owner_of}
 use Rattle.turn_lock.specs.OfPass.{of_pass}
-use Rattle.broker_spec.specs.GoesOn.{the_owner}
-use Rattle.broker_spec.specs.Timely.{pass_of}
+use Rattle.audit.specs.broker.GoesOn.{the_owner}
+use Rattle.audit.specs.broker.Timely.{pass_of}
 use Rattle.shared_logs.specs.declared.entries.ClockEntry.{ClockEntry}
 use Rattle.shared_logs.specs.declared.entries.LogEntry.{LogEntry}
 use Rattle.shared_logs.specs.Entries.{clock_by, clock_entries, entries_from, entry_by}

@@ -20,14 +20,14 @@ use Rattle.kanswer.specs.Entered.{HasEntered}
 use Rattle.kbytes.proofs.Laws.{get_set_other, get_set_same, same_or_not}
 use Rattle.room_core.specs.Gauges.{IsPass}
 use Rattle.room_table.specs.Seats.{TableView, caller_now}
-use Rattle.room_scans.specs.Desks.{desk_name}
-use Rattle.broker_spec.specs.Board.{empty_history, history_at}
-use Rattle.broker_spec.specs.GoesOn.{AllWhole}
-use Rattle.broker_spec.proofs.Laws.{set_same, set_whole}
-use Rattle.broker_spec.specs.Timely.{pass_of}
-use Rattle.broker_spec.specs.books.Owned.{OthersAlone}
-use Rattle.broker_spec.specs.books.TakenOut.{HasTakenOut}
-use Rattle.broker_spec.proofs.books.Laws.{others_grown, others_within, part_came}
+use Rattle.purgatory.specs.scans.Desks.{desk_name}
+use Rattle.audit.specs.broker.Board.{empty_history, history_at}
+use Rattle.audit.specs.broker.GoesOn.{AllWhole}
+use Rattle.audit.proofs.broker.Laws.{set_same, set_whole}
+use Rattle.audit.specs.broker.Timely.{pass_of}
+use Rattle.audit.specs.broker.books.Owned.{OthersAlone}
+use Rattle.audit.specs.broker.books.TakenOut.{HasTakenOut}
+use Rattle.audit.proofs.broker.books.Laws.{others_grown, others_within, part_came}
 use Rattle.turn_lock.specs.declared.pass.TurnPass.{TurnPass}
 use Rattle.turn_lock.specs.declared.lock.TurnLock.{TurnLock}
 use Rattle.turn_lock.specs.Locks.{IsPassOf, IsReady, known, lock_name}

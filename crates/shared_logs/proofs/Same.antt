@@ -8,10 +8,10 @@ use Rattle.room_core.specs.State.{Caller}
 use Rattle.room_table.specs.declared.part.CallerStep.{CallerStep}
 use Rattle.room_table.specs.Seats.{CallerView, caller_now}
 use Rattle.purgatory.specs.Going.{GoesOn, KeepsOperation}
-use Rattle.broker_spec.specs.GoesOn.{HaveGrown}
-use Rattle.broker_spec.specs.Kept.{owners_at}
-use Rattle.broker_spec.specs.Timely.{events_at}
-use Rattle.broker_spec.proofs.Laws.{all_longer_on, grown_self}
+use Rattle.audit.specs.broker.GoesOn.{HaveGrown}
+use Rattle.audit.specs.broker.Kept.{owners_at}
+use Rattle.audit.specs.broker.Timely.{events_at}
+use Rattle.audit.proofs.broker.Laws.{all_longer_on, grown_self}
 use Rattle.shared_logs.specs.Coming.{HasCaughtUp, HasStepped, IsSamePass, OthersCame}
 use Rattle.shared_logs.specs.Shared.{LogPassView}
 

@@ -11,11 +11,11 @@ use Rattle.partlog.specs.Lagging.{NoneLags}
 use Rattle.partlog.specs.Moment.{moment_of}
 use Rattle.partlog.specs.Shrunk.{shrinks_at}
 use Rattle.kbytes.proofs.Laws.{all_append, get_behind, get_set_other, get_set_same, same_or_not}
-use Rattle.broker_spec.specs.Board.{empty_history, history_at}
-use Rattle.broker_spec.specs.GoesOn.{Longer}
-use Rattle.broker_spec.specs.Timely.{events_at, pass_of}
-use Rattle.broker_spec.proofs.Laws.{NewEvents, all_get, all_longer_on, all_longer_self, all_on, events_of_part, longer_on, set_longer, was_there}
-use Rattle.broker_spec.specs.books.TakenOut.{HasTakenOut}
+use Rattle.audit.specs.broker.Board.{empty_history, history_at}
+use Rattle.audit.specs.broker.GoesOn.{Longer}
+use Rattle.audit.specs.broker.Timely.{events_at, pass_of}
+use Rattle.audit.proofs.broker.Laws.{NewEvents, all_get, all_longer_on, all_longer_self, all_on, events_of_part, longer_on, set_longer, was_there}
+use Rattle.audit.specs.broker.books.TakenOut.{HasTakenOut}
 use Rattle.shared_logs.specs.Asked.{HasTicked}
 use Rattle.shared_logs.specs.Shared.{LogPassView}
 use Rattle.shared_logs.specs.Shrinking.{HasShrunk, HasShrunkOne, HasTold, NoPartLags}

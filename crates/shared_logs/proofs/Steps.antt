@@ -2,7 +2,7 @@
 use Rattle.std.proofs.Common.{◌≡◌, ℕ, List, map, Option, Some, None, refl}
 use Rattle.room_table.specs.declared.part.CallerStep.TheVariants.{Idled, Peeked}
 use Rattle.room_table.specs.Seats.{CallerView, caller_did, caller_now}
-use Rattle.room_scans.specs.Listing.{open_at}
+use Rattle.purgatory.specs.scans.Listing.{open_at}
 use Rattle.turn_lock.specs.declared.pass.TurnPass.{TurnPass}
 use Rattle.purgatory.specs.declared.outcome.Done.{Done}
 use Rattle.purgatory.specs.Going.{GoesOn}

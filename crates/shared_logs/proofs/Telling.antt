@@ -10,13 +10,13 @@ use Rattle.partlog.specs.declared.clock_event.ClockEvent.{ClockEvent}
 use Rattle.partlog.specs.declared.clock_event.ClockEvent.TheVariants as clocks
 use Rattle.partlog.specs.Kept.{IsKept}
 use Rattle.audit.specs.Histories.{Owner, clock_owner_of}
-use Rattle.broker_spec.specs.GoesOn.{Longer, the_owner}
-use Rattle.broker_spec.specs.Timely.{pass_of}
-use Rattle.broker_spec.specs.books.Owned.{NotOf}
-use Rattle.broker_spec.proofs.books.Laws.{others_behind}
+use Rattle.audit.specs.broker.GoesOn.{Longer, the_owner}
+use Rattle.audit.specs.broker.Timely.{pass_of}
+use Rattle.audit.specs.broker.books.Owned.{NotOf}
+use Rattle.audit.proofs.broker.books.Laws.{others_behind}
 use Rattle.room_table.specs.Seats.{TableView}
-use Rattle.room_scans.specs.Desks.{desk_name}
-use Rattle.room_scans.proofs.Laws.{name_number, name_table}
+use Rattle.purgatory.specs.scans.Desks.{desk_name}
+use Rattle.purgatory.proofs.scans.Laws.{name_number, name_table}
 use Rattle.turn_lock.specs.declared.known.Known.{Known}
 use Rattle.turn_lock.specs.OfPass.{of_pass}
 use Rattle.shared_logs.specs.declared.entries.ClockEntry.{ClockEntry}

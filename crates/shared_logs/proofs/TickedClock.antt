@@ -12,7 +12,7 @@ use Rattle.partlog.specs.declared.clock_event.ClockEvent.TheVariants.{Tick, Look
 use Rattle.partlog.specs.Moment.{moment_of, tick_of}
 use Rattle.partlog.specs.Ticked.{ticked}
 use Rattle.audit.specs.Histories.{ticks_of}
-use Rattle.broker_spec.specs.Sound.{AllBelow}
+use Rattle.audit.specs.broker.Sound.{AllBelow}
 use Rattle.room_table.specs.Seats.{SourceView}
 use Rattle.turn_lock.specs.AddedBy.{AddedBy}
 use Rattle.purgatory.specs.Raised.{IsQuietAt}

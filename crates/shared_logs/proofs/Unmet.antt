@@ -13,7 +13,7 @@ use Rattle.partlog.specs.State.{state_of}
 use Rattle.opcond.specs.declared.need.Need.{Need}
 use Rattle.opcond.specs.Tally.{IsSatisfied}
 use Rattle.kanswer.specs.Waiting.{gauge_value}
-use Rattle.broker_spec.specs.Board.{empty_history, history_at}
+use Rattle.audit.specs.broker.Board.{empty_history, history_at}
 use Rattle.room_core.specs.declared.parts.Source.{Source}
 use Rattle.room_core.specs.declared.parts.Stage.{Stage}
 use Rattle.room_core.specs.declared.shape.Shape.{Shape}
@@ -24,7 +24,7 @@ use Rattle.room_core.specs.State.{Caller}
 use Rattle.room_table.specs.Seats.{CallerView, SourceView, caller_now, source_now}
 use Rattle.purgatory.specs.Closed.{IsClosed, stored_in}
 use Rattle.purgatory.specs.Ends.{StillView}
-use Rattle.broker_spec.specs.Board.{gauge_now}
+use Rattle.audit.specs.broker.Board.{gauge_now}
 use Rattle.shared_logs.specs.Closing.{IsUnanswerable}
 use Rattle.shared_logs.specs.Gone.{HaveStored, TellOf}
 

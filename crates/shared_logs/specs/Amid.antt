@@ -3,7 +3,7 @@ use Rattle.std.specs.Prelude.{List}
 use Rattle.audit.specs.declared.account.Call.{Call}
 use Rattle.audit.specs.declared.account.Transcript.{Transcript}
 use Rattle.kwire.specs.Configuration.{Configuration}
-use Rattle.broker_spec.specs.books.Underway.{Underway}
+use Rattle.audit.specs.broker.books.Underway.{Underway}
 use Rattle.shared_logs.specs.Shared.{LogPassView}
 
 abbrev pub amid : Configuration → List Transcript → Transcript → LogPassView → Call → Underway

@@ -19,7 +19,7 @@ use Rattle.kanswer.specs.Waiting.{gauge_value}
 use Rattle.kwire.specs.declared.request.FetchPart.{FetchPart}
 use Rattle.kanswer.specs.declared.entered.Entered.{Entered}
 use Rattle.kanswer.specs.Entered.{HasEntered}
-use Rattle.broker_spec.specs.Board.{history_at}
+use Rattle.audit.specs.broker.Board.{history_at}
 use Rattle.shared_logs.specs.Coming.{IsSamePass, OthersCame}
 use Rattle.shared_logs.specs.Shared.{LogPassView}
 

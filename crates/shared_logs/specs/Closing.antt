@@ -10,10 +10,10 @@ use Rattle.partlog.specs.Moment.{moment_of}
 use Rattle.opcond.specs.Operation.{Operation}
 use Rattle.opcond.specs.Tally.{IsSatisfied}
 use Rattle.audit.specs.Histories.{ticks_of}
-use Rattle.broker_spec.specs.Board.{gauge_now}
-use Rattle.broker_spec.specs.GoesOn.{AllWhole, the_owner}
-use Rattle.broker_spec.specs.Kept.{owners_at}
-use Rattle.broker_spec.specs.Timely.{events_at, pass_of}
+use Rattle.audit.specs.broker.Board.{gauge_now}
+use Rattle.audit.specs.broker.GoesOn.{AllWhole, the_owner}
+use Rattle.audit.specs.broker.Kept.{owners_at}
+use Rattle.audit.specs.broker.Timely.{events_at, pass_of}
 use Rattle.room_core.specs.declared.parts.Stage.{Stage}
 use Rattle.room_core.specs.Described.{operation_of}
 use Rattle.room_table.specs.Seats.{CallerView, caller_now}

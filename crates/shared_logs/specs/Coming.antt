@@ -3,8 +3,8 @@ use Rattle.std.specs.Prelude.{◌≡◌, ℕ, List}
 use Rattle.partlog.specs.declared.clock_event.ClockEvent.{ClockEvent}
 use Rattle.partlog.specs.History.{History}
 use Rattle.room_table.specs.Seats.{caller_now}
-use Rattle.broker_spec.specs.GoesOn.{HaveGrown}
-use Rattle.broker_spec.specs.books.Owned.{OwnWithin}
+use Rattle.audit.specs.broker.GoesOn.{HaveGrown}
+use Rattle.audit.specs.broker.books.Owned.{OwnWithin}
 use Rattle.purgatory.specs.Going.{GoesOn, KeepsOperation}
 use Rattle.shared_logs.specs.Shared.{LogPassView}
 

@@ -9,7 +9,7 @@ use Rattle.shared_logs.specs.declared.entries.ClockEntry.{ClockEntry}
 use Rattle.shared_logs.specs.declared.entries.LogEntry.{LogEntry}
 use Rattle.shared_logs.specs.Desks.{MomentView, PartView, part_name}
 use Rattle.room_core.specs.Gauges.{IsPass}
-use Rattle.room_scans.specs.Desks.{desk_name}
+use Rattle.purgatory.specs.scans.Desks.{desk_name}
 use Rattle.room_table.specs.Handed.{fresh_caller, fresh_source}
 use Rattle.room_table.specs.Seats.{SourceView, TableView}
 use Rattle.purgatory.specs.Making.{AreFrom}

@@ -5,7 +5,7 @@ use Rattle.partlog.specs.declared.clock_event.ClockEvent.TheVariants as clocks
 use Rattle.partlog.specs.declared.event.PartEvent.{PartEvent}
 use Rattle.partlog.specs.Added.{added_bytes}
 use Rattle.partlog.specs.History.{History}
-use Rattle.broker_spec.specs.Timely.{pass_of}
+use Rattle.audit.specs.broker.Timely.{pass_of}
 use Rattle.shared_logs.specs.declared.entries.LogEntry.{LogEntry}
 use Rattle.shared_logs.specs.declared.entries.ClockEntry.{ClockEntry}
 

@@ -20,7 +20,7 @@ use Rattle.shared_logs.specs.declared.entries.LogEntry.{LogEntry}
 use Rattle.shared_logs.specs.Desks.{MomentView, PartView, moment_name, part_name}
 use Rattle.shared_logs.specs.Entries.{clock_by, clock_entries, entry_by, log_entries}
 use Rattle.room_core.specs.declared.parts.Source.{Source}
-use Rattle.room_scans.specs.Desks.{desk_name}
+use Rattle.purgatory.specs.scans.Desks.{desk_name}
 use Rattle.room_table.specs.Seats.{SourceView, TableView, source_now}
 use Rattle.purgatory.specs.Closed.{IsClosed}
 use Rattle.purgatory.specs.Ends.{StillView}

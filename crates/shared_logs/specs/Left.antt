@@ -6,8 +6,8 @@ use Rattle.partlog.specs.declared.clock_event.ClockEvent.TheVariants as clocks
 use Rattle.partlog.specs.declared.event.PartEvent.{PartEvent}
 use Rattle.partlog.specs.History.{History}
 use Rattle.audit.specs.Histories.{owner_of}
-use Rattle.broker_spec.specs.Board.{history_at}
-use Rattle.broker_spec.specs.GoesOn.{the_owner}
+use Rattle.audit.specs.broker.Board.{history_at}
+use Rattle.audit.specs.broker.GoesOn.{the_owner}
 use Rattle.shared_logs.specs.Shared.{LogPassView}
 
 -- the last entry is that of the pass's call of this number

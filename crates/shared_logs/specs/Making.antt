@@ -1,7 +1,7 @@
 -- The passes of new logs.
 use Rattle.std.specs.Prelude.{ℕ, List, [], map}
 use Rattle.std.specs.List.{range_with_len}
-use Rattle.broker_spec.specs.Board.{empty_history}
+use Rattle.audit.specs.broker.Board.{empty_history}
 use Rattle.room_table.specs.Handed.{fresh_caller}
 use Rattle.shared_logs.specs.Shared.{LogPassView, SharedView, followers_in}
 

@@ -5,8 +5,8 @@ use Rattle.partlog.specs.Kept.{IsKept}
 use Rattle.audit.specs.Histories.{ticks_of}
 use Rattle.room_core.specs.Gauges.{IsPass}
 use Rattle.room_table.specs.Seats.{caller_now}
-use Rattle.broker_spec.specs.Board.{history_at}
-use Rattle.broker_spec.specs.GoesOn.{AllWhole}
+use Rattle.audit.specs.broker.Board.{history_at}
+use Rattle.audit.specs.broker.GoesOn.{AllWhole}
 use Rattle.purgatory.specs.Going.{IsAtRest}
 use Rattle.shared_logs.specs.Shared.{AreShared, LogPassView, followers_in}
 

@@ -3,7 +3,7 @@ use Rattle.std.specs.Prelude.{◌≡◌, ◌≢◌, ◌⊎◌, ℕ, ◌<◌, ◌
 use Rattle.partlog.specs.History.{History}
 use Rattle.partlog.specs.Lagging.{NoneLags}
 use Rattle.partlog.specs.Moment.{moment_of}
-use Rattle.broker_spec.specs.books.TakenOut.{HasTakenOut}
+use Rattle.audit.specs.broker.books.TakenOut.{HasTakenOut}
 use Rattle.shared_logs.specs.Asked.{HasTicked}
 use Rattle.shared_logs.specs.Coming.{HasCaughtUp, IsSamePass}
 use Rattle.shared_logs.specs.Shared.{LogPassView}

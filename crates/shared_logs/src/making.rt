@@ -2,7 +2,7 @@
 ghost use Rattle.std.specs.Prelude.{◌≡◌, ◌*◌, ◌≤◌, List as Items, [], ◌∷◌, ◌++◌, IfOk, length, map};
 ghost use Rattle.purgatory.specs.Making.{AreFrom};
 ghost use Rattle.purgatory.specs.Rooms.{LockView};
-ghost use Rattle.room_scans.specs.Desks.{desk_name};
+ghost use Rattle.purgatory.specs.scans.Desks.{desk_name};
 ghost use Rattle.room_table.specs.Seats.{TableView, source_now};
 ghost use Rattle.turn_lock.specs.Locks.{AreFresh, lock_id, lock_name, lock_passes};
 ghost use Rattle.shared_logs.specs.Dealt.{AreDealt, AreFirst, IsFreshOf, IsFreshRow, IsPartLock};

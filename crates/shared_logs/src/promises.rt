@@ -4,7 +4,7 @@ ghost use Rattle.partlog.specs.declared.clock_event.ClockEvent.{ClockEvent};
 ghost use Rattle.partlog.specs.History.{History};
 ghost use Rattle.partlog.specs.Kept.{IsKept};
 ghost use Rattle.audit.specs.Histories.{clock_owner_of, owner_of};
-ghost use Rattle.broker_spec.specs.GoesOn.{Longer, the_owner};
+ghost use Rattle.audit.specs.broker.GoesOn.{Longer, the_owner};
 ghost use Rattle.turn_lock.specs.OfPass.{of_pass};
 ghost use Rattle.turn_lock.specs.StartsWith.{StartsWith};
 ghost use Rattle.shared_logs.specs.declared.entries.ClockEntry.{ClockEntry};

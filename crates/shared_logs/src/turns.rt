@@ -7,7 +7,7 @@ ghost use Rattle.kanswer.specs.Sent.{sent_outcome};
 ghost use Rattle.partlog.specs.declared.part_log.TheConstants.{MOST_LOG_BYTES};
 ghost use Rattle.partlog.specs.Lagging.{NoneLags};
 ghost use Rattle.partlog.specs.State.{state_of};
-ghost use Rattle.broker_spec.specs.Board.{history_at};
+ghost use Rattle.audit.specs.broker.Board.{history_at};
 ghost use Rattle.shared_logs.specs.Asked.{HasAsked, HasLooked, HasRead};
 ghost use Rattle.shared_logs.specs.Coming.{HasCaughtUp};
 ghost use Rattle.shared_logs.specs.Seen.{HasSeen};

@@ -1,4 +1,4 @@
-//! `purgatory`, and below it `room_table` and `room_scans`: the room's calls on one thread, and what threads come to that
+//! `purgatory`, and below it `room_table`: the room's calls on one thread, and what threads come to that
 //! share it.
 ghost use Rattle.std.specs.Prelude.{◌≡◌, ◌<◌};
 ghost use Rattle.tests_of_room.specs.Crews.{IsCrewOf};

@@ -16,7 +16,7 @@ use Rattle.audit.specs.Fits.{Fits, LastIsParked}
 use Rattle.audit.specs.Histories.{calls_in}
 use Rattle.audit.specs.IsLawful.{EndWell, EndsAs, FollowOn}
 use Rattle.audit.specs.RunOf.{IsNotCut, IsSessionOf}
-use Rattle.broker_spec.specs.books.Told.{told}
+use Rattle.audit.specs.broker.books.Told.{told}
 use Rattle.shared_broker.specs.Passes.{BrokerView, transcripts_of}
 use Rattle.trace_file.specs.Contents.{bytes_in, input_of, is_named, names, shuts}
 use Rattle.trace_file.specs.declared.line.Line.{Line}

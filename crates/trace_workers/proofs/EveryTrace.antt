@@ -11,7 +11,7 @@ use Rattle.audit.specs.declared.account.Transcript.{Transcript}
 use Rattle.audit.specs.Histories.{call_of, calls_in, calls_of, points_of}
 use Rattle.audit.specs.IsLawful.{FollowOn, IsLawful, is_won_by, places_in}
 use Rattle.audit.specs.RunOf.{IsNotCut, IsRunOf, IsSessionOf}
-use Rattle.broker_spec.proofs.Laws.{play_is_lawful, play_is_run, trace_declared, trace_plays}
+use Rattle.audit.proofs.broker.Laws.{play_is_lawful, play_is_run, trace_declared, trace_plays}
 use Rattle.kbytes.proofs.Laws.{all_append}
 use Rattle.kwire.specs.Configuration.{Configuration}
 use Rattle.room_core.specs.Numbers.{scanner_numbers}

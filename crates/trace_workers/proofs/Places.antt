@@ -9,7 +9,7 @@ use Rattle.audit.specs.declared.account.Account.{Account}
 use Rattle.audit.specs.declared.account.Call.{Call}
 use Rattle.audit.specs.Histories.{all_calls, calls_in}
 use Rattle.kbytes.proofs.Laws.{all_append}
-use Rattle.broker_spec.proofs.Laws.{all_from_get}
+use Rattle.audit.proofs.broker.Laws.{all_from_get}
 
 pub all_of_map : {X Y : Type 0} (P : Y → Type 0) (f : X → Y) (xs : List X) → All P (map f xs) → All (λ x. P (f x)) xs
 all_of_map P f xs all k d less = subst P (get_or-map f xs k d (f d) less) (all k (f d) (omega (arith, less, length-map xs f)))

@@ -5,7 +5,7 @@ use Rattle.audit.specs.declared.account.SessionEnd.{SessionEnd}
 use Rattle.audit.specs.declared.account.Transcript.{Transcript}
 use Rattle.audit.specs.Fits.{EndFits, Fits, IsUnfinished, LastIsParked}
 use Rattle.audit.specs.RunOf.{IsTraceEnd}
-use Rattle.broker_spec.specs.books.Told.{last_is_cut, told, told_end}
+use Rattle.audit.specs.broker.books.Told.{last_is_cut, told, told_end}
 use Rattle.shared_broker.specs.Passes.{transcripts_of}
 use Rattle.trace_workers.specs.Received.{HasHandled, HasReceived, StandsAt}
 use Rattle.trace_workers.specs.Resting.{Rests}

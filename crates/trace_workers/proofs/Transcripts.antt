@@ -11,7 +11,7 @@ use Rattle.audit.specs.Fits.{LastIsParked}
 use Rattle.audit.specs.Histories.{calls_in}
 use Rattle.audit.specs.RunOf.{IsNotCut}
 use Rattle.kwire.specs.Frames.{framed}
-use Rattle.broker_spec.specs.books.Told.{is_cut, last_is_cut}
+use Rattle.audit.specs.broker.books.Told.{is_cut, last_is_cut}
 use Rattle.shared_broker.specs.Passes.{PassView, calls_made, transcripts_of}
 use Rattle.trace_workers.specs.Received.{IsOnly, IsOnlyOf}
 

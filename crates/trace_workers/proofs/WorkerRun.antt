@@ -10,9 +10,9 @@ use Rattle.audit.specs.declared.account.Transcript.{Transcript}
 use Rattle.audit.specs.Histories.{all_calls, calls_in, ticks_of}
 use Rattle.audit.specs.IsLawful.{FollowOn}
 use Rattle.audit.specs.RunOf.{IsNotCut, IsSessionOf}
-use Rattle.broker_spec.specs.GoesOn.{GoesOn}
-use Rattle.broker_spec.proofs.Laws.{all_get}
-use Rattle.broker_spec.specs.books.Told.{told}
+use Rattle.audit.specs.broker.GoesOn.{GoesOn}
+use Rattle.audit.proofs.broker.Laws.{all_get}
+use Rattle.audit.specs.broker.books.Told.{told}
 use Rattle.shared_broker.specs.Closing.{IsAccountOf}
 use Rattle.shared_broker.specs.Standing.{Stands}
 use Rattle.shared_broker.specs.Passes.{BrokerView, PassView, transcripts_of}

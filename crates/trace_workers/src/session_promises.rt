@@ -3,7 +3,7 @@ ghost use Rattle.std.specs.Prelude.{◌≡◌, ℕ, true, List, [], ◌∷◌, m
 ghost use Rattle.audit.specs.declared.account.Transcript.{Transcript};
 ghost use Rattle.audit.specs.Fits.{Fits};
 ghost use Rattle.audit.specs.RunOf.{IsTraceEnd};
-ghost use Rattle.broker_spec.specs.books.Told.{told};
+ghost use Rattle.audit.specs.broker.books.Told.{told};
 ghost use Rattle.shared_broker.specs.Passes.{transcripts_of};
 ghost use Rattle.trace_workers.specs.Received.{HasReceived};
 ghost use Rattle.trace_workers.specs.Resting.{Rests};

@@ -4,8 +4,8 @@ use Rattle.std.proofs.Math.Nat.{max-le}
 use Rattle.std.specs.List.{AllZip}
 use Rattle.audit.specs.declared.account.SessionEnd.{SessionEnd}
 use Rattle.audit.specs.declared.account.Transcript.{Transcript}
-use Rattle.broker_spec.proofs.Laws.{carried_on}
-use Rattle.broker_spec.specs.GoesOn.{Carried}
+use Rattle.audit.proofs.broker.Laws.{carried_on}
+use Rattle.audit.specs.broker.GoesOn.{Carried}
 use Rattle.kwire.specs.Configuration.{Configuration}
 use Rattle.link_lanes.specs.books.LaneBook.{IsLaneBook, IsTranscriptOf, LaneBook, retired_numbers}
 use Rattle.link_lanes.specs.books.LinkSession.{IsSessionOver}

@@ -8,11 +8,11 @@ use Rattle.audit.specs.declared.account.Account.{Account}
 use Rattle.audit.specs.declared.account.SessionEnd.TheVariants.{Refused}
 use Rattle.audit.specs.declared.account.Transcript.{Transcript}
 use Rattle.audit.specs.Printed.{transcripts_of}
-use Rattle.broker_spec.specs.GoesOn.{GoesOn}
+use Rattle.audit.specs.broker.GoesOn.{GoesOn}
 use Rattle.kbytes.proofs.Laws.{all_append}
 use Rattle.kwire.specs.declared.frame.WireFault.TheVariants.{NoMemory as OutOfMemory}
 use Rattle.partlog.specs.Moment.{moment_of}
-use Rattle.broker_spec.specs.books.Told.{told}
+use Rattle.audit.specs.broker.books.Told.{told}
 use Rattle.shared_broker.specs.Passes.{BrokerView, PassView, transcripts_of as transcripts_in}
 use Rattle.link_lanes.specs.books.LaneBook.{IsLaneBook, IsTranscriptOf, LaneBook, retired_numbers}
 use Rattle.link_lanes.specs.books.LinkSession.{IsSessionOver}

@@ -5,7 +5,7 @@ use Rattle.std.specs.Prelude.{option_to_list}
 use Rattle.audit.specs.declared.account.SessionEnd.{SessionEnd}
 use Rattle.audit.specs.declared.account.Transcript.{Transcript}
 use Rattle.kbytes.proofs.Laws.{get_seam, some_is}
-use Rattle.broker_spec.specs.books.Told.{last_is_cut, told, told_end}
+use Rattle.audit.specs.broker.books.Told.{last_is_cut, told, told_end}
 
 -- ---- a list by its places
 

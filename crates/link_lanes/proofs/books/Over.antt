@@ -7,7 +7,7 @@ use Rattle.audit.specs.declared.account.SessionEnd.{SessionEnd}
 use Rattle.audit.specs.declared.account.SessionEnd.TheVariants.{Closed, Truncated, FrameTooLong, Refused, CallsFull, ReadFault, WriteFault, NoMemory}
 use Rattle.audit.specs.declared.account.Transcript.{Transcript}
 use Rattle.audit.specs.Fits.{EndFits, Fits}
-use Rattle.broker_spec.specs.GoesOn.{GoesOn}
+use Rattle.audit.specs.broker.GoesOn.{GoesOn}
 use Rattle.kwire.proofs.Laws.{refused_for}
 use Rattle.kwire.specs.declared.frame.WireFault.TheVariants.{NoMemory as OutOfMemory}
 use Rattle.outside.specs.Causes.{Rose}

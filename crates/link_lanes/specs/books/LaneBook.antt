@@ -4,7 +4,7 @@ use Rattle.std.specs.Prelude.{◌≡◌, ◌≢◌, ◌≤◌, ◌+◌, ℕ, Lis
 use Rattle.std.specs.List.{AllZip}
 use Rattle.audit.specs.declared.account.SessionEnd.TheVariants.{Refused}
 use Rattle.audit.specs.declared.account.Transcript.{Transcript}
-use Rattle.broker_spec.specs.GoesOn.{Carried}
+use Rattle.audit.specs.broker.GoesOn.{Carried}
 use Rattle.kwire.specs.declared.frame.WireFault.TheVariants.{NoMemory as OutOfMemory}
 use Rattle.link_lanes.specs.books.LinkSession.{IsSessionOver}
 use Rattle.link_lanes.specs.books.Shown.{ShownLink}

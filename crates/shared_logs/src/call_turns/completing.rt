@@ -4,7 +4,7 @@ ghost use Rattle.audit.specs.Histories.{clock_part};
 ghost use Rattle.kanswer.specs.declared.accepted.Accepted.TheVariants.{Seen};
 ghost use Rattle.partlog.specs.declared.part_log.TheConstants.{MOST_LOG_BYTES};
 ghost use Rattle.partlog.specs.State.{state_of};
-ghost use Rattle.broker_spec.specs.Board.{history_at};
+ghost use Rattle.audit.specs.broker.Board.{history_at};
 ghost use Rattle.shared_logs.specs.Asked.{HasLooked, HasLookedAtClock, HasRead};
 ghost use Rattle.shared_logs.specs.Coming.{HasCaughtUp};
 ghost use Rattle.shared_logs.specs.Seen.{HasSeen};

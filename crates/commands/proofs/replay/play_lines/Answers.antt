@@ -4,9 +4,9 @@ use Rattle.std.proofs.lemmas.List.{take_all}
 use Rattle.std.proofs.lemmas.Result.{err_from_is_err_and}
 use Rattle.std.specs.Io.KnownBytes.{Appends}
 use Rattle.trace_file.specs.declared.line.Line.{Line}
-use Rattle.broker_spec.specs.Turns.{Turned}
-use Rattle.broker_spec.specs.Play.{Plays}
-use Rattle.broker_spec.proofs.Laws.{plays_on, lines_more}
+use Rattle.audit.specs.broker.Turns.{Turned}
+use Rattle.audit.specs.broker.Play.{Plays}
+use Rattle.audit.proofs.broker.Laws.{plays_on, lines_more}
 use Rattle.commands.proofs.Replays.{playable_at, front_of_lines, front_within}
 use Rattle.commands.proofs.Writes.{front_behind}
 use Rattle.commands.proofs.replay.play_lines.Goals as goal

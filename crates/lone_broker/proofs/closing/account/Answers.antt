@@ -1,5 +1,5 @@
 use Rattle.std.proofs.Common.{refl}
-use Rattle.broker_spec.specs.Board.{passes_of}
+use Rattle.audit.specs.broker.Board.{passes_of}
 use Rattle.audit.specs.Histories.{calls_in}
 use Rattle.audit.specs.IsLawful.{is_won_by}
 use Rattle.std.specs.Prelude.{count_by}

@@ -1,6 +1,6 @@
 use Rattle.std.proofs.Common.{List, Option, reverse, option_to_list, ap, ◌∙◌}
 use Rattle.audit.specs.declared.account.Transcript.{Transcript}
-use Rattle.broker_spec.specs.Board.{put_before}
+use Rattle.audit.specs.broker.Board.{put_before}
 use Rattle.lone_broker.proofs.Closings.{passes_before, before_none, seat_taken}
 use Rattle.lone_broker.proofs.closing.passes_of.Goals as goal
 

@@ -1,5 +1,5 @@
 use Rattle.std.proofs.Common.{◌≡◌, length, reverse}
-use Rattle.broker_spec.specs.Board.{passes_of}
+use Rattle.audit.specs.broker.Board.{passes_of}
 use Rattle.lone_broker.proofs.Closings.{passes_before}
 use Rattle.lone_broker.proofs.closing.passes_of.Given as goal
 

@@ -1,6 +1,6 @@
 use Rattle.std.proofs.Common.{◌≡◌, ◌++◌, length, take}
 use Rattle.kanswer.specs.Results.{parts_asked}
-use Rattle.broker_spec.specs.Completing.{look_all}
+use Rattle.audit.specs.broker.Completing.{look_all}
 use Rattle.lone_broker.proofs.completing.look_at_parts.Given as goal
 
 abbrev pub invariant-loop-became : goal.invariant-loop-became

@@ -1,5 +1,5 @@
 use Rattle.std.proofs.Common.{sym, ap, ◌∙◌}
-use Rattle.broker_spec.specs.Completing.{finish_last}
+use Rattle.audit.specs.broker.Completing.{finish_last}
 use Rattle.audit.proofs.Laws.{on_ok}
 use Rattle.lone_broker.proofs.Seats.{finish_push}
 use Rattle.lone_broker.proofs.desk.finish_call.Goals as goal

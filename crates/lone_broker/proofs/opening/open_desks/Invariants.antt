@@ -1,5 +1,5 @@
 use Rattle.std.proofs.Common.{◌≡◌, replicate}
-use Rattle.broker_spec.specs.Board.{empty_seat}
+use Rattle.audit.specs.broker.Board.{empty_seat}
 use Rattle.lone_broker.proofs.opening.open_desks.Given as goal
 
 abbrev pub invariant-loop-number : goal.invariant-loop-number

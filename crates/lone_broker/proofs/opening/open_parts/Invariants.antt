@@ -1,5 +1,5 @@
 use Rattle.std.proofs.Common.{◌≡◌, map, take}
-use Rattle.broker_spec.specs.Board.{empty_history}
+use Rattle.audit.specs.broker.Board.{empty_history}
 use Rattle.kwire.specs.Configuration.{followers_of}
 use Rattle.lone_broker.proofs.opening.open_parts.Given as goal
 

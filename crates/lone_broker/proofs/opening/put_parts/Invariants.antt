@@ -1,5 +1,5 @@
 use Rattle.std.proofs.Common.{◌≡◌, ◌++◌, replicate}
-use Rattle.broker_spec.specs.Board.{empty_history}
+use Rattle.audit.specs.broker.Board.{empty_history}
 use Rattle.lone_broker.proofs.opening.put_parts.Given as goal
 
 abbrev pub invariant-loop-number : goal.invariant-loop-number

@@ -1,6 +1,6 @@
 use Rattle.std.proofs.Common.{ℕ, sym, subst, arith}
 use Rattle.lone_waiters.specs.Waiting.{WaitsWith}
-use Rattle.broker_spec.specs.Board.{next_call}
+use Rattle.audit.specs.broker.Board.{next_call}
 use Rattle.lone_broker.specs.Watching.{IsTaken, MayWait}
 use Rattle.lone_broker.proofs.Watching.{few_gauges}
 use Rattle.lone_broker.proofs.watched.park.Goals as goal

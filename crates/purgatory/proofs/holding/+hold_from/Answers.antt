@@ -2,7 +2,7 @@ use Rattle.std.proofs.Common.{◌≡◌, ◌∙◌, ◌+◌, ◌-◌, ◌^◌, �
 use Rattle.std.specs.Prelude.{slice_index}
 use Rattle.std.proofs.lemmas.List.{get_or-set_same}
 use Rattle.room_core.specs.Scans.{HasNoDuty}
-use Rattle.room_scans.specs.Desks.{ShardView}
+use Rattle.purgatory.specs.scans.Desks.{ShardView}
 use Rattle.room_table.specs.Closing.{ClosingView, with_scanner}
 use Rattle.room_table.specs.Seats.{ScanView, scanner_now}
 use Rattle.purgatory.specs.declared.holding.Held.{Held}

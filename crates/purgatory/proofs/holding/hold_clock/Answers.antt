@@ -1,7 +1,7 @@
 use Rattle.std.proofs.Common.{◌≡◌, ◌∙◌, ◌+◌, ◌-◌, ◌^◌, [], ◌∷◌, ap, arith, length, min, refl, set, subst}
 use Rattle.std.proofs.lemmas.List.{get_or-set_same}
 use Rattle.room_core.specs.Scans.{HasNoDuty}
-use Rattle.room_scans.specs.Desks.{ClockView}
+use Rattle.purgatory.specs.scans.Desks.{ClockView}
 use Rattle.room_table.specs.Seats.{scanner_now}
 use Rattle.purgatory.proofs.Holds.{last_held, more_won, named_seat}
 use Rattle.purgatory.proofs.holding.hold_clock.Goals as goal

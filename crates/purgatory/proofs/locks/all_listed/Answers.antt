@@ -1,5 +1,5 @@
 use Rattle.std.proofs.Common.{◌∙◌, [], refl}
-use Rattle.room_scans.proofs.Laws.{goes_twice}
+use Rattle.purgatory.proofs.scans.Laws.{goes_twice}
 use Rattle.purgatory.proofs.locks.all_listed.Goals as goal
 
 pub loop-at-init : goal.loop-at-init

@@ -1,5 +1,5 @@
 use Rattle.std.proofs.Common.{◌≡◌}
-use Rattle.room_scans.specs.Going.{GoesOn}
+use Rattle.purgatory.specs.scans.Going.{GoesOn}
 use Rattle.purgatory.proofs.locks.all_listed.Given as goal
 
 abbrev pub invariant-loop-at : goal.invariant-loop-at

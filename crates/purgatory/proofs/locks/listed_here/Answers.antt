@@ -1,5 +1,5 @@
 use Rattle.std.proofs.Common.{[], refl}
-use Rattle.room_scans.proofs.Laws.{listed_goes}
+use Rattle.purgatory.proofs.scans.Laws.{listed_goes}
 use Rattle.purgatory.proofs.locks.listed_here.Goals as goal
 
 pub returns-then-not-is_here-clause-went : goal.returns-then-not-is_here-clause-went

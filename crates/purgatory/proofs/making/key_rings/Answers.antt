@@ -1,6 +1,6 @@
 use Rattle.std.proofs.Common.{List, [], ◌∷◌, ◌++◌, ap, arith, map}
 use Rattle.turn_lock.specs.declared.pass.TurnPass.{TurnPass}
-use Rattle.room_scans.specs.Desks.{ShardView}
+use Rattle.purgatory.specs.scans.Desks.{ShardView}
 use Rattle.purgatory.specs.Turning.{key_view}
 use Rattle.purgatory.proofs.Rings.{keys_step, popped_len, ready_ring}
 use Rattle.purgatory.proofs.making.key_rings.Goals as goal

@@ -1,5 +1,5 @@
 use Rattle.std.proofs.Common.{◌≡◌, map}
-use Rattle.broker_spec.specs.books.Told.{told}
+use Rattle.audit.specs.broker.books.Told.{told}
 use Rattle.shared_broker.proofs.closing.all_told.Given as goal
 
 abbrev pub invariant-loop-transcript : goal.invariant-loop-transcript

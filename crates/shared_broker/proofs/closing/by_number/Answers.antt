@@ -2,7 +2,7 @@ use Rattle.std.proofs.Common.{◌≡◌, ◌∙◌, ◌<◌, ℕ, List, [], ◌�
 use Rattle.std.proofs.lemmas.List.{length-set}
 use Rattle.std.specs.Vec.Iter.{into_iter_items}
 use Rattle.audit.specs.declared.account.Transcript.{Transcript}
-use Rattle.broker_spec.specs.books.Told.{told}
+use Rattle.audit.specs.broker.books.Told.{told}
 use Rattle.shared_broker.specs.declared.closing.Sheet.{Sheet}
 use Rattle.shared_broker.specs.Closed.{transcripts_in}
 use Rattle.shared_broker.proofs.ClosingSheets.{in_middle, put_more}

@@ -1,5 +1,5 @@
 use Rattle.std.proofs.Common.{sym, ap, ◌∙◌}
-use Rattle.broker_spec.specs.books.Told.{is_cut}
+use Rattle.audit.specs.broker.books.Told.{is_cut}
 use Rattle.shared_broker.proofs.ClosingSheets.{last_cut, not_cut}
 use Rattle.shared_broker.proofs.closing.is_cut_last.Goals as goal
 

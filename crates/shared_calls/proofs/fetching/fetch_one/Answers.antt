@@ -6,7 +6,7 @@ use Rattle.partlog.specs.History.{History}
 use Rattle.partlog.specs.State.{state_of}
 use Rattle.kanswer.specs.Decisions.{fetch_decision, fetch_outcome}
 use Rattle.kwire.specs.Configuration.{followers_of, part_of}
-use Rattle.broker_spec.specs.Board.{history_at}
+use Rattle.audit.specs.broker.Board.{history_at}
 use Rattle.shared_logs.specs.Asked.{HasAsked, HasRead}
 use Rattle.shared_logs.specs.Shared.{followers_in}
 use Rattle.shared_calls.specs.Carried.{HasStopped}

@@ -1,6 +1,6 @@
 use Rattle.std.proofs.Common.{◌∙◌, ◌/◌, ◌<◌, ap, arith, length, subst, sym}
 use Rattle.partlog.specs.State.{state_of}
-use Rattle.broker_spec.specs.Board.{history_at}
+use Rattle.audit.specs.broker.Board.{history_at}
 use Rattle.shared_logs.specs.Shared.{SharedView}
 use Rattle.shared_calls.specs.Fresh.{IsFresh}
 use Rattle.shared_calls.specs.Looks.{HaveStopped}

@@ -4,7 +4,7 @@ use Rattle.std.specs.Int.{w32}
 use mir.Val.{SFits}
 use Rattle.kanswer.specs.declared.accepted.Accepted.TheVariants.{Seen}
 use Rattle.partlog.specs.State.{state_of}
-use Rattle.broker_spec.specs.Board.{history_at}
+use Rattle.audit.specs.broker.Board.{history_at}
 use Rattle.shared_logs.specs.Asked.{HasRead}
 use Rattle.shared_logs.specs.Shared.{SharedView}
 use Rattle.kanswer.specs.PartitionGauges.{fetched_gauge}

@@ -6,7 +6,7 @@ use Rattle.turn_lock.specs.declared.lock.TurnLock.{TurnLock}
 use Rattle.turn_lock.specs.Locks.{AreFresh, lock_id}
 use Rattle.shared_logs.specs.declared.entries.LogEntry.{LogEntry}
 use Rattle.shared_logs.specs.Desks.{PartView, part_name}
-use Rattle.room_scans.specs.Desks.{desk_name}
+use Rattle.purgatory.specs.scans.Desks.{desk_name}
 use Rattle.room_table.specs.Handed.{fresh_source}
 use Rattle.room_table.specs.Seats.{SourceView, TableView}
 use Rattle.purgatory.specs.Making.{AreFrom}

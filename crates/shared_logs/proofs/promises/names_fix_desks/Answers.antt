@@ -1,5 +1,5 @@
 use Rattle.std.proofs.Common.{ℕ, List, [], ◌∷◌, ap}
-use Rattle.room_scans.proofs.Laws.{name_number, name_table}
+use Rattle.purgatory.proofs.scans.Laws.{name_number, name_table}
 use Rattle.shared_logs.proofs.promises.names_fix_desks.Goals as goal
 
 abbrev head_or : ℕ → List ℕ → ℕ

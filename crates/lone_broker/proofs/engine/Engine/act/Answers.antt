@@ -5,8 +5,8 @@ use mir.Val.{SFits}
 use Rattle.kwire.specs.Frames.{next_frame_of}
 use Rattle.kwire.specs.declared.frame.Frame.TheVariants.{NotYet, TooLong}
 use Rattle.audit.specs.declared.account.SessionEnd.TheVariants.{FrameTooLong}
-use Rattle.broker_spec.specs.Board.{Seat, seat_at}
-use Rattle.broker_spec.specs.Acting.{end_of_input}
+use Rattle.audit.specs.broker.Board.{Seat, seat_at}
+use Rattle.audit.specs.broker.Acting.{end_of_input}
 use Rattle.audit.proofs.Laws.{on_ok}
 use Rattle.lone_broker.proofs.Standing.{seat_shown}
 use Rattle.lone_broker.proofs.Steps.{ended_acted}

@@ -1,7 +1,7 @@
 use Rattle.std.proofs.Common.{◌<◌, List, ℕ, get_or, length, sym, ap, subst, ◌∙◌, arith}
 use Rattle.trace_file.specs.declared.line.Line.{Line}
-use Rattle.broker_spec.specs.Board.{next_call, seat_at}
-use Rattle.broker_spec.specs.Play.{brought}
+use Rattle.audit.specs.broker.Board.{next_call, seat_at}
+use Rattle.audit.specs.broker.Play.{brought}
 use Rattle.lone_broker.specs.Kept.{IsPlayable, Kept, StandsFor}
 use Rattle.lone_broker.proofs.Bringing.{fed_seat, fed_stands, shut_seat, shut_stands}
 use Rattle.lone_broker.specs.Steps.{IsBrought}

@@ -1,5 +1,5 @@
 use Rattle.std.proofs.Common.{◌≡◌, List, ap, arith, length, sym, ◌∙◌}
-use Rattle.broker_spec.specs.Board.{Waiting, account_of}
+use Rattle.audit.specs.broker.Board.{Waiting, account_of}
 use Rattle.lone_broker.specs.Kept.{Kept, with_waiting}
 use Rattle.lone_broker.proofs.Closings.{if_ok_each}
 use Rattle.lone_broker.proofs.ReadForReply.{if_ok_then}

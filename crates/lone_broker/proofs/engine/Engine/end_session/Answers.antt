@@ -1,6 +1,6 @@
 use Rattle.std.proofs.Common.{◌≡◌, sym, subst}
-use Rattle.broker_spec.specs.Board.{next_call, seat_at}
-use Rattle.broker_spec.specs.Turns.{ended}
+use Rattle.audit.specs.broker.Board.{next_call, seat_at}
+use Rattle.audit.specs.broker.Turns.{ended}
 use Rattle.lone_broker.specs.Kept.{Kept, TurnsBy}
 use Rattle.lone_broker.proofs.Bringing.{ended_seat, ended_turns}
 use Rattle.audit.proofs.Laws.{on_ok}

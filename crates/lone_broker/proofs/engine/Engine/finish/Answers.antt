@@ -1,5 +1,5 @@
 use Rattle.std.proofs.Common.{◌≡◌, ◌<◌, ◌-◌, ℕ, Some, None, length, sym, ap, subst, ◌∙◌, arith}
-use Rattle.broker_spec.specs.Board.{next_call}
+use Rattle.audit.specs.broker.Board.{next_call}
 use Rattle.lone_broker.specs.Desks.{next_of}
 use Rattle.lone_broker.specs.Kept.{Kept, StandsFor, parked_at}
 use Rattle.lone_broker.specs.Looks.{finished}

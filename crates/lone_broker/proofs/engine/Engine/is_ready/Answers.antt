@@ -1,7 +1,7 @@
 use Rattle.std.proofs.Common.{◌≡◌, ◌<◌, Bool, true, false, not, ◌&&◌, length, sym, ap, ◌∙◌, arith}
 use Rattle.std.specs.Prelude.{is_some}
-use Rattle.broker_spec.specs.Acting.{has_work}
-use Rattle.broker_spec.specs.Board.{seat_at}
+use Rattle.audit.specs.broker.Acting.{has_work}
+use Rattle.audit.specs.broker.Board.{seat_at}
 use Rattle.lone_broker.specs.Kept.{parked_at}
 use Rattle.lone_broker.proofs.Standing.{parked_shown, seat_shown}
 use Rattle.lone_broker.proofs.engine.Engine.is_ready.Goals as goal

@@ -2,7 +2,7 @@ use Rattle.std.proofs.Common.{◌≡◌, ◌<◌, ℕ, Some, List, length, sym, 
 use Rattle.kwire.specs.Configuration.{Configuration}
 use Rattle.kwire.specs.Spelling.{spelling}
 use Rattle.kanswer.specs.Answer.{answer}
-use Rattle.broker_spec.specs.Board.{Seat}
+use Rattle.audit.specs.broker.Board.{Seat}
 use Rattle.lone_broker.specs.Desks.{transcript_of}
 use Rattle.lone_broker.specs.Kept.{Kept, last_frame, parked_at}
 use Rattle.kwire.specs.Refusal.{IsRefused}

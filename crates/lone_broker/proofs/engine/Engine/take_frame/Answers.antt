@@ -6,8 +6,8 @@ use Rattle.kwire.specs.IsRequest.{IsRequest}
 use Rattle.kwire.specs.Refusal.{IsRefused}
 use Rattle.kwire.proofs.Laws.{whole_within}
 use Rattle.partlog.specs.History.{History}
-use Rattle.broker_spec.specs.Acting.{Acts}
-use Rattle.broker_spec.specs.Board.{Seat, next_call, seat_at}
+use Rattle.audit.specs.broker.Acting.{Acts}
+use Rattle.audit.specs.broker.Board.{Seat, next_call, seat_at}
 use Rattle.lone_broker.specs.Desks.{front_body, next_of}
 use Rattle.lone_broker.specs.Handled.{IsHandled}
 use Rattle.lone_broker.specs.Kept.{Kept, TurnsBy}

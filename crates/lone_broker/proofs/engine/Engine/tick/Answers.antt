@@ -1,7 +1,7 @@
 use Rattle.std.proofs.Common.{◌<◌, sym, subst}
 use Rattle.partlog.specs.Moment.{moment_of}
 use Rattle.trace_file.specs.declared.line.Line.TheVariants.{Clock}
-use Rattle.broker_spec.specs.Play.{brought}
+use Rattle.audit.specs.broker.Play.{brought}
 use Rattle.lone_broker.specs.Kept.{Kept, StandsFor}
 use Rattle.lone_broker.specs.Steps.{IsTicked}
 use Rattle.audit.proofs.Laws.{on_ok}

@@ -2,8 +2,8 @@ use Rattle.std.proofs.Common.{List, length, refl, sym, ap, subst, ◌∙◌, ari
 use Rattle.partlog.specs.History.{History}
 use Rattle.partlog.specs.declared.numbers.Numbers.{Numbers}
 use Rattle.audit.specs.declared.account.Point.{Point}
-use Rattle.broker_spec.specs.Acting.{Acts}
-use Rattle.broker_spec.specs.Board.{next_call, transcript_at}
+use Rattle.audit.specs.broker.Acting.{Acts}
+use Rattle.audit.specs.broker.Board.{next_call, transcript_at}
 use Rattle.lone_broker.specs.Steps.{last_points}
 use Rattle.lone_broker.specs.Kept.{parked_at}
 use Rattle.lone_broker.specs.Telling.{AreToldOf}

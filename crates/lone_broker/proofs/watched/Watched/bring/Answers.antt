@@ -1,7 +1,7 @@
 use Rattle.std.proofs.Common.{List, length, sym, ap, subst, ◌∙◌, arith}
 use Rattle.partlog.specs.declared.numbers.Numbers.{Numbers}
 use Rattle.trace_file.specs.declared.line.Line.{Line}
-use Rattle.broker_spec.specs.Play.{brought}
+use Rattle.audit.specs.broker.Play.{brought}
 use Rattle.lone_broker.specs.Kept.{Stands, parked_at}
 use Rattle.lone_broker.specs.Steps.{IsBrought}
 use Rattle.lone_broker.specs.Watching.{AreTold, AreWatched, IsWatched}

@@ -1,4 +1,4 @@
-use Rattle.broker_spec.specs.Play.{brought}
+use Rattle.audit.specs.broker.Play.{brought}
 use Rattle.lone_broker.proofs.watched.Watched.event.Goals as goal
 use Rattle.audit.proofs.Laws.{on_ok}
 

@@ -1,5 +1,5 @@
 use Rattle.std.proofs.Common.{◌≡◌, sym}
-use Rattle.broker_spec.specs.Completing.{answered_in}
+use Rattle.audit.specs.broker.Completing.{answered_in}
 use Rattle.lone_broker.proofs.Completes.{nothing_due}
 use Rattle.lone_broker.proofs.Turning.{stands_then, turns_none}
 use Rattle.lone_broker.proofs.Watching.{cleared_watched, freed_watched}

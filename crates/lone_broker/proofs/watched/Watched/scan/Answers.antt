@@ -1,5 +1,5 @@
 use Rattle.std.proofs.Common.{◌≡◌, ◌+◌, arith, refl}
-use Rattle.broker_spec.specs.Completing.{answered_in}
+use Rattle.audit.specs.broker.Completing.{answered_in}
 use Rattle.lone_broker.proofs.Scanning.{none_before, skipped}
 use Rattle.lone_broker.proofs.Turning.{ScannedBelow, scanned_more, turns_none, turns_on}
 use Rattle.lone_broker.proofs.watched.Watched.scan.Goals as goal

@@ -1,5 +1,5 @@
 use Rattle.std.proofs.Common.{arith, ℕ}
-use Rattle.broker_spec.specs.Play.{Rests}
+use Rattle.audit.specs.broker.Play.{Rests}
 use Rattle.lone_broker.proofs.LessWork.{act_leaves, scan_leaves}
 use Rattle.lone_broker.proofs.Scanning.{nobody_of, turn_of}
 use Rattle.lone_broker.proofs.Turning.{Comes, IsLast, TakesTurn, comes_nowhere, comes_on, comes_to_rest, last_turn, takes_turn, turns_none, turns_on}

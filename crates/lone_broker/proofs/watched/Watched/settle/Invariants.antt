@@ -1,6 +1,6 @@
 use Rattle.lone_broker.specs.Kept.{TurnsBy}
 use Rattle.lone_broker.specs.Watching.{IsWatched}
-use Rattle.broker_spec.proofs.Laws.{work_on}
+use Rattle.audit.proofs.broker.Laws.{work_on}
 use Rattle.lone_broker.proofs.Turning.{Comes}
 use Rattle.lone_broker.proofs.watched.Watched.settle.Given as goal
 

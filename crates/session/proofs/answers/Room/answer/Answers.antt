@@ -1,6 +1,6 @@
 use Rattle.std.proofs.Common.{refl, ap, inr}
 use Rattle.audit.specs.Fits.{is_answered}
-use Rattle.broker_spec.specs.books.Told.{is_cut}
+use Rattle.audit.specs.broker.books.Told.{is_cut}
 use Rattle.session.proofs.Handling.{answered_how, one_more, out_of_memory, waited_more}
 use Rattle.session.proofs.answers.Room.answer.Goals as goal
 

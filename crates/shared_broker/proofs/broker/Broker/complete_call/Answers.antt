@@ -2,7 +2,7 @@ use Rattle.std.proofs.Common.{◌≡◌, ℕ, List, refl, sym, subst}
 use Rattle.audit.specs.declared.account.Call.{Call}
 use Rattle.kanswer.specs.Results.{parts_asked}
 use Rattle.kwire.specs.IsRequest.{IsRequest}
-use Rattle.broker_spec.specs.Sound.{AllBelow}
+use Rattle.audit.specs.broker.Sound.{AllBelow}
 use Rattle.shared_broker.specs.Serving.{HasFinished, IsLastKept, finished_as}
 use Rattle.shared_broker.proofs.KeptCalls.{finished_kept, kept_became, kept_cut, kept_listed, kept_sits, kept_there}
 use Rattle.shared_broker.proofs.broker.Broker.complete_call.Goals as goal

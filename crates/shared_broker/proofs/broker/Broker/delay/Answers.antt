@@ -3,7 +3,7 @@ use Rattle.std.proofs.lemmas.List.{length-map}
 use Rattle.partlog.specs.History.{History}
 use Rattle.kwire.specs.Configuration.{followers_of}
 use Rattle.kanswer.specs.declared.accepted.Accepted.{Accepted}
-use Rattle.broker_spec.specs.Sound.{AllBelow}
+use Rattle.audit.specs.broker.Sound.{AllBelow}
 use Rattle.kanswer.specs.Results.{parts_asked}
 use Rattle.kanswer.specs.Waiting.{operation_of}
 use Rattle.shared_broker.specs.Passes.{BrokerView}

@@ -1,6 +1,6 @@
 use Rattle.std.proofs.Common.{◌≡◌, ◌∙◌, ℕ, List, length, ap, arith, map, sym, subst}
 use Rattle.std.specs.Prelude.{All}
-use Rattle.broker_spec.proofs.Laws.{followers_size}
+use Rattle.audit.proofs.broker.Laws.{followers_size}
 use Rattle.kwire.specs.Configuration.{partitions_of}
 use Rattle.shared_broker.specs.Fresh.{IsNewOf, pass_with}
 use Rattle.shared_broker.specs.Passes.{BrokerView}

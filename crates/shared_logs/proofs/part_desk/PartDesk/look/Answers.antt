@@ -4,7 +4,7 @@ use Rattle.partlog.specs.Kept.{IsKept}
 use Rattle.partlog.specs.Looked.{looked}
 use Rattle.partlog.specs.State.{state_of}
 use Rattle.kanswer.specs.Decisions.{Looked}
-use Rattle.broker_spec.proofs.Laws.{looked_state}
+use Rattle.audit.proofs.broker.Laws.{looked_state}
 use Rattle.turn_lock.specs.AddedBy.{AddedBy}
 use Rattle.shared_logs.specs.Desks.{PartView}
 use Rattle.shared_logs.specs.Entries.{entry_by, log_entries}

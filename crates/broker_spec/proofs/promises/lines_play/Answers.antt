@@ -1,9 +1,0 @@
-use Rattle.broker_spec.proofs.PlayOnce.{play_is_one}
-use Rattle.broker_spec.proofs.PlaySome.{lines_play}
-use Rattle.broker_spec.proofs.promises.lines_play.Goals as goal
-
-pub returns-clause-some : goal.returns-clause-some
-returns-clause-some c = lines_play
-
-pub returns-clause-once : goal.returns-clause-once
-returns-clause-once c = play_is_one

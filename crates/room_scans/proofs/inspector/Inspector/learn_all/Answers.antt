@@ -1,5 +1,0 @@
-use Rattle.room_scans.proofs.Goes.{goes_far}
-use Rattle.room_scans.proofs.inspector.Inspector.learn_all.Goals as goal
-
-pub returns-clause-went : goal.returns-clause-went
-returns-clause-went c = goes_far c.args.self.now c.learn_more.new.self c.learn_more-2.new.self c.learn_more.ensures.went c.learn_more-2.ensures.went
