@@ -1,6 +1,7 @@
 //! The account of a run: what each session did and what each partition has, when an account is lawful, and what is printed.
 //!
-//! The layer above makes an `Account`, proves that it is lawful, and prints its summary.
+//! The layer above makes an `Account`, proves that it is lawful, and prints its summary. The brokers are held to its part `broker`: what a
+//! trace plays to on one thread, and the books that the passes of threads keep.
 #![tactic(auto)]
 
 mod account;

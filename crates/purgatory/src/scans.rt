@@ -1,7 +1,7 @@
 //! What is behind the locks of the room's shards and of its clock: each shard's scanner with the watchers of its gauges, and the
 //! clock's scanner with the timers of its deadlines. The thread that has a turn of the lock lists operations here, and scans.
 //!
-//! The layer above may use `ShardDesk` and `ClockDesk`. It makes one for each scanner, puts it behind a turn lock, and with a turn
+//! The room uses `ShardDesk` and `ClockDesk`. It makes one for each scanner, puts it behind a turn lock, and with a turn
 //! lists an operation that a pass has opened, or scans a gauge that was raised:
 //!
 //! ```text
@@ -48,14 +48,14 @@
 //! # How the proof goes
 //!
 //! `Inspector` has the seat and what it keeps of its meeting: its words and values mirror what the seat's steps say. `ShardListing` has
-//! the shard beside it, and each of its calls keeps both alike (`specs/Shelf.antt`): what a meeting drops from the scanner's listing
+//! the shard beside it, and each of its calls keeps both alike (`specs/scans/Shelf.antt`): what a meeting drops from the scanner's listing
 //! is removed from the shard, and so is what was won; what is marked is listed. All watchers of a pass have one generation, which the
 //! desk keeps by pass, so the stale ones are found without a search. During a scan the duties are on the watchers below a place, and a
-//! check removes none below its own (`proofs/Duties.antt`); at place 0 there is no duty left.
+//! check removes none below its own (`proofs/scans/Duties.antt`); at place 0 there is no duty left.
 //!
 //! `ClockListing` keeps each pass's entry as it is in the scanner's listing, beside the wheels. A pass is settled if no duty is on
-//! it and its entry has its timer (`specs/Coming.antt`). As a scan begins, all passes are settled but those whose timers came out
-//! (`proofs/Coming.antt`): a duty's deadline is past the last moment, so it had a timer, which comes no later than the deadline. A
+//! it and its entry has its timer (`specs/scans/Coming.antt`). As a scan begins, all passes are settled but those whose timers came out
+//! (`proofs/scans/Coming.antt`): a duty's deadline is past the last moment, so it had a timer, which comes no later than the deadline. A
 //! check settles its pass and changes nothing of the others; after the last check all are settled again.
 
 mod clock_desk;
