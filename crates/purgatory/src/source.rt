@@ -37,6 +37,12 @@ impl Source {
         self.gauge
     }
 
+    /// A law, which does nothing: between any two calls a scan was asked for up to all that the source stored.
+    pub fn stays_quiet(&self)
+        ensures there { IsGauge self.now.table.shape self.now.gauge }
+        ensures quiet { (source_now self.now).loud ≡ false }
+    {}
+
     /// The value of its gauge, as this source stored it last: 0 at first. It may raise the gauge to this value or past it.
     pub fn value(&self) -> u64
         ensures { result ≡ (source_now self.now).stored }

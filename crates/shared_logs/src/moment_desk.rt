@@ -54,7 +54,7 @@ impl MomentDesk {
         requires { (source_now source).stored ≡ 0 }
         ensures { result ≡ record { events = []; tickers = []; source = source } }
     {
-        source.gauge();
+        source.stays_quiet();
         MomentDesk {
             log: ClockLog::new(alloc),
             tickers: List::new(alloc),

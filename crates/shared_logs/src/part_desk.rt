@@ -68,9 +68,9 @@ impl PartDesk {
           sources = sources;
         }) }
     {
-        sources.high.gauge();
-        sources.visible.gauge();
-        sources.end.gauge();
+        sources.high.stays_quiet();
+        sources.visible.stays_quiet();
+        sources.end.stays_quiet();
         let log = PartLog::new(alloc, followers)?;
         Ok(PartDesk { log, part, sources })
     }

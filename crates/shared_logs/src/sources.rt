@@ -44,7 +44,7 @@ fn raise_from(
     if after > before {
         visit.room.raise(visit.rt, source, pass, after);
     } else {
-        source.gauge();
+        source.stays_quiet();
     }
 }
 

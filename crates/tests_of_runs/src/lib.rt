@@ -1,6 +1,6 @@
 //! Tests of the crates that play, print, wait and serve, by their public calls: `account_print`, `audit`, `lone_waiters`, `shared_logs` and
 //! `trace_workers`; the links, ports and clocks of `outside`, the shared clock and the sessions of `session`, the queue and the lanes of
-//! `link_lanes`; and `run` of `commands`. Nothing here is for other crates.
+//! `link_lanes`. Nothing here is for other crates.
 #![tactic(auto)]
 
 #[cfg(test)]
@@ -16,19 +16,9 @@ mod meeting;
 #[cfg(test)]
 mod memory;
 #[cfg(test)]
-mod on_workers;
-#[cfg(test)]
-mod pieces;
-#[cfg(test)]
 mod queues;
 #[cfg(test)]
-mod replays;
-#[cfg(test)]
 mod rooms;
-#[cfg(test)]
-mod runs;
-#[cfg(test)]
-mod services;
 #[cfg(test)]
 mod sessions;
 #[cfg(test)]
@@ -39,8 +29,6 @@ mod slow_link;
 mod slow_port;
 #[cfg(test)]
 mod sockets;
-#[cfg(test)]
-mod storms;
 #[cfg(test)]
 mod waiters;
 #[cfg(test)]
