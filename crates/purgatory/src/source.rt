@@ -41,7 +41,10 @@ impl Source {
     pub fn stays_quiet(&self)
         ensures there { IsGauge self.now.table.shape self.now.gauge }
         ensures quiet { (source_now self.now).loud ≡ false }
-    {}
+    {
+        // what holds of a source is known where one of its fields is used
+        let _ = &self.seat;
+    }
 
     /// The value of its gauge, as this source stored it last: 0 at first. It may raise the gauge to this value or past it.
     pub fn value(&self) -> u64
