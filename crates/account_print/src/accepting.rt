@@ -25,7 +25,7 @@ use kwire::{
 use partlog::{MOST_LOG_BYTES, Numbers};
 
 /// What a call's results are computed from: the topics, the past of each partition, and the points of the call's acceptance.
-#[derive(Clone, Copy, Debug)]
+#[derive(Clone, Copy)]
 pub struct Scene<'a> {
     pub config: &'a Config,
     pub pasts: &'a [Past],

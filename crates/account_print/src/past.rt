@@ -23,7 +23,7 @@ use std::alloc::Global;
 use std::marker::Model;
 
 /// A partition's whole history, and its numbers before each entry and at the end. A contract sees the history.
-#[derive(Debug, Drop)]
+#[derive(Drop)]
 pub struct Past {
     log: PartLog,
     numbers: List<Numbers>,
@@ -42,7 +42,7 @@ impl Model for Past {
 }
 
 /// An entry of a partition's history, by its place.
-#[derive(Clone, Copy, Debug)]
+#[derive(Clone, Copy)]
 pub(crate) struct PastEntry<'a> {
     pub(crate) past: &'a Past,
     pub(crate) place: u64,

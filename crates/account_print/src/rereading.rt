@@ -35,7 +35,7 @@ fn lowered(budget: Budget, bytes: u64) -> Budget
 }
 
 // The partitions as they were, which a replica reads.
-#[derive(Clone, Copy, Debug)]
+#[derive(Clone, Copy)]
 struct Reader<'a> {
     alloc: Global,
     pasts: &'a [Past],

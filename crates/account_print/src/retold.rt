@@ -11,7 +11,7 @@ use std::marker::Model;
 
 /// A result for each partition so far, with offsets that the wire can carry; the place of its entry in its history, or 0 if it left
 /// none; and how many points were taken. If memory runs out, it may only be dropped.
-#[derive(Debug, Drop)]
+#[derive(Drop)]
 pub struct Retold {
     accepted: List<Accepted>,
     places: List<u64>,

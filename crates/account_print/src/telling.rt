@@ -32,7 +32,7 @@ fn is_answered(how: CallHow) -> bool
 }
 
 // An account, the past of each of its partitions, and the digits of the bytes.
-#[derive(Clone, Copy, Debug)]
+#[derive(Clone, Copy)]
 struct Teller<'a> {
     alloc: Global,
     account: &'a Account,

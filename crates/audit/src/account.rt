@@ -11,14 +11,14 @@ pub const CLOCK_PART: u32 = 64;
 pub const MOST_CALLS: u32 = 4_294_967_295;
 
 /// A place in the history of a partition, or in that of the clock, which has the number `CLOCK_PART`.
-#[derive(Clone, Copy, Debug, PartialEq, Eq)]
+#[derive(Clone, Copy, PartialEq, Eq)]
 pub struct Point {
     pub part: u32,
     pub place: u64,
 }
 
 /// How a call ended, and by which winner.
-#[derive(Clone, Copy, Debug, PartialEq, Eq)]
+#[derive(Clone, Copy, PartialEq, Eq)]
 pub enum CallHow {
     /// It asked for no reply.
     Quiet,
@@ -36,7 +36,7 @@ pub enum CallHow {
 
 /// A request that was handled: its frame without the size, the entries that it made when it was accepted, and those that it
 /// made when it was completed. The reply isn't kept: it is computed from these.
-#[derive(Debug, Drop)]
+#[derive(Drop)]
 pub struct Call {
     pub frame: Bytes,
     pub accept: List<Point>,
@@ -45,7 +45,7 @@ pub struct Call {
 }
 
 /// How a session ended.
-#[derive(Clone, Copy, Debug, PartialEq, Eq)]
+#[derive(Clone, Copy, PartialEq, Eq)]
 pub enum SessionEnd {
     /// The input ended between frames.
     Closed,
@@ -61,7 +61,7 @@ pub enum SessionEnd {
 }
 
 /// What one session did. Its call k is the pass's call number `first + k`.
-#[derive(Debug, Drop)]
+#[derive(Drop)]
 pub struct Transcript {
     pub number: u64,
     pub first: u32,
@@ -69,7 +69,7 @@ pub struct Transcript {
     pub end: Option<SessionEnd>,
 }
 
-#[derive(Debug, Drop)]
+#[derive(Drop)]
 pub struct PartAccount {
     pub followers: u32,
     pub log: Bytes,
@@ -78,7 +78,7 @@ pub struct PartAccount {
 
 /// The account of a run: the topics, each partition's log and history, the clock's history, each pass's transcripts in the
 /// order in which they began, and the number of operations that each winner completed.
-#[derive(Debug, Drop)]
+#[derive(Drop)]
 pub struct Account {
     pub config: Config,
     pub parts: List<PartAccount>,

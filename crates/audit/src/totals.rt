@@ -10,7 +10,7 @@ use crate::tally::{parked_count, reply_count};
 use kbytes::{List, NoMemory};
 
 /// The number of sessions, and of their calls, of those that have a reply, and of those that are parked.
-#[derive(Debug, Drop)]
+#[derive(Drop)]
 pub struct Totals {
     pub sessions: u64,
     pub calls: u64,

@@ -22,7 +22,7 @@ const FAR: u64 = 1_000_000_000;
 /// How many microseconds before a raise the owner has gone to sleep.
 const BEFORE: u64 = 200;
 
-#[derive(Clone, Copy, Debug)]
+#[derive(Clone, Copy)]
 pub enum Deed {
     /// On that many threads each registers an operation that waits, raises the gauge for which it waits, settles, and polls.
     Operations {

@@ -3,7 +3,7 @@ use std::fmt;
 use std::time::{Clock, Duration, Instant};
 
 /// What each step took, in picoseconds, and what the steps came to. That is printed, so that no compiler leaves them out.
-#[derive(Clone, Copy, Debug)]
+#[derive(Clone, Copy)]
 pub struct Cost {
     pub each: u64,
     pub came_to: u64,

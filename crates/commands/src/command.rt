@@ -21,7 +21,7 @@ pub const MOST_PORT: u32 = 65_535;
 pub const MOST_CONNECTIONS: u32 = 65_536;
 
 /// A load that is to be generated and played.
-#[derive(Clone, Copy, Debug, PartialEq, Eq)]
+#[derive(Clone, Copy, PartialEq, Eq)]
 pub struct Load {
     pub seed: u64,
     pub requests: u32,
@@ -29,7 +29,7 @@ pub struct Load {
 }
 
 /// A service of connections.
-#[derive(Clone, Copy, Debug, PartialEq, Eq)]
+#[derive(Clone, Copy, PartialEq, Eq)]
 pub struct Service {
     /// The number under which the port is opened. Metadata names it.
     pub port: u16,
@@ -40,7 +40,7 @@ pub struct Service {
 }
 
 /// What the program is asked to do.
-#[derive(Clone, Copy, Debug, PartialEq, Eq)]
+#[derive(Clone, Copy, PartialEq, Eq)]
 pub enum Command {
     /// `replay`: a trace is replayed on one thread, line by line.
     Replay,

@@ -12,7 +12,7 @@ use std::alloc::AllocError;
 use trace_file::{LineFault, TraceFault};
 
 /// What stopped a run.
-#[derive(Clone, Copy, Debug, PartialEq, Eq)]
+#[derive(Clone, Copy, PartialEq, Eq)]
 pub enum Stop {
     /// The words say no command.
     Usage,
@@ -87,7 +87,7 @@ impl From<Failed> for Stop {
 }
 
 /// Why a replay on workers didn't finish.
-#[derive(Debug, Drop)]
+#[derive(Drop)]
 pub enum Unfinished {
     /// This stopped it before anything was written.
     Stopped(Stop),
@@ -112,7 +112,7 @@ impl From<NoMemory> for Unfinished {
 }
 
 /// What a run answers. The port and the clock are those that were handed in, as the run left them.
-#[derive(Debug, Drop)]
+#[derive(Drop)]
 pub struct Exit<P: Drop, C: Drop> {
     /// 0 done, 1 a faulty command line, 2 a bad line, 3 a read fault, 4 a write fault, 5 a port fault, 6 out of memory.
     pub code: u8,

@@ -9,7 +9,7 @@ use storm::MOST_REQUESTS;
 const SERVICE: &str = "serve --port 9092 --lanes 4 --connections 100";
 
 /// A number that a command wants.
-#[derive(Clone, Copy, Debug, PartialEq, Eq)]
+#[derive(Clone, Copy, PartialEq, Eq)]
 pub enum Wanted {
     /// The number of workers after `replay --workers`.
     ReplayWorkers,
@@ -86,7 +86,7 @@ impl Wanted {
 }
 
 /// Why words say no command. It is printed as one line for standard error, with the word that is wrong and what would be right.
-#[derive(Clone, Copy, Debug, PartialEq, Eq)]
+#[derive(Clone, Copy, PartialEq, Eq)]
 pub enum WrongWords<'a> {
     NoCommand,
     UnknownCommand(&'a str),

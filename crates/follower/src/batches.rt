@@ -79,7 +79,7 @@ fn behind(rest: &[u8], count: usize) -> &[u8]
 }
 
 /// How many batches were checked, and the offset after the last.
-#[derive(Clone, Copy, Debug)]
+#[derive(Clone, Copy)]
 pub(crate) struct Checked {
     pub(crate) count: u32,
     pub(crate) end: u64,

@@ -30,7 +30,7 @@ pub const LONGEST_WAIT: i32 = 500;
 pub const MOST_ASKED: i32 = 1_048_576;
 
 /// A copy of a partition's log, as far as it was copied.
-#[derive(Debug, Drop)]
+#[derive(Drop)]
 pub struct Replica {
     alloc: Global,
     topic: Bytes,

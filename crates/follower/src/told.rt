@@ -13,7 +13,7 @@ use std::marker::Model;
 
 /// What a reply tells of the partition. A contract sees it as a `FetchedPart`, with -1 for where the log starts, which the version doesn't
 /// tell.
-#[derive(Debug, Drop)]
+#[derive(Drop)]
 pub(crate) struct Told<'a> {
     pub(crate) index: i32,
     pub(crate) code: i16,

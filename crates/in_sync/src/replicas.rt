@@ -17,7 +17,7 @@ use std::marker::Model;
 /// A partition's replicas: the log end, the high watermark, and of each follower how far it has fetched, when it had caught
 /// up, and whether it is in sync with the leader. It keeps no history. What it says is what follows from the whole history
 /// that it stands for.
-#[derive(Debug, Drop)]
+#[derive(Drop)]
 pub struct InSync {
     log_end: u64,
     high_watermark: u64,

@@ -4,7 +4,7 @@ ghost use Rattle.std.specs.Prelude.{◌≡◌, true, nat_le, if◌then◌else◌
 use crate::limits::MOST_LAG;
 
 /// A follower's numbers. Before its first fetch each is 0, and it is in sync.
-#[derive(Clone, Copy, Debug)]
+#[derive(Clone, Copy)]
 pub(crate) struct Standing {
     /// The greatest offset that it fetched from.
     pub(crate) position: u64,

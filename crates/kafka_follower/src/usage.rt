@@ -54,7 +54,7 @@ pub fn status_text(status: u8) -> &'static str {
 }
 
 /// Why words order nothing. It is printed as one line for standard error, with the word that is wrong and what would be right.
-#[derive(Clone, Copy, Debug, PartialEq, Eq)]
+#[derive(Clone, Copy, PartialEq, Eq)]
 pub enum WrongWords<'a> {
     /// There are so many words, and not five.
     Count(usize),

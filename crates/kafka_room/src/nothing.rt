@@ -6,7 +6,7 @@ ghost use Rattle.outside.specs.Count.{one_more};
 use outside::{Clock, Failed, Link, Port};
 
 /// A link to nobody: nothing comes from it, and what is written to it is lost. No port gives one.
-#[derive(Clone, Copy, Debug, PartialEq, Eq)]
+#[derive(Clone, Copy, PartialEq, Eq)]
 pub struct NoLink;
 
 impl Link for NoLink {
@@ -32,7 +32,7 @@ impl Link for NoLink {
 }
 
 /// A port at which no links come.
-#[derive(Debug, Drop)]
+#[derive(Drop)]
 pub struct NoPort {
     number: Option<u16>,
     is_ended: bool,
@@ -85,7 +85,7 @@ impl Port for NoPort {
 }
 
 /// A clock that stays at moment 0.
-#[derive(Clone, Copy, Debug, PartialEq, Eq)]
+#[derive(Clone, Copy, PartialEq, Eq)]
 pub struct NoClock;
 
 impl Clock for NoClock {

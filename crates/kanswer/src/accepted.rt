@@ -9,7 +9,7 @@ use kwire::{AskView, RequestView};
 use partlog::Numbers;
 
 /// What became of one named partition of a request as it was accepted.
-#[derive(Clone, Copy, Debug, PartialEq, Eq)]
+#[derive(Clone, Copy, PartialEq, Eq)]
 pub enum Accepted {
     Refused { code: i16 },
     /// A batch of `count` records was appended to the partition's log, at the offset `base`.
@@ -19,14 +19,14 @@ pub enum Accepted {
 }
 
 /// What was read of one named partition.
-#[derive(Debug, Drop)]
+#[derive(Drop)]
 pub struct Reading {
     pub numbers: Numbers,
     pub records: Bytes,
 }
 
 /// How many bytes a reply may still take, and whether it has a batch already.
-#[derive(Clone, Copy, Debug, PartialEq, Eq)]
+#[derive(Clone, Copy, PartialEq, Eq)]
 pub struct Budget {
     pub left: u64,
     pub any: bool,

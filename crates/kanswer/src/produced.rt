@@ -10,7 +10,7 @@ use partlog::Numbers;
 use std::alloc::Global;
 
 /// A produce that is answered: its acks, and the topics with the least numbers of in-sync replicas that they ask for.
-#[derive(Clone, Copy, Debug)]
+#[derive(Clone, Copy)]
 pub struct Producing<'a> {
     pub config: &'a Config,
     pub acks: i16,

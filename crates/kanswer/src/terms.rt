@@ -8,7 +8,7 @@ use kwire::codes;
 pub const STORAGE_ERROR_VERSION: i16 = 4;
 
 /// The terms of a produce: its version, whether it has a transactional id, and its acks.
-#[derive(Clone, Copy, Debug, PartialEq, Eq)]
+#[derive(Clone, Copy, PartialEq, Eq)]
 pub struct Terms {
     pub version: i16,
     pub is_transactional: bool,
@@ -32,7 +32,7 @@ impl Terms {
 }
 
 /// A batch for a partition, as a produce in this version sent it.
-#[derive(Debug, Drop)]
+#[derive(Drop)]
 pub struct SentBatch<'a> {
     pub version: i16,
     /// How many replicas have to be in sync for it to be taken, the leader counted.

@@ -17,7 +17,7 @@ use std::alloc::Global;
 use std::marker::Model;
 
 /// The bytes of a record batch, which were checked when they were read, or were written as one. A contract sees the bytes.
-#[derive(Debug, Drop)]
+#[derive(Drop)]
 pub struct Batch {
     bytes: Bytes,
 }

@@ -10,7 +10,7 @@ use kbytes::{List, NoMemory as Memory, copied, copied_or_null};
 use std::alloc::Global;
 
 /// Why no record is read.
-#[derive(Clone, Copy, Debug, Drop)]
+#[derive(Clone, Copy, Drop)]
 pub(crate) enum Stop {
     /// The bytes are no record.
     Unread,

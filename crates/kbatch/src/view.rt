@@ -13,7 +13,7 @@ use std::alloc::Global;
 use std::marker::Model;
 
 /// A record batch whose bytes are borrowed and were checked. A contract sees the bytes, as it does of a `Batch`.
-#[derive(Debug, Drop)]
+#[derive(Drop)]
 pub struct BatchView<'a> {
     bytes: &'a [u8],
 }

@@ -10,7 +10,7 @@ use crate::varint::{groups, signed};
 use std::marker::Model;
 
 /// Bytes, and the place up to which they were read. A refused read leaves it as it was.
-#[derive(Debug, Drop)]
+#[derive(Drop)]
 pub struct Reader<'a> {
     bytes: &'a [u8],
     at: usize,

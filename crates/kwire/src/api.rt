@@ -9,7 +9,7 @@ ghost use Rattle.kwire.specs.IsRequest.{api_of as api_of_ask};
 use crate::request::Ask;
 
 /// An api of the broker.
-#[derive(Clone, Copy, Debug, PartialEq, Eq)]
+#[derive(Clone, Copy, PartialEq, Eq)]
 pub enum Api {
     Produce,
     Fetch,
@@ -18,7 +18,7 @@ pub enum Api {
 }
 
 /// The versions of an api that are read whole: these two, and those between them.
-#[derive(Clone, Copy, Debug, PartialEq, Eq)]
+#[derive(Clone, Copy, PartialEq, Eq)]
 pub struct VersionRange {
     pub least: i16,
     pub greatest: i16,

@@ -23,7 +23,7 @@ pub const MOST_PARTITIONS: u32 = 64;
 pub const MOST_FOLLOWERS: u32 = 8;
 
 /// A declared topic. With f followers it has the replicas 0, which is this broker and the leader, and 1 to f.
-#[derive(Debug, Drop)]
+#[derive(Drop)]
 pub struct Topic {
     pub name: Bytes,
     pub partitions: u32,
@@ -70,7 +70,7 @@ impl From<NoMemory> for ConfigFault {
 }
 
 /// The declared topics, and the port that metadata names.
-#[derive(Debug, Drop)]
+#[derive(Drop)]
 pub struct Config {
     alloc: Global,
     port: u16,

@@ -9,7 +9,7 @@ use std::error::Error;
 use std::fmt;
 
 /// What is at the front of a stream.
-#[derive(Clone, Copy, Debug, PartialEq, Eq)]
+#[derive(Clone, Copy, PartialEq, Eq)]
 pub enum Frame {
     /// A whole frame, which ends before the place `end`.
     Whole { end: usize },

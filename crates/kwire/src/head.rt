@@ -9,7 +9,7 @@ use kbytes::Reader;
 
 /// The first fields of a request's body: the api's key, the version, which decides what the other fields are, and the
 /// correlation id.
-#[derive(Clone, Copy, Debug)]
+#[derive(Clone, Copy)]
 pub struct Head {
     pub key: i16,
     pub version: i16,

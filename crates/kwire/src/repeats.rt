@@ -16,7 +16,7 @@ use kbytes::{List, NoMemory};
 use std::alloc::Global;
 
 /// A partition that a topic entry names.
-#[derive(Debug, Drop)]
+#[derive(Drop)]
 pub struct Mention<'a> {
     pub entry: u32,
     pub topic: &'a [u8],

@@ -4,7 +4,7 @@ use kbytes::{Bytes, List};
 
 /// What a produce is told of one partition. `start` is where its log starts, or -1 where nothing was appended; it is written
 /// in the versions that tell it.
-#[derive(Debug, Drop)]
+#[derive(Drop)]
 pub struct ProducedPart {
     pub index: i32,
     pub code: i16,
@@ -12,7 +12,7 @@ pub struct ProducedPart {
     pub start: i64,
 }
 
-#[derive(Debug, Drop)]
+#[derive(Drop)]
 pub struct ProducedTopic {
     pub name: Bytes,
     pub parts: List<ProducedPart>,
@@ -20,7 +20,7 @@ pub struct ProducedTopic {
 
 /// What a fetch is told of one partition. `start` is where its log starts, or -1 after an error; it is written in the versions
 /// that tell it.
-#[derive(Debug, Drop)]
+#[derive(Drop)]
 pub struct FetchedPart {
     pub index: i32,
     pub code: i16,
@@ -29,13 +29,13 @@ pub struct FetchedPart {
     pub records: Bytes,
 }
 
-#[derive(Debug, Drop)]
+#[derive(Drop)]
 pub struct FetchedTopic {
     pub name: Bytes,
     pub parts: List<FetchedPart>,
 }
 
-#[derive(Debug, Drop)]
+#[derive(Drop)]
 pub struct TopicInfo {
     pub code: i16,
     pub name: Bytes,
@@ -44,7 +44,7 @@ pub struct TopicInfo {
 }
 
 /// The fields of a reply, by the kind of its request, and in the request's version.
-#[derive(Debug, Drop)]
+#[derive(Drop)]
 pub enum Told {
     Produced {
         version: i16,
@@ -64,7 +64,7 @@ pub enum Told {
     },
 }
 
-#[derive(Debug, Drop)]
+#[derive(Drop)]
 pub struct Reply {
     pub correlation: i32,
     pub told: Told,

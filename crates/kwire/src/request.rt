@@ -6,13 +6,13 @@ use kbytes::{Bytes, List};
 pub const MOST_NAMED: u32 = 64;
 
 /// What a produce brings for one partition: the bytes of a record batch, or null.
-#[derive(Debug, Drop)]
+#[derive(Drop)]
 pub struct ProducePart {
     pub index: i32,
     pub records: Option<Bytes>,
 }
 
-#[derive(Debug, Drop)]
+#[derive(Drop)]
 pub struct ProduceTopic {
     pub name: Bytes,
     pub parts: List<ProducePart>,
@@ -20,7 +20,7 @@ pub struct ProduceTopic {
 
 /// What a fetch asks of one partition: the records from `offset` on, at most `most` bytes. `log_start` is where the asker's
 /// own log starts, which changes no answer; it is -1 where the version doesn't tell it.
-#[derive(Debug, Drop)]
+#[derive(Drop)]
 pub struct FetchPart {
     pub index: i32,
     pub offset: i64,
@@ -28,7 +28,7 @@ pub struct FetchPart {
     pub most: i32,
 }
 
-#[derive(Debug, Drop)]
+#[derive(Drop)]
 pub struct FetchTopic {
     pub name: Bytes,
     pub parts: List<FetchPart>,
@@ -36,7 +36,7 @@ pub struct FetchTopic {
 
 /// The fields of a request, by its kind. Times are in milliseconds. A produce and a fetch are in one of the versions that are
 /// read whole.
-#[derive(Debug, Drop)]
+#[derive(Drop)]
 pub enum Ask {
     Produce {
         version: i16,
@@ -64,7 +64,7 @@ pub enum Ask {
     },
 }
 
-#[derive(Debug, Drop)]
+#[derive(Drop)]
 pub struct Request {
     pub correlation: i32,
     pub client: Option<Bytes>,

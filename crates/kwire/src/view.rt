@@ -6,7 +6,7 @@ use kbytes::List;
 use std::marker::Model;
 
 /// What a produce brings for one partition: a `ProducePart` with borrowed bytes.
-#[derive(Debug, Drop)]
+#[derive(Drop)]
 pub struct ProducePartView<'a> {
     pub index: i32,
     pub records: Option<&'a [u8]>,
@@ -22,7 +22,7 @@ impl<'a> Model for ProducePartView<'a> {
 }
 
 /// A `ProduceTopic` with borrowed bytes.
-#[derive(Debug, Drop)]
+#[derive(Drop)]
 pub struct ProduceTopicView<'a> {
     pub name: &'a [u8],
     pub parts: List<ProducePartView<'a>>,
@@ -37,7 +37,7 @@ impl<'a> Model for ProduceTopicView<'a> {
 }
 
 /// A `FetchTopic` with borrowed bytes.
-#[derive(Debug, Drop)]
+#[derive(Drop)]
 pub struct FetchTopicView<'a> {
     pub name: &'a [u8],
     pub parts: List<FetchPart>,
@@ -52,7 +52,7 @@ impl<'a> Model for FetchTopicView<'a> {
 }
 
 /// An `Ask` with borrowed bytes.
-#[derive(Debug, Drop)]
+#[derive(Drop)]
 pub enum AskView<'a> {
     Produce {
         version: i16,
@@ -81,7 +81,7 @@ pub enum AskView<'a> {
 }
 
 /// A `Request` with borrowed bytes. A contract sees that request.
-#[derive(Debug, Drop)]
+#[derive(Drop)]
 pub struct RequestView<'a> {
     pub correlation: i32,
     pub client: Option<&'a [u8]>,

@@ -16,7 +16,7 @@ use std::marker::Model;
 use std::sync::Wait;
 
 /// Why a lane ended.
-#[derive(Clone, Copy, Debug, PartialEq, Eq)]
+#[derive(Clone, Copy, PartialEq, Eq)]
 pub enum LaneEnd {
     /// No more links come, or as many came as may.
     Over,

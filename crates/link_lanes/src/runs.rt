@@ -34,7 +34,7 @@ use std::thread::Threads;
 pub const MOST_LANES: u32 = 64;
 
 /// What is to be served: the number under which the port is opened, on how many lanes, and how many links at most.
-#[derive(Clone, Copy, Debug, PartialEq, Eq)]
+#[derive(Clone, Copy, PartialEq, Eq)]
 pub struct Serving {
     pub number: u16,
     /// 1 to `MOST_LANES`.
@@ -43,7 +43,7 @@ pub struct Serving {
 }
 
 /// What a run came to. The port and the clock are those that were handed in.
-#[derive(Debug, Drop)]
+#[derive(Drop)]
 pub struct LaneRun<P: Drop, C: Drop> {
     pub account: Account,
     pub port: P,

@@ -35,7 +35,7 @@ fn put(
 
 /// A call that is handled: its session and number, with the clock's moment, the topics that there are, and the digits by which
 /// its reply is printed.
-#[derive(Clone, Copy, Debug)]
+#[derive(Clone, Copy)]
 pub struct Asking<'a> {
     pub alloc: Global,
     pub config: &'a Config,
@@ -44,7 +44,7 @@ pub struct Asking<'a> {
 }
 
 // A produce of a call.
-#[derive(Clone, Copy, Debug)]
+#[derive(Clone, Copy)]
 struct Producing<'a> {
     config: &'a Config,
     visitor: Visitor,
@@ -52,7 +52,7 @@ struct Producing<'a> {
 }
 
 // A fetch of a call, by this replica.
-#[derive(Clone, Copy, Debug)]
+#[derive(Clone, Copy)]
 struct Fetching<'a> {
     config: &'a Config,
     visitor: Visitor,

@@ -11,7 +11,7 @@ use std::marker::Model;
 
 /// A result for each partition that was named so far, with offsets that the wire can carry, and the points of the entries that were
 /// left. If memory runs out, it may only be dropped: a result may lack its point.
-#[derive(Debug, Drop)]
+#[derive(Drop)]
 pub struct Came {
     accepted: List<Accepted>,
     points: List<Point>,

@@ -18,7 +18,7 @@ use std::alloc::Global;
 use std::marker::Model;
 
 /// What a session received that isn't handled yet, whether its input has ended, and what it did, once a line named it.
-#[derive(Debug, Drop)]
+#[derive(Drop)]
 pub struct Desk {
     alloc: Global,
     inbox: Inbox,

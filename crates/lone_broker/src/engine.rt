@@ -41,7 +41,7 @@ use trace_file::{Digits, Line};
 
 /// What the one-thread broker keeps: a contract sees a board of the definition, and what is kept of the requests that wait. If
 /// memory runs out, it may only be dropped.
-#[derive(Debug, Drop)]
+#[derive(Drop)]
 pub struct Engine {
     alloc: Global,
     digits: Digits,

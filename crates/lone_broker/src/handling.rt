@@ -28,7 +28,7 @@ use partlog::{ClockLog, PartLog};
 
 /// What was done with a request: the points of the entries that it left, how its call ended or that it waits, and what is kept
 /// of it if it waits.
-#[derive(Debug, Drop)]
+#[derive(Drop)]
 pub struct Handled {
     pub accept: List<Point>,
     pub how: CallHow,

@@ -16,7 +16,7 @@ use trace_file::Line;
 
 /// The one-thread broker. A contract sees what it keeps, which stands for a board of the definition, and whether memory ran out in
 /// the middle of a line. After that it is poisoned: it takes no line and gives no account.
-#[derive(Debug, Drop)]
+#[derive(Drop)]
 pub struct Lone {
     watched: Watched,
     is_poisoned: bool,

@@ -5,7 +5,7 @@ use kbytes::List;
 use opcond::Op;
 
 /// What became of each partition that a request names, and its operation.
-#[derive(Debug, Drop)]
+#[derive(Drop)]
 pub struct Parked {
     pub accepted: List<Accepted>,
     pub op: Op,

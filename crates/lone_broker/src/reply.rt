@@ -18,7 +18,7 @@ use partlog::{Numbers, PartLog};
 use std::alloc::Global;
 
 // The logs that a replica reads.
-#[derive(Clone, Copy, Debug)]
+#[derive(Clone, Copy)]
 struct Reader<'a> {
     alloc: Global,
     parts: &'a [PartLog],

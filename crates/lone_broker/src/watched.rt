@@ -31,7 +31,7 @@ use std::alloc::Global;
 use trace_file::Line;
 
 /// What the broker keeps, and the index in which it finds what a line can have changed. If memory runs out, it may only be dropped.
-#[derive(Debug, Drop)]
+#[derive(Drop)]
 pub struct Watched {
     engine: Engine,
     // the numbers of each partition's log as the index was last told of them

@@ -8,7 +8,7 @@ use std::marker::Model;
 pub const SESSIONS: u32 = kbytes::MOST_SESSIONS;
 
 /// A set of sessions. A contract sees a number whose bits are the members.
-#[derive(Clone, Copy, Debug)]
+#[derive(Clone, Copy)]
 pub struct SessionSet {
     word: u64,
 }

@@ -24,7 +24,7 @@ const KEYS: u32 = 12;
 const FULL: u32 = 500;
 
 /// The watchers of all gauges.
-#[derive(Debug, Drop)]
+#[derive(Drop)]
 pub(crate) struct Shelves {
     shards: Vec<Shard>,
 }

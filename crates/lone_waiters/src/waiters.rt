@@ -14,7 +14,7 @@ use std::marker::Model;
 use timing_wheel::{Due, Wheels};
 
 /// What each of 64 sessions waits for. Moments and deadlines are in milliseconds.
-#[derive(Debug, Drop)]
+#[derive(Drop)]
 pub struct Waiters {
     shelves: Shelves,
     wheels: Wheels,

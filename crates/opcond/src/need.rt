@@ -1,5 +1,5 @@
 /// One need of an operation: what the gauge has past `start` counts, but no more than `cap`.
-#[derive(Clone, Copy, Debug, PartialEq, Eq)]
+#[derive(Clone, Copy, PartialEq, Eq)]
 pub struct Need {
     pub gauge: u32,
     pub start: u64,

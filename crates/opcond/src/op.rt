@@ -8,7 +8,7 @@ use std::alloc::Global;
 use std::marker::Model;
 
 /// An operation: its needs, the least tally that satisfies it, and its deadline in milliseconds.
-#[derive(Debug, Drop)]
+#[derive(Drop)]
 pub struct Op {
     needs: List<Need>,
     min: u64,

@@ -6,7 +6,7 @@ use kbytes::Bytes;
 use std::marker::Model;
 
 /// Bytes that are given in their order.
-#[derive(Debug, Drop)]
+#[derive(Drop)]
 pub(crate) struct Intake {
     bytes: Bytes,
     at: usize,

@@ -5,7 +5,7 @@ use crate::clock::{Clock, MOST_MOMENT};
 use std::marker::Model;
 
 /// A clock in memory, for tests: it stays at its moment but where it rests.
-#[derive(Debug, Drop)]
+#[derive(Drop)]
 pub struct MemClock {
     at: u64,
     step: u64,

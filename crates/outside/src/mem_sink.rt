@@ -14,7 +14,7 @@ use std::alloc::Global;
 use std::marker::Model;
 
 /// A sink in memory, for tests. It tells the bytes that were written.
-#[derive(Debug, Drop)]
+#[derive(Drop)]
 pub struct MemSink {
     output: Outlet,
     plan: FaultPlan,

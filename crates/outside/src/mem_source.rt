@@ -12,7 +12,7 @@ use kbytes::{Bytes, List};
 use std::marker::Model;
 
 /// A source in memory, for tests. It tells the bytes that are left.
-#[derive(Debug, Drop)]
+#[derive(Drop)]
 pub struct MemSource {
     input: Intake,
     plan: FaultPlan,

@@ -7,7 +7,7 @@ use std::alloc::Global;
 use std::marker::Model;
 
 /// Bytes that were written, with room for more.
-#[derive(Debug, Drop)]
+#[derive(Drop)]
 pub(crate) struct Outlet {
     room: Vec<u8>,
     len: usize,

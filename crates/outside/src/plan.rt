@@ -7,7 +7,7 @@ use kbytes::List;
 use std::marker::Model;
 
 /// Which calls of an object in memory are to fail.
-#[derive(Debug, Drop)]
+#[derive(Drop)]
 pub(crate) struct FaultPlan {
     fails: List<u64>,
     calls: u64,

@@ -9,7 +9,7 @@ use std::io::Write;
 use std::marker::Model;
 
 /// A sink over a writer of std, as the program's standard output. It tells what the writer tells: of the real one nothing.
-#[derive(Debug, Drop)]
+#[derive(Drop)]
 pub struct StdSink<W> {
     inner: W,
     faults: u64,

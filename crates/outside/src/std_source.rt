@@ -9,7 +9,7 @@ use std::io::Read;
 use std::marker::Model;
 
 /// A source over a reader of std, as the program's standard input. It tells what the reader tells: of the real one nothing.
-#[derive(Debug, Drop)]
+#[derive(Drop)]
 pub struct StdSource<R> {
     inner: R,
     faults: u64,

@@ -9,7 +9,7 @@ use std::marker::Model;
 use std::net::{OpenStream, Shutdown};
 
 /// A link over a stream of std's network, to a peer that a port accepted or that was dialled.
-#[derive(Debug, Drop)]
+#[derive(Drop)]
 pub struct TcpLink<S> {
     stream: S,
     faults: u64,

@@ -1,5 +1,5 @@
 /// Where a batch of a log begins.
-#[derive(Clone, Copy, Debug, PartialEq, Eq)]
+#[derive(Clone, Copy, PartialEq, Eq)]
 pub(crate) struct BatchStart {
     /// The offset of its first record.
     pub(crate) base: u64,

@@ -2,7 +2,7 @@
 pub const MOST_MOMENT: u64 = kbytes::MOST_MOMENT;
 
 /// One entry of the clock's history.
-#[derive(Clone, Copy, Debug, PartialEq, Eq)]
+#[derive(Clone, Copy, PartialEq, Eq)]
 pub enum ClockEvent {
     /// The moment rose to this one.
     Tick { t: u64 },

@@ -10,7 +10,7 @@ use std::alloc::Global;
 use std::marker::Model;
 
 /// The clock's history. It begins at the moment 0, and its moment never falls.
-#[derive(Debug, Drop)]
+#[derive(Drop)]
 pub struct ClockLog {
     events: List<ClockEvent>,
     moment: u64,

@@ -1,6 +1,6 @@
 /// One entry of a partition's history. `by` is the number of the pass that made it, and `seq` the number of the call among
 /// those of the pass.
-#[derive(Clone, Copy, Debug, PartialEq, Eq)]
+#[derive(Clone, Copy, PartialEq, Eq)]
 pub enum PartEvent {
     /// A batch of `count` records in `len` bytes was appended to the log.
     Append {

@@ -26,7 +26,7 @@ use std::marker::Model;
 pub const MOST_LOG_BYTES: usize = 67_108_864;
 
 /// One partition's log and its history.
-#[derive(Debug, Drop)]
+#[derive(Drop)]
 pub struct PartLog {
     log: Bytes,
     followers: u32,

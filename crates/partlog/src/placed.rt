@@ -1,5 +1,5 @@
 /// Where a batch was appended.
-#[derive(Clone, Copy, Debug, PartialEq, Eq)]
+#[derive(Clone, Copy, PartialEq, Eq)]
 pub struct Placed {
     /// The offset of its first record.
     pub base: u64,

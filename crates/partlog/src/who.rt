@@ -1,5 +1,5 @@
 /// The call that made an entry of a history.
-#[derive(Clone, Copy, Debug, PartialEq, Eq)]
+#[derive(Clone, Copy, PartialEq, Eq)]
 pub struct Who {
     /// The number of the pass.
     pub by: u32,

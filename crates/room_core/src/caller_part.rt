@@ -15,7 +15,7 @@ use kbytes::NoMemory;
 use std::alloc::Global;
 
 /// A caller's part, with a table by number for each thing that it knows.
-#[derive(Debug, Drop)]
+#[derive(Drop)]
 pub(crate) struct CallerPart {
     pub(crate) shape: Shape,
     pub(crate) generation: u32,

@@ -29,7 +29,7 @@ use kbytes::NoMemory;
 use std::alloc::Global;
 
 /// The state of the room: a table by number for each kind of word, and for each kind of part.
-#[derive(Debug, Drop)]
+#[derive(Drop)]
 pub struct CoreState {
     pub(crate) shape: Shape,
     pub(crate) value: Vec<u64>,

@@ -1,21 +1,21 @@
 //! The eighteen kinds of step that threads make on the room. `CoreState::step` makes them as code; `specs/Step.antt` says when
 //! each is allowed and what it changes.
 /// How an operation was won: its tally was reached, or its deadline came.
-#[derive(Clone, Copy, Debug, PartialEq, Eq)]
+#[derive(Clone, Copy, PartialEq, Eq)]
 pub enum How {
     Satisfied,
     Expired,
 }
 
 /// The party that makes a check: a pass, as the owner of its operation, or a scanner.
-#[derive(Clone, Copy, Debug, PartialEq, Eq)]
+#[derive(Clone, Copy, PartialEq, Eq)]
 pub enum Party {
     Pass(u32),
     Scanner(u32),
 }
 
 /// One atomic step of one thread on one word.
-#[derive(Clone, Copy, Debug, PartialEq, Eq)]
+#[derive(Clone, Copy, PartialEq, Eq)]
 pub enum CoreEvent {
     /// The gauge's source stores its value.
     Store { gauge: u32, value: u64 },

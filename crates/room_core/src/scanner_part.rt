@@ -13,7 +13,7 @@ use kbytes::NoMemory;
 use std::alloc::Global;
 
 /// A scanner's part, with a table by number for each thing that it knows.
-#[derive(Debug, Drop)]
+#[derive(Drop)]
 pub(crate) struct ScannerPart {
     pub(crate) shape: Shape,
     pub(crate) heard: Option<Heard>,

@@ -33,7 +33,7 @@ use std::alloc::Global;
 use std::sync::Wait;
 
 /// What became of a frame.
-#[derive(Debug, Drop)]
+#[derive(Drop)]
 pub enum Handled {
     /// The whole frame of the reply.
     Reply(Bytes),

@@ -19,7 +19,7 @@ use shared_logs::LogPass;
 use std::sync::Wait;
 
 /// What became of a request that waits.
-#[derive(Debug, Drop)]
+#[derive(Drop)]
 pub enum Collected {
     /// The whole frame of the reply.
     Reply(Bytes),

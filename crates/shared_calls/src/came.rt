@@ -10,7 +10,7 @@ use std::marker::Model;
 
 /// For each partition that was named so far what became of it, the numbers of its log just after, and what the reply takes of it then. If
 /// memory runs out, it may only be dropped.
-#[derive(Debug, Drop)]
+#[derive(Drop)]
 pub struct Came {
     alloc: Global,
     accepted: List<Accepted>,

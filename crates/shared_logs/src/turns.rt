@@ -25,7 +25,7 @@ use partlog::{Numbers, Who};
 use std::sync::Wait;
 
 /// What became of a partition into which a batch was put, and its log's numbers just after.
-#[derive(Clone, Copy, Debug)]
+#[derive(Clone, Copy)]
 pub struct Put {
     pub entered: Entered,
     pub numbers: Numbers,
@@ -33,7 +33,7 @@ pub struct Put {
 
 /// What became of a partition that a fetch asked, its log's numbers just after, and what the reply takes of it then. That may have found
 /// no memory: the entry is there all the same.
-#[derive(Debug, Drop)]
+#[derive(Drop)]
 pub struct Fetched {
     pub entered: Entered,
     pub numbers: Numbers,
@@ -41,14 +41,14 @@ pub struct Fetched {
 }
 
 /// The place of a look at a partition, and its log's numbers there.
-#[derive(Clone, Copy, Debug)]
+#[derive(Clone, Copy)]
 pub struct Looked {
     pub place: u64,
     pub numbers: Numbers,
 }
 
 /// A look at a partition, and what the reply takes of it there. That may have found no memory: the look is there all the same.
-#[derive(Debug, Drop)]
+#[derive(Drop)]
 pub struct Read {
     pub looked: Looked,
     pub records: Result<Bytes, NoMemory>,

@@ -45,7 +45,7 @@ pub const MOST_FETCHED: i32 = 65_536;
 pub const MOST_OF_PARTITION: i32 = 4_096;
 
 /// What a fetch asks, and by whom: the longest wait in milliseconds, the least bytes, and the offset.
-#[derive(Clone, Copy, Debug)]
+#[derive(Clone, Copy)]
 pub struct Wish {
     pub replica: i32,
     pub wait: u32,

@@ -7,7 +7,7 @@ ghost use Rattle.storm.specs.Places.{kind_of};
 pub const BLOCK: u32 = 16;
 
 /// What a request is, by the block in which it comes.
-#[derive(Clone, Copy, Debug, PartialEq, Eq)]
+#[derive(Clone, Copy, PartialEq, Eq)]
 pub enum Kind {
     /// A produce that waits until the follower has its batch.
     AwaitedProduce,

@@ -20,7 +20,7 @@ const ROOM: u64 = 65_536;
 const MOST_LINKS: u64 = 65_536;
 
 /// An account, and what is printed of it.
-#[derive(Debug, Drop)]
+#[derive(Drop)]
 pub struct Told {
     pub account: Account,
     pub text: Bytes,

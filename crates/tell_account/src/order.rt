@@ -6,7 +6,7 @@ use crate::fault::Fault;
 use link_lanes::MOST_LANES;
 
 /// How many workers play, and whether the run is drained.
-#[derive(Clone, Copy, Debug)]
+#[derive(Clone, Copy)]
 pub struct Order {
     pub workers: u32,
     pub drain: bool,

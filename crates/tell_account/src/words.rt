@@ -6,7 +6,7 @@ use partlog::{ClockEvent, PartEvent};
 use std::fmt;
 
 /// Bytes as pairs of hex digits, or `-` if there are none.
-#[derive(Clone, Copy, Debug)]
+#[derive(Clone, Copy)]
 pub struct Hex<'a>(pub &'a [u8]);
 
 impl fmt::Display for Hex<'_> {
@@ -22,7 +22,7 @@ impl fmt::Display for Hex<'_> {
 }
 
 /// The part and the place of a point.
-#[derive(Clone, Copy, Debug)]
+#[derive(Clone, Copy)]
 pub struct At(pub Point);
 
 impl fmt::Display for At {
@@ -33,7 +33,7 @@ impl fmt::Display for At {
 }
 
 /// How a call ended.
-#[derive(Clone, Copy, Debug)]
+#[derive(Clone, Copy)]
 pub struct How(pub CallHow);
 
 impl fmt::Display for How {
@@ -51,7 +51,7 @@ impl fmt::Display for How {
 }
 
 /// Why a request was refused.
-#[derive(Clone, Copy, Debug)]
+#[derive(Clone, Copy)]
 struct Why(WireFault);
 
 impl fmt::Display for Why {
@@ -68,7 +68,7 @@ impl fmt::Display for Why {
 }
 
 /// How a session ended.
-#[derive(Clone, Copy, Debug)]
+#[derive(Clone, Copy)]
 pub struct Cause(pub SessionEnd);
 
 impl fmt::Display for Cause {
@@ -90,7 +90,7 @@ impl fmt::Display for Cause {
 }
 
 /// An entry of a partition's history.
-#[derive(Clone, Copy, Debug)]
+#[derive(Clone, Copy)]
 pub struct Entry(pub PartEvent);
 
 impl fmt::Display for Entry {
@@ -116,7 +116,7 @@ impl fmt::Display for Entry {
 }
 
 /// An entry of the clock's history.
-#[derive(Clone, Copy, Debug)]
+#[derive(Clone, Copy)]
 pub struct ClockEntry(pub ClockEvent);
 
 impl fmt::Display for ClockEntry {

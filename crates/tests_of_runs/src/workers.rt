@@ -46,7 +46,7 @@ fn joined(alloc: Global, pieces: &[&str]) -> Result<Bytes, NoMemory> {
 }
 
 // On how many workers a trace runs, and whether it goes on until nobody waits.
-#[derive(Clone, Copy, Debug)]
+#[derive(Clone, Copy)]
 struct Running {
     workers: u32,
     drain: bool,

@@ -6,7 +6,7 @@ use std::alloc::Global;
 use std::marker::Model;
 
 /// Ids in linked buckets. A contract sees the bucket of each id.
-#[derive(Debug, Drop)]
+#[derive(Drop)]
 pub(crate) struct Buckets {
     homes: Vec<Option<u8>>,
     /// The nodes are the ids, and after them a head for each bucket: the buckets are rings, so no

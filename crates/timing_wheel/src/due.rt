@@ -6,7 +6,7 @@ use std::alloc::Global;
 use std::marker::Model;
 
 /// Room for the ids that `Wheels::pop_due` hands out. It is made once and cleared after each use.
-#[derive(Debug, Drop)]
+#[derive(Drop)]
 pub struct Due {
     ids: Vec<u32>,
     room: u32,

@@ -12,7 +12,7 @@ use std::alloc::Global;
 use std::marker::Model;
 
 /// The entries by id, each in the bucket of its place. A contract sees the entries.
-#[derive(Debug, Drop)]
+#[derive(Drop)]
 pub(crate) struct Entries {
     timers: Vec<Option<Timer>>,
     buckets: Buckets,

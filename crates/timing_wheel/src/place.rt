@@ -4,7 +4,7 @@ ghost use Rattle.timing_wheel.specs.Wait.{number_of};
 use crate::numbers::{ALL_BUCKETS, BUCKETS, LEVELS};
 
 /// Where an entry is: a level from 0 to 7, and in it a bucket from 0 to 19.
-#[derive(Clone, Copy, Debug, PartialEq, Eq)]
+#[derive(Clone, Copy, PartialEq, Eq)]
 pub struct Place {
     pub level: u32,
     pub bucket: u32,

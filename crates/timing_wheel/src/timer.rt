@@ -8,7 +8,7 @@ use crate::place::Place;
 
 /// One entry of the wheels: its deadline, and the moment at which it was last put into a bucket,
 /// both in milliseconds.
-#[derive(Clone, Copy, Debug, PartialEq, Eq)]
+#[derive(Clone, Copy, PartialEq, Eq)]
 pub struct Timer {
     pub deadline: u64,
     pub put: u64,

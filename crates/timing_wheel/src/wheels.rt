@@ -17,7 +17,7 @@ use std::alloc::Global;
 use std::marker::Model;
 
 /// Ids with deadlines, in buckets of eight wheels. Moments and deadlines are in milliseconds.
-#[derive(Debug, Drop)]
+#[derive(Drop)]
 pub struct Wheels {
     moment: u64,
     entries: Entries,

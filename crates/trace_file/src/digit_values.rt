@@ -11,7 +11,7 @@ use crate::digits::BYTES;
 const NO_DIGIT: u8 = 255;
 
 /// The value of each digit, in either case.
-#[derive(Debug, Drop)]
+#[derive(Drop)]
 pub struct DigitValues {
     values: [u8; BYTES],
     ghost right: { AreValues values },

@@ -13,7 +13,7 @@ pub const BYTES: usize = 256;
 
 /// The two lower case digits of each byte, as the crate `hex` writes them. Who prints many replies makes it once, and prints
 /// them by it ([`put_reply_line`](Digits::put_reply_line)).
-#[derive(Debug, Drop)]
+#[derive(Drop)]
 pub struct Digits {
     pairs: Vec<u8>,
 }

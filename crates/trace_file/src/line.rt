@@ -23,7 +23,7 @@ pub const MOST_TRACE_BYTES: usize = 67_108_864;
 pub const REPLAY_PORT: u16 = 9092;
 
 /// A line of a trace.
-#[derive(Debug, Drop)]
+#[derive(Drop)]
 pub enum Line {
     /// `topic NAME PARTITIONS FOLLOWERS MIN` declares a topic. Without MIN the least number of in-sync replicas is 1.
     Topic {

@@ -3,7 +3,7 @@
 use crate::line::{Line, MOST_SESSIONS};
 
 /// What is remembered of the lines so far.
-#[derive(Debug, Drop)]
+#[derive(Drop)]
 pub struct Order {
     /// The last line was `end`.
     ended: bool,

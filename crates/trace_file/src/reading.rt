@@ -21,7 +21,7 @@ use kwire::Config;
 use std::alloc::Global;
 
 /// The lines so far, all of them good, and which may come next.
-#[derive(Debug, Drop)]
+#[derive(Drop)]
 pub struct Reading {
     lines: List<Line>,
     config: Config,

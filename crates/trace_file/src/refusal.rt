@@ -8,7 +8,7 @@ use kbytes::NoMemory;
 use kwire::ConfigFault;
 
 /// Why a line isn't taken.
-#[derive(Clone, Copy, Debug, PartialEq, Eq)]
+#[derive(Clone, Copy, PartialEq, Eq)]
 pub enum Refusal {
     Bad(LineKind),
     NoMemory,

@@ -5,7 +5,7 @@ pub trait Gate {
 }
 
 /// Holds nobody up.
-#[derive(Clone, Copy, Debug)]
+#[derive(Clone, Copy)]
 pub struct NoGate;
 
 impl Gate for NoGate {

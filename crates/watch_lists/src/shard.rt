@@ -12,7 +12,7 @@ use std::marker::Model;
 pub const MOST_WATCHERS: u32 = 1 << 20;
 
 /// Who watches which key. Each key has its watchers in a list of its own, in rising order of id.
-#[derive(Debug, Drop)]
+#[derive(Drop)]
 pub struct Shard {
     ids: u32,
     rows: Vec<Vec<Watch>>,

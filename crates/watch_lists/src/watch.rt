@@ -1,5 +1,5 @@
 /// The id watches the key, for the operation of this generation.
-#[derive(Clone, Copy, Debug, PartialEq, Eq)]
+#[derive(Clone, Copy, PartialEq, Eq)]
 pub struct Watch {
     pub key: u32,
     pub id: u32,

@@ -1,5 +1,5 @@
 /// What an accept answers.
-#[derive(Debug, Drop)]
+#[derive(Drop)]
 pub enum Accepting<L> {
     /// The next link, and its number, which counts from 0.
     Link { number: u64, link: L },

@@ -1,5 +1,5 @@
 /// What an opening answers.
-#[derive(Clone, Copy, Debug, PartialEq, Eq)]
+#[derive(Clone, Copy, PartialEq, Eq)]
 pub enum Opening {
     /// The port is open under the number asked for.
     Opened,

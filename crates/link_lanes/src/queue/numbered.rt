@@ -1,5 +1,5 @@
 /// A link with the number under which it was accepted.
-#[derive(Clone, Copy, Debug, PartialEq, Eq, Drop)]
+#[derive(Clone, Copy, PartialEq, Eq, Drop)]
 pub struct Numbered<L> {
     pub number: u64,
     pub link: L,

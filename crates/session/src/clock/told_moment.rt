@@ -1,5 +1,5 @@
 /// A moment that was told.
-#[derive(Clone, Copy, Debug, PartialEq, Eq, Drop)]
+#[derive(Clone, Copy, PartialEq, Eq, Drop)]
 pub struct ToldMoment {
     /// In milliseconds.
     pub moment: u64,

@@ -29,7 +29,7 @@ impl Model for Whole {
 }
 
 // Of how many operations the end was taken, and the last of these.
-#[derive(Clone, Copy, Debug, PartialEq, Eq)]
+#[derive(Clone, Copy, PartialEq, Eq)]
 pub(super) struct Ends {
     pub(super) count: u32,
     pub(super) last: Option<Done>,
