@@ -21,17 +21,25 @@ const MOST_KEPT: usize = 65_536;
 #[derive(Drop)]
 pub struct KeptSource<'a, S: Drop> {
     inner: S,
-    // what came so far; `None` once it is put there, or where it can't be kept
+    // what came so far; `None` once it is put there, or where it isn't kept
     text: Option<Bytes>,
     topics: &'a OnceLock<Bytes>,
 }
 
 impl<'a, S: Source + Drop> KeptSource<'a, S> {
-    /// A source over this one. Its text is put into `topics`.
-    pub fn new(alloc: Global, inner: S, topics: &'a OnceLock<Bytes>) -> KeptSource<'a, S> {
+    /// A source over this one. If it is to declare the topics of a service, its text is put into `topics`.
+    pub fn new(
+        alloc: Global,
+        inner: S,
+        service: Option<Service>,
+        topics: &'a OnceLock<Bytes>,
+    ) -> KeptSource<'a, S> {
         KeptSource {
             inner,
-            text: Some(Bytes::new(alloc)),
+            text: match service {
+                Some(_) => Some(Bytes::new(alloc)),
+                None => None,
+            },
             topics,
         }
     }
@@ -75,18 +83,18 @@ pub struct SpokenPort<'a, R, P: Drop> {
     inner: P,
     rt: &'a R,
     alloc: Global,
-    service: Service,
+    service: Option<Service>,
     topics: &'a OnceLock<Bytes>,
     was_refused: bool,
 }
 
 impl<'a, R: Net + Eprint, P: Port + Drop> SpokenPort<'a, R, P> {
-    /// A port over this one, for a service whose topics come to be in `topics`.
+    /// A port over this one, for a service whose topics come to be in `topics`. A command that serves nobody doesn't open it.
     pub fn new(
         rt: &'a R,
         alloc: Global,
         inner: P,
-        service: Service,
+        service: Option<Service>,
         topics: &'a OnceLock<Bytes>,
     ) -> SpokenPort<'a, R, P>
         ensures { result.inner ≡ inner }
@@ -114,11 +122,15 @@ impl<'a, R: Net + Eprint, P: Port + Drop> SpokenPort<'a, R, P> {
     }
 
     fn say_where(&self, number: u16) {
-        let Service {
-            lanes,
-            connections,
-            ..
-        } = self.service;
+        let Some(
+            Service {
+                lanes,
+                connections,
+                ..
+            },
+        ) = self.service else {
+            return;
+        };
         let (lane, connection) = (
             plural(lanes, "lane", "lanes"),
             plural(connections, "connection", "connections"),

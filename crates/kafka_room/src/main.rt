@@ -6,11 +6,10 @@ ghost use Rattle.std.specs.Prelude.{◌≡◌, ◌≢◌, []};
 ghost use Rattle.std.specs.Io.Buffered.{writer_buffer};
 
 mod announce;
-mod nothing;
+mod usage;
 
 use announce::{KeptSource, SpokenPort};
-use commands::{Command, Service, Stop, WrongWords, exit_text, run};
-use nothing::{NoClock, NoPort};
+use commands::{Command, Service, Stop, exit_text, run};
 use outside::{StdSink, StdSource, SystemClock, TcpPort};
 use std::alloc::Global;
 use std::fmt::Display;
@@ -22,6 +21,7 @@ use std::thread::Threads;
 use std::time::Clock;
 use std::{env, io, mem};
 use trace_file::{LineFault, LineKind};
+use usage::WrongWords;
 
 const HELP: &str = "\
 kafka_room: the request purgatory of a Kafka broker
@@ -168,31 +168,6 @@ struct Outcome {
     was_refused: bool,
 }
 
-// Serves connections of this machine.
-fn run_service<R>(rt: &R, alloc: Global, words: &[String], service: Service) -> Outcome
-where
-    R: Threads + Wait + Sync,
-    R: Net<Listener = TcpListener, Stream = TcpStream> + Clock + Input + Print + Eprint,
-{
-    let topics = OnceLock::new();
-    let mut source = KeptSource::new(alloc, StdSource::new(rt.reader()), &topics);
-    let mut sink = StdSink::new(io::writer(rt));
-    let port = SpokenPort::new(rt, alloc, TcpPort::new(rt), service, &topics);
-    let clock = SystemClock::new(rt);
-    let exit = run(rt, alloc, words, &mut source, &mut sink, port, clock);
-    let came = Outcome {
-        code: exit.code,
-        line: exit.line,
-        was_refused: match &exit.port {
-            Some(port) => port.was_refused(),
-            None => false,
-        },
-    };
-    // The process ends: the system takes all memory of the account at once.
-    mem::forget(exit);
-    came
-}
-
 // How many bytes of the output are held back at most: a replay writes after each line, and would else call the system for each.
 const MOST_HELD: usize = 65_536;
 
@@ -208,10 +183,11 @@ fn flush_held<W: Write + Drop>(output: &mut BufWriter<W>, code: u8) -> u8
     }
 }
 
-// Plays a trace or a load, or refuses words that say nothing.
-fn run_lines<R>(rt: &R, alloc: Global, words: &[String]) -> Outcome
+// Does what the words say, over the input, the output, the port and the clock of the process. The service is theirs, if they say one.
+fn run_words<R>(rt: &R, alloc: Global, words: &[String], service: Option<Service>) -> Outcome
 where
-    R: Threads + Wait + Sync + Input + Print,
+    R: Threads + Wait + Sync,
+    R: Net<Listener = TcpListener, Stream = TcpStream> + Clock + Input + Print + Eprint,
 {
     let Ok(mut output) = BufWriter::with_capacity(alloc, MOST_HELD, io::writer(rt)) else {
         return Outcome {
@@ -220,23 +196,23 @@ where
             was_refused: false,
         };
     };
-    let mut source = StdSource::new(rt.reader());
+    let topics = OnceLock::new();
+    let mut source = KeptSource::new(alloc, StdSource::new(rt.reader()), service, &topics);
     let mut sink = StdSink::new(&mut output);
-    let exit = run(
-        rt,
-        alloc,
-        words,
-        &mut source,
-        &mut sink,
-        NoPort::new(),
-        NoClock,
-    );
+    let port = SpokenPort::new(rt, alloc, TcpPort::new(rt), service, &topics);
+    let clock = SystemClock::new(rt);
+    let exit = run(rt, alloc, words, &mut source, &mut sink, port, clock);
     let (code, line) = (exit.code, exit.line);
+    let was_refused = match &exit.port {
+        Some(port) => port.was_refused(),
+        None => false,
+    };
+    // The process ends: the system takes all memory of the account at once.
     mem::forget(exit);
     Outcome {
         code: flush_held(&mut output, code),
         line,
-        was_refused: false,
+        was_refused,
     }
 }
 
@@ -274,13 +250,16 @@ fn main(rt: HostRuntime) -> ExitCode {
     {
         return shown(&rt, text);
     }
-    if let Some(Command::Serve(service)) = Command::of(words.as_slice()) {
-        let came = run_service(&rt, rt.alloc(), words.as_slice(), service);
-        return ended_service(&rt, came);
-    }
-    let came = run_lines(&rt, rt.alloc(), words.as_slice());
+    let service = match Command::of(words.as_slice()) {
+        Some(Command::Serve(service)) => Some(service),
+        _ => None,
+    };
+    let came = run_words(&rt, rt.alloc(), words.as_slice(), service);
     if came.code == Stop::Usage.code() {
         return ended_words(&rt, &WrongWords::of(words.as_slice()));
+    }
+    if service.is_some() {
+        return ended_service(&rt, came);
     }
     ended_run(&rt, came.code, came.line)
 }

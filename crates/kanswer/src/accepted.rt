@@ -9,7 +9,7 @@ use kwire::{AskView, RequestView};
 use partlog::Numbers;
 
 /// What became of one named partition of a request as it was accepted.
-#[derive(Clone, Copy, PartialEq, Eq)]
+#[derive(Clone, Copy)]
 pub enum Accepted {
     Refused { code: i16 },
     /// A batch of `count` records was appended to the partition's log, at the offset `base`.
@@ -26,7 +26,7 @@ pub struct Reading {
 }
 
 /// How many bytes a reply may still take, and whether it has a batch already.
-#[derive(Clone, Copy, PartialEq, Eq)]
+#[derive(Clone, Copy)]
 pub struct Budget {
     pub left: u64,
     pub any: bool,

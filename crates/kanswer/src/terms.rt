@@ -8,7 +8,7 @@ use kwire::codes;
 pub const STORAGE_ERROR_VERSION: i16 = 4;
 
 /// The terms of a produce: its version, whether it has a transactional id, and its acks.
-#[derive(Clone, Copy, PartialEq, Eq)]
+#[derive(Clone, Copy)]
 pub struct Terms {
     pub version: i16,
     pub is_transactional: bool,

@@ -1,7 +1,7 @@
 use partlog::Who;
 
 /// Who asks a partition's log, and the clock's moment as it knows it, in milliseconds.
-#[derive(Clone, Copy, PartialEq, Eq)]
+#[derive(Clone, Copy)]
 pub struct Visitor {
     pub who: Who,
     pub moment: u64,

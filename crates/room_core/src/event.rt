@@ -8,14 +8,14 @@ pub enum How {
 }
 
 /// The party that makes a check: a pass, as the owner of its operation, or a scanner.
-#[derive(Clone, Copy, PartialEq, Eq)]
+#[derive(Clone, Copy)]
 pub enum Party {
     Pass(u32),
     Scanner(u32),
 }
 
 /// One atomic step of one thread on one word.
-#[derive(Clone, Copy, PartialEq, Eq)]
+#[derive(Clone, Copy)]
 pub enum CoreEvent {
     /// The gauge's source stores its value.
     Store { gauge: u32, value: u64 },

@@ -3,7 +3,7 @@
 use crate::event::How;
 
 /// What a session word says of its operation.
-#[derive(Clone, Copy, PartialEq, Eq)]
+#[derive(Clone, Copy)]
 pub enum Phase {
     Idle,
     Open,
@@ -12,7 +12,7 @@ pub enum Phase {
 }
 
 /// A pass's session word: which operation, counted from 1, and what became of it.
-#[derive(Clone, Copy, PartialEq, Eq)]
+#[derive(Clone, Copy)]
 pub struct Session {
     pub generation: u32,
     pub phase: Phase,
@@ -32,42 +32,42 @@ pub enum Stage {
 }
 
 /// What a source knows: the value that it stored, and whether it has yet to see that a scan up to it was asked for.
-#[derive(Clone, Copy, PartialEq, Eq)]
+#[derive(Clone, Copy)]
 pub struct Source {
     pub stored: u64,
     pub loud: bool,
 }
 
 /// What a scanner has heard of a gauge.
-#[derive(Clone, Copy, PartialEq, Eq)]
+#[derive(Clone, Copy)]
 pub struct Heard {
     pub gauge: u32,
     pub number: u64,
 }
 
 /// An operation in a listing: its generation, and in the clock's listing its deadline (elsewhere 0).
-#[derive(Clone, Copy, PartialEq, Eq)]
+#[derive(Clone, Copy)]
 pub struct Entry {
     pub generation: u32,
     pub deadline: u64,
 }
 
 /// An operation that a scan has yet to check, and the gauge that was scanned.
-#[derive(Clone, Copy, PartialEq, Eq)]
+#[derive(Clone, Copy)]
 pub struct Duty {
     pub gauge: u32,
     pub generation: u32,
 }
 
 /// The pass whose open operation a scanner has met.
-#[derive(Clone, Copy, PartialEq, Eq)]
+#[derive(Clone, Copy)]
 pub struct Meeting {
     pub pass: u32,
     pub generation: u32,
 }
 
 /// One exchange that a winner won.
-#[derive(Clone, Copy, PartialEq, Eq)]
+#[derive(Clone, Copy)]
 pub struct Prize {
     pub pass: u32,
     pub generation: u32,
@@ -75,7 +75,7 @@ pub struct Prize {
 }
 
 /// The end of an operation, as its pass took it.
-#[derive(Clone, Copy, PartialEq, Eq)]
+#[derive(Clone, Copy)]
 pub struct Taken {
     pub generation: u32,
     pub how: How,

@@ -11,7 +11,7 @@ use crate::parts::{Phase, Session};
 const WINNERS: u64 = 1024;
 
 /// One of the room's words, all of which every thread sees.
-#[derive(Clone, Copy, PartialEq, Eq)]
+#[derive(Clone, Copy)]
 pub enum Word {
     /// The value of a gauge, as its source stored it.
     Value { gauge: u32 },

@@ -1,15 +1,13 @@
 //! What is wrong with a command line that says no command. The program reports it.
 
-use crate::command::{MOST_CONNECTIONS, MOST_PORT, MOST_WORKERS};
-use link_lanes::MOST_LANES;
+use commands::{MOST_CONNECTIONS, MOST_LANES, MOST_PORT, MOST_REQUESTS, MOST_WORKERS};
 use std::fmt;
-use storm::MOST_REQUESTS;
 
 /// A service, as it is asked for.
 const SERVICE: &str = "serve --port 9092 --lanes 4 --connections 100";
 
 /// A number that a command wants.
-#[derive(Clone, Copy, PartialEq, Eq)]
+#[derive(Clone, Copy)]
 pub enum Wanted {
     /// The number of workers after `replay --workers`.
     ReplayWorkers,
@@ -86,7 +84,7 @@ impl Wanted {
 }
 
 /// Why words say no command. It is printed as one line for standard error, with the word that is wrong and what would be right.
-#[derive(Clone, Copy, PartialEq, Eq)]
+#[derive(Clone, Copy)]
 pub enum WrongWords<'a> {
     NoCommand,
     UnknownCommand(&'a str),
