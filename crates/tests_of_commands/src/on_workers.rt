@@ -2,39 +2,34 @@
 
 use crate::pieces::{A, PRODUCE, PRODUCE_TO_1, WAIT_FOR_0, WAIT_FOR_1};
 use crate::replays::{THREE_LINES, printed_before};
-use crate::runs::{Faults, NONE, ON_ONE_WORKER, run_pieces};
+use crate::runs::{Faults, NONE, ON_ONE_WORKER, Wanted, ended_as, prefix, run_pieces};
 use std::test::*;
 
 const ON_TWO_WORKERS: &[&str] = &["replay", "--workers", "2"];
 
 #[test]
-fn a_full_sink_on_one_worker_leaves_the_account_and_a_front(rt: HostRuntime) {
+fn on_one_worker_the_output_is_one_write_and_the_account_stays_where_it_fails(rt: HostRuntime) {
     let printed = printed_before(rt.alloc(), 4).expect(&rt, "memory");
-    for room in [0, 1, 60, 600] {
-        let faults = Faults { room, ..NONE };
-        let ran = run_pieces(&rt, rt.alloc(), ON_ONE_WORKER, THREE_LINES, faults);
-        let ran = ran.expect(&rt, "memory");
-        assert!(rt; ran.code == 4 && ran.has_account, "with room {room}");
-        assert!(rt;
-            ran.sink.bytes().len() as u64 == room
-                && printed.as_slice().starts_with(ran.sink.bytes()),
-            "with room {room}"
-        );
-    }
-}
-
-#[test]
-fn a_write_that_fails_on_one_worker_leaves_the_account(rt: HostRuntime) {
-    // the whole output is one write there
-    for (write, code, written) in [(0, 4, 0), (1, 0, 4)] {
-        let printed = printed_before(rt.alloc(), written).expect(&rt, "memory");
+    for (writes, room, code, count) in [
+        ([].as_slice(), 0, 4, 0),
+        (&[], 1, 4, 1),
+        (&[], 60, 4, 60),
+        (&[], 600, 4, 600),
+        (&[0], 4096, 4, 0),
+        (&[1], 4096, 0, 4096),
+    ] {
         let faults = Faults {
-            writes: &[write],
-            ..NONE
+            reads: &[],
+            writes,
+            room,
+        };
+        let wanted = Wanted {
+            code,
+            has_account: true,
+            written: prefix(printed.as_slice(), count),
         };
         let ran = run_pieces(&rt, rt.alloc(), ON_ONE_WORKER, THREE_LINES, faults);
-        let ran = ran.expect(&rt, "memory");
-        assert!(rt; ran.code == code && ran.has_account && ran.sink.bytes() == printed.as_slice());
+        assert!(rt; ended_as(ran, wanted), "with room {room}");
     }
 }
 

@@ -3,7 +3,9 @@
 use crate::pieces::{
     A, A_AT_1, FETCH_138, FETCHED_138, PRODUCE, PRODUCE_NO_REPLY, PRODUCED, PRODUCED_AT_1,
 };
-use crate::runs::{Faults, NONE, ON_ONE_WORKER, REPLAY, Ran, joined, run_pieces, run_with};
+use crate::runs::{
+    Faults, NONE, ON_ONE_WORKER, REPLAY, Ran, Wanted, ended_as, joined, run_pieces, run_with,
+};
 use kbytes::{Bytes, NoMemory};
 use std::alloc::Global;
 use std::sync::Wait;
@@ -87,14 +89,14 @@ fn run_cut<R: Threads + Wait + Sync>(
 fn a_stream_may_be_cut_at_any_byte(rt: HostRuntime) {
     let stream = joined(rt.alloc(), STREAM).expect(&rt, "memory");
     let printed = joined(rt.alloc(), STREAM_PRINTED).expect(&rt, "memory");
+    let wanted = Wanted {
+        code: 0,
+        has_account: true,
+        written: printed.as_slice(),
+    };
     for cut in 1..stream.len() / 2 {
-        assert!(rt;
-            matches!(
-                run_cut(&rt, rt.alloc(), stream.as_slice(), 2 * cut),
-                Ok(ran) if ran.code == 0 && ran.sink.bytes() == printed.as_slice()
-            ),
-            "cut at byte {cut}"
-        );
+        let ran = run_cut(&rt, rt.alloc(), stream.as_slice(), 2 * cut);
+        assert!(rt; ended_as(ran, wanted), "cut at byte {cut}");
     }
 }
 
@@ -127,36 +129,46 @@ fn run_long<R: Threads + Wait + Sync>(
 
 #[test]
 fn each_read_that_fails_leaves_nothing_written(rt: HostRuntime) {
-    for words in [REPLAY, ON_ONE_WORKER] {
-        for read in 0..3 {
-            assert!(rt;
-                matches!(
-                    run_long(&rt, rt.alloc(), words, read),
-                    Ok(ran) if ran.code == 3 && ran.sink.bytes().is_empty()
-                ),
-                "at read {read}"
-            );
-        }
+    let unread = Wanted {
+        code: 3,
+        has_account: false,
+        written: b"",
+    };
+    for (words, read) in [
+        (REPLAY, 0),
+        (REPLAY, 1),
+        (REPLAY, 2),
+        (ON_ONE_WORKER, 0),
+        (ON_ONE_WORKER, 1),
+        (ON_ONE_WORKER, 2),
+    ] {
+        let ran = run_long(&rt, rt.alloc(), words, read);
+        assert!(rt; ended_as(ran, unread), "at read {read}");
     }
-    assert!(rt; matches!(run_long(&rt, rt.alloc(), REPLAY, 3), Ok(ran) if ran.code == 0));
+    let whole = Wanted {
+        code: 0,
+        has_account: true,
+        written: b"part 0 end 300 high 300 batches 300 bytes 20700\n\
+session 0 calls 300 replies 0 parked 0\ndone\n",
+    };
+    assert!(rt; ended_as(run_long(&rt, rt.alloc(), REPLAY, 3), whole));
 }
 
 #[test]
 fn each_write_that_fails_leaves_the_front_of_the_output(rt: HostRuntime) {
     for write in 0..5 {
         let front = printed_before(rt.alloc(), write).expect(&rt, "memory");
-        let code = if write < 4 { 4 } else { 0 };
         let faults = Faults {
             writes: &[write as u64],
             ..NONE
         };
-        assert!(rt;
-            matches!(
-                run_pieces(&rt, rt.alloc(), REPLAY, THREE_LINES, faults),
-                Ok(ran) if ran.code == code && ran.sink.bytes() == front.as_slice()
-            ),
-            "at write {write}"
-        );
+        let wanted = Wanted {
+            code: if write < 4 { 4 } else { 0 },
+            has_account: write == 4,
+            written: front.as_slice(),
+        };
+        let ran = run_pieces(&rt, rt.alloc(), REPLAY, THREE_LINES, faults);
+        assert!(rt; ended_as(ran, wanted), "at write {write}");
     }
 }
 
@@ -181,19 +193,26 @@ fn run_long_frame<R: Threads + Wait + Sync>(
     run_with(rt, alloc, REPLAY, text, NONE)
 }
 
-const REST_OF_LONG: &[u8] =
-    b"part 0 end 0 high 0 batches 0 bytes 0\nsession 0 calls 0 replies 0 parked 0\ndone\n";
-
 #[test]
 fn a_frame_of_eight_mebibytes_is_read_and_one_more_byte_is_too_long(rt: HostRuntime) {
-    for (size, end) in [
-        ("00800000", b"end 0 refused unsupported 0 0\n".as_slice()),
-        ("00800001", b"end 0 too-long 8388609\n"),
+    for (size, written) in [
+        (
+            "00800000",
+            b"end 0 refused unsupported 0 0\npart 0 end 0 high 0 batches 0 bytes 0\n\
+session 0 calls 0 replies 0 parked 0\ndone\n"
+                .as_slice(),
+        ),
+        (
+            "00800001",
+            b"end 0 too-long 8388609\npart 0 end 0 high 0 batches 0 bytes 0\n\
+session 0 calls 0 replies 0 parked 0\ndone\n",
+        ),
     ] {
-        let ran = run_long_frame(&rt, rt.alloc(), size).expect(&rt, "memory");
-        let printed = ran.sink.bytes();
-        assert!(rt;
-            ran.code == 0 && printed.split_at_checked(end.len()) == Some((end, REST_OF_LONG))
-        );
+        let wanted = Wanted {
+            code: 0,
+            has_account: true,
+            written,
+        };
+        assert!(rt; ended_as(run_long_frame(&rt, rt.alloc(), size), wanted));
     }
 }

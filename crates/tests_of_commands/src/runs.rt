@@ -36,6 +36,32 @@ pub struct Ran {
     pub sink: MemSink,
 }
 
+/// How a run is to end: its code, whether it has an account, and all that it writes.
+#[derive(Clone, Copy)]
+pub struct Wanted<'a> {
+    pub code: u8,
+    pub has_account: bool,
+    pub written: &'a [u8],
+}
+
+/// Whether the run had its memory and ended so.
+pub fn ended_as(ran: Result<Ran, NoMemory>, wanted: Wanted<'_>) -> bool {
+    match ran {
+        Ok(ran) => ran.code == wanted.code
+            && ran.has_account == wanted.has_account
+            && ran.sink.bytes() == wanted.written,
+        Err(_) => false,
+    }
+}
+
+/// The first bytes of a text, or all of it.
+pub fn prefix(text: &[u8], count: usize) -> &[u8] {
+    match text.get(..count) {
+        Some(prefix) => prefix,
+        None => text,
+    }
+}
+
 /// A list of these.
 pub fn numbers(alloc: Global, items: &[u64]) -> Result<List<u64>, NoMemory> {
     let mut list = List::new(alloc);

@@ -1,6 +1,6 @@
 //! A service over a port in memory that fails as it is opened and later, whose source fails, and whose sink is full.
 
-use crate::runs::{Faults, NONE, Ran, joined, line_of, numbers};
+use crate::runs::{Faults, NONE, Ran, Wanted, ended_as, joined, line_of, numbers, prefix};
 use commands::run;
 use kbytes::{Bytes, List, NoMemory};
 use outside::{MemClock, MemLink, MemPort, MemSink, MemSource};
@@ -71,14 +71,13 @@ fn a_service_is_summed_up_as_far_as_the_sink_takes_it(rt: HostRuntime) {
         (&[2], 4096, 5, CLOSED_LINK),
     ] {
         let faults = Faults { room, ..NONE };
+        let wanted = Wanted {
+            code,
+            has_account: true,
+            written: prefix(printed, room as usize),
+        };
         let ran = run_service(&rt, rt.alloc(), "topic t 1 0\nend\n", fails, faults);
-        let ran = ran.expect(&rt, "memory");
-        assert!(rt; ran.code == code && ran.has_account, "with code {code}");
-        assert!(rt;
-            printed.starts_with(ran.sink.bytes())
-                && ran.sink.bytes().len() as u64 == room.min(printed.len() as u64),
-            "with code {code}"
-        );
+        assert!(rt; ended_as(ran, wanted), "with code {code}");
     }
 }
 
@@ -89,7 +88,12 @@ fn a_service_without_topics_serves_nothing(rt: HostRuntime) {
         ("topic t 1 0\nclock 1\nend\n", &[], 2),
     ] {
         let faults = Faults { reads, ..NONE };
-        let ran = run_service(&rt, rt.alloc(), topics, &[], faults).expect(&rt, "memory");
-        assert!(rt; ran.code == code && !ran.has_account && ran.sink.bytes().is_empty());
+        let wanted = Wanted {
+            code,
+            has_account: false,
+            written: b"",
+        };
+        let ran = run_service(&rt, rt.alloc(), topics, &[], faults);
+        assert!(rt; ended_as(ran, wanted));
     }
 }

@@ -1,6 +1,6 @@
 //! A small storm, over a source that can't be read, and sinks that fail.
 
-use crate::runs::{Faults, Ran, run_pieces};
+use crate::runs::{Faults, Ran, Wanted, ended_as, prefix, run_pieces};
 use kbytes::NoMemory;
 use std::alloc::Global;
 use std::sync::Wait;
@@ -36,31 +36,17 @@ fn run_storm<R: Threads + Wait + Sync>(
 }
 
 #[test]
-fn a_storm_reads_nothing_and_is_summed_up(rt: HostRuntime) {
-    assert!(rt;
-        matches!(
-            run_storm(&rt, rt.alloc(), &[], 4096),
-            Ok(ran) if ran.code == 0 && ran.has_account && ran.sink.bytes() == END_OF_SMALL_STORM
-        )
-    );
-}
-
-#[test]
-fn a_storm_that_cannot_be_written_has_an_account(rt: HostRuntime) {
-    assert!(rt;
-        matches!(
-            run_storm(&rt, rt.alloc(), &[0], 4096),
-            Ok(ran) if ran.code == 4 && ran.has_account && ran.sink.bytes().is_empty()
-        )
-    );
-    assert!(rt;
-        matches!(
-            run_storm(&rt, rt.alloc(), &[], 40),
-            Ok(ran)
-                if ran.code == 4
-                    && ran.has_account
-                    && END_OF_SMALL_STORM.split_at_checked(40).map(|parts| parts.0)
-                        == Some(ran.sink.bytes())
-        )
-    );
+fn a_storm_reads_nothing_and_is_summed_up_as_far_as_the_sink_takes_it(rt: HostRuntime) {
+    for (writes, room, code, count) in [
+        ([].as_slice(), 4096, 0, END_OF_SMALL_STORM.len()),
+        (&[0], 4096, 4, 0),
+        (&[], 40, 4, 40),
+    ] {
+        let wanted = Wanted {
+            code,
+            has_account: true,
+            written: prefix(END_OF_SMALL_STORM, count),
+        };
+        assert!(rt; ended_as(run_storm(&rt, rt.alloc(), writes, room), wanted));
+    }
 }
