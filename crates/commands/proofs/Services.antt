@@ -2,7 +2,7 @@
 use Rattle.std.proofs.Common.{◌≡◌, ◌⊎◌, ℕ, true, List, Option, Some, None, IfSome, IsSome, inl, inr, refl, subst}
 use Rattle.audit.specs.declared.account.Account.{Account}
 use Rattle.link_lanes.specs.books.Shown.{ShownLink}
-use Rattle.link_lanes.specs.port.History.{PortFacts}
+use Rattle.outside.specs.shared.port.History.{PortFacts}
 use Rattle.trace_file.specs.declared.line.LineFault.{LineFault}
 use Rattle.trace_file.proofs.Laws.{trace_has_none}
 use Rattle.commands.specs.declared.exit.Stop.{Stop}

@@ -8,7 +8,7 @@ use Rattle.trace_file.specs.declared.line.Line.{Line}
 use Rattle.trace_file.specs.Contents.{configuration_of}
 use Rattle.trace_file.specs.FirstBad.{IsTraceRead}
 use Rattle.link_lanes.specs.books.Shown.{ShownLink}
-use Rattle.link_lanes.specs.port.History.{PortFacts}
+use Rattle.outside.specs.shared.port.History.{PortFacts}
 use Rattle.link_lanes.specs.LaneRun.{IsLaneRun}
 use Rattle.commands.specs.declared.command.Service.{Service}
 

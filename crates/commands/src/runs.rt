@@ -5,7 +5,7 @@ ghost use Rattle.std.specs.Io.KnownBytes.{Appends, Keeps, IsAtEnd};
 ghost use Rattle.outside.specs.Causes.{Rose};
 ghost use Rattle.audit.specs.IsLawful.{IsLawful};
 ghost use Rattle.audit.specs.Printed.{IsPrintOf};
-ghost use Rattle.link_lanes.specs.port.History.{IsNewPort};
+ghost use Rattle.outside.specs.shared.port.History.{IsNewPort};
 ghost use Rattle.link_lanes.specs.Seen.{seen_by};
 ghost use Rattle.commands.specs.Commands.{IsCommand, IsOnWorkers, IsServe, IsStorm, IsThreaded, ReadsSource, ReadsTrace, said};
 ghost use Rattle.commands.specs.Replay.{IsReplay, IsReplayFront, IsFirstBadOf, HasTrace, IsSilent};

@@ -8,7 +8,7 @@ ghost use Rattle.audit.specs.IsLawful.{IsLawful};
 ghost use Rattle.audit.specs.Printable.{IsPrintable};
 ghost use Rattle.trace_file.specs.declared.line.Line.{Line as TheLine};
 ghost use Rattle.trace_file.specs.Contents.{configuration_of};
-ghost use Rattle.link_lanes.specs.port.History.{IsNewPort};
+ghost use Rattle.outside.specs.shared.port.History.{IsNewPort};
 ghost use Rattle.link_lanes.specs.Seen.{seen_by};
 ghost use Rattle.commands.specs.Codes.{bad_line_of};
 ghost use Rattle.commands.specs.Commands.{IsService};

@@ -7,11 +7,11 @@ use Rattle.link_lanes.specs.books.LaneBook.{IsLaneBook, LaneBook, retired_number
 use Rattle.link_lanes.specs.books.Shown.{ShownLink}
 use Rattle.link_lanes.specs.books.Times.{once_below, times, total}
 use Rattle.link_lanes.specs.books.Together.{AreAllBooks, AreInOrder}
-use Rattle.link_lanes.specs.declared.port.port_entry.PortEntry.{PortEntry}
-use Rattle.link_lanes.specs.declared.port.port_entry.PortEntry.TheVariants.{Opened, Faulted}
-use Rattle.link_lanes.specs.port.Entries.{accepted, accepted_number, opened, opened_number, retired, retired_link}
-use Rattle.link_lanes.specs.port.History.{PortFacts}
-use Rattle.link_lanes.specs.port.PortViews as port
+use Rattle.outside.specs.declared.shared.port.port_entry.PortEntry.{PortEntry}
+use Rattle.outside.specs.declared.shared.port.port_entry.PortEntry.TheVariants.{Opened, Faulted}
+use Rattle.outside.specs.shared.port.Entries.{accepted, accepted_number, opened, opened_number, retired, retired_link}
+use Rattle.outside.specs.shared.port.History.{PortFacts}
+use Rattle.outside.specs.shared.port.PortViews as port
 use Rattle.link_lanes.specs.Closed.{HasOpened, HaveClosed, keys_of, passes_of, seats_of}
 use Rattle.link_lanes.specs.Halls.{HallView, ServerView, book_of}
 use Rattle.link_lanes.specs.Seen.{seen_with}
@@ -23,7 +23,7 @@ use Rattle.link_lanes.proofs.PartSums.{total_same, total_zero}
 use Rattle.link_lanes.proofs.PortParts.{found_own, own_adds_up}
 use Rattle.shared_broker.specs.Closing.{IsAccountOf}
 use Rattle.shared_broker.specs.Passes as broker
-use Rattle.session.specs.clock.ClockViews as clock
+use Rattle.outside.specs.shared.clock.ClockViews as clock
 
 -- ---- servers and their books
 

@@ -3,9 +3,9 @@ use Rattle.std.proofs.Common.{◌≡◌, ◌∙◌, ℕ, ◌+◌, List, [], ◌�
 use Rattle.std.proofs.lemmas.List.{append-nil, append_assoc}
 use Rattle.std.proofs.lemmas.List.Concat.{flat_map-append}
 use Rattle.std.proofs.lemmas.List.Sums.{sum_by_push}
-use Rattle.link_lanes.specs.declared.queue.numbered.Numbered.{Numbered}
-use Rattle.link_lanes.specs.queue.Passes.{joined}
-use Rattle.link_lanes.specs.queue.QueueViews as queue
+use Rattle.outside.specs.declared.shared.queue.numbered.Numbered.{Numbered}
+use Rattle.outside.specs.shared.queue.Passes.{joined}
+use Rattle.outside.specs.shared.queue.QueueViews as queue
 use Rattle.link_lanes.specs.Gathered.{with_all}
 use Rattle.link_lanes.specs.Halls.{LaneView}
 

@@ -7,8 +7,8 @@ use Rattle.std.specs.Prelude.{IsPermutation}
 use Rattle.link_lanes.specs.books.LaneBook.{LaneBook}
 use Rattle.link_lanes.specs.books.Shown.{ShownLink}
 use Rattle.link_lanes.specs.books.Times.{one_where, times, total}
-use Rattle.link_lanes.specs.declared.queue.numbered.Numbered.{Numbered}
-use Rattle.link_lanes.specs.queue.QueueViews as queue
+use Rattle.outside.specs.declared.shared.queue.numbered.Numbered.{Numbered}
+use Rattle.outside.specs.shared.queue.QueueViews as queue
 use Rattle.link_lanes.specs.Gathered.{AreGathered}
 use Rattle.link_lanes.specs.Going.{HasGone, IsReady}
 use Rattle.link_lanes.specs.Halls.{HallView, LaneView, ServerView, book_of, numbers}

@@ -2,9 +2,9 @@
 use Rattle.std.proofs.Common.{◌≡◌, ◌∙◌, ℕ, Option, Some, None, IfNone, List, [], ◌∷◌, ◌++◌, refl, sym, ap, subst, append-nil, append_assoc}
 use Rattle.std.proofs.lemmas.List.{map-append}
 use Rattle.link_lanes.specs.books.Shown.{ShownLink}
-use Rattle.link_lanes.specs.declared.queue.numbered.Numbered.{Numbered}
-use Rattle.link_lanes.specs.queue.Passes.{put_by, taken_by}
-use Rattle.link_lanes.specs.queue.QueueViews as queue
+use Rattle.outside.specs.declared.shared.queue.numbered.Numbered.{Numbered}
+use Rattle.outside.specs.shared.queue.Passes.{put_by, taken_by}
+use Rattle.outside.specs.shared.queue.QueueViews as queue
 use Rattle.link_lanes.specs.Going.{HasGone, HasGoneFrom, HasServedOn, IsReady, moved}
 use Rattle.link_lanes.specs.Halls.{HallView, LaneView, ServerView, numbers}
 use Rattle.link_lanes.specs.Serving.{IsServing}

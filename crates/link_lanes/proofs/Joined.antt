@@ -7,9 +7,9 @@ use Rattle.std.specs.List.{range_with_len}
 use Rattle.link_lanes.specs.books.LaneBook.{LaneBook}
 use Rattle.link_lanes.specs.books.Shown.{ShownLink}
 use Rattle.link_lanes.specs.books.Times.{times, total}
-use Rattle.link_lanes.specs.declared.queue.numbered.Numbered.{Numbered}
-use Rattle.link_lanes.specs.declared.queue.queue_pass.TheConstants.{PARTS}
-use Rattle.link_lanes.specs.queue.QueueViews as queue
+use Rattle.outside.specs.declared.shared.queue.numbered.Numbered.{Numbered}
+use Rattle.outside.specs.declared.shared.queue.queue_pass.TheConstants.{PARTS}
+use Rattle.outside.specs.shared.queue.QueueViews as queue
 use Rattle.link_lanes.specs.Begun.{AreNew}
 use Rattle.link_lanes.specs.Gathered.{AreGathered, with_all}
 use Rattle.link_lanes.specs.Going.{IsReady}

@@ -4,15 +4,15 @@ use Rattle.std.proofs.lemmas.List.FromFn.{length-map-range_with_len, map-range_w
 use Rattle.std.proofs.lemmas.List.{length-map, same_from_push}
 use Rattle.std.specs.List.{range_with_len}
 use Rattle.link_lanes.specs.books.Shown.{ShownLink}
-use Rattle.link_lanes.specs.port.Fresh as port_fresh
-use Rattle.link_lanes.specs.port.PortViews as port
+use Rattle.outside.specs.shared.port.Fresh as port_fresh
+use Rattle.outside.specs.shared.port.PortViews as port
 use Rattle.link_lanes.specs.Halls.{HallView, LaneView, ServerView}
 use Rattle.link_lanes.specs.Made.{new_lane, new_server, new_servers, seated}
 use Rattle.link_lanes.specs.Serving.{IsServing}
 use Rattle.shared_broker.specs.Making as broker_making
 use Rattle.shared_broker.specs.Passes as broker
-use Rattle.session.specs.clock.ClockViews as clock
-use Rattle.session.specs.clock.Fresh as clock_fresh
+use Rattle.outside.specs.shared.clock.ClockViews as clock
+use Rattle.outside.specs.shared.clock.Fresh as clock_fresh
 
 pub as_many_servers : (L : Type 0) (hall : HallView) (count : ℕ) → length (new_servers {L = L} hall count) ≡ count
 as_many_servers L hall count = length-map-range_with_len (new_server {L = L} hall) 0 count

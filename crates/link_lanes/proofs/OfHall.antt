@@ -4,13 +4,13 @@ use Rattle.std.proofs.lemmas.List.{length-append, length-map}
 use Rattle.std.proofs.lemmas.List.Elements.{All-cons, All-map, All-nil, All-push}
 use Rattle.link_lanes.specs.books.LaneBook.{LaneBook}
 use Rattle.link_lanes.specs.books.Shown.{ShownLink}
-use Rattle.link_lanes.specs.port.PortViews as port
+use Rattle.outside.specs.shared.port.PortViews as port
 use Rattle.link_lanes.specs.Closed.{keys_of, passes_of, seats_of}
 use Rattle.link_lanes.specs.Halls.{HallView, ServerView}
 use Rattle.link_lanes.specs.Serving.{IsServing}
 use Rattle.link_lanes.specs.Together.{AreIdle, HaveBooks}
 use Rattle.shared_broker.specs.Passes as broker
-use Rattle.session.specs.clock.ClockViews as clock
+use Rattle.outside.specs.shared.clock.ClockViews as clock
 
 module _ {L : Type 0} (see : L → ShownLink) (hall : HallView) where
   -- what holds of a server that sits in the hall holds of all of them

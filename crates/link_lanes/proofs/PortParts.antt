@@ -4,11 +4,11 @@ use Rattle.std.proofs.lemmas.List.Elements.{All-weaker, filter_map-append, recur
 use Rattle.std.proofs.lemmas.List.Folds.{list_any-append}
 use Rattle.std.proofs.lemmas.List.FromFn.{length-range_with_len}
 use Rattle.std.specs.List.{AllByRecursion, list_any, range_with_len}
-use Rattle.link_lanes.specs.declared.port.port_entry.PortEntry.{PortEntry}
-use Rattle.link_lanes.specs.port.Closed.{IsClosed}
-use Rattle.link_lanes.specs.port.Entries.{accepted, accepted_number, entered_by}
-use Rattle.link_lanes.specs.port.History.{PortFacts}
-use Rattle.link_lanes.specs.port.PortViews.{PassView, PortView}
+use Rattle.outside.specs.declared.shared.port.port_entry.PortEntry.{PortEntry}
+use Rattle.outside.specs.shared.port.Closed.{IsClosed}
+use Rattle.outside.specs.shared.port.Entries.{accepted, accepted_number, entered_by}
+use Rattle.outside.specs.shared.port.History.{PortFacts}
+use Rattle.outside.specs.shared.port.PortViews.{PassView, PortView}
 use Rattle.link_lanes.specs.books.Times.{total}
 use Rattle.link_lanes.proofs.FoundParts.{any_with, found_in_part}
 use Rattle.link_lanes.proofs.PartSums.{count_is_total, having, measure_read, part_of, parts_add_up, total_same}

@@ -7,11 +7,11 @@ use Rattle.kwire.specs.Configuration.{Configuration}
 use Rattle.link_lanes.specs.books.LaneBook.{LaneBook}
 use Rattle.link_lanes.specs.books.Shown.{ShownLink}
 use Rattle.link_lanes.specs.books.Together.{AreAllBooks, AreServed}
-use Rattle.link_lanes.specs.declared.port.port_entry.PortEntry.{PortEntry}
-use Rattle.link_lanes.specs.declared.port.port_entry.PortEntry.TheVariants.{Faulted}
-use Rattle.link_lanes.specs.port.Entries.{accepted, entered_by, has_ended, has_faulted, is_end, is_fault, retired}
-use Rattle.link_lanes.specs.port.History.{PortFacts, Terms}
-use Rattle.link_lanes.specs.port.PortViews as port
+use Rattle.outside.specs.declared.shared.port.port_entry.PortEntry.{PortEntry}
+use Rattle.outside.specs.declared.shared.port.port_entry.PortEntry.TheVariants.{Faulted}
+use Rattle.outside.specs.shared.port.Entries.{accepted, entered_by, has_ended, has_faulted, is_end, is_fault, retired}
+use Rattle.outside.specs.shared.port.History.{PortFacts, Terms}
+use Rattle.outside.specs.shared.port.PortViews as port
 use Rattle.link_lanes.specs.declared.lane.LaneEnd.TheVariants.{Over, Failed}
 use Rattle.link_lanes.specs.Closed.{HasOpened, HasStopped, HaveClosed, keys_of}
 use Rattle.link_lanes.specs.Going.{HasEnded}

@@ -14,16 +14,16 @@ use Rattle.link_lanes.specs.contracts.server.Server as Server
 use Rattle.link_lanes.specs.contracts.server.Server.TheInside as server
 use Rattle.link_lanes.specs.contracts.hall.Hall as Hall
 use Rattle.link_lanes.specs.contracts.hall.Hall.TheInside as hall
-use Rattle.link_lanes.proofs.port.Sent as port_sent
-use Rattle.link_lanes.proofs.queue.queue_pass.QueuePass.TheSendSync as hand
-use Rattle.link_lanes.proofs.queue.link_queue.LinkQueue.TheSendSync as ring
+use Rattle.outside.proofs.shared.port.Laws as port_sent
+use Rattle.outside.proofs.shared.queue.queue_pass.QueuePass.TheSendSync as hand
+use Rattle.outside.proofs.shared.queue.link_queue.LinkQueue.TheSendSync as ring
 use Rattle.outside.specs.declared.clock.Clock as clock_trait
 use Rattle.outside.specs.declared.link.Link as link_trait
 use Rattle.outside.specs.declared.port.Port as port_trait
 use Rattle.shared_broker.proofs.Laws.{pass_is_send}
 use Rattle.shared_broker.proofs.broker.Broker.TheSendSync as broker
-use Rattle.session.proofs.clock.clock_pass.ClockPass.TheSendSync as seat
-use Rattle.session.proofs.clock.shared.Shared.TheSendSync as shared
+use Rattle.outside.proofs.shared.clock.clock_pass.ClockPass.TheSendSync as seat
+use Rattle.outside.proofs.shared.clock.shared.Shared.TheSendSync as shared
 
 module _ (P C L : RattleType) (port : _) (link : _) (clock : _) (sent : IsSend P) (told : IsSend C) (linked : IsSend L) where
   server_fields : AllSend (declared.shape (server.the_type P C L port link clock)).fields

@@ -8,13 +8,13 @@ use Rattle.link_lanes.specs.books.LaneBook.{IsLaneBook, IsTranscriptOf, LaneBook
 use Rattle.link_lanes.specs.books.Serving.{IsFreshLink, served_after, shut_link}
 use Rattle.link_lanes.specs.books.Shown.{ShownLink}
 use Rattle.link_lanes.specs.books.Times.{times}
-use Rattle.link_lanes.specs.port.Asked.{HasEntered, HasHandedBack, accept_entries}
-use Rattle.link_lanes.specs.declared.port.accepting.Accepting.{Accepting}
-use Rattle.link_lanes.specs.declared.port.accepting.Accepting.TheVariants as accepting
-use Rattle.link_lanes.specs.declared.port.port_entry.PortEntry.{PortEntry}
-use Rattle.link_lanes.specs.declared.port.port_entry.PortEntry.TheVariants.{Ended, Faulted, Retired}
-use Rattle.link_lanes.specs.port.Entries.{accepted, accepted_number, has_ended, has_faulted, opened, opened_number, retired, retired_link}
-use Rattle.link_lanes.specs.port.PortViews as port
+use Rattle.outside.specs.shared.port.Asked.{HasEntered, HasHandedBack, accept_entries}
+use Rattle.outside.specs.declared.shared.port.accepting.Accepting.{Accepting}
+use Rattle.outside.specs.declared.shared.port.accepting.Accepting.TheVariants as accepting
+use Rattle.outside.specs.declared.shared.port.port_entry.PortEntry.{PortEntry}
+use Rattle.outside.specs.declared.shared.port.port_entry.PortEntry.TheVariants.{Ended, Faulted, Retired}
+use Rattle.outside.specs.shared.port.Entries.{accepted, accepted_number, has_ended, has_faulted, opened, opened_number, retired, retired_link}
+use Rattle.outside.specs.shared.port.PortViews as port
 use Rattle.link_lanes.specs.Accepted.{numbers_in}
 use Rattle.link_lanes.specs.Going.{HasServedOn}
 use Rattle.link_lanes.specs.Halls.{HallView, ServerView, book_of}
@@ -24,7 +24,7 @@ use Rattle.link_lanes.proofs.Counting.{times_append}
 use Rattle.session.specs.Flows.{LinkView}
 use Rattle.session.specs.Onwards.{HasGoneOn}
 use Rattle.session.specs.Served.{HasServed}
-use Rattle.session.specs.clock.ClockViews as clock
+use Rattle.outside.specs.shared.clock.ClockViews as clock
 use Rattle.shared_broker.specs.Passes as broker
 
 pub none_there : {A : Type 0} (o : Option A) → is_some o ≡ false → o ≡ None

@@ -1,7 +1,7 @@
 -- The link that an accept gives.
 use Rattle.std.specs.Prelude.{ℕ, List, [], ◌∷◌}
-use Rattle.link_lanes.specs.declared.port.accepting.Accepting.{Accepting}
-use Rattle.link_lanes.specs.declared.port.accepting.Accepting.TheVariants.{Link, Full, Ended, Faulted, NoMemory}
+use Rattle.outside.specs.declared.shared.port.accepting.Accepting.{Accepting}
+use Rattle.outside.specs.declared.shared.port.accepting.Accepting.TheVariants.{Link, Full, Ended, Faulted, NoMemory}
 
 -- its number, where it gives one
 abbrev pub numbers_in : {L : Type 0} → Accepting L → List ℕ

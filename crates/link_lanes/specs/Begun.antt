@@ -1,17 +1,17 @@
 -- All that a run begins with.
 use Rattle.std.specs.Prelude.{◌≡◌, ◌+◌, ◌≤◌, ℕ, List, map}
 use Rattle.kwire.specs.Configuration.{Configuration}
-use Rattle.link_lanes.specs.queue.Passes.{first_pass}
-use Rattle.link_lanes.specs.queue.QueueViews as queue
-use Rattle.link_lanes.specs.port.Fresh.{fresh_pass, fresh_passes}
-use Rattle.link_lanes.specs.port.PortViews as port
+use Rattle.outside.specs.shared.queue.Passes.{first_pass}
+use Rattle.outside.specs.shared.queue.QueueViews as queue
+use Rattle.outside.specs.shared.port.Fresh.{fresh_pass, fresh_passes}
+use Rattle.outside.specs.shared.port.PortViews as port
 use Rattle.link_lanes.specs.declared.runs.TheConstants.{MOST_LANES}
 use Rattle.link_lanes.specs.Halls.{HallView, LaneView}
 use Rattle.link_lanes.specs.Made.{new_lane, new_servers, with_fewer_parts}
 use Rattle.shared_broker.specs.Making as broker_making
 use Rattle.shared_broker.specs.Passes as broker
-use Rattle.session.specs.clock.ClockViews as clock
-use Rattle.session.specs.clock.Fresh as clock_fresh
+use Rattle.outside.specs.shared.clock.ClockViews as clock
+use Rattle.outside.specs.shared.clock.Fresh as clock_fresh
 
 -- The broker has these topics. It and the clock have so many passes, which are new.
 pub record AreWithin (config : Configuration) (count : ℕ) (logs : broker.BrokerView) (passes : List broker.PassView) (time : clock.ClockView) (seats : List clock.PassView) : Type 0 where

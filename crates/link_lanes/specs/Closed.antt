@@ -3,11 +3,11 @@ use Rattle.std.specs.Prelude.{◌≡◌, ◌≤◌, ◌⊎◌, ◌++◌, ℕ, Bo
 use Rattle.audit.specs.declared.account.Account.{Account}
 use Rattle.shared_broker.specs.Closing.{IsAccountOf}
 use Rattle.shared_broker.specs.Passes as broker
-use Rattle.session.specs.clock.ClockViews as clock
-use Rattle.link_lanes.specs.declared.port.port_entry.PortEntry.TheVariants.{Opened, Faulted}
-use Rattle.link_lanes.specs.port.Closed.{IsClosed}
-use Rattle.link_lanes.specs.port.History.{PortFacts}
-use Rattle.link_lanes.specs.port.PortViews as port
+use Rattle.outside.specs.shared.clock.ClockViews as clock
+use Rattle.outside.specs.declared.shared.port.port_entry.PortEntry.TheVariants.{Opened, Faulted}
+use Rattle.outside.specs.shared.port.Closed.{IsClosed}
+use Rattle.outside.specs.shared.port.History.{PortFacts}
+use Rattle.outside.specs.shared.port.PortViews as port
 use Rattle.link_lanes.specs.Gathered.{IsOver}
 use Rattle.link_lanes.specs.Halls.{HallView, ServerView}
 

@@ -4,7 +4,7 @@ use Rattle.std.specs.List.{flat_map}
 use Rattle.link_lanes.specs.books.LaneBook.{LaneBook}
 use Rattle.link_lanes.specs.books.Shown.{ShownLink}
 use Rattle.link_lanes.specs.books.Times.{times, total}
-use Rattle.link_lanes.specs.queue.QueueViews as queue
+use Rattle.outside.specs.shared.queue.QueueViews as queue
 use Rattle.link_lanes.specs.Going.{HasEnded}
 use Rattle.link_lanes.specs.declared.lane.LaneEnd.TheVariants.{Over, Failed}
 use Rattle.link_lanes.specs.Halls.{HallView, LaneView, ServerView, numbers}

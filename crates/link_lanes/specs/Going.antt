@@ -2,10 +2,10 @@
 use Rattle.std.specs.Prelude.{◌≡◌, ◌⊎◌, ℕ, true, List, [], ◌++◌, ⊤}
 use Rattle.std.specs.List.{range_with_len}
 use Rattle.link_lanes.specs.books.Shown.{ShownLink}
-use Rattle.link_lanes.specs.declared.queue.numbered.Numbered.{Numbered}
-use Rattle.link_lanes.specs.queue.QueueViews as queue
-use Rattle.link_lanes.specs.declared.port.port_entry.PortEntry.{PortEntry}
-use Rattle.link_lanes.specs.port.Entries.{accepted, has_ended, has_faulted}
+use Rattle.outside.specs.declared.shared.queue.numbered.Numbered.{Numbered}
+use Rattle.outside.specs.shared.queue.QueueViews as queue
+use Rattle.outside.specs.declared.shared.port.port_entry.PortEntry.{PortEntry}
+use Rattle.outside.specs.shared.port.Entries.{accepted, has_ended, has_faulted}
 use Rattle.link_lanes.specs.declared.lane.LaneEnd.{LaneEnd}
 use Rattle.link_lanes.specs.declared.lane.LaneEnd.TheVariants.{Over, Failed, NoMemory}
 use Rattle.link_lanes.specs.Halls.{HallView, LaneView, ServerView, numbers}

@@ -2,13 +2,13 @@
 use Rattle.std.specs.Prelude.{ℕ, Bool, List, map}
 use Rattle.link_lanes.specs.books.LaneBook.{LaneBook}
 use Rattle.link_lanes.specs.books.Shown.{ShownLink}
-use Rattle.link_lanes.specs.declared.queue.numbered.Numbered.{Numbered}
-use Rattle.link_lanes.specs.queue.QueueViews as queue
-use Rattle.link_lanes.specs.port.Entries.{accepted, retired}
-use Rattle.link_lanes.specs.port.PortViews as port
+use Rattle.outside.specs.declared.shared.queue.numbered.Numbered.{Numbered}
+use Rattle.outside.specs.shared.queue.QueueViews as queue
+use Rattle.outside.specs.shared.port.Entries.{accepted, retired}
+use Rattle.outside.specs.shared.port.PortViews as port
 use Rattle.link_lanes.specs.Seen.{seen_with}
 use Rattle.shared_broker.specs.Passes as broker
-use Rattle.session.specs.clock.ClockViews as clock
+use Rattle.outside.specs.shared.clock.ClockViews as clock
 
 -- what all lanes share
 pub record HallView : Type 0 where

@@ -5,7 +5,7 @@ use Rattle.audit.specs.IsLawful.{IsLawful}
 use Rattle.kwire.specs.Configuration.{Configuration}
 use Rattle.link_lanes.specs.books.Shown.{ShownLink}
 use Rattle.link_lanes.specs.books.Together.{AreServed}
-use Rattle.link_lanes.specs.port.History.{PortFacts}
+use Rattle.outside.specs.shared.port.History.{PortFacts}
 use Rattle.link_lanes.specs.Seen.{seen_with}
 use Rattle.outside.specs.Causes.{Rose}
 use Rattle.partlog.specs.Moment.{moment_of}

@@ -1,9 +1,5 @@
 -- ==== the words of public contracts
 
--- the port that threads share; port.antt says what is in it
-pub mod port
--- the queue of links; queue.antt says what is in it
-pub mod queue
 -- the books of lanes; books.antt says what is in it
 pub mod books
 -- what a clause sees of a link

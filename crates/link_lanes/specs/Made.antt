@@ -1,15 +1,15 @@
 -- The lanes of a hall as they are made.
 use Rattle.std.specs.Prelude.{ℕ, ◌-◌, false, List, [], ◌∷◌, map}
 use Rattle.std.specs.List.{range_with_len}
-use Rattle.link_lanes.specs.queue.Passes.{part_pass}
-use Rattle.link_lanes.specs.queue.QueueViews as queue
-use Rattle.link_lanes.specs.port.Fresh as port_fresh
-use Rattle.link_lanes.specs.port.PortViews as port
+use Rattle.outside.specs.shared.queue.Passes.{part_pass}
+use Rattle.outside.specs.shared.queue.QueueViews as queue
+use Rattle.outside.specs.shared.port.Fresh as port_fresh
+use Rattle.outside.specs.shared.port.PortViews as port
 use Rattle.link_lanes.specs.Halls.{HallView, LaneView, ServerView}
 use Rattle.shared_broker.specs.Making as broker_making
 use Rattle.shared_broker.specs.Passes as broker
-use Rattle.session.specs.clock.ClockViews as clock
-use Rattle.session.specs.clock.Fresh as clock_fresh
+use Rattle.outside.specs.shared.clock.ClockViews as clock
+use Rattle.outside.specs.shared.clock.Fresh as clock_fresh
 
 module _ {L : Type 0} where
   -- a server of each pass, with a seat and a key

@@ -2,10 +2,10 @@
 use Rattle.std.specs.Prelude.{◌≡◌, ℕ, List, []}
 use Rattle.link_lanes.specs.books.LaneBook.{IsLaneBook}
 use Rattle.link_lanes.specs.books.Shown.{ShownLink}
-use Rattle.link_lanes.specs.port.Entries.{opened}
-use Rattle.link_lanes.specs.port.PortViews as port
+use Rattle.outside.specs.shared.port.Entries.{opened}
+use Rattle.outside.specs.shared.port.PortViews as port
 use Rattle.link_lanes.specs.Halls.{HallView, ServerView, book_of}
-use Rattle.session.specs.clock.ClockViews as clock
+use Rattle.outside.specs.shared.clock.ClockViews as clock
 
 -- The server is the hall's, all its passes have this number, and it never opened the port. With these links in hand, it has the book of a lane that put and took
 -- these.

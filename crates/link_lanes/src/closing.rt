@@ -2,21 +2,21 @@
 //!
 //! What is closed by a step of its own has a function of its own, so that few values are alive where memory may run out.
 ghost use Rattle.std.specs.Prelude.{◌≡◌, ◌≤◌, ◌+◌, ◌++◌, ◌∷◌, [], All, IfOk, OnOk, length};
-ghost use Rattle.session.specs.clock.ClockViews as clock_views;
+ghost use Rattle.outside.specs.shared.clock.ClockViews as clock_views;
 ghost use Rattle.shared_broker.specs.Closing.{IsAccountOf};
 ghost use Rattle.shared_broker.specs.Passes.{made_with};
-ghost use Rattle.link_lanes.specs.port.Closed.{IsClosed};
-ghost use Rattle.link_lanes.specs.port.PortViews.{IsPassOf};
+ghost use Rattle.outside.specs.shared.port.Closed.{IsClosed};
+ghost use Rattle.outside.specs.shared.port.PortViews.{IsPassOf};
 ghost use Rattle.link_lanes.specs.Closed.{HaveClosed, keys_of, passes_of, seats_of};
 ghost use Rattle.link_lanes.specs.Seen.{seen_by};
 ghost use Rattle.link_lanes.specs.Together.{AreIdle};
 
 use crate::hall::Hall;
-use crate::port::{PortPass, SharedPort};
 use crate::server::Server;
 use crate::server_parts::ServerParts;
 use audit::Account;
 use kbytes::{List, NoMemory};
+use outside::shared::port::{PortPass, SharedPort};
 use outside::{Clock, Port};
 use session::{ClockPass, Shared};
 use shared_broker::{Broker, BrokerEnd, Pass};

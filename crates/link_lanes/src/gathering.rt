@@ -1,7 +1,7 @@
 //! The lanes once their threads are joined: their passes of the queue become one, and what is left in the queue is served.
 ghost use Rattle.std.specs.Prelude.{◌≡◌, ◌≤◌, false, All, IfOk, OnOk, length, map};
-ghost use Rattle.link_lanes.specs.queue.Passes.{joined};
-ghost use Rattle.link_lanes.specs.queue.QueueViews.{IsPassOf};
+ghost use Rattle.outside.specs.shared.queue.Passes.{joined};
+ghost use Rattle.outside.specs.shared.queue.QueueViews.{IsPassOf};
 ghost use Rattle.link_lanes.specs.Gathered.{AreGathered, IsOver, with_all};
 ghost use Rattle.link_lanes.specs.Halls.{LaneView};
 ghost use Rattle.link_lanes.specs.Seen.{seen_by};
@@ -9,9 +9,9 @@ ghost use Rattle.link_lanes.specs.Together.{AreIdle};
 
 use crate::hall::Hall;
 use crate::lane::{Lane, LaneEnd};
-use crate::queue::QueuePass;
 use crate::server::Server;
 use kbytes::{List, NoMemory};
+use outside::shared::queue::QueuePass;
 use outside::{Clock, Port};
 use std::sync::Wait;
 

@@ -1,6 +1,6 @@
 use crate::new_link::NewLink;
-use crate::port::SharedPort;
-use crate::queue::LinkQueue;
+use outside::shared::port::SharedPort;
+use outside::shared::queue::LinkQueue;
 use outside::{Clock, Port};
 use session::Shared;
 use shared_broker::Broker;

@@ -1,6 +1,6 @@
 //! A lane, to which `serve_links` gives a thread: it serves links until no more come.
 ghost use Rattle.std.specs.Prelude.{◌≡◌, ◌≢◌, ◌∷◌, [], ℕ, List, None, false, IfNone, IfSome, IsPermutation};
-ghost use Rattle.link_lanes.specs.queue.QueueViews.{IsPassOf, IsWhole};
+ghost use Rattle.outside.specs.shared.queue.QueueViews.{IsPassOf, IsWhole};
 ghost use Rattle.link_lanes.specs.declared.lane.LaneEnd.TheVariants.{NoMemory as OutOfMemory};
 ghost use Rattle.link_lanes.specs.Going.{HasEnded, HasGone, HasGoneFrom, IsReady};
 ghost use Rattle.link_lanes.specs.Seen.{seen_by};
@@ -8,9 +8,9 @@ ghost use Rattle.link_lanes.specs.Serving.{IsServing};
 ghost use Rattle.outside.specs.NewLink.{IsNewLink};
 
 use crate::hall::Hall;
-use crate::port::Accepting;
-use crate::queue::{Numbered, QueuePass};
 use crate::server::Server;
+use outside::shared::port::Accepting;
+use outside::shared::queue::{Numbered, QueuePass};
 use outside::{Clock, Port};
 use std::marker::Model;
 use std::sync::Wait;

@@ -5,8 +5,8 @@
 //! port. The run ends when no more links come, and every one that came was served once: its account is lawful, and has one transcript of
 //! each link, which fits what the link's peer sent and was sent.
 //!
-//! What the lanes share has modules of its own: the port that reports what happened at it, the queue through which links pass, and the laws
-//! of the books that lanes keep.
+//! What the lanes share of the world stands in `outside`: the port that reports what happened at it, and the queue through which links pass.
+//! The laws of the books that lanes keep have a module of their own.
 #![tactic(auto)]
 
 mod books;
@@ -17,13 +17,10 @@ mod hall;
 mod lane;
 mod making;
 mod new_link;
-mod port;
-mod queue;
 mod runs;
 mod server;
 mod server_parts;
 mod sharing;
 
 pub use books::{books_are_served, served_accounts_are_printable, served_links_are_booked};
-pub use queue::{AnyLink, Condition, LinkQueue, Numbered, PARTS, QueuePass};
 pub use runs::{LaneRun, MOST_LANES, Serving, serve_links};

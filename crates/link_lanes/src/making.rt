@@ -1,15 +1,15 @@
 //! The lanes of a hall as they are made.
 ghost use Rattle.std.specs.Prelude.{◌≡◌, ◌<◌, ◌-◌, IfOk, OnOk, length, map};
-ghost use Rattle.link_lanes.specs.queue.QueueViews.{IsPassOf};
+ghost use Rattle.outside.specs.shared.queue.QueueViews.{IsPassOf};
 ghost use Rattle.link_lanes.specs.Made.{new_lane, seated, with_fewer_parts};
 
 use crate::hall::Hall;
 use crate::lane::Lane;
-use crate::port::PortPass;
-use crate::queue::QueuePass;
 use crate::server::Server;
 use crate::server_parts::ServerParts;
 use kbytes::{List, NoMemory};
+use outside::shared::port::PortPass;
+use outside::shared::queue::QueuePass;
 use outside::{Clock, Port};
 use session::ClockPass;
 use shared_broker::Pass;

@@ -1,5 +1,5 @@
-use crate::queue::{Condition, Numbered};
 use outside::Link;
+use outside::shared::queue::{Condition, Numbered};
 
 /// What each link in the queue meets: nothing was taken from it or written to it, it has not failed, and it wasn't shut.
 pub struct NewLink;

@@ -1,7 +1,7 @@
 //! `serve_links`, which a program calls: it makes the hall, opens the port, runs the lanes in threads, and closes all that they shared.
 ghost use Rattle.std.specs.Prelude.{◌≡◌, ◌≤◌, [], false, All, IfOk, length};
-ghost use Rattle.link_lanes.specs.port.History.{IsNewPort};
-ghost use Rattle.link_lanes.specs.port.PortViews.{IsPassOf};
+ghost use Rattle.outside.specs.shared.port.History.{IsNewPort};
+ghost use Rattle.outside.specs.shared.port.PortViews.{IsPassOf};
 ghost use Rattle.link_lanes.specs.Begun.{AreNew, HasBegun};
 ghost use Rattle.link_lanes.specs.Closed.{HasOpened, HasStopped};
 ghost use Rattle.link_lanes.specs.Gathered.{IsOver};
@@ -17,13 +17,13 @@ use crate::gathering::{finish, gather};
 use crate::hall::Hall;
 use crate::lane::Lane;
 use crate::making::seat_lanes;
-use crate::port::{Opening, PortPass};
-use crate::queue::QueuePass;
 use crate::server::Server;
 use crate::sharing::{NewHall, make_hall};
 use audit::Account;
 use kbytes::{List, NoMemory};
 use kwire::Config;
+use outside::shared::port::{Opening, PortPass};
+use outside::shared::queue::QueuePass;
 use outside::{Clock, Port};
 use std::alloc::Global;
 use std::sync::Wait;

@@ -1,7 +1,7 @@
 //! A server, which has a pass of everything that lanes share but the queue: it serves one link after the other.
 ghost use Rattle.std.specs.Prelude.{◌≡◌, ◌∷◌, [], ℕ, List, OnOk};
 ghost use Rattle.outside.specs.NewLink.{IsNewLink};
-ghost use Rattle.link_lanes.specs.port.Asked.{IfLink, IsAnswer};
+ghost use Rattle.outside.specs.shared.port.Asked.{IfLink, IsAnswer};
 ghost use Rattle.link_lanes.specs.Accepted.{numbers_in};
 ghost use Rattle.link_lanes.specs.Going.{HasServedOn};
 ghost use Rattle.link_lanes.specs.Seen.{seen_by};
@@ -9,9 +9,9 @@ ghost use Rattle.link_lanes.specs.Serving.{IsServing};
 
 use crate::books::served_links_are_booked;
 use crate::hall::Hall;
-use crate::port::{Accepting, PortPass};
-use crate::queue::Numbered;
 use kbytes::NoMemory;
+use outside::shared::port::{Accepting, PortPass};
+use outside::shared::queue::Numbered;
 use outside::{Clock, Port};
 use session::{ClockPass, serve_session};
 use shared_broker::Pass;

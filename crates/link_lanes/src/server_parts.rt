@@ -1,5 +1,5 @@
-use crate::port::PortPass;
 use kbytes::List;
+use outside::shared::port::PortPass;
 use outside::{Clock, Port};
 use session::ClockPass;
 use shared_broker::Pass;

@@ -2,17 +2,17 @@
 //!
 //! Each step where memory may run out has few values to drop: what was made before it is in one struct.
 ghost use Rattle.std.specs.Prelude.{◌≡◌, ◌≤◌, ◌+◌, IfOk};
-ghost use Rattle.link_lanes.specs.port.Fresh.{fresh_passes};
-ghost use Rattle.link_lanes.specs.port.History.{IsNewPort};
+ghost use Rattle.outside.specs.shared.port.Fresh.{fresh_passes};
+ghost use Rattle.outside.specs.shared.port.History.{IsNewPort};
 ghost use Rattle.link_lanes.specs.Begun.{AreWithin, HasHall};
 ghost use Rattle.link_lanes.specs.declared.runs.TheConstants.{MOST_LANES};
 
 use crate::hall::Hall;
-use crate::port::{PortPass, SharedPort};
-use crate::queue::{LinkQueue, QueuePass};
 use crate::server_parts::ServerParts;
 use kbytes::{List, NoMemory};
 use kwire::Config;
+use outside::shared::port::{PortPass, SharedPort};
+use outside::shared::queue::{LinkQueue, QueuePass};
 use outside::{Clock, Port};
 use session::{ClockPass, Shared};
 use shared_broker::{Broker, Pass};

@@ -26,6 +26,8 @@ pub mod Quay
 pub mod Hand
 -- the links and ports of the real network
 pub mod Connected
+-- what threads share of the world; shared.antt says what is in it
+pub mod shared
 -- ==== the words of private functions
 
 -- the two halves of an object in memory

@@ -3,6 +3,8 @@
 //! Each counts its faults, and answers `Failed` only where that count rose. The layer above is generic over the traits:
 //! a contract there names the bytes that an object tells, and hands a fault on only with its cause. Each trait has an object
 //! in memory, for tests, which fails where it is asked to, and one over std, for the program, of a few lines each.
+//!
+//! `shared` is what several threads share of it: a port and a clock that report what they told to whom, and a queue of links.
 #![tactic(auto)]
 
 mod clock;
@@ -19,6 +21,7 @@ mod mem_source;
 mod outlet;
 mod plan;
 mod port;
+pub mod shared;
 mod shelf;
 mod sink;
 mod source;

@@ -12,8 +12,8 @@ use Rattle.partlog.specs.Moment.{moment_of}
 use Rattle.partlog.specs.Ticked.{ticked}
 use Rattle.session.specs.Answering.{HasOnlyLooked}
 use Rattle.session.specs.Onwards.{HasGoneOn, latest}
-use Rattle.session.specs.clock.Asked.{WasTold}
-use Rattle.session.specs.clock.ClockViews.{PassView as SeatView}
+use Rattle.outside.specs.shared.clock.Asked.{WasTold}
+use Rattle.outside.specs.shared.clock.ClockViews.{PassView as SeatView}
 use Rattle.shared_broker.specs.Passes.{PassView, made_with}
 use Rattle.shared_broker.specs.Sessions.{HasPartlyToldClock, HasToldClock}
 use Rattle.shared_logs.specs.Asked.{HasTicked}

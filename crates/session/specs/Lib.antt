@@ -1,7 +1,5 @@
 -- ==== the words of public contracts
 
--- the clock that threads share; clock.antt says what is in it
-pub mod clock
 -- what a clause sees of a link, and what flowed over it
 pub mod Flows
 -- the bytes of the replies, whole or cut

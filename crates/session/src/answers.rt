@@ -1,14 +1,14 @@
 //! A request of a session is answered, without its link: the clock is asked, the frame is handled, and where the request waits, so does this.
 ghost use Rattle.std.specs.Prelude.{◌≡◌, ◌≤◌, IfErr, IfOk, IsSome, None, OnErr, false};
 ghost use Rattle.session.specs.Answering.{HasAnswered, HasOnlyLooked, IsCutShort, IsFinished};
-ghost use Rattle.session.specs.clock.ClockViews.{IsPassOf};
+ghost use Rattle.outside.specs.shared.clock.ClockViews.{IsPassOf};
 ghost use Rattle.shared_broker.specs.Passes.{made_with};
 ghost use Rattle.shared_broker.specs.Sessions.{is_cut_off};
 
-use crate::clock::{ClockPass, Shared};
 use audit::SessionEnd;
 use kbytes::{Bytes, NoMemory};
 use outside::Clock;
+use outside::shared::clock::{ClockPass, Shared};
 use shared_broker::{Broker, Collected, Handled, Pass};
 use std::alloc::Global;
 use std::sync::Wait;

@@ -4,14 +4,13 @@
 //! call, writes each reply whole, and waits where a request waits. Whoever accepts connections calls it once for each, and keeps the pass
 //! and the seat of the clock for the next one.
 //!
-//! The clock is a [`Shared`], which threads share and which reports what it told to whom.
+//! The clock is a [`Shared`] of `outside`, which threads share and which reports what it told to whom.
 #![tactic(auto)]
 
 mod answers;
-mod clock;
 mod intake;
 mod served;
 
-pub use clock::{ClockDesk, ClockPass, Shared, ToldMoment};
 pub use intake::MOST_READ;
+pub use outside::shared::clock::{ClockPass, Shared};
 pub use served::serve_session;

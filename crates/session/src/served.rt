@@ -4,15 +4,15 @@ ghost use Rattle.session.specs.Flows.{link_of};
 ghost use Rattle.session.specs.Onwards.{HasGoneOn};
 ghost use Rattle.session.specs.Served.{HasServed};
 ghost use Rattle.session.specs.Standing.{HasStepped, IsEnding, IsServing, Start as Began, began};
-ghost use Rattle.session.specs.clock.ClockViews.{IsPassOf};
+ghost use Rattle.outside.specs.shared.clock.ClockViews.{IsPassOf};
 ghost use Rattle.shared_broker.specs.Passes.{made_with};
 
 use crate::answers::{Answered, Room};
-use crate::clock::{ClockPass, Shared};
 use crate::intake::Intake;
 use audit::SessionEnd;
 use kbytes::NoMemory;
 use kwire::Frame;
+use outside::shared::clock::{ClockPass, Shared};
 use outside::{Clock, Link, write_whole};
 use shared_broker::{Broker, Pass};
 use std::alloc::Global;

@@ -2,7 +2,7 @@
 
 use kbytes::List;
 use outside::{Clock, MOST_MOMENT, MemClock, SystemClock};
-use session::Shared;
+use outside::shared::clock::Shared;
 use std::test::*;
 
 #[test]

@@ -1,7 +1,7 @@
 //! Runs of lanes over links in memory, some of which fail, and a fetch that waits in one lane for the produce of another.
 ghost use Rattle.std.specs.Prelude.{◌≡◌, ◌≤◌, [], Some, IfOk, All};
 ghost use Rattle.outside.specs.Wire.{IsNewWire};
-ghost use Rattle.link_lanes.specs.port.History.{IsNewPort};
+ghost use Rattle.outside.specs.shared.port.History.{IsNewPort};
 
 use crate::frames::{FETCH, FETCHED, OfSecond, PRODUCE, PRODUCED};
 use crate::meeting::StandingClock;

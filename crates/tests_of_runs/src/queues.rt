@@ -1,6 +1,6 @@
 //! A queue of links with two passes.
 
-use link_lanes::{AnyLink, LinkQueue, Numbered};
+use outside::shared::queue::{AnyLink, LinkQueue, Numbered};
 use std::test::*;
 
 fn numbered(number: u64) -> Numbered<u64> {

@@ -2,8 +2,8 @@ use Rattle.std.proofs.Common.{◌≡◌, ◌∙◌, false, List, [], ◌∷◌, 
 use Rattle.std.proofs.lemmas.List.{append_assoc, map-append}
 use Rattle.std.proofs.lemmas.List.Elements.{All-push}
 use Rattle.std.specs.Vec.Iter.{into_iter_items}
-use Rattle.link_lanes.specs.queue.Passes.{joined}
-use Rattle.link_lanes.specs.queue.QueueViews as queue
+use Rattle.outside.specs.shared.queue.Passes.{joined}
+use Rattle.outside.specs.shared.queue.QueueViews as queue
 use Rattle.link_lanes.specs.Halls.{LaneView, ServerView}
 use Rattle.link_lanes.proofs.Dismissed.{one_more}
 use Rattle.link_lanes.proofs.gathering.gather.Goals as goal

@@ -1,10 +1,10 @@
 use Rattle.std.proofs.Common.{◌∙◌, ℕ, ap, arith, length, map, refl, sym}
-use Rattle.link_lanes.specs.port.Fresh as port_fresh
-use Rattle.link_lanes.specs.queue.QueueViews as queue
+use Rattle.outside.specs.shared.port.Fresh as port_fresh
+use Rattle.outside.specs.shared.queue.QueueViews as queue
 use Rattle.link_lanes.specs.Made.{new_lane, seated, with_fewer_parts}
 use Rattle.link_lanes.proofs.Made.{as_many_new, seated_so}
 use Rattle.link_lanes.proofs.runs.begin.Goals as goal
-use Rattle.session.specs.clock.Fresh as clock_fresh
+use Rattle.outside.specs.shared.clock.Fresh as clock_fresh
 use Rattle.shared_broker.specs.Making as broker_making
 
 pub seat_lanes-requires : goal.seat_lanes-requires

@@ -11,8 +11,8 @@ use Rattle.std.specs.contracts.alloc.Global as Global
 use Rattle.std.specs.contracts.sync.atomic.AtomicBool as AtomicBool
 use Rattle.shared_broker.proofs.Laws.{pass_is_send}
 use Rattle.shared_broker.specs.contracts.pass.Pass as Pass
-use Rattle.session.proofs.clock.clock_pass.ClockPass.TheSendSync as seat
-use Rattle.session.specs.contracts.clock.clock_pass.ClockPass as ClockPass
+use Rattle.outside.proofs.shared.clock.clock_pass.ClockPass.TheSendSync as seat
+use Rattle.outside.specs.contracts.shared.clock.clock_pass.ClockPass as ClockPass
 use Rattle.tests_of_runs.proofs.meeting.StandingClock.TheSendSync as standing
 use Rattle.tests_of_runs.specs.contracts.meeting.StandingClock as StandingClock
 use Rattle.tests_of_runs.specs.contracts.meeting.StandingClockClock.TheImpl.{ghosts}

@@ -1,8 +1,8 @@
 use Rattle.std.proofs.Common.{◌≡◌, All, subst, sym}
-use Rattle.link_lanes.specs.port.PortViews as port
+use Rattle.outside.specs.shared.port.PortViews as port
 use Rattle.link_lanes.specs.Halls.{HallView}
 use Rattle.link_lanes.proofs.hall.Hall.close_with.Goals as goal
-use Rattle.session.specs.clock.ClockViews as clock
+use Rattle.outside.specs.shared.clock.ClockViews as clock
 use Rattle.shared_broker.specs.Passes as broker
 
 pub close_outside-requires-clause-keys : goal.close_outside-requires-clause-keys

@@ -1,5 +1,0 @@
-use Rattle.link_lanes.proofs.queue.Keeping.{learns}
-use Rattle.link_lanes.proofs.queue.link_queue.LinkQueue.settle.Goals as goal
-
-pub learn_as-requires-clause-rule : goal.learn_as-requires-clause-rule
-learn_as-requires-clause-rule g c = learns g.N.Condition.fits _ _

@@ -1,0 +1,13 @@
+use Rattle.std.proofs.Common.{◌≡◌, ◌+◌, length}
+use Rattle.std.specs.Vec.Iter.{into_iter_items, into_iter_len}
+use Rattle.atomic_table.specs.Seated.{TableId}
+use Rattle.outside.specs.shared.clock.Fresh.{fresh_passes}
+use Rattle.outside.specs.shared.clock.Keys.{AreFreshFrom}
+use Rattle.outside.proofs.shared.clock.making.clock_passes.Given as goal
+
+abbrev pub invariant-loop-key : goal.invariant-loop-key
+invariant-loop-key g l = record {
+  len : into_iter_len l.key-iterator ≡ length (into_iter_items l.key-iterator);
+  count : length l.passes + length (into_iter_items l.key-iterator) ≡ length l.fn.keys;
+  each : (id : TableId) → AreFreshFrom id 0 l.fn.keys → AreFreshFrom id (length l.passes) (into_iter_items l.key-iterator) × (l.passes ≡ fresh_passes id (length l.passes));
+}
