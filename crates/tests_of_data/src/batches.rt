@@ -1,10 +1,8 @@
 //! Batches that are read and written, and those that each fault refuses. Their checksums were made apart from this repository's crates.
 
 use crate::samples::{FULL, ONE, THREE};
-use kbatch::{
-    Batch, BatchFault, BatchView, Record, WriteFault, crc32c, read_batch, view_batch, write_batch,
-};
-use kbytes::{Bytes, List, NoMemory, copied, put_i8, put_i16, put_i32, put_i64, put_u32};
+use kbatch::{BatchFault, Record, WriteFault, crc32c, read_batch, view_batch, write_batch};
+use kbytes::{Bytes, List, NoMemory, copied, put_i8, put_i16, put_i32, put_u32};
 use std::alloc::Global;
 use std::test::*;
 
@@ -28,25 +26,33 @@ fn crcs(rt: HostRuntime) {
 
 const READ: &[(&[u8], u32)] = &[(&ONE, 1), (&THREE, 3), (&FULL, 2)];
 
-#[test]
-fn batches_are_read(rt: HostRuntime) {
-    for (bytes, count) in READ {
-        let batch = read_batch(rt.alloc(), bytes).expect(&rt, "a batch");
-        assert!(rt; (batch.bytes(), batch.count()) == (*bytes, *count));
+// Whether these bytes are read as a batch of so many records, and copied.
+fn is_read(alloc: Global, bytes: &[u8], count: u32) -> bool {
+    let Ok(batch) = read_batch(alloc, bytes) else {
+        return false;
+    };
+    let Ok(copy) = batch.copy(alloc) else {
+        return false;
+    };
+    copy.bytes() == bytes && copy.count() == count
+}
+
+// Whether they are viewed so, and copied.
+fn is_viewed(alloc: Global, bytes: &[u8], count: u32) -> bool {
+    let Ok(view) = view_batch(bytes) else {
+        return false;
+    };
+    match view.copy(alloc) {
+        Ok(copy) => copy.bytes() == bytes && view.count() == count,
+        Err(_) => false,
     }
 }
 
-fn copied_twice(alloc: Global, view: &BatchView<'_>) -> Result<Batch, NoMemory> {
-    let copy = view.copy(alloc)?;
-    copy.copy(alloc)
-}
-
 #[test]
-fn a_batch_is_viewed_and_copied(rt: HostRuntime) {
-    let view = view_batch(&THREE).expect(&rt, "a batch");
-    assert!(rt; (view.count(), view.bytes()) == (3, THREE.as_slice()));
-    let copy = copied_twice(rt.alloc(), &view).expect(&rt, "memory");
-    assert!(rt; copy.view().bytes() == THREE.as_slice());
+fn batches_are_read(rt: HostRuntime) {
+    for (bytes, count) in READ {
+        assert!(rt; is_read(rt.alloc(), bytes, *count) && is_viewed(rt.alloc(), bytes, *count));
+    }
 }
 
 #[test]
@@ -57,7 +63,6 @@ fn base_offset_and_epoch_are_stamped(rt: HostRuntime) {
         0x11u8, 0x22, 0x33, 0x44, 0x55, 0x66, 0x77, 0x88, 0, 0, 0, 0x53, 0, 0, 0, 0,
     ];
     assert!(rt; batch.bytes().starts_with(&stamp) && batch.bytes().ends_with(&FULL[16..]));
-    assert!(rt; batch.bytes().len() == FULL.len());
 }
 
 // The parts in which bytes that are no batch differ from those of `ONE`.
@@ -207,62 +212,31 @@ const REFUSED: &[(Shape, BatchFault)] = &[
     ),
 ];
 
-fn put_front(out: &mut Bytes, shape: &Shape) -> Result<(), NoMemory> {
-    let (base, epoch) = (0, 0);
-    put_i64(out, base)?;
+fn spell(out: &mut Bytes, shape: &Shape) -> Result<(), NoMemory> {
+    out.extend(&[0; 8])?;
     put_i32(out, shape.length)?;
-    put_i32(out, epoch)?;
+    out.extend(&[0; 4])?;
     put_i8(out, shape.magic)?;
     put_u32(out, shape.crc)?;
     put_i16(out, shape.attributes)?;
-    put_i32(out, shape.last)
-}
-
-fn put_times(out: &mut Bytes) -> Result<(), NoMemory> {
-    let (first, latest) = (0, 0);
-    put_i64(out, first)?;
-    put_i64(out, latest)
-}
-
-fn put_producer(out: &mut Bytes) -> Result<(), NoMemory> {
-    let (producer, epoch, sequence) = (-1, -1, -1);
-    put_i64(out, producer)?;
-    put_i16(out, epoch)?;
-    put_i32(out, sequence)
-}
-
-fn spell(out: &mut Bytes, shape: &Shape) -> Result<(), NoMemory> {
-    put_front(out, shape)?;
-    put_times(out)?;
-    put_producer(out)?;
+    put_i32(out, shape.last)?;
+    out.extend(&[0; 16])?;
+    out.extend(&[0xff; 14])?;
     put_i32(out, shape.count)?;
     out.extend(shape.records)
 }
 
-#[test]
-fn a_shape_is_spelled(rt: HostRuntime) {
-    let mut out = Bytes::new(rt.alloc());
-    assert!(rt; spell(&mut out, &PLAIN).is_ok() && out.as_slice() == ONE.as_slice());
+// Why the bytes of the shape are no batch.
+fn fault_of(alloc: Global, shape: &Shape) -> Option<BatchFault> {
+    let mut out = Bytes::new(alloc);
+    spell(&mut out, shape).ok()?;
+    read_batch(alloc, out.as_slice()).err()
 }
 
 #[test]
 fn faults_in_order(rt: HostRuntime) {
     for (shape, want) in REFUSED {
-        let mut out = Bytes::new(rt.alloc());
-        assert!(rt; spell(&mut out, shape).is_ok());
-        assert!(rt; view_batch(out.as_slice()).err() == Some(*want));
-    }
-}
-
-#[test]
-fn bytes_of_another_length_are_refused(rt: HostRuntime) {
-    let large = vec![in rt.alloc(); 0u8; 1_048_589].expect(&rt, "memory");
-    for (bytes, want) in [
-        (large.as_slice(), BatchFault::TooLarge { len: 1_048_589 }),
-        (&ONE[..60], BatchFault::Short),
-        (&ONE[..68], BatchFault::Length { kept: 57 }),
-    ] {
-        assert!(rt; read_batch(rt.alloc(), bytes).err() == Some(want));
+        assert!(rt; fault_of(rt.alloc(), shape) == Some(*want));
     }
 }
 
@@ -278,21 +252,29 @@ fn of_value(alloc: Global, value: &[u8]) -> Result<Record, NoMemory> {
     })
 }
 
-fn of_values(alloc: Global, values: &[&[u8]]) -> Result<List<Record>, NoMemory> {
+// Whether records of these values are written as these bytes.
+fn is_written(alloc: Global, values: &[&[u8]], bytes: &[u8]) -> bool {
     let mut records = List::new(alloc);
     for value in values {
-        records.push(of_value(alloc, value)?)?;
+        let Ok(record) = of_value(alloc, value) else {
+            return false;
+        };
+        if records.push(record).is_err() {
+            return false;
+        }
     }
-    Ok(records)
+    match write_batch(alloc, records.as_slice()) {
+        Ok(batch) => batch.bytes() == bytes,
+        Err(_) => false,
+    }
 }
+
+const WRITTEN: &[(&[&[u8]], &[u8])] = &[(&[b"a"], &ONE), (&[b"a", b"b", b"c"], &THREE)];
 
 #[test]
 fn batches_are_written(rt: HostRuntime) {
-    let values: [&[u8]; 3] = [b"a", b"b", b"c"];
-    for (count, want) in [(1, ONE.as_slice()), (3, &THREE)] {
-        let records = of_values(rt.alloc(), &values[..count]).expect(&rt, "memory");
-        let batch = write_batch(rt.alloc(), records.as_slice()).expect(&rt, "a batch");
-        assert!(rt; batch.bytes() == want);
+    for (values, bytes) in WRITTEN {
+        assert!(rt; is_written(rt.alloc(), values, bytes));
     }
 }
 
@@ -309,20 +291,25 @@ fn is_second_of_full(record: &Record) -> bool {
     record.attributes == 0 && record.time == 1 << 40 && record.value.is_none()
 }
 
+// Whether they are those of `FULL`, and written again as they were. The latest time is 2^40.
+fn are_of_full(alloc: Global, records: &[Record]) -> bool {
+    let [first, second] = records else {
+        return false;
+    };
+    match write_batch(alloc, records) {
+        Ok(again) => is_first_of_full(first)
+            && is_second_of_full(second)
+            && again.bytes().ends_with(&FULL[61..])
+            && again.bytes().get(35..43) == Some([0u8, 0, 1, 0, 0, 0, 0, 0].as_slice()),
+        Err(_) => false,
+    }
+}
+
 #[test]
 fn what_records_hold_is_read_and_written_again(rt: HostRuntime) {
     let batch = read_batch(rt.alloc(), &FULL).expect(&rt, "a batch");
     let records = batch.records(rt.alloc()).expect(&rt, "memory");
-    assert!(rt;
-        matches!(
-            records.as_slice(),
-            [first, second] if is_first_of_full(first) && is_second_of_full(second)
-        )
-    );
-    let again = write_batch(rt.alloc(), records.as_slice()).expect(&rt, "memory");
-    assert!(rt; again.bytes().ends_with(&FULL[61..]));
-    // the latest time is 2^40
-    assert!(rt; again.bytes().get(35..43) == Some([0u8, 0, 1, 0, 0, 0, 0, 0].as_slice()));
+    assert!(rt; are_of_full(rt.alloc(), records.as_slice()));
 }
 
 fn of_length(alloc: Global, length: usize) -> Result<Record, NoMemory> {
@@ -339,8 +326,10 @@ fn size_of_one(alloc: Global, length: usize) -> Result<usize, WriteFault> {
 
 #[test]
 fn a_batch_has_1048588_bytes_at_most(rt: HostRuntime) {
-    assert!(rt; size_of_one(rt.alloc(), 1_048_516) == Ok(1_048_588));
     let fault = WriteFault::TooLarge { bytes: 1_048_589 };
+    assert!(rt; size_of_one(rt.alloc(), 1_048_516) == Ok(1_048_588));
     assert!(rt; size_of_one(rt.alloc(), 1_048_517) == Err(fault));
-    assert!(rt; write_batch(rt.alloc(), &[]).err() == Some(WriteFault::NoRecords));
+    let large = vec![in rt.alloc(); 0u8; 1_048_589].expect(&rt, "memory");
+    let fault = BatchFault::TooLarge { len: 1_048_589 };
+    assert!(rt; view_batch(large.as_slice()).err() == Some(fault));
 }

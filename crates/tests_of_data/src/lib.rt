@@ -3,9 +3,13 @@
 #![tactic(auto)]
 
 #[cfg(test)]
+mod accounts;
+#[cfg(test)]
 mod answers;
 #[cfg(test)]
 mod batches;
+#[cfg(test)]
+mod clocks;
 #[cfg(test)]
 mod fields;
 #[cfg(test)]
@@ -13,11 +17,11 @@ mod followers;
 #[cfg(test)]
 mod frames;
 #[cfg(test)]
+mod links;
+#[cfg(test)]
 mod loads;
 #[cfg(test)]
 mod logs;
-#[cfg(test)]
-mod replicas;
 #[cfg(test)]
 mod samples;
 #[cfg(test)]

@@ -7,9 +7,6 @@ use std::test::*;
 use storm::{MOST_REQUESTS, storm};
 use trace_file::put_line;
 
-const FIRST: &[u8] =
-    b"topic storm 8 1\nbytes 0 0000007d0000000300000000ffffffffffff0000004f00000001000573746f726d0000000100000000000000540000000000000000000000480000000002a33a03d400000000000000000000000000000000000000000000ffffffffffffffffffffffffffff000000012c00000001203030303030303030303030303030303000\nclock 10\nend\n";
-
 // A seed, a number of requests, and the size and the CRC-32C of the text.
 const LOADS: &[(u64, u32, usize, u32)] = &[
     (7, 1, 296, 0xF35C5EFC),
@@ -28,12 +25,6 @@ fn text(alloc: Global, seed: u64, n: u32) -> Result<Bytes, NoMemory> {
         }
     }
     Ok(text)
-}
-
-#[test]
-fn one_request(rt: HostRuntime) {
-    let text = text(rt.alloc(), 7, 1).expect(&rt, "memory");
-    assert!(rt; text.as_slice() == FIRST);
 }
 
 #[test]

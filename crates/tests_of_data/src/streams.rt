@@ -6,8 +6,8 @@ use outside::{Failed, MemSink, MemSource, Sink, Source, StdSink, StdSource};
 use std::alloc::Global;
 use std::test::*;
 
-// The reads or writes of these numbers fail.
-fn failing(alloc: Global, numbers: &[u64]) -> Result<List<u64>, NoMemory> {
+/// The calls of these numbers fail.
+pub(crate) fn failing(alloc: Global, numbers: &[u64]) -> Result<List<u64>, NoMemory> {
     let mut list = List::new(alloc);
     for number in numbers {
         list.push(*number)?;

@@ -1,9 +1,8 @@
 -- Passes and sources of a room, and what is so of them between two calls.
-use Rattle.std.specs.Prelude.{◌≡◌, Bool, true, false, List, All, length}
+use Rattle.std.specs.Prelude.{◌≡◌, Bool, true, false, List, All}
 use Rattle.room_core.specs.declared.parts.Stage.{Stage}
 use Rattle.room_core.specs.State.{Caller}
 use Rattle.room_table.specs.Seats.{SourceView, caller_now}
-use Rattle.purgatory.specs.Ends.{IsSettled}
 use Rattle.purgatory.specs.Going.{OwesNothing}
 use Rattle.purgatory.specs.Rooms.{IsOfRoom, IsSourceOf, PassView, RoomView}
 
@@ -32,16 +31,3 @@ pub record CrewView : Type 0 where
 pub record IsCrewOf (room : RoomView) (crew : CrewView) : Type 0 where
   pub passes : All (IsOfRoom room) crew.passes
   pub sources : All (IsSourceOf room) crew.sources
-
--- all passes and sources of the room, by which its end may be asked for
-pub record IsWhole (room : RoomView) (passes : List PassView) (sources : List SourceView) : Type 0 where
-  pub all_passes : length passes ≡ room.table.shape.passes
-  pub settled : All (IsSettled room) passes
-  pub all_sources : length sources ≡ room.table.shape.gauges
-  pub made : All (IsSourceOf room) sources
-
--- a pass that has read gauges, and else is as it was
-pub record HasOnlyRead (old new : Caller) : Type 0 where
-  pub stage : new.stage ≡ old.stage
-  pub generation : new.generation ≡ old.generation
-  pub owed : new.owed ≡ old.owed

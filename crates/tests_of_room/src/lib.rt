@@ -4,8 +4,6 @@
 #[cfg(test)]
 mod machine;
 #[cfg(test)]
-mod operations;
-#[cfg(test)]
 mod rooms;
 #[cfg(test)]
 mod shards;

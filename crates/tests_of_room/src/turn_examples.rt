@@ -1,4 +1,4 @@
-//! How a value is put behind a turn lock: one with a history, and one without entries.
+//! How a value with a history is put behind a turn lock.
 ghost use Rattle.std.specs.Prelude.{◌≡◌, ℕ, ◌/◌, [], ◌∷◌, ◌++◌, ◌^◌, ◌<◌, length, All, IfOk, OnErr, OnOk, vec_len};
 ghost use Rattle.turn_lock.specs.AddedBy.{AddedBy};
 ghost use Rattle.turn_lock.specs.Locks.{known, lock_id, lock_name, AreFresh, IsPassOf, IsReady};
@@ -87,25 +87,4 @@ pub fn numbered(
         all.push(NumberedPass { number, pass })?;
     }
     Ok(all)
-}
-
-/// A numbered shelf: what lies on it is nobody's history, and its number is its name.
-#[derive(Drop)]
-pub struct Shelf {
-    pub number: u64,
-    pub items: Vec<u64>,
-}
-
-impl Kept for Shelf {
-    type Entry = ();
-
-    ghost entries = { λ s. [] };
-
-    ghost by = { λ e. 0 };
-
-    ghost name = { λ s. s.number ∷ [] };
-
-    fn count(&self) -> u64 {
-        0
-    }
 }

@@ -3,7 +3,7 @@ ghost use Rattle.std.specs.Prelude.{◌≡◌, ℕ, ◌+◌, ◌*◌, ◌/◌, �
 ghost use Rattle.turn_lock.specs.Locks.{known, lock_id, lock_name, lock_passes, AreFresh, IsPassOf, IsReady};
 ghost use Rattle.tests_of_room.specs.Numbered.{IsNumbered};
 
-use crate::turn_examples::{NumberedPass, Numbers, Shelf, add_one, numbered};
+use crate::turn_examples::{NumberedPass, Numbers, add_one, numbered};
 use kbytes::{List, NoMemory};
 use std::alloc::Global;
 use std::sync::Wait;
@@ -109,21 +109,4 @@ fn a_take_in_mid_run(rt: HostRuntime) {
     let numbers = turn.take();
     assert!(rt; (added, count) == (Ok(()), 2));
     assert!(rt; numbers.items.as_slice() == [5u64, 6].as_slice());
-}
-
-#[test]
-fn a_value_without_entries(rt: HostRuntime) {
-    let shelf = Shelf {
-        number: 7,
-        items: Vec::from_elem(rt.alloc(), 3, 2).expect(&rt, "memory"),
-    };
-    let (lock, passes) = TurnLock::make(rt.alloc(), shelf, 1).expect(&rt, "memory");
-    let mut pass = only_pass(&lock, passes).expect(&rt, "a pass");
-    let mut turn = lock.turn(&rt, &mut pass);
-    let item = turn.value_mut().items.pop();
-    lock.end(&mut pass, turn);
-    let mut passes = List::new(rt.alloc());
-    assert!(rt; passes.push(pass).is_ok());
-    let shelf = lock.close(passes);
-    assert!(rt; (item, shelf.number, shelf.items.len()) == (Some(3), 7, 1));
 }

@@ -48,19 +48,3 @@ fn an_entry_is_put_again(rt: HostRuntime) {
     let taken = (wheels.insert(3, 20), wheels.where_is(3), wheels.remove(3));
     assert!(rt; taken == (false, None, false));
 }
-
-// The run that the head of `timing_wheel` follows: up to each moment, and the place after it.
-#[test]
-fn a_deadline_falls_through_three_levels(rt: HostRuntime) {
-    let mut wheels = Wheels::new(rt.alloc(), 2).expect(&rt, "memory");
-    let mut due = Due::new(rt.alloc(), 2).expect(&rt, "memory");
-    assert!(rt; wheels.insert(1, 1_234) && is_at(&wheels, 1, 2, 3));
-    wheels.pop_due(1_200, &mut due);
-    assert!(rt; due.ids().is_empty() && is_at(&wheels, 1, 1, 1));
-    wheels.pop_due(1_220, &mut due);
-    assert!(rt; due.ids().is_empty() && is_at(&wheels, 1, 0, 14));
-    wheels.pop_due(1_233, &mut due);
-    assert!(rt; due.ids().is_empty());
-    wheels.pop_due(1_234, &mut due);
-    assert!(rt; due.ids() == [1u32].as_slice());
-}

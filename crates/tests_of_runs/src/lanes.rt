@@ -3,23 +3,39 @@ ghost use Rattle.std.specs.Prelude.{◌≡◌, ◌≤◌, [], Some, IfOk, All};
 ghost use Rattle.outside.specs.Wire.{IsNewWire};
 ghost use Rattle.outside.specs.shared.port.History.{IsNewPort};
 
-use crate::frames::{FETCH, FETCHED, OfSecond, PRODUCE, PRODUCED};
-use crate::meeting::StandingClock;
-use crate::memory::{failing, link_of};
-use crate::rooms::config;
+use crate::frames::{FETCH, FETCHED, PRODUCE, PRODUCED};
 use crate::slow_link::SlowLink;
 use crate::slow_port::SlowPort;
+use crate::standing_clock::StandingClock;
 use audit::print_serve;
-use kbytes::{Bytes, List, NoMemory};
+use kbytes::{Bytes, List, NoMemory, copied};
+use kwire::Config;
 use link_lanes::{LaneRun, MOST_LANES, Serving, serve_links, served_accounts_are_printable};
 use outside::{Clock, MemClock, MemLink, MemPort, Port};
 use std::alloc::Global;
-use std::process::Abort;
 use std::sync::Wait;
 use std::sync::atomic::AtomicBool;
 use std::test::*;
 use std::thread::Threads;
 use std::time;
+
+// The topic `t` with two partitions.
+fn config(alloc: Global) -> Result<Config, NoMemory> {
+    let mut config = Config::new(alloc, 9092);
+    match config.add(b"t", 2, 0, 1) {
+        Ok(()) => Ok(config),
+        Err(_) => Err(NoMemory),
+    }
+}
+
+// The calls of these numbers fail.
+fn failing(alloc: Global, numbers: &[u64]) -> Result<List<u64>, NoMemory> {
+    let mut list = List::new(alloc);
+    for number in numbers {
+        list.push(*number)?;
+    }
+    Ok(list)
+}
 
 // A run over a port and a clock, and what is printed of it.
 #[derive(Drop)]
@@ -81,7 +97,12 @@ impl Sent<'_> {
     fn link(&self, alloc: Global) -> Result<MemLink, NoMemory>
         ensures { IfOk result (λ link. IsNewWire link) }
     {
-        link_of(alloc, self.bytes, 200, self.fails)
+        MemLink::new(
+            alloc,
+            copied(alloc, self.bytes)?,
+            200,
+            failing(alloc, self.fails)?,
+        )
     }
 }
 
@@ -91,7 +112,6 @@ struct Case<'a> {
     links: &'a [Sent<'a>],
     // the numbers of the calls of the port that fail
     fails: &'a [u64],
-    lanes: u32,
     most: u64,
     has_failed: bool,
     // how many links were handed back
@@ -125,35 +145,20 @@ impl Case<'_> {
         port.pop_retired().is_none()
     }
 
-    // What doesn't come as it should.
-    fn lacks<R: Threads + Wait + Sync>(
-        &self,
-        rt: &R,
-        alloc: Global,
-    ) -> Result<Option<&'static str>, NoMemory> {
-        if self.lanes == 0 || self.lanes > MOST_LANES {
-            return Ok(Some("the number of lanes"));
+    // Whether two lanes serve the links so.
+    fn is_served<R: Threads + Wait + Sync>(&self, rt: &R, alloc: Global) -> bool {
+        let Ok(port) = self.port(alloc) else {
+            return false;
+        };
+        match tell(rt, alloc, port, MemClock::new(0, 1), serving(2, self.most)) {
+            Ok(Told { run, text }) => {
+                text.as_slice() == self.text.as_bytes()
+                    && run.has_failed == self.has_failed
+                    && self.comes_back(run.port)
+            }
+            Err(_) => false,
         }
-        let port = self.port(alloc)?;
-        let serving = serving(self.lanes, self.most);
-        let Told { run, text } = tell(rt, alloc, port, MemClock::new(0, 1), serving)?;
-        if text.as_slice() != self.text.as_bytes() {
-            return Ok(Some("the print"));
-        }
-        if run.has_failed != self.has_failed {
-            return Ok(Some("the port's fault"));
-        }
-        if !self.comes_back(run.port) {
-            return Ok(Some("the links"));
-        }
-        Ok(None)
     }
-}
-
-// Serves the links, and fails with what is lacking.
-fn serve<R: Abort + Threads + Wait + Sync>(rt: &R, alloc: Global, case: &Case<'_>) {
-    let lacking = case.lacks(rt, alloc).expect(rt, "memory");
-    assert!(rt; lacking.is_none(), "{lacking:?}");
 }
 
 const FIVE: &str = "\
@@ -176,23 +181,9 @@ part 1 end 0 high 0 batches 0 bytes 0
 done
 ";
 
-const IN_MID_FRAME: &str = "\
-link 0 calls 0 replies 0 read-fault
-link 1 calls 1 replies 1 closed
-part 0 end 0 high 0 batches 0 bytes 0
-part 1 end 0 high 0 batches 0 bytes 0
-done
-";
-
 const ONE: &str = "\
 link 0 calls 1 replies 1 closed
 part 0 end 1 high 1 batches 1 bytes 69
-part 1 end 0 high 0 batches 0 bytes 0
-done
-";
-
-const NONE: &str = "\
-part 0 end 0 high 0 batches 0 bytes 0
 part 1 end 0 high 0 batches 0 bytes 0
 done
 ";
@@ -201,26 +192,11 @@ done
 const WHOLE: Case<'static> = Case {
     links: &[A_PRODUCE; 5],
     fails: &[],
-    lanes: 2,
     most: 9,
     has_failed: false,
     given: 5,
     text: FIVE,
 };
-
-const EMPTY: Case<'static> = Case {
-    links: &[],
-    lanes: 64,
-    given: 0,
-    text: NONE,
-    ..WHOLE
-};
-
-#[test]
-fn each_link_is_served_and_comes_back_once(rt: HostRuntime) {
-    serve(&rt, rt.alloc(), &WHOLE);
-    serve(&rt, rt.alloc(), &EMPTY);
-}
 
 // The first link's first write fails and the third link's first read; no more links are asked for than may come.
 const WITH_TWO_FAULTS: Case<'static> = Case {
@@ -242,24 +218,7 @@ const WITH_TWO_FAULTS: Case<'static> = Case {
     ..WHOLE
 };
 
-#[test]
-fn a_link_that_fails_ends_alone(rt: HostRuntime) {
-    // a read fails after half a frame; a fetch waits when the input ends, and is answered once its time is over
-    let half = Sent {
-        bytes: &PRODUCE[..55],
-        fails: &[1],
-    };
-    let ends = Case {
-        links: &[half, A_FETCH],
-        most: 2,
-        given: 2,
-        text: IN_MID_FRAME,
-        ..WHOLE
-    };
-    serve(&rt, rt.alloc(), &WITH_TWO_FAULTS);
-    serve(&rt, rt.alloc(), &ends);
-}
-
+// An accept fails after the first link.
 const ACCEPT_FAILS: Case<'static> = Case {
     links: &[A_PRODUCE; 3],
     fails: &[2],
@@ -269,18 +228,11 @@ const ACCEPT_FAILS: Case<'static> = Case {
     ..WHOLE
 };
 
-const OPENING_FAILS: Case<'static> = Case {
-    fails: &[0],
-    given: 0,
-    text: NONE,
-    ..ACCEPT_FAILS
-};
-
-// An accept fails after the first link, and an opening.
 #[test]
-fn a_port_that_fails_ends_the_run(rt: HostRuntime) {
-    serve(&rt, rt.alloc(), &ACCEPT_FAILS);
-    serve(&rt, rt.alloc(), &OPENING_FAILS);
+fn links_are_served_and_come_back_once(rt: HostRuntime) {
+    for case in [WHOLE, WITH_TWO_FAULTS, ACCEPT_FAILS] {
+        assert!(rt; case.is_served(&rt, rt.alloc()), "{}", case.text);
+    }
 }
 
 const MET: &str = "\
@@ -288,15 +240,6 @@ link 0 calls 1 replies 1 closed
 link 1 calls 1 replies 1 closed
 part 0 end 1 high 1 batches 1 bytes 69
 part 1 end 0 high 0 batches 0 bytes 0
-done
-";
-
-const MET_BESIDE_A_FAULT: &str = "\
-link 0 calls 1 replies 1 write-fault
-link 1 calls 1 replies 1 closed
-link 2 calls 1 replies 1 closed
-part 0 end 1 high 1 batches 1 bytes 69
-part 1 end 1 high 1 batches 1 bytes 69
 done
 ";
 
@@ -310,79 +253,47 @@ fn slow<'a, R>(
     Ok(SlowLink {
         rt,
         inner: sent.link(alloc)?,
-        most: 200,
         is_due,
         faults: 0,
     })
 }
 
-// The first link fetches and waits. The second produces, once the clock was let rest, which is while the fetch waits.
+// Two links, the last first.
+fn both<'a, R>(
+    rt: &'a R,
+    alloc: Global,
+    is_due: &'a AtomicBool,
+    has_rested: &'a AtomicBool,
+) -> Result<Vec<SlowLink<'a, R>>, NoMemory> {
+    let mut links = Vec::new(alloc);
+    links.push(slow(rt, alloc, A_PRODUCE, has_rested)?)?;
+    links.push(slow(rt, alloc, A_FETCH, is_due)?)?;
+    Ok(links)
+}
+
+// The first fetches and waits. The second produces, once the clock was let rest, which is while the fetch waits.
 fn meet<'a, R: Threads + Wait + time::Clock + Sync>(
     rt: &'a R,
     alloc: Global,
     is_due: &'a AtomicBool,
     has_rested: &'a AtomicBool,
-) -> Result<bool, NoMemory> {
-    let mut links = Vec::new(alloc);
-    links.push(slow(rt, alloc, A_PRODUCE, has_rested)?)?;
-    links.push(slow(rt, alloc, A_FETCH, is_due)?)?;
+) -> bool {
+    let Ok(links) = both(rt, alloc, is_due, has_rested) else {
+        return false;
+    };
     let port = SlowPort::new(alloc, links);
-    let Told { run, text } = tell(
-        rt,
-        alloc,
-        port,
-        StandingClock::new(has_rested),
-        serving(2, 2),
-    )?;
-    Ok(
-        text.as_slice() == MET.as_bytes()
+    let clock = StandingClock::new(has_rested);
+    match tell(rt, alloc, port, clock, serving(2, 2)) {
+        Ok(Told { run, text }) => text.as_slice() == MET.as_bytes()
             && run.port.was_sent(0, &FETCHED)
             && run.port.was_sent(1, &PRODUCED),
-    )
-}
-
-// The same at the other partition, beside a link whose first write fails. It comes first.
-fn meet_beside_a_fault<'a, R: Threads + Wait + time::Clock + Sync>(
-    rt: &'a R,
-    alloc: Global,
-    is_due: &'a AtomicBool,
-    has_rested: &'a AtomicBool,
-) -> Result<bool, NoMemory> {
-    let frames = OfSecond::new();
-    let mut links = Vec::new(alloc);
-    for (bytes, fails, mark) in [
-        (frames.produce.as_slice(), [].as_slice(), has_rested),
-        (&frames.fetch, &[], is_due),
-        (&PRODUCE, &[1], is_due),
-    ] {
-        links.push(slow(rt, alloc, Sent { bytes, fails }, mark)?)?;
+        Err(_) => false,
     }
-    let port = SlowPort::new(alloc, links);
-    let Told { run, text } = tell(
-        rt,
-        alloc,
-        port,
-        StandingClock::new(has_rested),
-        serving(2, 3),
-    )?;
-    Ok(
-        text.as_slice() == MET_BESIDE_A_FAULT.as_bytes()
-            && run.port.was_sent(0, &[])
-            && run.port.was_sent(1, &frames.fetched)
-            && run.port.was_sent(2, &frames.produced),
-    )
 }
 
 #[test]
 fn two_lanes_run_beside_each_other(rt: HostRuntime) {
     let is_due = AtomicBool::new(true);
     let has_rested = AtomicBool::new(false);
-    assert!(rt; meet(&rt, rt.alloc(), &is_due, &has_rested) == Ok(true));
-}
-
-#[test]
-fn a_fault_leaves_the_others_whole(rt: HostRuntime) {
-    let is_due = AtomicBool::new(true);
-    let has_rested = AtomicBool::new(false);
-    assert!(rt; meet_beside_a_fault(&rt, rt.alloc(), &is_due, &has_rested) == Ok(true));
+    assert!(rt; meet(&rt, rt.alloc(), &is_due, &has_rested));
 }

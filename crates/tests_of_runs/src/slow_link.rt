@@ -1,4 +1,4 @@
-//! A link that gives its bytes later, and in pieces.
+//! A link that gives its bytes later.
 ghost use Rattle.std.specs.Prelude.{◌≡◌, ◌≤◌, None};
 ghost use Rattle.std.specs.Io.{ReadsAtMost, WritesAtMost};
 ghost use Rattle.outside.specs.Count.{one_more};
@@ -10,12 +10,11 @@ use std::time::{Clock, Duration};
 
 const TRIES: u32 = 20_000;
 
-/// A link in memory that gives at most `most` bytes at a time, and none before `is_due`. Where that takes too long, its read fails.
+/// A link in memory that gives no bytes before `is_due`. Where that takes too long, its read fails.
 #[derive(Drop)]
 pub(crate) struct SlowLink<'a, R> {
     pub(crate) rt: &'a R,
     pub(crate) inner: MemLink,
-    pub(crate) most: usize,
     pub(crate) is_due: &'a AtomicBool,
     pub(crate) faults: u64,
 }
@@ -56,8 +55,7 @@ impl<R: Clock> Link for SlowLink<'_, R> {
         if !self.comes() {
             return Err(self.fail());
         }
-        let most = self.most.min(into.len());
-        match self.inner.read(&mut into[..most]) {
+        match self.inner.read(into) {
             Ok(count) => Ok(count),
             Err(_) => Err(self.fail()),
         }

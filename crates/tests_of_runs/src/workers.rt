@@ -1,4 +1,4 @@
-//! Workers meet, and the account of a run on one of them.
+//! Workers meet, and the account of a run on one.
 ghost use Rattle.std.specs.Prelude.{◌≤◌};
 
 use audit::{Account, Call, CallHow};
@@ -45,37 +45,19 @@ fn joined(alloc: Global, pieces: &[&str]) -> Result<Bytes, NoMemory> {
     Ok(text)
 }
 
-// On how many workers a trace runs, and whether it goes on until nobody waits.
-#[derive(Clone, Copy)]
-struct Running {
-    workers: u32,
-    drain: bool,
-}
-
-const ONE: Running = Running {
-    workers: 1,
-    drain: false,
-};
-
-const TWO: Running = Running {
-    workers: 2,
-    drain: false,
-};
-
-// Runs the trace of these pieces so.
+// Runs the trace of these pieces on so many workers.
 fn account_of<R: Threads + Wait + Sync, G: Gate + Sync>(
     rt: &R,
     alloc: Global,
     pieces: &[&str],
-    running: Running,
+    workers: u32,
     gate: &G,
 ) -> Option<Account>
-    requires { (1 ≤ running.workers) × (running.workers ≤ 16) }
+    requires { (1 ≤ workers) × (workers ≤ 16) }
 {
     let text = joined(alloc, pieces).ok()?;
     let lines = read_trace(alloc, text.as_slice(), false).ok()?;
-    let Running { workers, drain } = running;
-    run_lines(rt, alloc, lines.as_slice(), 9092, workers, drain, gate).ok()
+    run_lines(rt, alloc, lines.as_slice(), 9092, workers, false, gate).ok()
 }
 
 // The calls of the one transcript of a pass.
@@ -146,7 +128,7 @@ fn two_workers_meet(rt: HostRuntime) {
         A,
         "\nend\n",
     ];
-    let account = account_of(&rt, rt.alloc(), &pieces, TWO, &gate).expect(&rt, "memory");
+    let account = account_of(&rt, rt.alloc(), &pieces, 2, &gate).expect(&rt, "memory");
     assert!(rt; gate.alone.load(Ordering::SeqCst) == 0);
     assert!(rt; account.passes.len() == 4 && calls_of(&account, 0).len() == 2);
     assert!(rt; calls_of(&account, 1).len() == 1 && calls_of(&account, 2).len() == 1);
@@ -169,24 +151,11 @@ fn who_wins_on_one_worker(rt: HostRuntime) {
         BEHIND,
         "\nclock 100\nend\n",
     ];
-    let account = account_of(&rt, rt.alloc(), &pieces, ONE, &NoGate).expect(&rt, "memory");
+    let account = account_of(&rt, rt.alloc(), &pieces, 1, &NoGate).expect(&rt, "memory");
     assert!(rt; how_of(&account, 0, 0) == Some(CallHow::Satisfied { by: 1 }));
     assert!(rt; how_of(&account, 2, 1) == Some(CallHow::Expired { by: 16 }));
     let mut wins = [0; 21];
     wins[1] = 1;
     wins[16] = 1;
     assert!(rt; account.wins.as_slice() == wins.as_slice());
-}
-
-#[test]
-fn nobody_waits_where_a_run_is_drained(rt: HostRuntime) {
-    let pieces = [TOPIC, "bytes 0 ", FROM_0, "\nclock 30\nend\n"];
-    for (drain, how) in [
-        (false, CallHow::Parked),
-        (true, CallHow::Expired { by: 16 }),
-    ] {
-        let running = Running { workers: 1, drain };
-        let account = account_of(&rt, rt.alloc(), &pieces, running, &NoGate).expect(&rt, "memory");
-        assert!(rt; how_of(&account, 0, 0) == Some(how));
-    }
 }

@@ -2,9 +2,7 @@
 ghost use Rattle.std.specs.Prelude.{◌≡◌, ◌<◌, ◌≤◌, All, IfOk, IsTrue};
 ghost use Rattle.room_core.specs.Gauges.{clock_of};
 ghost use Rattle.room_core.specs.Numbers.{most_gauges, most_passes};
-ghost use Rattle.room_table.specs.Seats.{caller_now};
-ghost use Rattle.purgatory.specs.Ends.{IsSettled};
-ghost use Rattle.tests_of_room.specs.Crews.{HasOnlyRead, IsCrewOf, IsNewPass};
+ghost use Rattle.tests_of_room.specs.Crews.{IsCrewOf, IsNewPass};
 ghost use Rattle.purgatory.specs.Rooms.{IsOfRoom, IsSourceOf};
 
 use kbytes::{List, NoMemory};
@@ -31,18 +29,6 @@ impl Model for Hand {
     ghost view = { λ h. h.pass };
 
     ghost invariant = { λ h. IsInHand h.waits h.pass };
-}
-
-// The value of a gauge, and 0 of one that isn't there.
-fn read(room: &Room, pass: &mut RoomPass, gauge: u32) -> u64
-    requires made { IsOfRoom room.now pass.old }
-    ensures made { IsOfRoom room.now pass.new }
-    ensures kept { HasOnlyRead (caller_now pass.old.seat) (caller_now pass.new.seat) }
-{
-    if gauge >= room.gauges() {
-        return 0;
-    }
-    room.gauge(pass, gauge)
 }
 
 // Whether all needs are of the room's gauges before the clock.
@@ -97,14 +83,6 @@ impl Hand {
         requires made { IsOfRoom room.now self.now }
     {
         room.wait(rt, &self.pass, most);
-    }
-
-    // The value of a gauge.
-    fn gauge(&mut self, room: &Room, gauge: u32) -> u64
-        requires made { IsOfRoom room.now self.old }
-        ensures made { IsOfRoom room.now self.new }
-    {
-        read(room, &mut self.pass, gauge)
     }
 }
 
@@ -180,46 +158,7 @@ pub(super) fn halves(room: &Room, crew: Crew) -> Result<(Crew, Crew), NoMemory>
     Ok((Crew { hands, sources }, other))
 }
 
-fn passes_of(alloc: Global, room: &Room, hands: Vec<Hand>) -> Result<List<RoomPass>, NoMemory>
-    requires { All (IsOfRoom room.now) hands.items }
-    ensures { IfOk result (λ passes. All (IsSettled room.now) passes) }
-{
-    let mut passes = List::new(alloc);
-    for hand in hands {
-        let Hand { pass, waits: _ } = hand;
-        passes.push(pass)?;
-    }
-    Ok(passes)
-}
-
-fn listed(alloc: Global, room: &Room, all: Vec<Source>) -> Result<List<Source>, NoMemory>
-    requires { All (IsSourceOf room.now) all.items }
-    ensures { IfOk result (λ sources. All (IsSourceOf room.now) sources) }
-{
-    let mut sources = List::new(alloc);
-    for source in all {
-        sources.push(source)?;
-    }
-    Ok(sources)
-}
-
 impl Crew {
-    // Its passes and sources, out of hand.
-    pub(super) fn into_parts(
-        self,
-        alloc: Global,
-        room: &Room,
-    ) -> Result<(List<RoomPass>, List<Source>), NoMemory>
-        requires { IsCrewOf room.now self }
-        ensures passes { IfOk result (λ parts. All (IsSettled room.now) parts.0) }
-        ensures sources { IfOk result (λ parts. All (IsSourceOf room.now) parts.1) }
-    {
-        let Crew { hands, sources } = self;
-        let passes = passes_of(alloc, room, hands)?;
-        let sources = listed(alloc, room, sources)?;
-        Ok((passes, sources))
-    }
-
     // How many passes it has.
     pub(super) fn size(&self) -> usize {
         self.hands.len()
@@ -280,16 +219,5 @@ impl Crew {
         if hand < self.hands.len() {
             self.hands[hand].wait(rt, room, most);
         }
-    }
-
-    // The value of a gauge, as a pass reads it.
-    pub(super) fn gauge(&mut self, room: &Room, hand: usize, gauge: u32) -> u64
-        requires { IsCrewOf room.now self.old }
-        ensures { IsCrewOf room.now self.new }
-    {
-        if hand >= self.hands.len() {
-            return 0;
-        }
-        self.hands[hand].gauge(room, gauge)
     }
 }

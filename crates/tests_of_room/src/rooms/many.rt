@@ -12,7 +12,7 @@ use std::alloc::Global;
 use std::sync::Wait;
 use std::test::*;
 use std::thread::{Threads, map_vec};
-use std::time::Duration;
+use std::time::{Duration, Instant};
 
 const THREADS: u32 = 8;
 
@@ -21,8 +21,8 @@ const ROUNDS: u64 = 200;
 // Nobody raises the clock.
 const NEVER: u64 = 1 << 40;
 
-// A thread looks at most this many times for the end of an operation, for 10 milliseconds each time.
-const LOOKS: u32 = 3_000;
+// A thread looks at most this many times for the end of an operation, for a second each time.
+const LOOKS: u32 = 30;
 
 // Whether the operation of the first pass ends.
 fn ends(rt: &impl Wait, room: &Room, crew: &mut Crew) -> bool
@@ -33,7 +33,7 @@ fn ends(rt: &impl Wait, room: &Room, crew: &mut Crew) -> bool
         if crew.poll(room, 0).is_some() {
             return true;
         }
-        crew.wait(rt, room, 0, Duration::from_millis(10));
+        crew.wait(rt, room, 0, Duration::from_secs(1));
     }
     false
 }
@@ -123,5 +123,9 @@ fn run_in_threads<R: Threads + Wait + Sync>(rt: &R, alloc: Global) -> Result<boo
 
 #[test]
 fn eight_threads_wait_for_each_other(rt: HostRuntime) {
+    let start = Instant::now(&rt).expect(&rt, "a clock");
     assert!(rt; matches!(run_in_threads(&rt, rt.alloc()), Ok(true)));
+    // were nobody woken, each round would take a second
+    let took = start.elapsed(&rt).expect(&rt, "a clock");
+    assert!(rt; took < Duration::from_secs(100));
 }

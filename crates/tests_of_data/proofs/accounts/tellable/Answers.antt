@@ -6,8 +6,8 @@ use Rattle.audit.specs.Printable.{IsPrintable}
 use Rattle.audit.specs.Printed.{transcripts_of}
 use Rattle.audit.specs.Worked.{three_waits, fetch_one, fetch_both}
 use Rattle.account_print.specs.Tellable.{IsTellable}
-use Rattle.tests_of_runs.specs.declared.accounts.TheConstants.{FETCH_ONE, FETCH_BOTH}
-use Rattle.tests_of_runs.proofs.accounts.tellable.Goals as goal
+use Rattle.tests_of_data.specs.declared.accounts.TheConstants.{FETCH_ONE, FETCH_BOTH}
+use Rattle.tests_of_data.proofs.accounts.tellable.Goals as goal
 
 numbered_apart : (one both : List ℕ) → AllPairs (λ a b. a.number ≢ b.number) (transcripts_of (three_waits one both))
 numbered_apart one both zero zero d lt within = absurd (omega (arith, lt))

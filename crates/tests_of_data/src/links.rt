@@ -1,30 +1,13 @@
 //! Links and ports in memory, with faults where they are planned.
-ghost use Rattle.std.specs.Prelude.{◌≡◌, IfOk};
-ghost use Rattle.outside.specs.Wire.{IsNewWire};
 
+use crate::streams::failing;
 use kbytes::{List, NoMemory, copied};
 use outside::{Failed, Link, MemLink, MemPort, Port};
 use std::alloc::Global;
 use std::test::*;
 
-// The calls of these numbers fail.
-pub(crate) fn failing(alloc: Global, numbers: &[u64]) -> Result<List<u64>, NoMemory> {
-    let mut list = List::new(alloc);
-    for number in numbers {
-        list.push(*number)?;
-    }
-    Ok(list)
-}
-
-/// A link from which these bytes come, with room for `room` bytes, whose calls with these numbers fail.
-pub(crate) fn link_of(
-    alloc: Global,
-    input: &[u8],
-    room: u64,
-    fails: &[u64],
-) -> Result<MemLink, NoMemory>
-    ensures { IfOk result (λ link. IsNewWire link) }
-{
+// A link from which these bytes come, with room for `room` bytes, whose calls with these numbers fail.
+fn link_of(alloc: Global, input: &[u8], room: u64, fails: &[u64]) -> Result<MemLink, NoMemory> {
     MemLink::new(alloc, copied(alloc, input)?, room, failing(alloc, fails)?)
 }
 
@@ -80,6 +63,14 @@ fn serves(port: &mut MemPort, number: u64) -> Result<Option<u8>, Failed> {
     Ok(Some(into[0]))
 }
 
+// Whether the last retired link has this number, and these bytes were written to it.
+fn hands_back(port: &mut MemPort, number: u64, written: &[u8]) -> bool {
+    match port.pop_retired() {
+        Some((under, link)) => under == number && link.bytes() == written,
+        None => false,
+    }
+}
+
 const SERVED: &[(u64, Result<Option<u8>, Failed>)] = &[
     (5, Ok(Some(b'a'))),
     (6, Err(Failed)),
@@ -94,9 +85,6 @@ fn a_port_gives_its_links_and_fails_where_planned(rt: HostRuntime) {
     for (number, want) in SERVED {
         assert!(rt; serves(&mut port, *number) == *want);
     }
-    for (number, written) in [(7, b"b"), (5, b"a")] {
-        let (under, link) = port.pop_retired().expect(&rt, "a link");
-        assert!(rt; (under, link.bytes()) == (number, written.as_slice()));
-    }
+    assert!(rt; hands_back(&mut port, 7, b"b") && hands_back(&mut port, 5, b"a"));
     assert!(rt; port.pop_retired().is_none());
 }

@@ -1,2 +1,0 @@
--- where one session may be served
-pub mod Desks
