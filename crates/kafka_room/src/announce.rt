@@ -128,7 +128,8 @@ impl<'a, R: Net + Eprint, P: Port + Drop> SpokenPort<'a, R, P> {
                 connections,
                 ..
             },
-        ) = self.service else {
+        ) = self.service
+        else {
             return;
         };
         let (lane, connection) = (
