@@ -252,7 +252,11 @@ const UNREAD_BY_THE_SCANNER: &[Step] = &[
         who: Party::Scanner(0),
         gauge: 1,
     }),
-    Step::Wins(0, 0, 0, How::Satisfied),
+    Step::One(Leave {
+        who: Party::Scanner(0),
+        pass: 0,
+        gauge: 0,
+    }),
 ];
 
 // The scanner and the owner both win a generation once.
