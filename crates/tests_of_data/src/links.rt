@@ -1,4 +1,6 @@
 //! Links and ports in memory, with faults where they are planned.
+ghost use Rattle.std.specs.Prelude.{◌≡◌, IfOk};
+ghost use Rattle.outside.specs.Wire.{IsNewWire};
 
 use crate::streams::failing;
 use kbytes::{List, NoMemory, copied};
@@ -7,7 +9,9 @@ use std::alloc::Global;
 use std::test::*;
 
 // A link from which these bytes come, with room for `room` bytes, whose calls with these numbers fail.
-fn link_of(alloc: Global, input: &[u8], room: u64, fails: &[u64]) -> Result<MemLink, NoMemory> {
+fn link_of(alloc: Global, input: &[u8], room: u64, fails: &[u64]) -> Result<MemLink, NoMemory>
+    ensures { IfOk result (λ link. IsNewWire link) }
+{
     MemLink::new(alloc, copied(alloc, input)?, room, failing(alloc, fails)?)
 }
 

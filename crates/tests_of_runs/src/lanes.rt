@@ -114,8 +114,8 @@ struct Case<'a> {
     fails: &'a [u64],
     most: u64,
     has_failed: bool,
-    // how many links were handed back
-    given: u32,
+    // how many bytes each link that is handed back was sent: none, or a whole reply
+    sent: &'a [usize],
     text: &'a str,
 }
 
@@ -130,15 +130,17 @@ impl Case<'_> {
         MemPort::new(alloc, links, failing(alloc, self.fails)?)
     }
 
-    // Whether each link comes back once, and shut.
+    // Whether each link comes back once, shut, and was sent so much.
     fn comes_back(&self, mut port: MemPort) -> bool {
         let mut seen = [false; 8];
-        for _link in 0..self.given {
+        for _link in self.sent {
             let Some((number, link)) = port.pop_retired() else {
                 return false;
             };
+            let is_right = link.was_shut()
+                && self.sent.get(number as usize) == Some(&link.bytes().len());
             match seen.get_mut(number as usize) {
-                Some(before) if !*before && link.was_shut() => *before = true,
+                Some(before) if !*before && is_right => *before = true,
                 _ => return false,
             }
         }
@@ -194,7 +196,7 @@ const WHOLE: Case<'static> = Case {
     fails: &[],
     most: 9,
     has_failed: false,
-    given: 5,
+    sent: &[PRODUCED.len(); 5],
     text: FIVE,
 };
 
@@ -213,7 +215,7 @@ const WITH_TWO_FAULTS: Case<'static> = Case {
         A_PRODUCE,
     ],
     most: 3,
-    given: 3,
+    sent: &[0, PRODUCED.len(), 0],
     text: WITH_FAULTS,
     ..WHOLE
 };
@@ -223,7 +225,7 @@ const ACCEPT_FAILS: Case<'static> = Case {
     links: &[A_PRODUCE; 3],
     fails: &[2],
     has_failed: true,
-    given: 1,
+    sent: &[PRODUCED.len()],
     text: ONE,
     ..WHOLE
 };
