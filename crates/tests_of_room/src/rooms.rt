@@ -1,15 +1,18 @@
 //! `purgatory`, and below it `room_table`: the room's calls on one thread, and what threads come to that
 //! share it.
+ghost use Rattle.tests_of_room.specs.Crews.{IsCrewOf};
+
 mod crew;
 mod many;
 mod shards;
 
-use crew::{Rise, start};
+use crew::{Crew, Rise, start};
 use kbytes::NoMemory;
 use opcond::{Need, Op};
-use purgatory::{Done, Registered};
+use purgatory::{Done, Registered, Room};
 use room_core::How;
 use std::alloc::Global;
+use std::sync::Wait;
 use std::test::*;
 
 // Adds a need, where the operation has room for it.
@@ -31,14 +34,15 @@ fn op_of(alloc: Global, gauges: &[u32], least: u64, deadline: u64) -> Result<Op,
 }
 
 // What a pass's operation waits for, and how it ends after each of these rises.
-struct Wait {
+struct Case {
     gauges: &'static [u32],
+    // a source, its value, and what has become of the operation then
     rises: &'static [(usize, u64, Option<Done>)],
 }
 
-const WAITS: &[Wait] = &[
+const CASES: &[Case] = &[
     // under the second of two shards
-    Wait {
+    Case {
         gauges: &[3, 20],
         rises: &[
             (3, 3, None),
@@ -53,7 +57,7 @@ const WAITS: &[Wait] = &[
         ],
     },
     // at its deadline
-    Wait {
+    Case {
         gauges: &[0, 1, 2],
         rises: &[
             (39, 99, None),
@@ -69,15 +73,31 @@ const WAITS: &[Wait] = &[
     },
 ];
 
+// Whether just this becomes of the operation of the first pass, as these rise.
+fn ends_so(
+    rt: &impl Wait,
+    room: &Room,
+    crew: &mut Crew,
+    rises: &[(usize, u64, Option<Done>)],
+) -> bool
+    requires { IsCrewOf room.now crew.old }
+    ensures { IsCrewOf room.now crew.new }
+{
+    for rise in rises {
+        crew.raise(rt, room, 1, Rise::of(rise.0, rise.1));
+        if crew.poll(room, 0) != rise.2 {
+            return false;
+        }
+    }
+    true
+}
+
 #[test]
 fn operations_wait_and_end(rt: HostRuntime) {
     let (room, mut crew) = start(rt.alloc(), 40, 2).expect(&rt, "memory");
-    for wait in WAITS {
-        let op = op_of(rt.alloc(), wait.gauges, 5, 100).expect(&rt, "memory");
+    for case in CASES {
+        let op = op_of(rt.alloc(), case.gauges, 5, 100).expect(&rt, "memory");
         assert!(rt; crew.register(&rt, &room, 0, op) == Some(Registered::Parked));
-        for rise in wait.rises {
-            crew.raise(&rt, &room, 1, Rise::of(rise.0, rise.1));
-            assert!(rt; crew.poll(&room, 0) == rise.2);
-        }
+        assert!(rt; ends_so(&rt, &room, &mut crew, case.rises));
     }
 }
