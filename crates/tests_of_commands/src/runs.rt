@@ -1,5 +1,8 @@
 //! Runs over a source and a sink in memory, which may fail, and how they ended.
 
+ghost use Rattle.std.specs.Prelude.{◌≡◌, Some, IfOk};
+ghost use Rattle.outside.specs.shared.port.History.{IsNewPort};
+
 use commands::run;
 use kbytes::{Bytes, List, NoMemory};
 use outside::{MemClock, MemPort, MemSink, MemSource};
@@ -89,19 +92,46 @@ pub fn joined(alloc: Global, pieces: &[&str]) -> Result<Bytes, NoMemory> {
     Ok(text)
 }
 
-/// Runs these words on a trace, over a port without links.
-pub fn run_with<R: Threads + Wait + Sync>(
-    rt: &R,
+/// What a run plays over.
+#[derive(Drop)]
+pub struct Stage {
+    line: Vec<String>,
+    source: MemSource,
+    sink: MemSink,
+    port: MemPort,
+}
+
+// These words, a source with this text, a sink and a new port.
+fn stage_of(
     alloc: Global,
     words: &[&str],
     text: Bytes,
+    port: MemPort,
     faults: Faults<'_>,
-) -> Result<Ran, NoMemory> {
+) -> Result<Stage, NoMemory>
+    ensures { IfOk result (λ stage. stage.port ≡ port) }
+{
     let line = line_of(alloc, words)?;
-    let mut source = MemSource::new(text, numbers(alloc, faults.reads)?);
-    let mut sink = MemSink::new(alloc, faults.room, numbers(alloc, faults.writes)?)?;
-    // a replay and a storm use neither
-    let port = MemPort::new(alloc, List::new(alloc), List::new(alloc))?;
+    let source = MemSource::new(text, numbers(alloc, faults.reads)?);
+    let sink = MemSink::new(alloc, faults.room, numbers(alloc, faults.writes)?)?;
+    Ok(Stage {
+        line,
+        source,
+        sink,
+        port,
+    })
+}
+
+// Runs what stands on the stage.
+fn play<R: Threads + Wait + Sync>(rt: &R, alloc: Global, stage: Stage) -> Ran
+    requires { IsNewPort (record { faults = stage.port.plan.faults; opened_with = stage.port.opened_with; given = stage.port.given; is_ended = stage.port.is_ended; retired_count = stage.port.retired_count; retired = Some stage.port.retired }) }
+{
+    let Stage {
+        line,
+        mut source,
+        mut sink,
+        port,
+    } = stage;
     let clock = MemClock::new(0, 1);
     let exit = run(
         rt,
@@ -112,11 +142,38 @@ pub fn run_with<R: Threads + Wait + Sync>(
         port,
         clock,
     );
-    Ok(Ran {
+    Ran {
         code: exit.code,
         has_account: exit.account.is_some(),
         sink,
-    })
+    }
+}
+
+/// Runs these words on a text, over a new port.
+pub fn run_over<R: Threads + Wait + Sync>(
+    rt: &R,
+    alloc: Global,
+    words: &[&str],
+    text: Bytes,
+    port: MemPort,
+    faults: Faults<'_>,
+) -> Result<Ran, NoMemory>
+    requires { IsNewPort (record { faults = port.plan.faults; opened_with = port.opened_with; given = port.given; is_ended = port.is_ended; retired_count = port.retired_count; retired = Some port.retired }) }
+{
+    let stage = stage_of(alloc, words, text, port, faults)?;
+    Ok(play(rt, alloc, stage))
+}
+
+/// Runs these words on a trace, over a port without links: a replay and a storm use neither port nor clock.
+pub fn run_with<R: Threads + Wait + Sync>(
+    rt: &R,
+    alloc: Global,
+    words: &[&str],
+    text: Bytes,
+    faults: Faults<'_>,
+) -> Result<Ran, NoMemory> {
+    let port = MemPort::new(alloc, List::new(alloc), List::new(alloc))?;
+    run_over(rt, alloc, words, text, port, faults)
 }
 
 /// Runs the words on a trace of these pieces.

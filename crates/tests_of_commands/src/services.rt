@@ -1,9 +1,11 @@
 //! A service over a port in memory that fails as it is opened and later, whose source fails, and whose sink is full.
 
-use crate::runs::{Faults, NONE, Ran, Wanted, ended_as, joined, line_of, numbers, prefix};
-use commands::run;
+ghost use Rattle.std.specs.Prelude.{◌≡◌, Some, IfOk};
+ghost use Rattle.outside.specs.shared.port.History.{IsNewPort};
+
+use crate::runs::{Faults, NONE, Ran, Wanted, ended_as, joined, numbers, prefix, run_over};
 use kbytes::{Bytes, List, NoMemory};
-use outside::{MemClock, MemLink, MemPort, MemSink, MemSource};
+use outside::{MemLink, MemPort};
 use std::alloc::Global;
 use std::sync::Wait;
 use std::test::*;
@@ -26,7 +28,17 @@ part 0 end 0 high 0 batches 0 bytes 0\ndone\n";
 /// What is printed where there is no link.
 const NO_LINK: &[u8] = b"part 0 end 0 high 0 batches 0 bytes 0\ndone\n";
 
-// Runs the service over a port with one link, which is closed at once. The port's calls with these numbers fail: the first opens it.
+// A port with one link, which is closed at once. The port's calls with these numbers fail: the first opens it.
+fn port_of(alloc: Global, fails: &[u64]) -> Result<MemPort, NoMemory>
+    ensures { IfOk result (λ port. IsNewPort (record { faults = port.plan.faults; opened_with = port.opened_with; given = port.given; is_ended = port.is_ended; retired_count = port.retired_count; retired = Some port.retired })) }
+{
+    let link = MemLink::new(alloc, Bytes::new(alloc), 4096, List::new(alloc))?;
+    let mut links = List::new(alloc);
+    links.push(link)?;
+    MemPort::new(alloc, links, numbers(alloc, fails)?)
+}
+
+// Runs the service over such a port.
 fn run_service<R: Threads + Wait + Sync>(
     rt: &R,
     alloc: Global,
@@ -34,29 +46,9 @@ fn run_service<R: Threads + Wait + Sync>(
     fails: &[u64],
     faults: Faults<'_>,
 ) -> Result<Ran, NoMemory> {
-    let line = line_of(alloc, SERVICE)?;
     let text = joined(alloc, &[topics])?;
-    let mut source = MemSource::new(text, numbers(alloc, faults.reads)?);
-    let mut sink = MemSink::new(alloc, faults.room, numbers(alloc, faults.writes)?)?;
-    let link = MemLink::new(alloc, Bytes::new(alloc), 4096, List::new(alloc))?;
-    let mut links = List::new(alloc);
-    links.push(link)?;
-    let port = MemPort::new(alloc, links, numbers(alloc, fails)?)?;
-    let clock = MemClock::new(0, 1);
-    let exit = run(
-        rt,
-        alloc,
-        line.as_slice(),
-        &mut source,
-        &mut sink,
-        port,
-        clock,
-    );
-    Ok(Ran {
-        code: exit.code,
-        has_account: exit.account.is_some(),
-        sink,
-    })
+    let port = port_of(alloc, fails)?;
+    run_over(rt, alloc, SERVICE, text, port, faults)
 }
 
 #[test]
