@@ -101,8 +101,8 @@ pub struct Stage {
     port: MemPort,
 }
 
-// These words, a source with this text, a sink and a new port.
-fn stage_of(
+/// These words, a source with this text, a sink, and this port.
+pub fn stage_of(
     alloc: Global,
     words: &[&str],
     text: Bytes,
@@ -122,8 +122,8 @@ fn stage_of(
     })
 }
 
-// Runs what stands on the stage.
-fn play<R: Threads + Wait + Sync>(rt: &R, alloc: Global, stage: Stage) -> Ran
+/// Runs what stands on the stage, with a port that is new.
+pub fn play<R: Threads + Wait + Sync>(rt: &R, alloc: Global, stage: Stage) -> Ran
     requires { IsNewPort (record { faults = stage.port.plan.faults; opened_with = stage.port.opened_with; given = stage.port.given; is_ended = stage.port.is_ended; retired_count = stage.port.retired_count; retired = Some stage.port.retired }) }
 {
     let Stage {
@@ -149,21 +149,6 @@ fn play<R: Threads + Wait + Sync>(rt: &R, alloc: Global, stage: Stage) -> Ran
     }
 }
 
-/// Runs these words on a text, over a new port.
-pub fn run_over<R: Threads + Wait + Sync>(
-    rt: &R,
-    alloc: Global,
-    words: &[&str],
-    text: Bytes,
-    port: MemPort,
-    faults: Faults<'_>,
-) -> Result<Ran, NoMemory>
-    requires { IsNewPort (record { faults = port.plan.faults; opened_with = port.opened_with; given = port.given; is_ended = port.is_ended; retired_count = port.retired_count; retired = Some port.retired }) }
-{
-    let stage = stage_of(alloc, words, text, port, faults)?;
-    Ok(play(rt, alloc, stage))
-}
-
 /// Runs these words on a trace, over a port without links: a replay and a storm use neither port nor clock.
 pub fn run_with<R: Threads + Wait + Sync>(
     rt: &R,
@@ -173,7 +158,8 @@ pub fn run_with<R: Threads + Wait + Sync>(
     faults: Faults<'_>,
 ) -> Result<Ran, NoMemory> {
     let port = MemPort::new(alloc, List::new(alloc), List::new(alloc))?;
-    run_over(rt, alloc, words, text, port, faults)
+    let stage = stage_of(alloc, words, text, port, faults)?;
+    Ok(play(rt, alloc, stage))
 }
 
 /// Runs the words on a trace of these pieces.

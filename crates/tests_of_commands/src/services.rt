@@ -3,7 +3,7 @@
 ghost use Rattle.std.specs.Prelude.{◌≡◌, Some, IfOk};
 ghost use Rattle.outside.specs.shared.port.History.{IsNewPort};
 
-use crate::runs::{Faults, NONE, Ran, Wanted, ended_as, joined, numbers, prefix, run_over};
+use crate::runs::{Faults, NONE, Ran, Wanted, ended_as, joined, numbers, play, prefix, stage_of};
 use kbytes::{Bytes, List, NoMemory};
 use outside::{MemLink, MemPort};
 use std::alloc::Global;
@@ -48,7 +48,8 @@ fn run_service<R: Threads + Wait + Sync>(
 ) -> Result<Ran, NoMemory> {
     let text = joined(alloc, &[topics])?;
     let port = port_of(alloc, fails)?;
-    run_over(rt, alloc, SERVICE, text, port, faults)
+    let stage = stage_of(alloc, SERVICE, text, port, faults)?;
+    Ok(play(rt, alloc, stage))
 }
 
 #[test]
