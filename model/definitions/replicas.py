@@ -1,4 +1,4 @@
-"""The definitions of who is in sync, transcribed line by line from the specs of in_sync.
+"""The definitions of who is in sync, transcribed line by line from the specs of the part `in_sync` of partlog.
 
 How they are transcribed stands in `play.py`. What goes over the entries from the newest to the oldest there goes from the oldest on here,
 and keeps what each equation asks of the earlier entries: so no entry is asked for every replica again.
@@ -6,7 +6,7 @@ and keeps what each equation asks of the earlier entries: so no entry is asked f
 
 from model.definitions.requests import filter_map, record
 
-# ==== in_sync/specs/ReplicaEvent.antt
+# ==== partlog/specs/in_sync/ReplicaEvent.antt
 
 
 @record
@@ -27,7 +27,7 @@ class Left:
     t: int
 
 
-# ==== in_sync/specs/LogEnd.antt
+# ==== partlog/specs/in_sync/LogEnd.antt
 
 
 def added_by(event):
@@ -38,7 +38,7 @@ def log_end_of(events):
     return sum(map(added_by, events))
 
 
-# ==== in_sync/specs/Position.antt
+# ==== partlog/specs/in_sync/Position.antt
 
 
 def offset_by(replica, event):
@@ -53,7 +53,7 @@ def followers_among(followers):
     return range(1, 1 + followers)
 
 
-# ==== in_sync/specs/InSync.antt
+# ==== partlog/specs/in_sync/InSync.antt
 
 
 def least_among(test, followers, events):
@@ -85,7 +85,7 @@ def count_of(followers, events):
     return 1 + sum(replica in inside for replica in followers_among(followers))
 
 
-# ==== in_sync/specs/CaughtUp.antt
+# ==== partlog/specs/in_sync/CaughtUp.antt
 
 
 @record
@@ -117,7 +117,7 @@ def caught_up_of(events, replica):
     return max((0,) + moments_of(events, replica))
 
 
-# ==== in_sync/specs/Lagging.antt
+# ==== partlog/specs/in_sync/Lagging.antt
 
 MOST_LAG = 30_000
 

@@ -6,9 +6,9 @@ use Rattle.std.proofs.lemmas.List.Sums.{sum_by-append, sum_by_push}
 use Rattle.std.proofs.lemmas.Option.{slice_get-get_or, slice_get_within}
 use Rattle.std.specs.Prelude.{slice_get}
 use Rattle.std.specs.List.{range_with_len}
-use Rattle.in_sync.specs.LogEnd.{log_end_of as end_of}
-use Rattle.in_sync.specs.ReplicaEvent.{ReplicaEvent, Appended, Fetched, Left}
-use Rattle.in_sync.specs.Standings.{Standings, StandsFor, standing_of, standings_of}
+use Rattle.partlog.specs.in_sync.LogEnd.{log_end_of as end_of}
+use Rattle.partlog.specs.in_sync.ReplicaEvent.{ReplicaEvent, Appended, Fetched, Left}
+use Rattle.partlog.specs.in_sync.Standings.{Standings, StandsFor, standing_of, standings_of}
 use Rattle.partlog.proofs.Laws.{end-of-replicas, events-append}
 use Rattle.partlog.specs.declared.event.PartEvent.{PartEvent}
 use Rattle.partlog.specs.declared.event.PartEvent.TheVariants.{Append, Follow, Look, Shrink}

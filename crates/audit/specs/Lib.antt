@@ -20,6 +20,8 @@ pub mod Printable
 pub mod Worked
 -- the specification of the broker; broker.antt says what is in it
 pub mod broker
+-- what each session was sent, computed again; retelling.antt says what is in it
+pub mod retelling
 -- ==== the words of private functions
 
 -- entries of which the replicas can be told

@@ -1,6 +1,6 @@
 -- Entries of which the replicas can be told, one after the other.
 use Rattle.std.specs.Prelude.{ℕ, ◌+◌, ◌^◌, ◌≡◌, ◌<◌, ◌≤◌, ⊤, ℤ, List, length, take, Some, slice_get}
-use Rattle.in_sync.specs.Standings.{Standings}
+use Rattle.partlog.specs.in_sync.Standings.{Standings}
 use Rattle.partlog.specs.declared.event.PartEvent.{PartEvent}
 use Rattle.partlog.specs.declared.event.PartEvent.TheVariants.{Append, Follow, Look, Shrink}
 use Rattle.partlog.specs.Added.{log_end_of}

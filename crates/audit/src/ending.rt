@@ -1,4 +1,4 @@
-//! Printing the line `end S ..` when a session ends. The one-thread broker calls it while it plays, `account_print` afterwards.
+//! Printing the line `end S ..` when a session ends. The one-thread broker calls it while it plays, the part `retelling` afterwards.
 
 ghost use Rattle.std.specs.Prelude.{◌≡◌, [], ◌∷◌, ◌++◌, Some, OnOk};
 ghost use Rattle.std.specs.Fmt.{decimal, signed_decimal};

@@ -1,7 +1,8 @@
 //! The account of a run: what each session did and what each partition has, when an account is lawful, and what is printed.
 //!
 //! The layer above makes an `Account`, proves that it is lawful, and prints its summary. The brokers are held to its part `broker`: what a
-//! trace plays to on one thread, and the books that the passes of threads keep.
+//! trace plays to on one thread, and the books that the passes of threads keep. Its part `retelling` prints what each session was sent in a
+//! run with threads, computed again from the account.
 #![tactic(auto)]
 
 mod account;
@@ -11,6 +12,7 @@ mod input_end;
 mod numbers;
 mod parts;
 mod promises;
+pub mod retelling;
 mod serve_print;
 mod storm_print;
 mod summary;

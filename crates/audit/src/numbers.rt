@@ -2,16 +2,16 @@
 //! have them at hand, but the account has none.
 
 ghost use Rattle.std.specs.Prelude.{◌≡◌, ◌<◌, ◌^◌, ◌∷◌, ◌++◌, [], ℕ, pos, List, IfOk, IfSome, IfNone};
-ghost use Rattle.in_sync.specs.InSync.{high_watermark_of};
-ghost use Rattle.in_sync.specs.Standings.{StandsFor};
+ghost use Rattle.partlog.specs.in_sync.InSync.{high_watermark_of};
+ghost use Rattle.partlog.specs.in_sync.Standings.{StandsFor};
 ghost use Rattle.partlog.specs.Added.{added_count, log_end_of};
 ghost use Rattle.partlog.specs.Replicas.{replica_events};
 ghost use Rattle.partlog.specs.declared.event.PartEvent.{PartEvent as Event};
 ghost use Rattle.audit.specs.Trackable.{CanEnter, IsTrackable};
 
-use in_sync::InSync;
 use kbytes::NoMemory;
 use partlog::PartEvent;
+use partlog::in_sync::InSync;
 use std::alloc::Global;
 
 // The number of records that an entry added.

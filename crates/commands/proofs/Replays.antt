@@ -11,7 +11,7 @@ use Rattle.audit.specs.broker.Turns.{Turned}
 use Rattle.commands.specs.LinesFront.{IsLinesFront}
 use Rattle.audit.specs.broker.Play.{Plays, IsPlay}
 use Rattle.audit.specs.Printable.{IsPrintable}
-use Rattle.account_print.proofs.Laws.{printable}
+use Rattle.audit.proofs.retelling.Laws.{printable}
 use Rattle.audit.specs.Printed.{summary_of}
 use Rattle.commands.specs.Replay.{IsReplayOf, IsReplay, IsReplayFront, IsFirstBadOf, HasTrace}
 use Rattle.trace_file.specs.Contents.{configuration_of}

@@ -4,7 +4,7 @@ use Rattle.std.specs.Io.KnownBytes.{Appends, Keeps}
 use Rattle.audit.specs.declared.account.Account.{Account}
 use Rattle.audit.specs.Printable.{IsPrintable}
 use Rattle.audit.specs.Printed.{storm_summary_of}
-use Rattle.account_print.proofs.Laws.{printable}
+use Rattle.audit.proofs.retelling.Laws.{printable}
 use Rattle.storm.specs.Lines.{storm_lines}
 use Rattle.trace_file.specs.declared.line.Line.{Line}
 use Rattle.trace_file.specs.declared.line.TheConstants.{REPLAY_PORT}

@@ -4,8 +4,8 @@ use Rattle.audit.specs.declared.account.Account.{Account}
 use Rattle.trace_file.specs.declared.line.Line.{Line}
 use Rattle.trace_file.specs.declared.line.TheConstants.{REPLAY_PORT}
 use Rattle.trace_file.specs.Trace.{IsTrace}
-use Rattle.account_print.specs.Tellable.{IsTellable}
-use Rattle.account_print.proofs.Laws.{run_tellable}
+use Rattle.audit.specs.retelling.Tellable.{IsTellable}
+use Rattle.audit.proofs.retelling.Laws.{run_tellable}
 use Rattle.trace_workers.specs.WorkerRun.{IsWorkerRun}
 use Rattle.commands.specs.Worked.{IsWorked}
 

@@ -15,7 +15,7 @@ use Rattle.audit.specs.Histories.{calls_in, calls_of, history_of, points_of}
 use Rattle.audit.specs.IsLawful.{EndWell}
 use Rattle.audit.specs.IsLawful.{FollowOn as TranscriptsFollow}
 use Rattle.audit.specs.LawfulCall.{IsLawfulCall}
-use Rattle.account_print.proofs.Laws.{HasPart, part_there}
+use Rattle.audit.proofs.retelling.Laws.{HasPart, part_there}
 use Rattle.partlog.specs.Added.{log_end_of}
 use Rattle.partlog.specs.Batches.{batches_of}
 use Rattle.partlog.specs.History.{History}

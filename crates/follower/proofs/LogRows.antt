@@ -19,7 +19,7 @@ use Rattle.partlog.specs.Batches.{StoredBatch, batches_after, batches_of, next_o
 use Rattle.partlog.specs.History.{History}
 use Rattle.partlog.specs.State.{state_before}
 use Rattle.partlog.proofs.Laws.{batches-append, batches-take}
-use Rattle.account_print.specs.Playable.{CanPlay, IsPlayable, put_at}
+use Rattle.audit.specs.retelling.Playable.{CanPlay, IsPlayable, put_at}
 use Rattle.follower.specs.Logs.{IsSomeBatch, base_of, joined}
 use Rattle.follower.proofs.Stored.{AreStored, divided, rows, rows_append, stored_append, stored_grows}
 use Rattle.follower.proofs.Taking.{joined_append}

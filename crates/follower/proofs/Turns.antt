@@ -33,8 +33,8 @@ use Rattle.audit.specs.Fits.{IsReplyOf, ShowsFor}
 use Rattle.audit.specs.Histories.{before_point, history_of, no_state, points_of}
 use Rattle.audit.specs.IsLawful.{IsLawful}
 use Rattle.audit.specs.LawfulCall.{AsksLog, Completes, IsLawfulCall, IsStep, IsWholeCall, Step, shown_at, step_points}
-use Rattle.account_print.specs.Playable.{IsPlayable}
-use Rattle.account_print.proofs.Laws.{HasPart, part_there}
+use Rattle.audit.specs.retelling.Playable.{IsPlayable}
+use Rattle.audit.proofs.retelling.Laws.{HasPart, part_there}
 use Rattle.follower.specs.Asking.{IsAskable, asked_body, request_of}
 use Rattle.follower.specs.Copies.{Copy}
 use Rattle.follower.specs.CopyOf.{IsCopyOf}

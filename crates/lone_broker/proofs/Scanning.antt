@@ -8,9 +8,9 @@ use Rattle.partlog.specs.Moment.{moment_of as clock_moment}
 use Rattle.partlog.specs.State.{state_of}
 use Rattle.partlog.specs.declared.numbers.Numbers.{Numbers}
 use Rattle.kwire.specs.Configuration.{Configuration}
-use Rattle.lone_waiters.specs.Index.{Index, IsSuspect, moment_of}
-use Rattle.lone_waiters.specs.Sessions.{Has, IsLeastFrom}
-use Rattle.lone_waiters.specs.Waiting.{IsIdle}
+use Rattle.lone_broker.specs.index.Index.{Index, IsSuspect, moment_of}
+use Rattle.lone_broker.specs.index.Sessions.{Has, IsLeastFrom}
+use Rattle.lone_broker.specs.index.Waiting.{IsIdle}
 use Rattle.audit.specs.broker.Acting.{has_work, next_to_act}
 use Rattle.audit.specs.broker.Board.{Board, Seat, empty_seat, opening, seat_at}
 use Rattle.audit.specs.broker.Completing.{answered_in}

@@ -13,8 +13,8 @@ use Rattle.kanswer.specs.PartitionGauges.{end_gauge, high_gauge, visible_gauge}
 use Rattle.kanswer.specs.Reached.{gauge_in}
 use Rattle.kbytes.proofs.Laws.{get_set_other, get_set_same, same_or_not}
 use Rattle.audit.specs.declared.account.Point.{Point}
-use Rattle.lone_waiters.specs.Index.{Index, IsSuspect, WaitsFor, moment_of}
-use Rattle.lone_waiters.specs.Waiting.{Names, WaitsOn}
+use Rattle.lone_broker.specs.index.Index.{Index, IsSuspect, WaitsFor, moment_of}
+use Rattle.lone_broker.specs.index.Waiting.{Names, WaitsOn}
 use Rattle.audit.specs.broker.Board.{empty_history, history_at}
 use Rattle.lone_broker.specs.Steps.{HasPart}
 use Rattle.lone_broker.specs.Telling.{AreToldOf, AreWarned, IsToldOf, IsWarned, StayWatched}

@@ -15,9 +15,9 @@ use Rattle.opcond.specs.declared.need.Need.{Need}
 use Rattle.kanswer.specs.Reached.{gauge_in}
 use Rattle.kbytes.proofs.Laws.{same_or_not, some_is}
 use Rattle.audit.specs.declared.account.CallHow.TheVariants.{Expired, Satisfied}
-use Rattle.lone_waiters.specs.Index.{ComesBy, Index, IsSuspect, coming_of, last_of, moment_of}
-use Rattle.lone_waiters.specs.Sessions.{Has}
-use Rattle.lone_waiters.specs.Waiting.{WaitsNoMore, WaitsOn, WatchesOn}
+use Rattle.lone_broker.specs.index.Index.{ComesBy, Index, IsSuspect, coming_of, last_of, moment_of}
+use Rattle.lone_broker.specs.index.Sessions.{Has}
+use Rattle.lone_broker.specs.index.Waiting.{WaitsNoMore, WaitsOn, WatchesOn}
 use Rattle.audit.specs.broker.Acting.{can_act, has_work}
 use Rattle.audit.specs.broker.Board.{Board, Seat, empty_seat, history_at, next_call, seat_at, transcript_at}
 use Rattle.audit.specs.broker.Completing.{is_overdue_now, is_satisfied_now}

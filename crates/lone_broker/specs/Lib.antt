@@ -4,6 +4,8 @@
 pub mod Kept
 -- what it holds, as a caller meets it
 pub mod Held
+-- which sessions wait for what, and who may be answerable; index.antt says what is in it
+pub mod index
 -- ==== the words of private functions
 
 -- decisions that were carried out

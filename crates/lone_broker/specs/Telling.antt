@@ -5,8 +5,8 @@ use Rattle.partlog.specs.declared.numbers.Numbers.{Numbers}
 use Rattle.audit.specs.declared.account.Point.{Point}
 use Rattle.kanswer.specs.PartitionGauges.{partition_of}
 use Rattle.kanswer.specs.Reached.{gauge_in}
-use Rattle.lone_waiters.specs.Index.{Index, IsSuspect, WaitsFor, moment_of}
-use Rattle.lone_waiters.specs.Waiting.{WaitsOn}
+use Rattle.lone_broker.specs.index.Index.{Index, IsSuspect, WaitsFor, moment_of}
+use Rattle.lone_broker.specs.index.Waiting.{WaitsOn}
 use Rattle.lone_broker.specs.Steps.{HasPart}
 use Rattle.lone_broker.specs.Watching.{AreWatched, numbers_now, told_at}
 use Rattle.lone_broker.specs.declared.parked.Parked.{Parked}

@@ -10,9 +10,9 @@ use Rattle.opcond.specs.Operation.{Operation}
 use Rattle.opcond.specs.Tally.{tally}
 use Rattle.kanswer.specs.PartitionGauges.{partition_of}
 use Rattle.kanswer.specs.Reached.{gauge_in}
-use Rattle.lone_waiters.specs.Index.{Index, IsSuspect, WaitsFor, coming_of, last_of, moment_of}
-use Rattle.lone_waiters.specs.Sessions.{Has}
-use Rattle.lone_waiters.specs.Waiting.{Names, WaitsWith}
+use Rattle.lone_broker.specs.index.Index.{Index, IsSuspect, WaitsFor, coming_of, last_of, moment_of}
+use Rattle.lone_broker.specs.index.Sessions.{Has}
+use Rattle.lone_broker.specs.index.Waiting.{Names, WaitsWith}
 use Rattle.audit.specs.broker.Board.{empty_history, history_at, most_sessions, next_call}
 use Rattle.lone_broker.specs.Kept.{Stands, parked_at}
 use Rattle.lone_broker.specs.Steps.{is_ready}

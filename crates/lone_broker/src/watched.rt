@@ -8,9 +8,9 @@ ghost use Rattle.std.specs.Prelude.{◌≡◌, ◌≢◌, ◌∷◌, ◌<◌, �
 ghost use Rattle.kwire.specs.declared.config.TheConstants.{MOST_PARTITIONS};
 ghost use Rattle.partlog.specs.Gauges.{numbers_of};
 ghost use Rattle.partlog.specs.State.{state_of};
-ghost use Rattle.lone_waiters.specs.Index.{IsSuspect, WaitsFor, moment_of};
-ghost use Rattle.lone_waiters.specs.Sessions.{Has};
-ghost use Rattle.lone_waiters.specs.Waiting.{IsIdle, WaitsOn};
+ghost use Rattle.lone_broker.specs.index.Index.{IsSuspect, WaitsFor, moment_of};
+ghost use Rattle.lone_broker.specs.index.Sessions.{Has};
+ghost use Rattle.lone_broker.specs.index.Waiting.{IsIdle, WaitsOn};
 ghost use Rattle.audit.specs.broker.Acting.{Acts};
 ghost use Rattle.audit.specs.broker.Board.{Board, account_of, most_sessions, next_call, opening};
 ghost use Rattle.audit.specs.broker.Completing.{answered_in, scanned};
@@ -21,11 +21,11 @@ ghost use Rattle.lone_broker.specs.Telling.{AreToldOf, AreWarned, IsToldOf, IsWa
 ghost use Rattle.lone_broker.specs.Watching.{AreTold, IsTaken, IsWatched, MayWait};
 
 use crate::engine::Engine;
+use crate::index::{GAUGES, SessionSet, Waiters};
 use audit::{Account, Point};
 use kanswer::{end_gauge, high_gauge, visible_gauge};
 use kbytes::{Bytes, List, NoMemory};
 use kwire::Config;
-use lone_waiters::{GAUGES, SessionSet, Waiters};
 use partlog::{Numbers, PartLog};
 use std::alloc::Global;
 use trace_file::Line;

@@ -1,6 +1,6 @@
 -- The numbers of a history, from what the scans of it give.
 use Rattle.std.proofs.Common.{◌≡◌, ℕ, ◌≤◌, List, [], length, nat_le, arith, sym, ap, ◌∙◌}
-use Rattle.in_sync.specs.InSync.{high_watermark_of, count_of}
+use Rattle.partlog.specs.in_sync.InSync.{high_watermark_of, count_of}
 use Rattle.partlog.specs.declared.event.PartEvent.{PartEvent}
 use Rattle.partlog.specs.declared.numbers.Numbers.{Numbers}
 use Rattle.partlog.specs.Added.{log_end_of, bytes_of}

@@ -2,9 +2,9 @@
 use Rattle.std.proofs.Common.{◌≡◌, ◌⊎◌, ℕ, ℤ, zero, suc, pos, Some, List, [], ◌∷◌, ◌++◌, length, take, drop, map, filter, refl, ap, sym, subst, ◌∙◌, append-nil, append_assoc, inl, inr}
 use Rattle.std.specs.List.{range_with_len, slice_get}
 use Rattle.std.proofs.lemmas.List.{take-append-drop}
-use Rattle.in_sync.specs.ReplicaEvent.{ReplicaEvent}
-use Rattle.in_sync.specs.Lagging.{lags}
-use Rattle.in_sync.proofs.Laws.{late-first, late-rest, late-none, none-late, late-with}
+use Rattle.partlog.specs.in_sync.ReplicaEvent.{ReplicaEvent}
+use Rattle.partlog.specs.in_sync.Lagging.{lags}
+use Rattle.partlog.proofs.in_sync.Laws.{late-first, late-rest, late-none, none-late, late-with}
 use Rattle.partlog.specs.declared.event.PartEvent.{PartEvent}
 use Rattle.partlog.specs.declared.event.PartEvent.TheVariants.{Append, Follow, Look, Shrink}
 use Rattle.partlog.specs.History.{History}

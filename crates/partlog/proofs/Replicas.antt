@@ -2,10 +2,10 @@
 use Rattle.std.proofs.Common.{◌≡◌, ℕ, pos, negsuc, ◌+◌, ◌≤◌, List, [], ◌∷◌, ◌++◌, arith, ap, ◌∙◌, refl}
 use Rattle.std.proofs.lemmas.List.Elements.{filter_map-append}
 use Rattle.std.proofs.lemmas.List.Sums.{sum_by-cons}
-use Rattle.in_sync.specs.InSync.{high_watermark_of}
-use Rattle.in_sync.specs.LogEnd.{added_by, log_end_of as end_of}
-use Rattle.in_sync.specs.ReplicaEvent.{Appended, Fetched, Left}
-use Rattle.in_sync.proofs.Laws as in_sync
+use Rattle.partlog.specs.in_sync.InSync.{high_watermark_of}
+use Rattle.partlog.specs.in_sync.LogEnd.{added_by, log_end_of as end_of}
+use Rattle.partlog.specs.in_sync.ReplicaEvent.{Appended, Fetched, Left}
+use Rattle.partlog.proofs.in_sync.Laws as in_sync
 use Rattle.partlog.specs.declared.event.PartEvent.{PartEvent}
 use Rattle.partlog.specs.declared.event.PartEvent.TheVariants.{Append, Follow, Look, Shrink}
 use Rattle.partlog.specs.Added.{added_count, log_end_of}

@@ -2,10 +2,10 @@
 use Rattle.std.proofs.Common.{◌≡◌, ℕ, pos, ◌+◌, ◌≤◌, ◌<◌, ◌^◌, List, [], ◌∷◌, ◌++◌, length, take, drop, arith, sym, ap, subst, ◌∙◌, refl, append-nil}
 use Rattle.std.proofs.Math.Seq.{take-append_seam, drop-append_seam, take-length}
 use Rattle.std.proofs.lemmas.List.Sums.{sum_by-cons, sum_by_push}
-use Rattle.in_sync.specs.InSync.{high_watermark_of, count_of}
-use Rattle.in_sync.specs.ReplicaEvent.{ReplicaEvent, Appended, Fetched, Left}
-use Rattle.in_sync.specs.Standings.{Standings, StandsFor}
-use Rattle.in_sync.proofs.Laws.{count-of-all}
+use Rattle.partlog.specs.in_sync.InSync.{high_watermark_of, count_of}
+use Rattle.partlog.specs.in_sync.ReplicaEvent.{ReplicaEvent, Appended, Fetched, Left}
+use Rattle.partlog.specs.in_sync.Standings.{Standings, StandsFor}
+use Rattle.partlog.proofs.in_sync.Laws.{count-of-all}
 use Rattle.partlog.specs.declared.batch_start.BatchStart.{BatchStart}
 use Rattle.partlog.specs.declared.event.PartEvent.{PartEvent}
 use Rattle.partlog.specs.declared.event.PartEvent.TheVariants.{Append, Follow, Look, Shrink}

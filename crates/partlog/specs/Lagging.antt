@@ -1,6 +1,6 @@
 -- Who lags by a partition's history.
 use Rattle.std.specs.Prelude.{◌≡◌, ℕ, ◌≤◌, ℤ, pos, negsuc, List, Some, take, slice_get}
-use Rattle.in_sync.specs.Lagging.{Lags}
+use Rattle.partlog.specs.in_sync.Lagging.{Lags}
 use Rattle.partlog.specs.declared.event.PartEvent.{PartEvent}
 use Rattle.partlog.specs.declared.event.PartEvent.TheVariants.{Shrink}
 use Rattle.partlog.specs.Replicas.{replica_events}

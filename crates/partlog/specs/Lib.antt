@@ -42,6 +42,8 @@ pub mod Boundary
 pub mod Readable
 -- numbers none of which is smaller than it was
 pub mod Fallen
+-- who of the followers is in sync, and the high watermark that follows; in_sync.antt says what is in it
+pub mod in_sync
 -- ==== the words of private functions
 
 -- batches that follow each other

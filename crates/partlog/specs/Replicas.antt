@@ -2,7 +2,7 @@
 -- that one was taken out of the in-sync set. A look says nothing, and neither does an entry of a replica below 0.
 use Rattle.std.specs.Prelude.{pos, negsuc, List, Option, Some, None}
 use Rattle.std.specs.List.{filter_map}
-use Rattle.in_sync.specs.ReplicaEvent.{ReplicaEvent, Appended, Fetched, Left}
+use Rattle.partlog.specs.in_sync.ReplicaEvent.{ReplicaEvent, Appended, Fetched, Left}
 use Rattle.partlog.specs.declared.event.PartEvent.{PartEvent}
 use Rattle.partlog.specs.declared.event.PartEvent.TheVariants.{Append, Follow, Look, Shrink}
 

@@ -2,7 +2,7 @@
 -- moment were taken out of, the least first.
 use Rattle.std.specs.Prelude.{ℕ, ℤ, pos, List, [], ◌∷◌, ◌++◌, map, filter, take}
 use Rattle.std.specs.List.{range_with_len}
-use Rattle.in_sync.specs.Lagging.{lags}
+use Rattle.partlog.specs.in_sync.Lagging.{lags}
 use Rattle.partlog.specs.declared.event.PartEvent.{PartEvent}
 use Rattle.partlog.specs.declared.event.PartEvent.TheVariants.{Shrink}
 use Rattle.partlog.specs.History.{History}

@@ -1,6 +1,6 @@
 -- The state of a partition is that of its whole history.
 use Rattle.std.specs.Prelude.{ℕ, ◌+◌, List, take}
-use Rattle.in_sync.specs.InSync.{high_watermark_of, count_of}
+use Rattle.partlog.specs.in_sync.InSync.{high_watermark_of, count_of}
 use Rattle.partlog.specs.History.{History}
 use Rattle.partlog.specs.Added.{log_end_of, bytes_of}
 use Rattle.partlog.specs.Batches.{StoredBatch, batches_of}

@@ -1,7 +1,7 @@
 -- What the code keeps of a log beside its bytes and its history, all of which follows from these: where each batch
 -- begins, how its replicas stand, and the log's numbers. What was entered of who was taken out holds besides: each of them lagged.
 use Rattle.std.specs.Prelude.{◌≡◌, ℕ, ◌<◌, ◌^◌, List}
-use Rattle.in_sync.specs.Standings.{Standings, StandsFor}
+use Rattle.partlog.specs.in_sync.Standings.{Standings, StandsFor}
 use Rattle.partlog.specs.declared.batch_start.BatchStart.{BatchStart}
 use Rattle.partlog.specs.declared.event.PartEvent.{PartEvent}
 use Rattle.partlog.specs.declared.numbers.Numbers.{Numbers}

@@ -4,7 +4,8 @@
 //! enters the fetches of followers, takes those out of the in-sync set that lag, reads the numbers that follow from the
 //! history, and takes log and history in the end.
 //! A `ClockLog` is the clock's history, and its moment follows from it. Each entry names the pass and the call that made
-//! it, so that a call's answer can be recomputed from the entries before it.
+//! it, so that a call's answer can be recomputed from the entries before it. Who of the followers is in sync, and the high watermark that
+//! follows, is kept by an `InSync` of the part `in_sync`, which knows neither batches nor logs.
 #![tactic(auto)]
 
 mod batch_start;
@@ -12,6 +13,7 @@ mod clock_event;
 mod clock_log;
 mod event;
 mod fault;
+pub mod in_sync;
 mod numbers;
 mod part_log;
 mod placed;

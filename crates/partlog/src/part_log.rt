@@ -3,7 +3,7 @@
 
 ghost use Rattle.std.specs.Prelude.{◌≡◌, ◌↔◌, ◌+◌, ◌<◌, ◌≤◌, ℕ, pos, [], ◌++◌, length, not, IfOk, IfSome, IfNone, OnOk, OnErr, IsTrue, IsErrOf};
 ghost use Rattle.std.specs.Bool.{OnTrue, OnFalse};
-ghost use Rattle.in_sync.specs.Lagging.{Lags};
+ghost use Rattle.partlog.specs.in_sync.Lagging.{Lags};
 ghost use Rattle.kbatch.specs.Head.{head_size};
 ghost use Rattle.kbatch.specs.Stamp.{stamped};
 ghost use Rattle.partlog.specs.Follower.{IsFollower};
@@ -12,11 +12,11 @@ ghost use Rattle.partlog.specs.InRange.{IsInRange};
 use crate::batch_start::BatchStart;
 use crate::event::PartEvent;
 use crate::fault::{FollowFault, LogFault};
+use crate::in_sync::InSync;
 use crate::numbers::Numbers;
 use crate::placed::Placed;
 use crate::search::{numbers_at, start_from, start_of, taken_end};
 use crate::who::Who;
-use in_sync::InSync;
 use kbatch::{Batch, BatchView, stamp};
 use kbytes::{Bytes, List, NoMemory};
 use std::alloc::Global;

@@ -1,8 +1,8 @@
 //! Binary search in the starts of a log's batches, for `PartLog`. `next` is where the next batch will begin.
 ghost use Rattle.std.specs.Prelude.{◌≡◌, ◌+◌, ◌≤◌, ◌<◌, ◌^◌, List, ℕ, length, not};
-ghost use Rattle.in_sync.specs.InSync.{high_watermark_of, count_of};
-ghost use Rattle.in_sync.specs.ReplicaEvent.{ReplicaEvent};
-ghost use Rattle.in_sync.specs.Standings.{StandsFor};
+ghost use Rattle.partlog.specs.in_sync.InSync.{high_watermark_of, count_of};
+ghost use Rattle.partlog.specs.in_sync.ReplicaEvent.{ReplicaEvent};
+ghost use Rattle.partlog.specs.in_sync.Standings.{StandsFor};
 ghost use Rattle.std.specs.List.Sorted.{IsNonDecreasingBy, IsPartitionPoint};
 ghost use Rattle.partlog.specs.Batches.{StoredBatch};
 ghost use Rattle.partlog.specs.Gauges.{bytes_in, batches_below};
@@ -10,8 +10,8 @@ ghost use Rattle.partlog.specs.Starts.{AreStarts};
 ghost use Rattle.partlog.specs.Taken.{batches_past, batches_upto, fitting, taken};
 
 use crate::batch_start::BatchStart;
+use crate::in_sync::InSync;
 use crate::numbers::Numbers;
-use in_sync::InSync;
 
 /// How many batches begin at or before an offset.
 fn count_at(starts: &[BatchStart], offset: u64) -> usize

@@ -1,8 +1,8 @@
 -- The account of lines that workers played can be told again.
 use Rattle.std.proofs.Common.{◌≡◌, ℕ, Bool, List, [], ◌∷◌, refl, sym, subst}
 use Rattle.audit.specs.declared.account.Account.{Account}
-use Rattle.account_print.specs.Tellable.{IsTellable}
-use Rattle.account_print.proofs.Laws.{run_tellable}
+use Rattle.audit.specs.retelling.Tellable.{IsTellable}
+use Rattle.audit.proofs.retelling.Laws.{run_tellable}
 use Rattle.trace_file.specs.declared.line.Line.{Line}
 use Rattle.trace_file.specs.Trace.{IsTrace}
 use Rattle.trace_workers.specs.WorkerRun.{IsWorkerRun}

@@ -40,8 +40,8 @@ mod order;
 mod telling;
 mod words;
 
-use account_print::print_workers;
 use audit::Account;
+use audit::retelling::print_workers;
 use fault::Fault;
 use kbytes::{Bytes, List};
 use lanes::{Told, serve_lines};

@@ -1,8 +1,9 @@
 //! Workers meet, and the account of a run on one.
 ghost use Rattle.std.specs.Prelude.{◌≤◌};
 
+use crate::pieces::{A, PRODUCE, PRODUCE_TO_1, WAIT_FOR_0, WAIT_FOR_1};
+use crate::runs::joined;
 use audit::{Account, Call, CallHow};
-use kbytes::{Bytes, NoMemory};
 use std::alloc::Global;
 use std::sync::Wait;
 use std::sync::atomic::{AtomicBool, AtomicU64, Ordering};
@@ -13,21 +14,6 @@ use std::time::{Clock, Duration};
 use trace_file::read_trace;
 use trace_workers::{Gate, NoGate, run_lines};
 
-// A batch of one record, whose value is `a`.
-const A: &str =
-    "0000000000000000000000390000000002dbe9c87600000000000000000000000000000000000000000000ffffffffffffffffffffffffffff000000010e00000001026100";
-// What comes before it in a produce with acks 1 to t/0, and to t/1.
-const TO_0: &str =
-    "0000006b0000000300000003000163ffff0001000003e800000001000174000000010000000000000045";
-
-const TO_1: &str =
-    "0000006b0000000300000002000163ffff0001000003e800000001000174000000010000000100000045";
-// Fetches of at least 1 byte from offset 0 of t/0 and of t/1, which wait at most 1000 ms.
-const FROM_0: &str =
-    "000000370001000400000001000163ffffffff000003e8000000010320000000000000010001740000000100000000000000000000000000100000";
-
-const FROM_1: &str =
-    "000000370001000400000003000163ffffffff000003e8000000010320000000000000010001740000000100000001000000000000000000100000";
 // Fetches from t/1: from offset 0 without a wait, and of at least 1 byte from offset 1, which waits at most 100 ms.
 const AT_ONCE: &str =
     "000000370001000400000004000163ffffffff00000000000000010320000000000000010001740000000100000001000000000000000000100000";
@@ -36,14 +22,6 @@ const BEHIND: &str =
     "000000370001000400000005000163ffffffff00000064000000010320000000000000010001740000000100000001000000000000000100100000";
 
 const TOPIC: &str = "topic t 2 0\n";
-
-fn joined(alloc: Global, pieces: &[&str]) -> Result<Bytes, NoMemory> {
-    let mut text = Bytes::new(alloc);
-    for piece in pieces {
-        text.extend(piece.as_bytes())?;
-    }
-    Ok(text)
-}
 
 // Runs the trace of these pieces on so many workers.
 fn account_of<R: Threads + Wait + Sync, G: Gate + Sync>(
@@ -118,13 +96,13 @@ fn two_workers_meet(rt: HostRuntime) {
     let pieces = [
         TOPIC,
         "bytes 0 ",
-        FROM_0,
-        TO_1,
+        WAIT_FOR_0,
+        PRODUCE_TO_1,
         A,
         "\nbytes 1 ",
-        FROM_1,
+        WAIT_FOR_1,
         "\nbytes 2 ",
-        TO_0,
+        PRODUCE,
         A,
         "\nend\n",
     ];
@@ -139,11 +117,11 @@ fn who_wins_on_one_worker(rt: HostRuntime) {
     let pieces = [
         TOPIC,
         "bytes 0 ",
-        FROM_0,
-        TO_1,
+        WAIT_FOR_0,
+        PRODUCE_TO_1,
         A,
         "\nbytes 1 ",
-        TO_0,
+        PRODUCE,
         A,
         "\nbytes 2 ",
         AT_ONCE,

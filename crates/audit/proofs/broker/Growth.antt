@@ -7,8 +7,8 @@ use Rattle.std.proofs.lemmas.List.Elements.{filter_map-append}
 use Rattle.partlog.specs.declared.event.PartEvent.{PartEvent}
 use Rattle.partlog.specs.declared.event.PartEvent.TheVariants.{Append, Follow, Look, Shrink}
 use Rattle.kbatch.specs.Stamp.{stamped}
-use Rattle.in_sync.specs.InSync.{count_of, high_watermark_of}
-use Rattle.in_sync.specs.ReplicaEvent.{ReplicaEvent}
+use Rattle.partlog.specs.in_sync.InSync.{count_of, high_watermark_of}
+use Rattle.partlog.specs.in_sync.ReplicaEvent.{ReplicaEvent}
 use Rattle.std.specs.List.{fold, filter_map}
 use Rattle.partlog.specs.declared.clock_event.ClockEvent.{ClockEvent}
 use Rattle.partlog.specs.declared.clock_event.ClockEvent.TheVariants as clocks

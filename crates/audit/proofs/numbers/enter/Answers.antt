@@ -2,8 +2,8 @@ use Rattle.std.proofs.Common.{◌≡◌, ◌≤◌, ◌∷◌, ◌++◌, [], ℕ
 use Rattle.std.proofs.lemmas.Int.{to_z-of_z}
 use mir.Syntax.{w32}
 use mir.Val.{SFits, of_z, to_z}
-use Rattle.in_sync.specs.ReplicaEvent.{ReplicaEvent, Appended, Fetched, Left}
-use Rattle.in_sync.specs.Standings.{StandsFor}
+use Rattle.partlog.specs.in_sync.ReplicaEvent.{ReplicaEvent, Appended, Fetched, Left}
+use Rattle.partlog.specs.in_sync.Standings.{StandsFor}
 use Rattle.partlog.specs.declared.event.PartEvent.{PartEvent as Event}
 use Rattle.partlog.specs.declared.event.PartEvent.TheVariants.{Follow}
 use Rattle.partlog.specs.Follower.{IsFollower}

@@ -1,5 +1,5 @@
 use Rattle.std.proofs.Common.{take}
-use Rattle.in_sync.specs.Standings.{StandsFor}
+use Rattle.partlog.specs.in_sync.Standings.{StandsFor}
 use Rattle.partlog.specs.Replicas.{replica_events}
 use Rattle.audit.proofs.numbers.high_watermark.Given as goal
 

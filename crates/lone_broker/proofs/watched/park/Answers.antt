@@ -1,5 +1,5 @@
 use Rattle.std.proofs.Common.{ℕ, sym, subst, arith}
-use Rattle.lone_waiters.specs.Waiting.{WaitsWith}
+use Rattle.lone_broker.specs.index.Waiting.{WaitsWith}
 use Rattle.audit.specs.broker.Board.{next_call}
 use Rattle.lone_broker.specs.Watching.{IsTaken, MayWait}
 use Rattle.lone_broker.proofs.Watching.{few_gauges}

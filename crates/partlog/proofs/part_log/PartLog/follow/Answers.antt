@@ -1,5 +1,5 @@
 use Rattle.std.proofs.Common.{◌≡◌, ℤ, pos, [], ◌∷◌, ◌++◌, arith, refl, ap, ◌∙◌}
-use Rattle.in_sync.proofs.Laws.{stands-followers}
+use Rattle.partlog.proofs.in_sync.Laws.{stands-followers}
 use Rattle.partlog.specs.declared.batch_start.BatchStart.{BatchStart}
 use Rattle.partlog.specs.declared.event.PartEvent.{PartEvent}
 use Rattle.partlog.specs.declared.event.PartEvent.TheVariants.{Follow}

@@ -2,7 +2,7 @@ use lib.Signed.{lt_z}
 use Rattle.std.proofs.Common.{◌≡◌, ◌↔◌, ◌<◌, ℕ, ℤ, pos, negsuc, nat_abs, to_z, of_z, w32, List, true, false, arith, ap, refl, sym, subst, ◌∙◌}
 use Rattle.std.proofs.lemmas.Bool.{false≢true, ltb-true}
 use Rattle.std.proofs.lemmas.Int.{to_z-of_z}
-use Rattle.in_sync.specs.Lagging.{Lags}
+use Rattle.partlog.specs.in_sync.Lagging.{Lags}
 use Rattle.partlog.specs.declared.event.PartEvent.{PartEvent}
 use Rattle.partlog.specs.History.{History}
 use Rattle.partlog.specs.Lagging.{LagsAt}

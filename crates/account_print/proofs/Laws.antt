@@ -1,8 +1,0 @@
--- What the crates above may cite.
-
--- the account of a run may be printed, and its sessions have few numbers
-pub use Rattle.account_print.proofs.Printing.{printable, numbers_below}
--- the account of a trace's run can be printed session by session
-pub use Rattle.account_print.proofs.Runs.{run_tellable}
--- the partition of a name and an index is in a lawful account, its entries can be put into an empty log again, and its log end is bounded
-pub use Rattle.account_print.proofs.PartLogs.{HasPart, part_there}

@@ -1,7 +1,0 @@
-use Rattle.std.proofs.Common.{take}
-use Rattle.kanswer.specs.Decisions.{fetch_decisions, fetch_parts}
-use Rattle.account_print.specs.Retells.{Retells}
-use Rattle.account_print.proofs.accepting.retell_fetch.Given as goal
-
-abbrev pub invariant-loop-topic : goal.invariant-loop-topic
-invariant-loop-topic l = Retells l.scene.pasts.now l.scene.points.now (fetch_decisions l.scene.config.now l.replica (fetch_parts (take l.topic-index l.topics))) l.fn.retold l.retold

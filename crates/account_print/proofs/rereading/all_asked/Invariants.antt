@@ -1,6 +1,0 @@
-use Rattle.std.proofs.Common.{◌≡◌, map, take}
-use Rattle.kanswer.specs.Answer.{asked_parts}
-use Rattle.account_print.proofs.rereading.all_asked.Given as goal
-
-abbrev pub invariant-loop-topic : goal.invariant-loop-topic
-invariant-loop-topic l = map (λ asked. asked.now) l.all ≡ asked_parts (take l.topic-index l.topics)

@@ -1,6 +1,0 @@
-use Rattle.account_print.proofs.Reread.{appended_numbers}
-use Rattle.account_print.proofs.rereading.read_appended.Goals as goal
-
-pub returns-in-Appended-clause-read : goal.returns-in-Appended-clause-read
-returns-in-Appended-clause-read c =
-    appended_numbers c.args.pasts.now c.args.became.now c.in-Appended.part _ _ c.args.place c.index-pasts-part.result _ c.in-Appended.is c.requires c.index-pasts-part.is c.at.ensures.numbers

@@ -1,8 +1,0 @@
-use Rattle.in_sync.proofs.History.{high-grows, high-within}
-use Rattle.in_sync.proofs.promises.high_watermark_never_falls.Goals as goal
-
-pub returns-clause-grown : goal.returns-clause-grown
-returns-clause-grown c = high-grows
-
-pub returns-clause-within : goal.returns-clause-within
-returns-clause-within c = high-within

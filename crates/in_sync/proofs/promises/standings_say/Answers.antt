@@ -1,6 +1,0 @@
-use Rattle.in_sync.proofs.Kept.{kept-length}
-use Rattle.in_sync.proofs.promises.standings_say.Goals as goal
-
-pub returns-clause-followers : goal.returns-clause-followers
-returns-clause-followers c = λ standings followers events stands.
-    kept-length followers events standings.log_end standings.high_watermark standings.followers stands

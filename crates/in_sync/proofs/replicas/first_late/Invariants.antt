@@ -1,6 +1,0 @@
-use Rattle.std.proofs.Common.{◌≡◌, ◌+◌, drop}
-use Rattle.in_sync.specs.Steps.{first_late}
-use Rattle.in_sync.proofs.replicas.first_late.Given as goal
-
-abbrev pub invariant-loop-at : goal.invariant-loop-at
-invariant-loop-at l = first_late l.log_end l.t 1 l.followers ≡ first_late l.log_end l.t (l.at + 1) (drop l.at l.followers)

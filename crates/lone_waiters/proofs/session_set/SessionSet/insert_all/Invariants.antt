@@ -1,7 +1,0 @@
-use Rattle.std.proofs.Common.{ℕ, ◌↔◌, ◌⊎◌}
-use Rattle.lone_waiters.specs.Sessions.{Has}
-use Rattle.lone_waiters.proofs.Firsts.{IsFirst}
-use Rattle.lone_waiters.proofs.session_set.SessionSet.insert_all.Given as goal
-
-abbrev pub invariant-loop-i : goal.invariant-loop-i
-invariant-loop-i l = (other : ℕ) → Has l.self other ↔ (Has l.initial.self other ⊎ IsFirst l.i l.sessions other)

@@ -1,6 +1,0 @@
-use Rattle.std.proofs.Common.{arith}
-use Rattle.lone_waiters.proofs.Logic.{IfNone-weaker}
-use Rattle.lone_waiters.proofs.session_set.SessionSet.least.Goals as goal
-
-pub returns-clause-none : goal.returns-clause-none
-returns-clause-none c = IfNone-weaker c.least_from.result (λ all session. all session (omega arith)) c.least_from.ensures.none

@@ -1,5 +1,0 @@
-use Rattle.tests_of_room.specs.Crews.{IsCrewOf}
-use Rattle.tests_of_room.proofs.rooms.many.ends.Given as goal
-
-abbrev pub invariant-loop : goal.invariant-loop
-invariant-loop g l = IsCrewOf l.room l.crew

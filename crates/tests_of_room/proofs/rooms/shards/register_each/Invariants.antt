@@ -1,5 +1,0 @@
-use Rattle.tests_of_room.specs.Crews.{IsCrewOf}
-use Rattle.tests_of_room.proofs.rooms.shards.register_each.Given as goal
-
-abbrev pub invariant-loop-hand : goal.invariant-loop-hand
-invariant-loop-hand g l = IsCrewOf l.room l.crew
