@@ -1,15 +1,16 @@
 -- What a replay comes to, from what was read and what was played.
-use Rattle.std.proofs.Common.{◌≡◌, ◌≤◌, ◌<◌, ◌+◌, ◌⊎◌, ℕ, zero, suc, Bool, false, eqb, List, [], ◌∷◌, ◌++◌, length, take, drop, get_or, Option, Some, None, IfSome, IsSome, inl, inr, refl, sym, ap, subst, ◌∙◌, arith, append-nil, length-append}
-use Rattle.std.proofs.lemmas.List.{take_all, take-append-le}
-use Rattle.std.specs.Io.KnownBytes.{Consumes, IsAtEnd}
+use Rattle.std.proofs.Common.{◌≡◌, ◌≤◌, ◌<◌, ◌+◌, ◌⊎◌, ℕ, zero, suc, Bool, false, eqb, List, [], ◌∷◌, ◌++◌, length, take, drop, append_assoc, get_or, Option, Some, None, IfSome, IsSome, inl, inr, refl, sym, ap, subst, ◌∙◌, arith, append-nil, length-append}
+use Rattle.std.proofs.KnownBytes.{Appends-trans}
+use Rattle.std.proofs.lemmas.List.{nil_from_length, take_all, take-append-le}
+use Rattle.std.specs.Io.KnownBytes.{Appends, Consumes, IsAtEnd}
 use Rattle.std.specs.List.{count_by, AllByRecursion, AllZip}
 use Rattle.audit.specs.declared.account.Account.{Account}
 use Rattle.trace_file.specs.declared.line.Line.{Line}
 use Rattle.audit.specs.broker.Board.{Board, opening, account_of}
 use Rattle.kwire.specs.Configuration.{Configuration}
 use Rattle.audit.specs.broker.Turns.{Turned}
-use Rattle.commands.specs.LinesFront.{IsLinesFront}
-use Rattle.audit.specs.broker.Play.{Plays, IsPlay}
+use Rattle.commands.specs.LinesFront.{IsLinesFront, LinesPlayed}
+use Rattle.audit.specs.broker.Play.{Plays, PlaysLine, IsPlay}
 use Rattle.audit.specs.Printable.{IsPrintable}
 use Rattle.audit.proofs.retelling.Laws.{printable}
 use Rattle.audit.specs.Printed.{summary_of}
@@ -19,8 +20,8 @@ use Rattle.commands.specs.Streams.{IsInput}
 use Rattle.trace_file.specs.IsLine.{IsLine}
 use Rattle.trace_file.specs.Trace.{IsTrace, pieces_of}
 use Rattle.trace_file.specs.declared.line.Line.TheVariants.{Topic, Feed, Shut, Clock, End}
-use Rattle.lone_broker.specs.Kept.{IsPlayable}
-use Rattle.audit.proofs.broker.Laws.{play_is_lawful, play_is_run, trace_declared, play_is_one, front_of_play, trace_plays, lines_left}
+use Rattle.lone_broker.specs.Kept.{IsPlayable, Kept, TurnsBy}
+use Rattle.audit.proofs.broker.Laws.{play_is_lawful, play_is_run, trace_declared, play_is_one, front_of_play, trace_plays, lines_left, plays_on}
 use Rattle.trace_file.specs.declared.line.TheConstants.{MOST_TRACE_BYTES, REPLAY_PORT}
 use Rattle.trace_file.specs.declared.line.LineFault.{LineFault}
 use Rattle.trace_file.specs.declared.line.TraceFault.{TraceFault}
@@ -103,7 +104,32 @@ all_left (line ∷ lines) (suc i) all = all_left lines i all.1
 pub playable_at : (lines : List Line) (i : ℕ) (line : Line) → AllByRecursion IsPlayable lines → i < length lines → line ≡ get_or lines i line → IsPlayable line
 playable_at lines i line all lt is = (subst (AllByRecursion IsPlayable) (lines_left lines i line lt is) (all_left lines i all)).0
 
+pub playable_among : (lines done : List Line) (line : Line) (next : List Line) → AllByRecursion IsPlayable lines → done ++ line ∷ next ≡ lines → IsPlayable line
+playable_among lines [] line next all is = (subst (AllByRecursion IsPlayable) (sym is) all).0
+playable_among lines (first ∷ done) line next all is = playable_among (done ++ line ∷ next) done line next (subst (AllByRecursion IsPlayable) (sym is) all).1 refl
+
+-- those that are left, once one more was taken
+pub lines_whole : (lines done : List Line) (line : Line) (left next : List Line) → left ≡ line ∷ next → done ++ left ≡ lines → (done ++ line ∷ []) ++ next ≡ lines
+lines_whole lines done line left next steps whole = append_assoc done (line ∷ []) next ∙ ap (λ (ls : List Line). done ++ ls) (sym steps) ∙ whole
+
+-- all lines, once none is left
+pub all_yielded : (lines done left : List Line) → length left ≡ 0 → done ++ left ≡ lines → done ≡ lines
+all_yielded lines done left none whole = sym (append-nil done) ∙ ap (λ (ls : List Line). done ++ ls) (sym (nil_from_length left none)) ∙ whole
+
 -- ---- what was played
+
+-- a line more was played, and what it prints was written
+pub played_more : (before between after : Option (List ℕ)) (kept mid later : Kept) (done : List Line) (line : Line) (empty text shown : List ℕ) → LinesPlayed before between kept mid done
+    → TurnsBy (λ board. PlaysLine board line) mid later empty text → empty ≡ [] → shown ≡ text → Appends between after shown → LinesPlayed before after kept later (done ++ line ∷ [])
+played_more before between after kept mid later done line empty text shown played turns none is written = λ start stands.
+    let h = played start stands in
+    let here = turns h.0.board h.2 in
+    let part : shown ≡ here.0.text = is ∙ here.3 ∙ ap (λ (xs : List ℕ). xs ++ here.0.text) none in (
+      record { board = here.0.board; text = h.0.text ++ here.0.text },
+      plays_on start done line h.0 here.0 h.1 here.1,
+      here.2,
+      Appends-trans before between after h.0.text here.0.text h.3 (subst (λ (xs : List ℕ). Appends between after xs) part written),
+    )
 
 -- the account and the text to which the lines were played
 pub replayed : (text : List ℕ) (lines : List Line) (account : Account) (printed : List ℕ) → IsTrace text lines → IsPlay (configuration_of REPLAY_PORT lines) lines account printed

@@ -13,48 +13,49 @@ ghost use Rattle.commands.specs.Replay.{IsReplayOf, IsReplay, IsReplayFront, IsF
 
 use crate::exit::Stop;
 use crate::streams::write_all;
-use crate::trace::read_lines;
+use crate::trace::{read_lines, use_blocks_again};
 use audit::{Account, print_replay};
-use kbytes::Bytes;
+use kbytes::{Bytes, List};
 use lone_broker::Lone;
 use outside::{Sink, Source};
 use std::alloc::Global;
 use trace_file::{Line, REPLAY_PORT, config_of};
 
-// Plays the lines one after the other, and writes what each prints before the next.
+// Plays the lines one after the other, and writes what each prints before the next. A line's memory is given back once it is played, and
+// so serves the account, which grows with each line.
 fn play_lines<K: Sink>(
     alloc: Global,
-    lines: &[Line],
+    lines: List<Line>,
     lone: &mut Lone,
     sink: &mut K,
 ) -> Result<(), Stop>
-    requires { AllByRecursion IsPlayable lines.now }
-    ensures played { OnOk result (LinesPlayed (K.written sink.old) (K.written sink.new) lone.old.kept lone.new.kept lines.now) }
-    ensures front { OnErr result (LinesFront (K.written sink.old) (K.written sink.new) lone.old.kept lines.now) }
+    requires { AllByRecursion IsPlayable lines }
+    ensures played { OnOk result (LinesPlayed (K.written sink.old) (K.written sink.new) lone.old.kept lone.new.kept lines) }
+    ensures front { OnErr result (LinesFront (K.written sink.old) (K.written sink.new) lone.old.kept lines) }
     ensures later { K.faults sink.old ≤ K.faults sink.new }
     ensures failed { IsErrOf result Stop.WriteFault → Rose (K.faults sink.old) (K.faults sink.new) }
     ensures only { IfErr result (λ stop. (stop ≡ Stop.WriteFault) ⊎ (stop ≡ Stop.NoMemory)) }
 {
     let mut text = Bytes::new(alloc);
-    for line in lines {
+    for line in lines.into_vec() {
         text.truncate(0);
-        lone.event(line, &mut text)?;
+        lone.event(&line, &mut text)?;
         write_all(sink, text.as_slice())?;
     }
     Ok(())
 }
 
 // Plays a trace to its end, and writes the summary after the lines' text.
-fn play<K: Sink>(alloc: Global, lines: &[Line], sink: &mut K) -> Result<Account, Stop>
-    requires { (text : Items ℕ) × IsTrace text lines.now }
-    ensures replay { IfOk result (λ account. (text : Items ℕ) × IsReplayOf lines.now account text
+fn play<K: Sink>(alloc: Global, lines: List<Line>, sink: &mut K) -> Result<Account, Stop>
+    requires { (text : Items ℕ) × IsTrace text lines }
+    ensures replay { IfOk result (λ account. (text : Items ℕ) × IsReplayOf lines account text
         × Appends (K.written sink.old) (K.written sink.new) text) }
-    ensures front { (text : Items ℕ) → IsTrace text lines.now → OnErr result ((written : Items ℕ) × IsReplayFront (Some text) written
+    ensures front { (text : Items ℕ) → IsTrace text lines → OnErr result ((written : Items ℕ) × IsReplayFront (Some text) written
         × Appends (K.written sink.old) (K.written sink.new) written) }
     ensures failed { IsErrOf result Stop.WriteFault → Rose (K.faults sink.old) (K.faults sink.new) }
     ensures only { IfErr result (λ stop. (stop ≡ Stop.WriteFault) ⊎ (stop ≡ Stop.NoMemory)) }
 {
-    let config = config_of(alloc, lines, REPLAY_PORT)?;
+    let config = config_of(alloc, lines.as_slice(), REPLAY_PORT)?;
     let mut lone = Lone::make(alloc, config)?;
     play_lines(alloc, lines, &mut lone, sink)?;
     let account = lone.close()?;
@@ -86,6 +87,7 @@ pub fn replay<S: Source, K: Sink>(
     ensures write_fault { IsErrOf result Stop.WriteFault → Rose (K.faults sink.old) (K.faults sink.new) }
     ensures bad_line { IfErr result (λ stop. IfSome (bad_line_of stop) (IsFirstBadOf (S.left source.old) false)) }
 {
+    use_blocks_again(alloc);
     let lines = read_lines(alloc, source, false)?;
-    play(alloc, lines.as_slice(), sink)
+    play(alloc, lines, sink)
 }

@@ -9,10 +9,22 @@ ghost use Rattle.commands.specs.Replay.{IsFirstBadOf};
 
 use crate::exit::Stop;
 use crate::streams::read_all;
-use kbytes::List;
+use kbytes::{Bytes, List};
 use outside::Source;
 use std::alloc::Global;
 use trace_file::{Line, read_trace};
+
+/// The largest block that glibc's allocator will take from its heap, once it was given back one of this size.
+const LARGEST_IN_HEAP: usize = 33_488_896;
+
+/// Has the blocks of a trace used again. glibc's allocator maps pages for each block of 128 KiB or more, and unmaps them once it is given
+/// back, until it was given back a larger one: blocks up to the size of that one then come from its heap. So a block is taken here and given
+/// back, untouched. The text of a trace is given back before its lines are played, and what is kept of the calls then lies on its pages.
+/// Another allocator, or one without memory, does nothing with it.
+pub fn use_blocks_again(alloc: Global) {
+    let mut block = Bytes::new(alloc);
+    let _ = block.reserve(LARGEST_IN_HEAP);
+}
 
 /// Reads the lines of the source's trace, or with `only_topics` those of its topics, which are lines `topic` and `end` alone. The text isn't kept.
 pub fn read_lines<S: Source>(

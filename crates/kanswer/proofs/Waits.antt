@@ -61,6 +61,16 @@ delayed_is (Fetch version replica max_wait min_bytes max_bytes isolation topics)
 delayed_is (Metadata topics) numbers shown own = refl
 delayed_is (Versions version) numbers shown own = refl
 
+-- one that may not wait doesn't
+pub never_delayed : (ask : Ask) (shown : List Shown) → may_wait ask (results_of shown) ≡ false → becomes_delayed ask shown ≡ false
+never_delayed (Produce version transactional acks timeout topics) shown never =
+    ap (λ (b : Bool). b && (nat_lt 0 (length (needs_of (Produce version transactional acks timeout topics) (results_of shown))) && falls_short (Produce version transactional acks timeout topics) shown)) never
+never_delayed (Fetch version replica max_wait min_bytes max_bytes isolation topics) shown never =
+    let short = falls_short (Fetch version replica max_wait min_bytes max_bytes isolation topics) shown in
+    sym (grouped (nat_lt 0 (at_least_zero max_wait)) (all_seen (results_of shown)) short) ∙ ap (λ (b : Bool). b && short) never
+never_delayed (Metadata topics) shown never = refl
+never_delayed (Versions version) shown never = refl
+
 -- ---- the parts that a fetch asks for
 
 pub parts_asked_for : (topics : List FetchTopic) → map (λ (named : List ℕ × FetchPart). named.1) (fetch_parts topics) ≡ asked_parts topics

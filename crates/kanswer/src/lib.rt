@@ -42,4 +42,4 @@ pub use replies::answer;
 pub use reply::reply_frame;
 pub use terms::{STORAGE_ERROR_VERSION, SentBatch, Terms};
 pub use visitor::Visitor;
-pub use waiting::{is_quiet, needs_op, op_of};
+pub use waiting::{can_wait, is_quiet, needs_op, op_of};

@@ -1,6 +1,6 @@
 //! Whether an accepted request waits, and as which operation. A broker asks when all partitions are accepted; `need` says
 //! what each of them needs.
-ghost use Rattle.std.specs.Prelude.{◌≡◌, ◌<◌, ◌≤◌, ◌^◌, List as Items, count_by, length, IfOk};
+ghost use Rattle.std.specs.Prelude.{◌≡◌, ◌<◌, ◌≤◌, ◌^◌, List as Items, false, count_by, length, IfOk};
 ghost use Rattle.std.specs.List.{list_any};
 ghost use Rattle.kwire.specs.Views.{ask_of};
 ghost use Rattle.partlog.specs.declared.clock_event.TheConstants.{MOST_MOMENT};
@@ -111,6 +111,15 @@ fn reached(ask: &AskView<'_>, accepted: &[Accepted], numbers: &[Numbers]) -> u64
         reached += reached_at(need_at(ask, accepted, at), &numbers[at]);
     }
     reached
+}
+
+/// Whether a request may wait at all, from what became of each partition that it names. One that may not doesn't wait, whatever
+/// the states of its partitions, so nobody need read their numbers. It takes no memory.
+pub fn can_wait(request: &RequestView<'_>, accepted: &[Accepted]) -> bool
+    ensures may { result ≡ may_wait request.now.ask accepted.now }
+    ensures never { result ≡ false → (shown : Items Shown) → results_of shown ≡ accepted.now → becomes_delayed request.now.ask shown ≡ false }
+{
+    may_wait(&request.ask, accepted)
 }
 
 /// Whether a request waits, from what became of each partition that it names and its numbers just after that. It waits

@@ -2,7 +2,6 @@
 use Rattle.std.proofs.Common.{◌≡◌, ℕ, Bool, true, false, List, [], ◌∷◌, ◌++◌, length, map, Option, Some, None, All, MatchBool, Result, Ok, Err, IfOk, OnOk, refl, sym, ap, subst, ◌∙◌}
 use Rattle.std.specs.List.{AllByRecursion}
 use Rattle.partlog.specs.declared.clock_event.ClockEvent.{ClockEvent}
-use Rattle.partlog.specs.declared.numbers.Numbers.{Numbers}
 use Rattle.partlog.specs.Gauges.{numbers_of}
 use Rattle.partlog.specs.History.{History}
 use Rattle.partlog.specs.Moment.{moment_of}
@@ -112,10 +111,10 @@ module _ (config : Configuration) (request : Request) (by seq : ℕ) (clock : Li
       (shown_numbers after (shown_of noted) are_shown.states)
 
   -- whether it waits
-  pub delayed_is : (b : Bool) (accepted : List Accepted) (numbers list : List Numbers) → accepted ≡ later.accepted → numbers ≡ list → list ≡ numbers_in after later.accepted
-      → ((shown : List Shown) → results_of shown ≡ accepted → AreNumbers numbers shown → b ≡ becomes_delayed request.ask shown) → becomes_delayed request.ask (shown_of noted) ≡ b
-  delayed_is b accepted numbers list same is is_list tells =
-      sym (tells (shown_of noted) (are_shown.results ∙ sym same) (subst (λ (ns : List Numbers). AreNumbers ns (shown_of noted)) (sym (is ∙ is_list)) are_numbered))
+  pub delayed_is : (b : Bool) (accepted : List Accepted) → accepted ≡ later.accepted
+      → ((shown : List Shown) → results_of shown ≡ accepted → AreNumbers (numbers_in after accepted) shown → b ≡ becomes_delayed request.ask shown) → becomes_delayed request.ask (shown_of noted) ≡ b
+  delayed_is b accepted same tells =
+      sym (tells (shown_of noted) (are_shown.results ∙ sym same) (subst (λ (rs : List Accepted). AreNumbers (numbers_in after rs) (shown_of noted)) (sym same) are_numbered))
 
   pub handled_waiting : (left : List ClockEvent) (handled : Handled) (text : List ℕ) → becomes_delayed request.ask (shown_of noted) ≡ true → left ≡ looked_by by seq clock
       → handled.accept ≡ later.points ++ record { part = clock_part; place = length clock } ∷ [] → handled.how ≡ Waits

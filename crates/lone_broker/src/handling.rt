@@ -6,7 +6,8 @@ ghost use Rattle.audit.specs.declared.account.CallHow.TheVariants.{Parked as Wai
 ghost use Rattle.audit.specs.Histories.{clock_part};
 ghost use Rattle.kanswer.specs.LogReadings.{IsCarriable};
 ghost use Rattle.kanswer.specs.Results.{AreResults};
-ghost use Rattle.kanswer.specs.Waiting.{Shown, is_quiet, operation_of};
+ghost use Rattle.kanswer.specs.Numbered.{AreNumbers};
+ghost use Rattle.kanswer.specs.Waiting.{Shown, becomes_delayed, is_quiet, operation_of, results_of};
 ghost use Rattle.kwire.specs.Configuration.{followers_of};
 ghost use Rattle.kwire.specs.IsRequest.{IsRequest};
 ghost use Rattle.kwire.specs.Views.{ask_of};
@@ -21,10 +22,11 @@ use crate::came::Came;
 use crate::parked::Parked;
 use crate::reply::{numbers_of, reply_frame};
 use audit::{CLOCK_PART, CallHow, Point};
-use kanswer::{is_quiet, needs_op, op_of};
+use kanswer::{Accepted, can_wait, is_quiet, needs_op, op_of};
 use kbytes::{Bytes, List, NoMemory};
 use kwire::{AskView, MOST_PARTITIONS, RequestView};
 use partlog::{ClockLog, PartLog};
+use std::alloc::Global;
 
 /// What was done with a request: the points of the entries that it left, how its call ended or that it waits, and what is kept
 /// of it if it waits.
@@ -106,6 +108,25 @@ fn park(
     })
 }
 
+// Whether the request is to wait, by its partitions' logs as they are.
+fn is_delayed(
+    alloc: Global,
+    parts: &[PartLog],
+    request: &RequestView<'_>,
+    accepted: &[Accepted],
+) -> Result<bool, NoMemory>
+    requires results { AreResults request.now.ask accepted.now }
+    requires logs { AllByRecursion (HasLog (length parts.now)) accepted.now }
+    ensures { IfOk result (λ delayed. (shown : Items Shown) → results_of shown ≡ accepted.now → AreNumbers (numbers_in parts.now accepted.now) shown
+        → delayed ≡ becomes_delayed request.now.ask shown) }
+{
+    if !can_wait(request, accepted) {
+        return Ok(false);
+    }
+    let numbers = numbers_of(alloc, parts, accepted)?;
+    Ok(needs_op(request, accepted, numbers.as_slice()))
+}
+
 /// Handles a request of a session: accepts it, and answers it at the end of `out` or lets it wait. If memory runs out, some of
 /// the named partitions may have their entries, and the logs may only be dropped.
 pub fn handle(
@@ -125,8 +146,8 @@ pub fn handle(
     prove!(call.config.parts() <= MOST_PARTITIONS);
     let mut came = Came::new(call.alloc);
     accept(call, parts, request, &mut came)?;
-    let numbers = numbers_of(call.alloc, parts, came.accepted())?;
-    if needs_op(request, came.accepted(), numbers.as_slice()) {
+    let delayed = is_delayed(call.alloc, parts, request, came.accepted())?;
+    if delayed {
         park(call, clock, request, came)
     } else {
         answer_at_once(call, parts, request, came, out)
