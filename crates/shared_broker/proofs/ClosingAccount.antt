@@ -1,12 +1,12 @@
 -- The account of a closed broker: what the passes have of the logs, their transcripts, and the histories at the close.
-use Rattle.std.proofs.Common.{◌≡◌, ◌∙◌, ℕ, zero, suc, ◌+◌, ◌<◌, List, [], ◌∷◌, ◌++◌, Option, Some, None, length, map, refl, sym, ap, subst, arith}
+use Rattle.std.proofs.Common.{◌≡◌, ◌∙◌, ℕ, zero, suc, ◌+◌, ◌<◌, List, [], ◌∷◌, Some, length, map, refl, sym, ap, subst, arith}
 use Rattle.std.proofs.lemmas.List.{length-map}
 use Rattle.std.proofs.lemmas.List.Elements.{All-cons, All-head, All-map, All-nil, All-tail, All-weaker}
 use Rattle.std.proofs.lemmas.List.Folds.{flat_map-map}
 use Rattle.std.proofs.lemmas.List.Sums.{sum_by-cons}
 use Rattle.std.proofs.lemmas.Option.{slice_get-get_or}
 use Rattle.std.specs.Prelude.{All, Any, Contains, ◌↔◌, ◌==◌, cond, count_by, fold, max, slice_get, slice_index_or}
-use Rattle.std.specs.List.{AllByRecursion, AllZip, flat_map}
+use Rattle.std.specs.List.{AllByRecursion, AllZip}
 use Rattle.partlog.specs.declared.clock_event.ClockEvent.{ClockEvent}
 use Rattle.partlog.specs.History.{History}
 use Rattle.partlog.specs.Moment.{moment_of}
@@ -37,7 +37,7 @@ use Rattle.shared_broker.specs.Standing.{Stands}
 use Rattle.shared_broker.proofs.ClosingBooks.{all_of, books, came, lawful, logs_of, of_all, told_passes}
 use Rattle.shared_logs.specs.Closing.{AreClosed, in_room}
 use Rattle.shared_logs.specs.Coming.{OthersCame}
-use Rattle.shared_logs.specs.Shared.{LogPassView, SharedView, followers_in}
+use Rattle.shared_logs.specs.Shared.{LogPassView, followers_in}
 
 -- ---- an item for which something holds
 

@@ -1,5 +1,5 @@
 -- The books of all passes, by the passes' numbers, come to a lawful account.
-use Rattle.std.proofs.Common.{⊎_elim, inl, inr, ◌≡◌, ◌≢◌, ◌⊎◌, ◌∙◌, ℕ, zero, suc, ◌+◌, ◌<◌, ◌≤◌, Bool, true, false, cond, List, [], ◌∷◌, ◌++◌, Option, Some, None, unwrap_or, length, map, refl, sym, ap, subst, arith}
+use Rattle.std.proofs.Common.{⊎_elim, inl, inr, ◌≡◌, ◌≢◌, ◌⊎◌, ◌∙◌, ℕ, zero, suc, ◌+◌, ◌<◌, ◌≤◌, Bool, true, false, cond, List, [], ◌∷◌, Option, Some, None, unwrap_or, length, map, refl, sym, ap, subst, arith}
 use Rattle.std.proofs.lemmas.Bool.{cases_eq, eq-eqb, ne_eqb}
 use Rattle.std.proofs.lemmas.List.{length-map}
 use Rattle.std.proofs.lemmas.List.Elements.{All-cons, All-head, All-nil, All-tail}
@@ -11,31 +11,28 @@ use Rattle.partlog.specs.declared.clock_event.ClockEvent.{ClockEvent}
 use Rattle.partlog.specs.History.{History}
 use Rattle.partlog.specs.Moment.{moment_of}
 use Rattle.partlog.specs.State.{state_of}
-use Rattle.opcond.specs.declared.need.Need.{Need}
 use Rattle.opcond.specs.Operation.{Operation}
-use Rattle.opcond.specs.Tally.{IsAnswerable, IsOverdue, IsSatisfied}
+use Rattle.opcond.specs.Tally.{IsOverdue, IsSatisfied}
 use Rattle.audit.specs.declared.account.Transcript.{Transcript}
-use Rattle.audit.specs.IsLawful.{IsLawful, is_won_by}
+use Rattle.audit.specs.IsLawful.{IsLawful}
 use Rattle.audit.specs.LawfulCall.{Step, part_in}
 use Rattle.kbytes.proofs.Laws.{some_is}
 use Rattle.kanswer.specs.declared.accepted.Accepted.{Accepted}
 use Rattle.kanswer.specs.declared.accepted.Accepted.TheVariants.{Refused, Appended, Seen}
 use Rattle.kanswer.specs.ByPart.{AreByPart, IsByPart}
-use Rattle.kanswer.specs.Waiting.{Shown, needs_of, results_of, values_of}
+use Rattle.kanswer.specs.Waiting.{needs_of, results_of, values_of}
 use Rattle.kanswer.proofs.Laws.{values_by_part}
 use Rattle.kwire.specs.declared.request.Ask.{Ask}
-use Rattle.kwire.specs.Configuration.{Configuration, followers_of}
+use Rattle.kwire.specs.Configuration.{followers_of}
 use Rattle.audit.specs.broker.books.Book.{Book}
 use Rattle.audit.specs.broker.books.IsBook.{IsBook}
 use Rattle.audit.specs.broker.books.Owned.{OwnWithin}
 use Rattle.audit.specs.broker.books.Told.{told}
-use Rattle.audit.specs.broker.books.Together.{AreTogether, GoesWith, IsAnswerableIn, account_of, all_calls_in, shown_in, won_by}
+use Rattle.audit.specs.broker.books.Together.{AreTogether, GoesWith, IsAnswerableIn, account_of, shown_in, won_by}
 use Rattle.audit.proofs.broker.books.Laws.{books_lawful, won_all}
 use Rattle.audit.specs.broker.Board.{Waiting, history_at}
 use Rattle.audit.specs.broker.Completing.{present}
 use Rattle.kwire.specs.DeclaredTopics.{AreDeclared}
-use Rattle.audit.specs.broker.GoesOn.{the_owner}
-use Rattle.audit.specs.broker.Kept.{owners_at}
 use Rattle.audit.specs.broker.Sound.{AreHistories}
 use Rattle.audit.proofs.broker.Laws.{get_map, map_get, parts_size}
 use Rattle.purgatory.specs.Rooms.{winners}

@@ -142,6 +142,6 @@ module _ (config : Configuration) (seq : ℕ) (request : Request) (parked : Park
     pub won_answered : after.how ≡ told_as done → IsAnsweredAs after.how old.seat new.seat
     won_answered told = inr (parked.op, done, old.seat, went_self old.seat, mid.seat, r, e.same.went, told)
 
-    pub won_replied : (frame : List ℕ) → ((front : List Transcript) (transcript : Transcript) → WillSit config seq request parked mid call front transcript → IsToldTo config new after frame)
-        → (front : List Transcript) (transcript : Transcript) → WillSit config seq request parked old call front transcript → IsToldTo config new after frame
-    won_replied frame replied front transcript was = replied front transcript (will_sit old mid step config seq request parked call front transcript was)
+    pub won_replied : (is_sent : Bool) (frame : List ℕ) → ((front : List Transcript) (transcript : Transcript) → WillSit config seq request parked mid call front transcript → IsToldTo is_sent config new after frame)
+        → (front : List Transcript) (transcript : Transcript) → WillSit config seq request parked old call front transcript → IsToldTo is_sent config new after frame
+    won_replied is_sent frame replied front transcript was = replied front transcript (will_sit old mid step config seq request parked call front transcript was)

@@ -1,5 +1,5 @@
 -- A call that waits: its frame is read again, and is the request that was accepted.
-use Rattle.std.proofs.Common.{◌≡◌, ℕ, List, [], ◌++◌, length, map, Some, None, Result, Ok, Err, refl, sym, ap, subst, ◌∙◌, append-nil}
+use Rattle.std.proofs.Common.{◌≡◌, ℕ, List, [], ◌++◌, length, map, Some, None, Result, Ok, Err, refl, sym, ap, subst, ◌∙◌, append-nil, Bool}
 use Rattle.partlog.specs.declared.clock_event.ClockEvent.{ClockEvent}
 use Rattle.partlog.specs.History.{History}
 use Rattle.audit.specs.declared.account.Account.{Account}
@@ -109,7 +109,7 @@ module _ (config : Configuration) (seq : ℕ) (parked : Parked) (pass : LogPassV
       book = λ front transcript was. h.book front transcript (kept_sits front transcript was request asked);
     }
 
-    pub finished_kept : {E : Type 0} (r : Result (List ℕ) E) → HasFinished config seq done (WillSit config seq request parked pass call) r pass new call after
-        → HasFinished config seq done (IsLastKept config seq parked pass call) r pass new call after
-    finished_kept (Ok bytes) h = (ended_kept h.0, h.1, h.2, λ front transcript was. h.3 front transcript (kept_sits front transcript was request asked))
-    finished_kept (Err e) h = (ended_kept h.0, h.1)
+    pub finished_kept : (is_sent : Bool) {E : Type 0} (r : Result (List ℕ) E) → HasFinished is_sent config seq done (WillSit config seq request parked pass call) r pass new call after
+        → HasFinished is_sent config seq done (IsLastKept config seq parked pass call) r pass new call after
+    finished_kept is_sent (Ok bytes) h = (ended_kept h.0, h.1, h.2, λ front transcript was. h.3 front transcript (kept_sits front transcript was request asked))
+    finished_kept is_sent (Err e) h = (ended_kept h.0, h.1)

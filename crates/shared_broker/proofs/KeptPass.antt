@@ -29,7 +29,7 @@ use Rattle.room_core.specs.State.{Caller}
 use Rattle.room_table.specs.Seats.{CallerView, caller_now}
 use Rattle.shared_broker.specs.declared.collecting.Collected.{Collected}
 use Rattle.shared_broker.specs.declared.parked.Parked.{Parked}
-use Rattle.shared_broker.specs.Collecting.{HasCollected, HasCompleted}
+use Rattle.shared_broker.specs.Collecting.{HasCollectedAs, HasCompleted}
 use Rattle.shared_broker.specs.Passes.{BrokerView, PassView, book_of, calls_made}
 use Rattle.shared_broker.specs.Serving.{HasEndedCall, HasFinished, IsLastKept, with_last}
 use Rattle.shared_broker.specs.Standing.{HoldsBook, IsGoing, IsKeptOf, IsOfGoing, Sits, Stands}
@@ -197,12 +197,12 @@ module _ (pass : PassView) (stood : Stands pass) (parked : Parked) (waits : pass
       }
 
     -- as the broker tells it, by the number that the pass counts on
-    module _ (config : Configuration) (same : pass.config ≡ config) (first : ℕ) (first_is : first ≡ length (calls_in pass.ended)) (done : Done)
+    module _ (is_sent : Bool) (config : Configuration) (same : pass.config ≡ config) (first : ℕ) (first_is : first ≡ length (calls_in pass.ended)) (done : Done)
         (t : HasTaken (caller_now pass.logs.seat).generation done (caller_now pass.logs.seat) (caller_now polled.seat)) (polls : HasPolled (Some done) pass.logs.seat polled.seat)
         (new : LogPassView) (going : Option Transcript) (now : Option Parked) (none : now ≡ None) where
       abbrev pub IsEnded : Result (List ℕ) NoMemory → Type 0
       IsEnded r = (front : List Transcript) (transcript : Transcript) (call : Call) → WaitsAsLast config first parked polled pass.going front transcript call
-          → (after : Call) × (going ≡ Some (with_last transcript after)) × HasFinished {E = NoMemory} config (first + length transcript.calls) done (IsLastKept config (first + length transcript.calls) parked polled call) r polled new call after
+          → (after : Call) × (going ≡ Some (with_last transcript after)) × HasFinished {E = NoMemory} is_sent config (first + length transcript.calls) done (IsLastKept config (first + length transcript.calls) parked polled call) r polled new call after
 
       abbrev seq : ℕ
       seq = length (calls_in pass.ended ++ the_transcript.calls)
@@ -210,11 +210,11 @@ module _ (pass : PassView) (stood : Stands pass) (parked : Parked) (waits : pass
       seq_is : first + length the_transcript.calls ≡ length (calls_in pass.ended ++ the_transcript.calls)
       seq_is = let size = length-append (calls_in pass.ended) the_transcript.calls in omega (arith, size, first_is)
 
-      counted : (r : Result (List ℕ) NoMemory) (after : Call) → HasFinished {E = NoMemory} config (first + length the_transcript.calls) done (IsLastKept config (first + length the_transcript.calls) parked polled the_call) r polled new the_call after
-          → HasFinished {E = NoMemory} pass.config seq done (IsLastKept pass.config seq parked polled the_call) r polled new the_call after
+      counted : (r : Result (List ℕ) NoMemory) (after : Call) → HasFinished {E = NoMemory} is_sent config (first + length the_transcript.calls) done (IsLastKept config (first + length the_transcript.calls) parked polled the_call) r polled new the_call after
+          → HasFinished {E = NoMemory} is_sent pass.config seq done (IsLastKept pass.config seq parked polled the_call) r polled new the_call after
       counted r after h =
-          subst (λ (n : ℕ). HasFinished {E = NoMemory} pass.config n done (IsLastKept pass.config n parked polled the_call) r polled new the_call after) seq_is
-          (subst (λ (k : Configuration). HasFinished {E = NoMemory} k (first + length the_transcript.calls) done (IsLastKept k (first + length the_transcript.calls) parked polled the_call) r polled new the_call after) (sym same) h)
+          subst (λ (n : ℕ). HasFinished {E = NoMemory} is_sent pass.config n done (IsLastKept pass.config n parked polled the_call) r polled new the_call after) seq_is
+          (subst (λ (k : Configuration). HasFinished {E = NoMemory} is_sent k (first + length the_transcript.calls) done (IsLastKept k (first + length the_transcript.calls) parked polled the_call) r polled new the_call after) (sym same) h)
 
       final_is : (after : Call) → going ≡ Some (with_last the_transcript after)
           → record pass { logs = new; going = Some (with_last the_transcript after); waits = None } ≡ record pass { logs = new; going = going; waits = now }
@@ -223,7 +223,7 @@ module _ (pass : PassView) (stood : Stands pass) (parked : Parked) (waits : pass
           ∙ ap (λ (o : Option Parked). let p : PassView = record pass { logs = new; going = going; waits = o } in p) (sym none)
 
       module _ (bytes : List ℕ) (ended : IsEnded (Ok bytes)) where
-        abbrev told : (after : Call) × (going ≡ Some (with_last the_transcript after)) × HasFinished {E = NoMemory} pass.config seq done (IsLastKept pass.config seq parked polled the_call) (Ok bytes) polled new the_call after
+        abbrev told : (after : Call) × (going ≡ Some (with_last the_transcript after)) × HasFinished {E = NoMemory} is_sent pass.config seq done (IsLastKept pass.config seq parked polled the_call) (Ok bytes) polled new the_call after
         told =
             let s = ended pass.ended the_transcript the_call (waits_as_last config same first first_is) in
             (s.0, s.1, counted (Ok bytes) s.0 s.2)
@@ -234,11 +234,11 @@ module _ (pass : PassView) (stood : Stands pass) (parked : Parked) (waits : pass
         pub told_stands : HasSeen new → Stands (record pass { logs = new; going = going; waits = now })
         told_stands seen = subst Stands (final_is told.0 told.1) (completed_stands done t new told.0 told.2.0 names seen)
 
-        pub told_collected : HasCollected (Collected.Reply bytes) pass (record pass { logs = new; going = going; waits = now })
+        pub told_collected : HasCollectedAs is_sent (Collected.Reply bytes) pass (record pass { logs = new; going = going; waits = now })
         told_collected =
             let reply = told.2.3 pass.ended the_transcript (refl, kept_there) in
             let made : calls_made pass ≡ suc seq = omega (arith, made_is) in
-            subst (HasCollected (Collected.Reply bytes) pass) (final_is told.0 told.1) (
+            subst (HasCollectedAs is_sent (Collected.Reply bytes) pass) (final_is told.0 told.1) (
               completed done t new told.0 told.2.0 names polls,
               told.2.1,
               record { reply = reply.reply; spelled = reply.spelled; replied = subst (λ (k : Call). Carried pass.config new.parts new.clock (λ account. IsReplyOf account k reply.reply)) told.2.0.rest reply.replied },
@@ -246,7 +246,7 @@ module _ (pass : PassView) (stood : Stands pass) (parked : Parked) (waits : pass
             )
 
       module _ (e : NoMemory) (ended : IsEnded (Err e)) where
-        abbrev cut : (after : Call) × (going ≡ Some (with_last the_transcript after)) × HasFinished {E = NoMemory} pass.config seq done (IsLastKept pass.config seq parked polled the_call) (Err e) polled new the_call after
+        abbrev cut : (after : Call) × (going ≡ Some (with_last the_transcript after)) × HasFinished {E = NoMemory} is_sent pass.config seq done (IsLastKept pass.config seq parked polled the_call) (Err e) polled new the_call after
         cut =
             let s = ended pass.ended the_transcript the_call (waits_as_last config same first first_is) in
             (s.0, s.1, counted (Err e) s.0 s.2)
@@ -254,9 +254,9 @@ module _ (pass : PassView) (stood : Stands pass) (parked : Parked) (waits : pass
         pub cut_stands : HasSeen new → Stands (record pass { logs = new; going = going; waits = now })
         cut_stands seen = subst Stands (final_is cut.0 cut.1) (completed_stands done t new cut.0 cut.2.0 (λ winner. ap (is_won_as winner) cut.2.1) seen)
 
-        pub cut_collected : HasCollected Collected.NoMemory pass (record pass { logs = new; going = going; waits = now })
+        pub cut_collected : HasCollectedAs is_sent Collected.NoMemory pass (record pass { logs = new; going = going; waits = now })
         cut_collected =
-            subst (HasCollected Collected.NoMemory pass) (final_is cut.0 cut.1)
+            subst (HasCollectedAs is_sent Collected.NoMemory pass) (final_is cut.0 cut.1)
             (completed done t new cut.0 cut.2.0 (λ winner. ap (is_won_as winner) cut.2.1) polls, cut.2.1)
 
       pub finished_stands : (r : Result (List ℕ) NoMemory) → IsEnded r → HasSeen new → Stands (record pass { logs = new; going = going; waits = now })
@@ -280,14 +280,14 @@ module _ (config : Configuration) (first : ℕ) (parked : Parked) (polled : LogP
       length-append (calls_in front) transcript.calls ∙ ap (λ (m : ℕ). m + length transcript.calls) (sym w.first_is) ∙ sym (seq_last front transcript call w) in
       subst (λ (k : Call). IsLastKept config (first + (n - 1)) parked polled k front transcript) (sym (lent_last open_one going is transcript call w.last lent lent_is one at)) (before, w.kept)
 
-  pub ended_last : (new : LogPassView) (done : Done) (r : Result (List ℕ) NoMemory) (after : Call)
-      → HasFinished {E = NoMemory} config (first + (n - 1)) done (IsLastKept config (first + (n - 1)) parked polled one) r polled new one after
+  pub ended_last : (is_sent : Bool) (new : LogPassView) (done : Done) (r : Result (List ℕ) NoMemory) (after : Call)
+      → HasFinished {E = NoMemory} is_sent config (first + (n - 1)) done (IsLastKept config (first + (n - 1)) parked polled one) r polled new one after
       → (front : List Transcript) (transcript : Transcript) (call : Call) → WaitsAsLast config first parked polled open_one front transcript call
       → (last : Call) × ((let o : Option Transcript = Some (set_back going lent after) in o) ≡ Some (with_last transcript last))
-      × HasFinished {E = NoMemory} config (first + length transcript.calls) done (IsLastKept config (first + length transcript.calls) parked polled call) r polled new call last
-  ended_last new done r after h front transcript call w = (
+      × HasFinished {E = NoMemory} is_sent config (first + length transcript.calls) done (IsLastKept config (first + length transcript.calls) parked polled call) r polled new call last
+  ended_last is_sent new done r after h front transcript call w = (
     after,
     set_last open_one going is transcript call w.last lent lent_is after,
-    subst (λ (k : Call). HasFinished {E = NoMemory} config (first + length transcript.calls) done (IsLastKept config (first + length transcript.calls) parked polled k) r polled new k after) (lent_last open_one going is transcript call w.last lent lent_is one at)
-        (subst (λ (m : ℕ). HasFinished {E = NoMemory} config m done (IsLastKept config m parked polled one) r polled new one after) (seq_last front transcript call w) h),
+    subst (λ (k : Call). HasFinished {E = NoMemory} is_sent config (first + length transcript.calls) done (IsLastKept config (first + length transcript.calls) parked polled k) r polled new k after) (lent_last open_one going is transcript call w.last lent lent_is one at)
+        (subst (λ (m : ℕ). HasFinished {E = NoMemory} is_sent config m done (IsLastKept config m parked polled one) r polled new one after) (seq_last front transcript call w) h),
   )

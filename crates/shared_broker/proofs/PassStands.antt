@@ -1,5 +1,5 @@
 -- What is so of a pass whose last call was written down, or came to its end.
-use Rattle.std.proofs.Common.{◌≡◌, ℕ, ◌+◌, ◌<◌, false, cond, List, [], ◌∷◌, ◌++◌, length, Option, Some, None, Result, Ok, Err, refl, sym, ap, subst, ◌∙◌, arith, append-nil, inr}
+use Rattle.std.proofs.Common.{◌≡◌, ℕ, ◌+◌, ◌<◌, false, cond, List, [], ◌∷◌, ◌++◌, length, Option, Some, None, Result, Ok, Err, refl, sym, ap, subst, ◌∙◌, arith, append-nil, inr, Bool}
 use Rattle.std.specs.Prelude.{count_by, option_to_list}
 use Rattle.std.proofs.lemmas.Grind.{flat_map-append}
 use Rattle.std.proofs.lemmas.List.{length-append}
@@ -24,7 +24,7 @@ use Rattle.room_table.specs.Seats.{caller_now}
 use Rattle.shared_broker.specs.declared.calling.Became.{Became}
 use Rattle.shared_broker.specs.declared.calling.Handled.{Handled}
 use Rattle.shared_broker.specs.declared.parked.Parked.{Parked}
-use Rattle.shared_broker.specs.Calling.{HasCalled, HasHandled}
+use Rattle.shared_broker.specs.Calling.{HasCalled, HasHandledAs}
 use Rattle.shared_broker.specs.Passes.{BrokerView, PassView, book_of, calls_made}
 use Rattle.shared_broker.specs.Serving.{HasCome, HasGoneOn, HasServed, IsWritten, WasWritten, fresh_call, with_last}
 use Rattle.shared_broker.specs.Standing.{HoldsBook, IsGoing, IsOfGoing, Sits, Stands}
@@ -118,15 +118,15 @@ module _ {E : Type 0} where
   handled_by (Ok (Became.Parked parked)) = Handled.Parked parked.op.deadline
   handled_by (Err e) = Handled.NoMemory
 
-  come_by : (config : Configuration) (seq : ℕ) (request : Request) (Was : List Transcript → Transcript → Type 0) (r : Result Became E) (old new : LogPassView) (before after : Call) → HasServed config seq request Was r old new before after
+  come_by : (is_sent : Bool) (config : Configuration) (seq : ℕ) (request : Request) (Was : List Transcript → Transcript → Type 0) (r : Result Became E) (old new : LogPassView) (before after : Call) → HasServed is_sent config seq request Was r old new before after
       → HasCome config Was (waits_by r) old new before after
-  come_by config seq request Was (Ok (Became.Answered bytes)) old new before after h = h.0
-  come_by config seq request Was (Ok Became.Quiet) old new before after h = h.0
-  come_by config seq request Was (Ok (Became.Parked parked)) old new before after h = h.0
-  come_by config seq request Was (Err e) old new before after h = h.0
+  come_by is_sent config seq request Was (Ok (Became.Answered bytes)) old new before after h = h.0
+  come_by is_sent config seq request Was (Ok Became.Quiet) old new before after h = h.0
+  come_by is_sent config seq request Was (Ok (Became.Parked parked)) old new before after h = h.0
+  come_by is_sent config seq request Was (Err e) old new before after h = h.0
 
-  module _ (frame : List ℕ) (request : Request) (seq : ℕ) (before now : PassView) (w : WasWritten frame request seq before now) (r : Result Became E) (new : LogPassView) (after : Call)
-      (h : HasServed before.config seq request (IsWritten before.config seq request before.logs (fresh_call frame)) r before.logs new (fresh_call frame) after) where
+  module _ (is_sent : Bool) (frame : List ℕ) (request : Request) (seq : ℕ) (before now : PassView) (w : WasWritten frame request seq before now) (r : Result Became E) (new : LogPassView) (after : Call)
+      (h : HasServed is_sent before.config seq request (IsWritten before.config seq request before.logs (fresh_call frame)) r before.logs new (fresh_call frame) after) where
     abbrev Was : List Transcript → Transcript → Type 0
     Was = IsWritten before.config seq request before.logs (fresh_call frame)
 
@@ -134,7 +134,7 @@ module _ {E : Type 0} where
     was = is_written before w.stood w.transcript w.going w.none frame request seq w.whole w.number w.asked w.decisions w.decided
 
     abbrev come : HasCome before.config (IsWritten before.config seq request before.logs (fresh_call frame)) (waits_by r) before.logs new (fresh_call frame) after
-    come = come_by before.config seq request (IsWritten before.config seq request before.logs (fresh_call frame)) r before.logs new (fresh_call frame) after h
+    come = come_by is_sent before.config seq request (IsWritten before.config seq request before.logs (fresh_call frame)) r before.logs new (fresh_call frame) after h
 
     pub served_stands : HasSeen new → Stands (record before { logs = new; going = Some (with_last w.transcript after); waits = waits_by r })
     served_stands seen =
@@ -157,14 +157,14 @@ module _ {E : Type 0} where
       ticked = come.on.ticked;
     }
 
-  module _ (frame : List ℕ) (request : Request) (seq : ℕ) (before now : PassView) (w : WasWritten frame request seq before now) (new : LogPassView) (after : Call) where
-    pub served_handled : (r : Result Became E) → HasServed before.config seq request (IsWritten before.config seq request before.logs (fresh_call frame)) r before.logs new (fresh_call frame) after
-        → HasHandled frame (handled_by r) before (record before { logs = new; going = Some (with_last w.transcript after); waits = waits_by r })
+  module _ (is_sent : Bool) (frame : List ℕ) (request : Request) (seq : ℕ) (before now : PassView) (w : WasWritten frame request seq before now) (new : LogPassView) (after : Call) where
+    pub served_handled : (r : Result Became E) → HasServed is_sent before.config seq request (IsWritten before.config seq request before.logs (fresh_call frame)) r before.logs new (fresh_call frame) after
+        → HasHandledAs is_sent frame (handled_by r) before (record before { logs = new; going = Some (with_last w.transcript after); waits = waits_by r })
     served_handled (Ok (Became.Answered bytes)) h =
-        let told = h.4 before.ended w.transcript (was frame request seq before now w (Ok (Became.Answered bytes)) new after h) in
-        (called frame request seq before now w (Ok (Became.Answered bytes)) new after h None, h.1, h.2, record { reply = told.reply; spelled = told.spelled; replied = told.replied }, subst (λ (n : ℕ). AreLeft n before.logs new) w.number h.3, refl)
+        let told = h.4 before.ended w.transcript (was is_sent frame request seq before now w (Ok (Became.Answered bytes)) new after h) in
+        (called is_sent frame request seq before now w (Ok (Became.Answered bytes)) new after h None, h.1, h.2, record { reply = told.reply; spelled = told.spelled; replied = told.replied }, subst (λ (n : ℕ). AreLeft n before.logs new) w.number h.3, refl)
     served_handled (Ok Became.Quiet) h =
-        (called frame request seq before now w (Ok Became.Quiet) new after h None, h.1, h.2, subst (λ (n : ℕ). AreLeft n before.logs new) w.number h.3, refl)
+        (called is_sent frame request seq before now w (Ok Became.Quiet) new after h None, h.1, h.2, subst (λ (n : ℕ). AreLeft n before.logs new) w.number h.3, refl)
     served_handled (Ok (Became.Parked parked)) h =
-        (called frame request seq before now w (Ok (Became.Parked parked)) new after h (Some parked), h.1, parked, refl, refl, h.2, subst (λ (n : ℕ). AreLeft n before.logs new) w.number h.3)
-    served_handled (Err e) h = inr (called frame request seq before now w (Err e) new after h None, h.1, refl)
+        (called is_sent frame request seq before now w (Ok (Became.Parked parked)) new after h (Some parked), h.1, parked, refl, refl, h.2, subst (λ (n : ℕ). AreLeft n before.logs new) w.number h.3)
+    served_handled (Err e) h = inr (called is_sent frame request seq before now w (Err e) new after h None, h.1, refl)

@@ -6,7 +6,6 @@ use Rattle.audit.proofs.account.Transcript.TheSendSync as transcript
 use Rattle.audit.specs.contracts.account.Transcript as Transcript
 use Rattle.kbytes.proofs.list.List.TheSendSync as list
 use Rattle.shared_broker.proofs.parked.Parked.TheSendSync as parked
-use Rattle.shared_broker.specs.contracts.parked.Parked as Parked
 use Rattle.shared_broker.specs.contracts.pass.Pass.{the_row}
 use Rattle.shared_broker.specs.contracts.pass.Pass.TheInside as inside
 use Rattle.shared_logs.proofs.pass.LogPass.TheSendSync as log_pass

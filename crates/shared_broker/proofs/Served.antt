@@ -17,7 +17,6 @@ use Rattle.kanswer.specs.Numbered.{AreNumbers}
 use Rattle.kanswer.specs.Waiting.{Shown, becomes_delayed, results_of}
 use Rattle.kwire.specs.Configuration.{Configuration}
 use Rattle.kwire.specs.declared.request.Request.{Request}
-use Rattle.kwire.specs.Spelling.{spelling}
 use Rattle.audit.specs.broker.books.Accepting.{IsAccepting}
 use Rattle.audit.specs.broker.books.IsBook.{IsBook}
 use Rattle.audit.specs.broker.books.Underway.{Underway, book_amid, with_end}
@@ -30,6 +29,7 @@ use Rattle.room_table.specs.Seats.{caller_now}
 use Rattle.shared_calls.specs.Accepted.{WasAccepted}
 use Rattle.shared_calls.specs.Came.{CameView}
 use Rattle.shared_calls.specs.Carried.{HasStopped, IsAt}
+use Rattle.shared_broker.specs.Calling.{frame_of}
 use Rattle.shared_broker.specs.declared.calling.Became.{Became}
 use Rattle.shared_broker.specs.Serving.{HasCome, HasGoneOn, HasServed, IsAnswered, IsToldTo, IsWritten, WillWait}
 use Rattle.shared_logs.specs.Coming.{HasStepped}
@@ -108,9 +108,9 @@ module _ (config : Configuration) (seq : ℕ) (request : Request) (old mid new :
         come_at_once how is nobody =
             unwon_come config (IsWritten config seq request old call) old new call (record call { accept = points; how = how }) accepted_on accepted_kept idle paid nobody refl (at_once how is)
 
-        told_at_once : (bytes : List ℕ) → ((shown : List Shown) → AreReadings request.ask came.accepted came.readings shown → bytes ≡ spelling (answer config request shown)) → (f : List Transcript) (t : Transcript)
-            → IsWritten config seq request old call f t → IsToldTo config new (record call { accept = points; how = AtOnce }) bytes
-        told_at_once bytes spelled f t was =
+        told_at_once : (is_sent : Bool) (bytes : List ℕ) → ((shown : List Shown) → AreReadings request.ask came.accepted came.readings shown → bytes ≡ frame_of is_sent (answer config request shown)) → (f : List Transcript) (t : Transcript)
+            → IsWritten config seq request old call f t → IsToldTo is_sent config new (record call { accept = points; how = AtOnce }) bytes
+        told_at_once is_sent bytes spelled f t was =
             let w = accepted was.decisions was.accepting.decided in
             let u = amid config f t new (record call { accept = points }) in
             record {
@@ -119,17 +119,17 @@ module _ (config : Configuration) (seq : ℕ) (request : Request) (old mid new :
               replied = answered_reply (with_end u AtOnce) request was.decisions w.noted (accepting_as u request was.decisions (length was.decisions) w.noted AtOnce (whole f t was)) (undelayed (shown_of w.noted) w.results w.numbers) refl;
             }
 
-        pub answered : {E : Type 0} (r : Result Became E) (after : Call) → IsAnswered config request came r (record call { accept = points }) after
-            → HasServed config seq request (IsWritten config seq request old call) r old new call after
-        answered {E = E} (Ok (Became.Answered bytes)) after h =
-            subst (λ (k : Call). HasServed {E = E} config seq request (IsWritten config seq request old call) (Ok (Became.Answered bytes)) old new call k) (sym h.1)
-            (come_at_once AtOnce (ap (λ (b : Bool). cond b Quiet AtOnce) (sym h.0)) (λ by. refl), h.0, inl refl, accepted_left, told_at_once bytes h.2)
-        answered {E = E} (Ok Became.Quiet) after h =
-            subst (λ (k : Call). HasServed {E = E} config seq request (IsWritten config seq request old call) (Ok Became.Quiet) old new call k) (sym h.1)
+        pub answered : (is_sent : Bool) {E : Type 0} (r : Result Became E) (after : Call) → IsAnswered is_sent config request came r (record call { accept = points }) after
+            → HasServed is_sent config seq request (IsWritten config seq request old call) r old new call after
+        answered is_sent {E = E} (Ok (Became.Answered bytes)) after h =
+            subst (λ (k : Call). HasServed {E = E} is_sent config seq request (IsWritten config seq request old call) (Ok (Became.Answered bytes)) old new call k) (sym h.1)
+            (come_at_once AtOnce (ap (λ (b : Bool). cond b Quiet AtOnce) (sym h.0)) (λ by. refl), h.0, inl refl, accepted_left, told_at_once is_sent bytes h.2)
+        answered is_sent {E = E} (Ok Became.Quiet) after h =
+            subst (λ (k : Call). HasServed {E = E} is_sent config seq request (IsWritten config seq request old call) (Ok Became.Quiet) old new call k) (sym h.1)
             (come_at_once Quiet (ap (λ (b : Bool). cond b Quiet AtOnce) (sym h.0)) (λ by. refl), h.0, refl, accepted_left)
-        answered {E = E} (Ok (Became.Parked parked)) after h = absurd h
-        answered {E = E} (Err e) after h =
-            subst (λ (k : Call). HasServed {E = E} config seq request (IsWritten config seq request old call) (Err e) old new call k) (sym h) (
+        answered is_sent {E = E} (Ok (Became.Parked parked)) after h = absurd h
+        answered is_sent {E = E} (Err e) after h =
+            subst (λ (k : Call). HasServed {E = E} is_sent config seq request (IsWritten config seq request old call) (Err e) old new call k) (sym h) (
               cut_come config (IsWritten config seq request old call) old new call (record call { accept = points }) accepted_on accepted_kept idle paid first.cut refl
                   (λ f t was. accepting_cut (amid config f t new (record call { accept = points })) request was.decisions (length was.decisions) (noted_in f t was) (whole f t was) was.cut),
               (None, first.cut),

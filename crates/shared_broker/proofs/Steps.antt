@@ -95,9 +95,9 @@ module _ (config : Configuration) (seq : ℕ) (request : Request) (Was Is : List
   parked_on : (parked : Parked) → HasParked parked mid.seat new.seat → HasParked parked old.seat new.seat
   parked_on parked h = record { before = h.before; came = went_on old.seat mid.seat h.before on.went h.came; registered = h.registered }
 
-  pub served_on : {E : Type 0} (r : Result Became E) → HasServed config seq request Is r mid new before after → HasServed config seq request Was r old new first after
-  served_on (Ok (Became.Answered bytes)) h =
+  pub served_on : (is_sent : Bool) {E : Type 0} (r : Result Became E) → HasServed is_sent config seq request Is r mid new before after → HasServed is_sent config seq request Was r old new first after
+  served_on is_sent (Ok (Became.Answered bytes)) h =
       (come_on None h.0, h.1, answered_on h.2, left_on seq old mid new on.number left h.3, λ front transcript w. h.4 front transcript (was front transcript w))
-  served_on (Ok Became.Quiet) h = (come_on None h.0, h.1, h.2, left_on seq old mid new on.number left h.3)
-  served_on (Ok (Became.Parked parked)) h = (come_on (Some parked) h.0, h.1, parked_on parked h.2, left_on seq old mid new on.number left h.3)
-  served_on (Err e) h = (come_on None h.0, h.1)
+  served_on is_sent (Ok Became.Quiet) h = (come_on None h.0, h.1, h.2, left_on seq old mid new on.number left h.3)
+  served_on is_sent (Ok (Became.Parked parked)) h = (come_on (Some parked) h.0, h.1, parked_on parked h.2, left_on seq old mid new on.number left h.3)
+  served_on is_sent (Err e) h = (come_on None h.0, h.1)

@@ -1,5 +1,5 @@
 -- A call that was won, whose completion found the histories so and then paid what the pass owed.
-use Rattle.std.proofs.Common.{◌≡◌, ℕ, List, length, Option, Some, None, refl, sym, ap, subst, ◌∙◌}
+use Rattle.std.proofs.Common.{◌≡◌, ℕ, List, length, Option, Some, None, refl, sym, ap, subst, ◌∙◌, Bool}
 use Rattle.partlog.specs.declared.clock_event.ClockEvent.{ClockEvent}
 use Rattle.partlog.specs.History.{History}
 use Rattle.partlog.specs.State.{PartState as State}
@@ -19,7 +19,6 @@ use Rattle.kanswer.specs.LogReadings.{AreReadings}
 use Rattle.kanswer.specs.Waiting.{Shown}
 use Rattle.kwire.specs.Configuration.{Configuration}
 use Rattle.kwire.specs.declared.request.Request.{Request}
-use Rattle.kwire.specs.Spelling.{spelling}
 use Rattle.audit.specs.broker.books.Finishing.{IsFinishing, shown_with}
 use Rattle.audit.specs.broker.books.IsBook.{IsBook}
 use Rattle.audit.specs.broker.books.Underway.{Underway, book_amid, with_end}
@@ -30,7 +29,7 @@ use Rattle.purgatory.specs.declared.outcome.Done.{Done}
 use Rattle.purgatory.specs.Going.{KeepsOperation, OwesNothing}
 use Rattle.room_core.specs.declared.event.How.{How}
 use Rattle.room_table.specs.Seats.{caller_now}
-use Rattle.shared_broker.specs.Calling.{how_by, told_as}
+use Rattle.shared_broker.specs.Calling.{frame_of, how_by, told_as}
 use Rattle.shared_broker.specs.declared.parked.Parked.{Parked}
 use Rattle.shared_broker.specs.Serving.{HasEndedCall, IsToldTo, WillSit, finished_as}
 use Rattle.shared_calls.specs.Finished.{IsLate, WasFinished, WasStopped}
@@ -117,11 +116,11 @@ module _ (config : Configuration) (seq : ℕ) (request : Request) (parked : Park
         → (shown : List Shown) × AreReadings request.ask parked.accepted readings shown
     call_read call front transcript was = (shown_with was.0.steps f.states, (f.goes config front transcript call was.0 was.1).2)
 
-    pub call_replied : (frame : List ℕ) → ((shown : List Shown) → AreReadings request.ask parked.accepted readings shown → frame ≡ spelling (answer config request shown)) → (call : Call) (front : List Transcript) (transcript : Transcript)
-        → WillSit config seq request parked old call front transcript → IsToldTo config new (finished_as call after (told_as done)) frame
-    call_replied frame spelled call front transcript was = record {
+    pub call_replied : (is_sent : Bool) (frame : List ℕ) → ((shown : List Shown) → AreReadings request.ask parked.accepted readings shown → frame ≡ frame_of is_sent (answer config request shown)) → (call : Call) (front : List Transcript) (transcript : Transcript)
+        → WillSit config seq request parked old call front transcript → IsToldTo is_sent config new (finished_as call after (told_as done)) frame
+    call_replied is_sent frame spelled call front transcript was = record {
       reply = answer config was.0.request (shown_with was.0.steps f.states);
       spelled = spelled (shown_with was.0.steps f.states) (f.goes config front transcript call was.0 was.1).2
-          ∙ ap (λ (r : Request). spelling (answer config r (shown_with was.0.steps f.states))) (sym was.1.request_is);
+          ∙ ap (λ (r : Request). frame_of is_sent (answer config r (shown_with was.0.steps f.states))) (sym was.1.request_is);
       replied = told_reply (amid config front transcript new (record call { finish = after })) was.0 done.how done.by f.late f.states f.late_is (finishing call front transcript was);
     }

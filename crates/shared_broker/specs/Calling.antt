@@ -1,5 +1,5 @@
 -- What `handle` answers, and why.
-use Rattle.std.specs.Prelude.{◌≡◌, ◌≢◌, ◌⊎◌, ℕ, ◌<◌, true, false, List, [], ◌∷◌, ◌++◌, Option, Some, None}
+use Rattle.std.specs.Prelude.{◌≡◌, ◌≢◌, ◌⊎◌, ℕ, ◌<◌, Bool, true, false, List, [], ◌∷◌, ◌++◌, Option, Some, None}
 use Rattle.audit.specs.declared.account.Call.{Call}
 use Rattle.audit.specs.declared.account.CallHow.{CallHow}
 use Rattle.audit.specs.declared.account.CallHow.TheVariants.{AtOnce, Cut, Expired, Parked as Waits, Quiet, Satisfied}
@@ -50,11 +50,20 @@ pub record HasCalled (frame : List ℕ) (old new : PassView) : Type 0 where
 abbrev pub HasLeft : PassView → PassView → Type 0
 HasLeft old new = AreLeft (calls_made old) old.logs new.logs
 
--- these bytes are the frame of the call's reply, in every account that goes on from what the pass has seen
-pub record IsRepliedTo (pass : PassView) (call : Call) (frame : List ℕ) : Type 0 where
+-- what is made of a reply: its frame where it is to be sent, and else nothing
+abbrev pub frame_of : Bool → Reply → List ℕ
+frame_of true reply = spelling reply
+frame_of false reply = []
+
+-- these bytes are made of the call's reply, in every account that goes on from what the pass has seen
+pub record IsMadeOfReply (is_sent : Bool) (pass : PassView) (call : Call) (frame : List ℕ) : Type 0 where
   pub reply : Reply
-  pub spelled : frame ≡ spelling reply
+  pub spelled : frame ≡ frame_of is_sent reply
   pub replied : Carried pass.config pass.logs.parts pass.logs.clock (λ account. IsReplyOf account call reply)
+
+-- they are its frame
+abbrev pub IsRepliedTo : PassView → Call → List ℕ → Type 0
+IsRepliedTo = IsMadeOfReply true
 
 -- how a call ends that this winner won
 abbrev pub how_by : How → ℕ → CallHow
@@ -86,15 +95,19 @@ IsEndFor frame made end =
     ((end ≡ ends.CallsFull) × (made ≡ MOST_CALLS))
     ⊎ ((why : WireFault) × (end ≡ ends.Refused why) × (made < MOST_CALLS) × IsRefused frame why × (why ≢ OutOfMemory))
 
-abbrev pub HasHandled : List ℕ → Handled → PassView → PassView → Type 0
-HasHandled frame (Handled.Ended end) old new = (new ≡ old) × IsEndFor frame (calls_made old) end
-HasHandled frame Handled.Quiet old new =
+abbrev pub HasHandledAs : Bool → List ℕ → Handled → PassView → PassView → Type 0
+HasHandledAs is_sent frame (Handled.Ended end) old new = (new ≡ old) × IsEndFor frame (calls_made old) end
+HasHandledAs is_sent frame Handled.Quiet old new =
     (c : HasCalled frame old new) × (is_quiet c.request.ask ≡ true) × (c.call.how ≡ Quiet) × HasLeft old new × (new.waits ≡ None)
-HasHandled frame (Handled.Reply bytes) old new =
-    (c : HasCalled frame old new) × (is_quiet c.request.ask ≡ false) × IsAnsweredAs c.call.how old.logs.seat new.logs.seat × IsRepliedTo new c.call bytes
+HasHandledAs is_sent frame (Handled.Reply bytes) old new =
+    (c : HasCalled frame old new) × (is_quiet c.request.ask ≡ false) × IsAnsweredAs c.call.how old.logs.seat new.logs.seat × IsMadeOfReply is_sent new c.call bytes
     × HasLeft old new × (new.waits ≡ None)
-HasHandled frame (Handled.Parked deadline) old new =
+HasHandledAs is_sent frame (Handled.Parked deadline) old new =
     (c : HasCalled frame old new) × (c.call.how ≡ Waits) × (parked : Parked) × (new.waits ≡ Some parked) × (parked.op.deadline ≡ deadline)
     × HasParked parked old.logs.seat new.logs.seat × HasLeft old new
-HasHandled frame Handled.NoMemory old new =
+HasHandledAs is_sent frame Handled.NoMemory old new =
     (new ≡ old) ⊎ ((c : HasCalled frame old new) × IsCutOff c.call.how × (new.waits ≡ None))
+
+-- a reply's frame is made
+abbrev pub HasHandled : List ℕ → Handled → PassView → PassView → Type 0
+HasHandled = HasHandledAs true

@@ -3,7 +3,6 @@ use Rattle.std.specs.Prelude.{◌≡◌, ◌+◌, ◌↔◌, ℕ, List, All, Any
 use Rattle.std.specs.List.{flat_map}
 use Rattle.audit.specs.Histories.{ticks_of}
 use Rattle.audit.specs.declared.account.Account.{Account}
-use Rattle.audit.specs.declared.account.Transcript.{Transcript}
 use Rattle.audit.specs.IsLawful.{IsLawful}
 use Rattle.partlog.specs.Moment.{moment_of}
 use Rattle.audit.specs.broker.GoesOn.{GoesOn}

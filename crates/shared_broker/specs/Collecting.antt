@@ -1,5 +1,5 @@
 -- What `collect` answers, and why.
-use Rattle.std.specs.Prelude.{◌≡◌, ℕ, suc, List, [], ◌∷◌, ◌++◌, Some, None}
+use Rattle.std.specs.Prelude.{◌≡◌, ℕ, suc, Bool, true, List, [], ◌∷◌, ◌++◌, Some, None}
 use Rattle.audit.specs.declared.account.Call.{Call}
 use Rattle.audit.specs.declared.account.CallHow.{CallHow}
 use Rattle.audit.specs.declared.account.CallHow.TheVariants.{Cut, Parked as Waits}
@@ -11,7 +11,7 @@ use Rattle.purgatory.specs.Going.{GoesOn}
 use Rattle.purgatory.specs.Polled.{HasPolled}
 use Rattle.room_table.specs.Seats.{CallerView}
 use Rattle.shared_broker.specs.declared.collecting.Collected.{Collected}
-use Rattle.shared_broker.specs.Calling.{IsRepliedTo, told_as}
+use Rattle.shared_broker.specs.Calling.{IsMadeOfReply, told_as}
 use Rattle.shared_broker.specs.Passes.{PassView, calls_made, made_with}
 use Rattle.shared_logs.specs.Left.{AreLeft}
 use Rattle.shared_logs.specs.Coming.{HasStepped}
@@ -40,9 +40,13 @@ pub record HasCompleted (old new : PassView) : Type 0 where
 abbrev pub HasLooked : PassView → PassView → Type 0
 HasLooked old new = (seq : ℕ) × (calls_made old ≡ suc seq) × AreLeft seq old.logs new.logs
 
-abbrev pub HasCollected : Collected → PassView → PassView → Type 0
-HasCollected Collected.NotYet old new =
+abbrev pub HasCollectedAs : Bool → Collected → PassView → PassView → Type 0
+HasCollectedAs is_sent Collected.NotYet old new =
     HasPolled None old.logs.seat new.logs.seat × HasStepped old.logs new.logs × (new ≡ record old { logs = new.logs })
-HasCollected (Collected.Reply bytes) old new =
-    (c : HasCompleted old new) × (c.how ≡ told_as c.done) × IsRepliedTo new (record c.call { finish = c.finish; how = c.how }) bytes × HasLooked old new
-HasCollected Collected.NoMemory old new = (c : HasCompleted old new) × (c.how ≡ Cut (Some c.done.by))
+HasCollectedAs is_sent (Collected.Reply bytes) old new =
+    (c : HasCompleted old new) × (c.how ≡ told_as c.done) × IsMadeOfReply is_sent new (record c.call { finish = c.finish; how = c.how }) bytes × HasLooked old new
+HasCollectedAs is_sent Collected.NoMemory old new = (c : HasCompleted old new) × (c.how ≡ Cut (Some c.done.by))
+
+-- a reply's frame is made
+abbrev pub HasCollected : Collected → PassView → PassView → Type 0
+HasCollected = HasCollectedAs true

@@ -1,5 +1,5 @@
 -- A call that is served or completed, by what its pass knew and did before, and what it knows and did after.
-use Rattle.std.specs.Prelude.{◌≡◌, ℕ, ◌+◌, ◌-◌, ◌^◌, ◌≤◌, ◌<◌, true, false, if◌then◌else◌, List, [], ◌∷◌, ◌++◌, length, Option, Some, None, Result, Ok, Err}
+use Rattle.std.specs.Prelude.{◌≡◌, ℕ, ◌+◌, ◌-◌, ◌^◌, ◌≤◌, ◌<◌, Bool, true, false, if◌then◌else◌, List, [], ◌∷◌, ◌++◌, length, Option, Some, None, Result, Ok, Err}
 use Rattle.audit.specs.declared.account.Call.{Call}
 use Rattle.audit.specs.declared.account.CallHow.{CallHow}
 use Rattle.audit.specs.declared.account.CallHow.TheVariants.{AtOnce, Cut, Parked as Waits, Quiet}
@@ -19,7 +19,6 @@ use Rattle.kwire.specs.Configuration.{Configuration}
 use Rattle.kwire.specs.declared.reply.Reply.{Reply}
 use Rattle.kwire.specs.declared.request.Request.{Request}
 use Rattle.kwire.specs.IsRequest.{IsRequest}
-use Rattle.kwire.specs.Spelling.{spelling}
 use Rattle.audit.specs.broker.books.Accepting.{IsAccepting}
 use Rattle.audit.specs.broker.books.IsBook.{IsBook}
 use Rattle.audit.specs.broker.books.Told.{last_is_cut}
@@ -32,7 +31,7 @@ use Rattle.purgatory.specs.Going.{GoesOn, OwesNothing}
 use Rattle.room_core.specs.declared.parts.Stage.{Stage}
 use Rattle.room_table.specs.Seats.{CallerView, caller_now}
 use Rattle.shared_calls.specs.Came.{CameView}
-use Rattle.shared_broker.specs.Calling.{HasParked, IsAnsweredAs, IsCutOff, told_as}
+use Rattle.shared_broker.specs.Calling.{HasParked, IsAnsweredAs, IsCutOff, frame_of, told_as}
 use Rattle.shared_broker.specs.declared.calling.Became.{Became}
 use Rattle.shared_broker.specs.declared.parked.Parked.{Parked}
 use Rattle.shared_broker.specs.Passes.{PassView, calls_made}
@@ -128,33 +127,33 @@ pub record HasCome (config : Configuration) (Was : List Transcript → Transcrip
   pub book : (front : List Transcript) (transcript : Transcript) → Was front transcript
       → HoldsBook (book_amid (amid config front transcript new after)) waits
 
--- these bytes are the frame of the call's reply, in every account that goes on from what the pass has seen
-pub record IsToldTo (config : Configuration) (pass : LogPassView) (call : Call) (frame : List ℕ) : Type 0 where
+-- these bytes are made of the call's reply, in every account that goes on from what the pass has seen
+pub record IsToldTo (is_sent : Bool) (config : Configuration) (pass : LogPassView) (call : Call) (frame : List ℕ) : Type 0 where
   pub reply : Reply
-  pub spelled : frame ≡ spelling reply
+  pub spelled : frame ≡ frame_of is_sent reply
   pub replied : Carried config pass.parts pass.clock (λ account. IsReplyOf account call reply)
 
 -- a call that needn't wait was answered from what came of it
 module _ {E : Type 0} where
-  abbrev pub IsAnswered : Configuration → Request → CameView → Result Became E → Call → Call → Type 0
-  IsAnswered config request came (Ok (Became.Answered bytes)) before after =
+  abbrev pub IsAnswered : Bool → Configuration → Request → CameView → Result Became E → Call → Call → Type 0
+  IsAnswered is_sent config request came (Ok (Became.Answered bytes)) before after =
       (is_quiet request.ask ≡ false) × (after ≡ record before { how = AtOnce })
-      × ((shown : List Shown) → AreReadings request.ask came.accepted came.readings shown → bytes ≡ spelling (answer config request shown))
-  IsAnswered config request came (Ok Became.Quiet) before after = (is_quiet request.ask ≡ true) × (after ≡ record before { how = Quiet })
-  IsAnswered config request came (Ok (Became.Parked parked)) before after = ⊥
-  IsAnswered config request came (Err e) before after = after ≡ before
+      × ((shown : List Shown) → AreReadings request.ask came.accepted came.readings shown → bytes ≡ frame_of is_sent (answer config request shown))
+  IsAnswered is_sent config request came (Ok Became.Quiet) before after = (is_quiet request.ask ≡ true) × (after ≡ record before { how = Quiet })
+  IsAnswered is_sent config request came (Ok (Became.Parked parked)) before after = ⊥
+  IsAnswered is_sent config request came (Err e) before after = after ≡ before
 
   -- the call of this number was served
-  abbrev pub HasServed : Configuration → ℕ → Request → (List Transcript → Transcript → Type 0) → Result Became E
+  abbrev pub HasServed : Bool → Configuration → ℕ → Request → (List Transcript → Transcript → Type 0) → Result Became E
       → LogPassView → LogPassView → Call → Call → Type 0
-  HasServed config seq request Was (Ok (Became.Answered bytes)) old new before after =
+  HasServed is_sent config seq request Was (Ok (Became.Answered bytes)) old new before after =
       HasCome config Was None old new before after × (is_quiet request.ask ≡ false) × IsAnsweredAs after.how old.seat new.seat
-      × AreLeft seq old new × ((front : List Transcript) (transcript : Transcript) → Was front transcript → IsToldTo config new after bytes)
-  HasServed config seq request Was (Ok Became.Quiet) old new before after =
+      × AreLeft seq old new × ((front : List Transcript) (transcript : Transcript) → Was front transcript → IsToldTo is_sent config new after bytes)
+  HasServed is_sent config seq request Was (Ok Became.Quiet) old new before after =
       HasCome config Was None old new before after × (is_quiet request.ask ≡ true) × (after.how ≡ Quiet) × AreLeft seq old new
-  HasServed config seq request Was (Ok (Became.Parked parked)) old new before after =
+  HasServed is_sent config seq request Was (Ok (Became.Parked parked)) old new before after =
       HasCome config Was (Some parked) old new before after × (after.how ≡ Waits) × HasParked parked old.seat new.seat × AreLeft seq old new
-  HasServed config seq request Was (Err e) old new before after = HasCome config Was None old new before after × IsCutOff after.how
+  HasServed is_sent config seq request Was (Err e) old new before after = HasCome config Was None old new before after × IsCutOff after.how
 
 -- ---- a call that was won
 
@@ -172,9 +171,9 @@ pub record HasEndedCall (config : Configuration) (Was : List Transcript → Tran
   pub book : (front : List Transcript) (transcript : Transcript) → Was front transcript → IsBook (book_amid (amid config front transcript new after)) None
 
 module _ {E : Type 0} where
-  abbrev pub HasFinished : Configuration → ℕ → Done → (List Transcript → Transcript → Type 0) → Result (List ℕ) E
+  abbrev pub HasFinished : Bool → Configuration → ℕ → Done → (List Transcript → Transcript → Type 0) → Result (List ℕ) E
       → LogPassView → LogPassView → Call → Call → Type 0
-  HasFinished config seq done Was (Ok bytes) old new before after =
+  HasFinished is_sent config seq done Was (Ok bytes) old new before after =
       HasEndedCall config Was old new before after × (after.how ≡ told_as done) × AreLeft seq old new
-      × ((front : List Transcript) (transcript : Transcript) → Was front transcript → IsToldTo config new after bytes)
-  HasFinished config seq done Was (Err e) old new before after = HasEndedCall config Was old new before after × (after.how ≡ Cut (Some done.by))
+      × ((front : List Transcript) (transcript : Transcript) → Was front transcript → IsToldTo is_sent config new after bytes)
+  HasFinished is_sent config seq done Was (Err e) old new before after = HasEndedCall config Was old new before after × (after.how ≡ Cut (Some done.by))

@@ -11,7 +11,7 @@ ghost use Rattle.kwire.specs.declared.request.Request.{Request};
 ghost use Rattle.kwire.specs.IsRequest.{IsRequest};
 ghost use Rattle.audit.specs.broker.Sound.{AllBelow};
 ghost use Rattle.kanswer.specs.BytesRead.{bytes_read, most_left};
-ghost use Rattle.shared_broker.specs.Calling.{HasHandled};
+ghost use Rattle.shared_broker.specs.Calling.{HasHandled, HasHandledAs};
 ghost use Rattle.shared_broker.specs.Passes.{PassView, calls_made, made_with};
 ghost use Rattle.shared_broker.specs.Serving.{HasServed, IsAnswered, IsFree, IsWritten, WasWritten, WillSit, WillWait};
 ghost use Rattle.shared_broker.specs.Sessions.{is_cut_off};
@@ -22,7 +22,7 @@ use crate::current::{CurrentCall, Won};
 use crate::parked::Parked;
 use crate::pass::Pass;
 use audit::{Call, CallHow, MOST_CALLS, SessionEnd, Transcript};
-use kanswer::{is_quiet, needs_op, op_of, reply_frame};
+use kanswer::{is_quiet, needs_op, op_of};
 use kbytes::{Bytes, List, NoMemory, copied};
 use kwire::{RequestView, WireFault, view_request};
 use purgatory::Registered;
@@ -65,6 +65,28 @@ impl Broker {
         requires whole { is_cut_off pass.old.going ≡ false }
         ensures { HasHandled frame.now result pass.old pass.new }
     {
+        self.handle_as(rt, pass, frame, true)
+    }
+
+    /// As `handle`, for a session that is sent nothing, since what it would be sent is printed of the account: a `Reply` has no bytes.
+    pub fn handle_unsent(&self, rt: &impl Wait, pass: &mut Pass, frame: &[u8]) -> Handled
+        requires made { made_with pass.old ≡ self.now }
+        requires begun { IsSome pass.old.going }
+        requires none { pass.old.waits ≡ None }
+        requires whole { is_cut_off pass.old.going ≡ false }
+        ensures { HasHandledAs false frame.now result pass.old pass.new }
+    {
+        self.handle_as(rt, pass, frame, false)
+    }
+
+    // Handles one request, whose reply's frame is made if it is to be sent.
+    fn handle_as(&self, rt: &impl Wait, pass: &mut Pass, frame: &[u8], is_sent: bool) -> Handled
+        requires made { made_with pass.old ≡ self.now }
+        requires begun { IsSome pass.old.going }
+        requires none { pass.old.waits ≡ None }
+        requires whole { is_cut_off pass.old.going ≡ false }
+        ensures { HasHandledAs is_sent frame.now result pass.old pass.new }
+    {
         let Some(seq) = pass.next_call() else {
             return Handled::Ended(SessionEnd::CallsFull);
         };
@@ -76,7 +98,13 @@ impl Broker {
         if pass.write_down(self.alloc, frame).is_err() {
             return Handled::NoMemory;
         }
-        self.serve(rt, pass, seq, &request)
+        let current = CurrentCall {
+            rt,
+            seq,
+            request: &request,
+            is_sent,
+        };
+        self.serve(&current, pass)
     }
 }
 
@@ -118,15 +146,15 @@ impl Pass {
 
 impl Broker {
     // Serves the call that was recorded last. If it waits, the pass keeps what is needed for its completion.
-    fn serve(&self, rt: &impl Wait, pass: &mut Pass, seq: u32, request: &RequestView<'_>) -> Handled
+    fn serve<W: Wait>(&self, current: &CurrentCall<'_, '_, '_, W>, pass: &mut Pass) -> Handled
         requires made { made_with pass.old ≡ self.now }
-        requires written { (frame : Items ℕ) × (before : PassView) × WasWritten frame request.now seq before pass.old }
-        ensures { (frame : Items ℕ) (before : PassView) → WasWritten frame request.now seq before pass.old → HasHandled frame result before pass.new }
+        requires written { (frame : Items ℕ) × (before : PassView) × WasWritten frame current.now.request.now current.now.seq before pass.old }
+        ensures { (frame : Items ℕ) (before : PassView) → WasWritten frame current.now.request.now current.now.seq before pass.old
+            → HasHandledAs current.now.is_sent frame result before pass.new }
     {
-        let current = CurrentCall { rt, seq, request };
         let served = match &mut pass.going {
             Some(going) => match going.calls.as_mut_slice().last_mut() {
-                Some(call) => self.serve_call(&current, &mut pass.logs, call),
+                Some(call) => self.serve_call(current, &mut pass.logs, call),
                 None => unreachable!(),
             },
             None => unreachable!(),
@@ -154,7 +182,7 @@ impl Broker {
         requires free { IsFree logs.old.seat }
         requires written { (front : Items TheTranscript) × (transcript : TheTranscript)
             × IsWritten self.now.config current.now.seq current.now.request.now logs.old call.old front transcript }
-        ensures served { HasServed self.now.config current.now.seq current.now.request.now
+        ensures served { HasServed current.now.is_sent self.now.config current.now.seq current.now.request.now
             (IsWritten self.now.config current.now.seq current.now.request.now logs.old call.old) result logs.old logs.new call.old call.new }
         ensures seen { HasSeen logs.new }
     {
@@ -173,35 +201,30 @@ impl Broker {
         if needs_op(current.request, came.accepted(), came.numbers()) {
             self.delay(current, logs, call, came)
         } else {
-            self.answer(call, current.request, &came)
+            self.answer(current, call, &came)
         }
     }
 
     // Answers a call that needn't wait.
-    fn answer(
+    fn answer<W: Wait>(
         &self,
+        current: &CurrentCall<'_, '_, '_, W>,
         call: &mut Call,
-        request: &RequestView<'_>,
         came: &Came,
     ) -> Result<Became, NoMemory>
-        requires results { AreResults request.now.ask came.now.accepted }
+        requires results { AreResults current.now.request.now.ask came.now.accepted }
         requires readings { length came.now.readings ≡ length came.now.accepted }
-        requires read { (shown : Items Shown) × AreReadings request.now.ask came.now.accepted came.now.readings shown }
-        requires room { bytes_read came.now.readings ≤ most_left (budget_of request.now.ask) }
-        requires asked { (body : Items ℕ) × IsRequest body request.now }
-        ensures { IsAnswered self.now.config request.now came.now result call.old call.new }
+        requires read { (shown : Items Shown) × AreReadings current.now.request.now.ask came.now.accepted came.now.readings shown }
+        requires room { bytes_read came.now.readings ≤ most_left (budget_of current.now.request.now.ask) }
+        requires asked { (body : Items ℕ) × IsRequest body current.now.request.now }
+        ensures { IsAnswered current.now.is_sent self.now.config current.now.request.now came.now result call.old call.new }
     {
+        let request = current.request;
         if is_quiet(&request.ask) {
             call.how = CallHow::Quiet;
             return Ok(Became::Quiet);
         }
-        let frame = reply_frame(
-            self.alloc,
-            &self.config,
-            request,
-            came.accepted(),
-            came.readings(),
-        )?;
+        let frame = self.frame(current, came.accepted(), came.readings())?;
         call.how = CallHow::AtOnce;
         Ok(Became::Answered(frame))
     }
@@ -220,7 +243,7 @@ impl Broker {
         requires cut { call.old.how ≡ Cut None }
         requires waits { (front : Items TheTranscript) × (transcript : TheTranscript)
             × WillWait self.now.config current.now.seq current.now.request.now came.accepted logs.old call.old front transcript }
-        ensures served { HasServed self.now.config current.now.seq current.now.request.now
+        ensures served { HasServed current.now.is_sent self.now.config current.now.seq current.now.request.now
             (WillWait self.now.config current.now.seq current.now.request.now came.accepted logs.old call.old) result logs.old logs.new call.old call.new }
         ensures seen { HasSeen logs.new }
     {
@@ -257,7 +280,7 @@ impl Broker {
         requires loud { is_quiet current.now.request.now.ask ≡ false }
         requires waits { (front : Items TheTranscript) × (transcript : TheTranscript)
             × WillSit self.now.config current.now.seq current.now.request.now parked logs.old call.old front transcript }
-        ensures served { HasServed self.now.config current.now.seq current.now.request.now
+        ensures served { HasServed current.now.is_sent self.now.config current.now.seq current.now.request.now
             (WillSit self.now.config current.now.seq current.now.request.now parked logs.old call.old) result logs.old logs.new call.old call.new }
         ensures seen { HasSeen logs.new }
     {
@@ -270,6 +293,7 @@ impl Broker {
                 let won = Won {
                     parked: &parked,
                     done,
+                    is_sent: current.is_sent,
                 };
                 let frame = self.complete(current, logs, &mut call.finish, &mut call.how, &won)?;
                 Ok(Became::Answered(frame))

@@ -1,10 +1,10 @@
 //! `Broker::collect`, by which a session asks for the reply to its request that waits: if that was won, the call's frame is read again, and
 //! completing.rt does the rest.
-ghost use Rattle.std.specs.Prelude.{◌≡◌, IsSome, List as Items, length};
+ghost use Rattle.std.specs.Prelude.{◌≡◌, IsSome, List as Items, false, length};
 ghost use Rattle.audit.specs.declared.account.Transcript.{Transcript as TheTranscript};
 ghost use Rattle.purgatory.specs.Going.{OwesNothing};
 ghost use Rattle.room_table.specs.Seats.{caller_now};
-ghost use Rattle.shared_broker.specs.Collecting.{HasCollected};
+ghost use Rattle.shared_broker.specs.Collecting.{HasCollected, HasCollectedAs};
 ghost use Rattle.shared_broker.specs.Passes.{made_with};
 ghost use Rattle.shared_broker.specs.Serving.{HasFinished, IsLastKept};
 ghost use Rattle.shared_logs.specs.Seen.{HasSeen};
@@ -37,6 +37,24 @@ impl Broker {
         requires waits { IsSome pass.old.waits }
         ensures { HasCollected result pass.old pass.new }
     {
+        self.collect_as(rt, pass, true)
+    }
+
+    /// As `collect`, for a session that is sent nothing: a `Reply` has no bytes.
+    pub fn collect_unsent(&self, rt: &impl Wait, pass: &mut Pass) -> Collected
+        requires made { made_with pass.old ≡ self.now }
+        requires waits { IsSome pass.old.waits }
+        ensures { HasCollectedAs false result pass.old pass.new }
+    {
+        self.collect_as(rt, pass, false)
+    }
+
+    // Asks for a request that waits, whose reply's frame is made if it is to be sent.
+    fn collect_as(&self, rt: &impl Wait, pass: &mut Pass, is_sent: bool) -> Collected
+        requires made { made_with pass.old ≡ self.now }
+        requires waits { IsSome pass.old.waits }
+        ensures { HasCollectedAs is_sent result pass.old pass.new }
+    {
         let Some(done) = self.logs.poll(&mut pass.logs) else {
             return Collected::NotYet;
         };
@@ -46,6 +64,7 @@ impl Broker {
         let won = Won {
             parked: &parked,
             done,
+            is_sent,
         };
         let completed = match &mut pass.going {
             Some(going) => {
@@ -78,7 +97,7 @@ impl Broker {
         requires seen { HasSeen logs.old }
         requires waits { (front : Items TheTranscript) × (transcript : TheTranscript)
             × IsLastKept self.now.config seq won.now.parked.now logs.old call.old front transcript }
-        ensures finished { HasFinished self.now.config seq won.now.done (IsLastKept self.now.config seq won.now.parked.now logs.old call.old) result
+        ensures finished { HasFinished won.now.is_sent self.now.config seq won.now.done (IsLastKept self.now.config seq won.now.parked.now logs.old call.old) result
             logs.old logs.new call.old call.new }
         ensures seen { HasSeen logs.new }
     {
@@ -98,6 +117,7 @@ impl Broker {
             rt,
             seq,
             request: &request,
+            is_sent: won.is_sent,
         };
         self.complete(&current, logs, finish, how, won)
     }

@@ -1,5 +1,5 @@
 -- The frame at the front is handled, or shows how its session ends.
-use Rattle.std.proofs.Common.{◌≡◌, ◌≢◌, ◌⊎◌, ℕ, ◌+◌, Bool, true, List, ◌++◌, length, drop, Option, None, MatchBool, sym, ap, subst, ◌∙◌, arith, inl, inr, [], ◌∷◌}
+use Rattle.std.proofs.Common.{◌≡◌, ◌≢◌, ◌⊎◌, ℕ, ◌+◌, Bool, true, List, ◌++◌, length, drop, Option, None, MatchBool, sym, ap, subst, ◌∙◌, arith, inl, inr, [], ◌∷◌, false}
 use Rattle.std.specs.Prelude.{is_some}
 use Rattle.std.proofs.lemmas.Option.{same_Some}
 use Rattle.audit.specs.declared.account.Call.{Call}
@@ -17,7 +17,7 @@ use Rattle.purgatory.specs.declared.outcome.Done.{Done}
 use Rattle.room_core.specs.declared.event.How.{How}
 use Rattle.room_table.specs.Seats.{CallerView}
 use Rattle.shared_broker.specs.declared.calling.Handled.{Handled}
-use Rattle.shared_broker.specs.Calling.{HasCalled, HasHandled, IsAnsweredAs, IsEndFor, how_by, told_as}
+use Rattle.shared_broker.specs.Calling.{HasCalled, HasHandledAs, IsAnsweredAs, IsEndFor, how_by, told_as}
 use Rattle.shared_broker.specs.Collecting.{HasCompleted}
 use Rattle.shared_broker.specs.Passes.{PassView, calls_made}
 use Rattle.trace_workers.specs.Ending.{EndsSo, MayEndSo}
@@ -64,27 +64,27 @@ over new how none not = subst (λ (b : Bool). MatchBool b (how ≡ Parked) (how 
 abbrev pub WasCalled : Handled → Type 0
 WasCalled result = ((bytes : List ℕ) × (result ≡ Handled.Reply bytes)) ⊎ ((result ≡ Handled.Quiet) ⊎ ((deadline : ℕ) × (result ≡ Handled.Parked deadline)))
 
-replied : (body bytes : List ℕ) (old new : PassView) → HasHandled body (Handled.Reply bytes) old new → IsCall body old new
+replied : (body bytes : List ℕ) (old new : PassView) → HasHandledAs false body (Handled.Reply bytes) old new → IsCall body old new
 replied body bytes old new h = record {
   call = h.0;
   whole = answered_whole h.0.call.how old.logs.seat new.logs.seat h.2;
   waits = over new h.0.call.how h.5 (answered_over h.0.call.how old.logs.seat new.logs.seat h.2);
 }
 
-hushed : (body : List ℕ) (old new : PassView) → HasHandled body Handled.Quiet old new → IsCall body old new
+hushed : (body : List ℕ) (old new : PassView) → HasHandledAs false body Handled.Quiet old new → IsCall body old new
 hushed body old new h = record { call = h.0; whole = λ won e. absurd (cc (h.2, e)); waits = over new h.0.call.how h.4 (λ e. absurd (cc (h.2, e))) }
 
-parked : (body : List ℕ) (deadline : ℕ) (old new : PassView) → HasHandled body (Handled.Parked deadline) old new → IsCall body old new
+parked : (body : List ℕ) (deadline : ℕ) (old new : PassView) → HasHandledAs false body (Handled.Parked deadline) old new → IsCall body old new
 parked body deadline old new h = record {
   call = h.0;
   whole = λ won e. absurd (cc (h.1, e));
   waits = subst (λ (b : Bool). MatchBool b (h.0.call.how ≡ Parked) (h.0.call.how ≢ Parked)) (sym (ap is_some h.3)) h.1;
 }
 
-pub call_of : (body : List ℕ) (result : Handled) (old new : PassView) → WasCalled result → HasHandled body result old new → IsCall body old new
-call_of body result old new (inl reply) h = replied body reply.0 old new (subst (λ (r : Handled). HasHandled body r old new) reply.1 h)
-call_of body result old new (inr (inl quiet)) h = hushed body old new (subst (λ (r : Handled). HasHandled body r old new) quiet h)
-call_of body result old new (inr (inr waits)) h = parked body waits.0 old new (subst (λ (r : Handled). HasHandled body r old new) waits.1 h)
+pub call_of : (body : List ℕ) (result : Handled) (old new : PassView) → WasCalled result → HasHandledAs false body result old new → IsCall body old new
+call_of body result old new (inl reply) h = replied body reply.0 old new (subst (λ (r : Handled). HasHandledAs false body r old new) reply.1 h)
+call_of body result old new (inr (inl quiet)) h = hushed body old new (subst (λ (r : Handled). HasHandledAs false body r old new) quiet h)
+call_of body result old new (inr (inr waits)) h = parked body waits.0 old new (subst (λ (r : Handled). HasHandledAs false body r old new) waits.1 h)
 
 -- ---- or no call is made of it
 

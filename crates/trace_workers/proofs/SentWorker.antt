@@ -4,7 +4,6 @@ use denote.Struct.Declared as declared
 use Rattle.kbytes.proofs.list.List.TheSendSync as list
 use Rattle.kwire.proofs.inbox.Inbox.TheSendSync as inbox
 use Rattle.shared_broker.proofs.Laws.{pass_is_send}
-use Rattle.shared_broker.specs.contracts.pass.Pass as Pass
 use Rattle.std.proofs.Crossing.{crosses}
 use Rattle.trace_workers.specs.contracts.session.TraceSession as TraceSession
 use Rattle.trace_workers.specs.contracts.session.TraceSession.TheInside as session

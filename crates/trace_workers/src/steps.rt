@@ -116,7 +116,7 @@ impl TraceSession {
         ensures rests { IfOk result (λ did. did ≡ false → Rests self.new) }
         ensures looked { IfOk result (λ did. did ≡ false → is_some self.new.pass.waits ≡ true → HasPolled None self.old.pass.logs.seat self.new.pass.logs.seat) }
     {
-        match broker.collect(rt, &mut self.pass) {
+        match broker.collect_unsent(rt, &mut self.pass) {
             Collected::Reply(_frame) => Ok(true),
             Collected::NotYet => Ok(false),
             Collected::NoMemory => Err(NoMemory),
@@ -138,7 +138,7 @@ impl TraceSession {
         ensures moved { OnOk result (self.new.pass.going ≢ self.old.pass.going) }
     {
         let body = front_body(self.inbox.bytes(), end);
-        match broker.handle(rt, &mut self.pass, body) {
+        match broker.handle_unsent(rt, &mut self.pass, body) {
             Handled::Reply(_) | Handled::Quiet | Handled::Parked { .. } => {
                 self.inbox.drop_front(end);
                 Ok(true)

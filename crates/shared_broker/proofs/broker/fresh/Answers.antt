@@ -1,4 +1,4 @@
-use Rattle.std.proofs.Common.{◌≡◌, List, [], None, length, ap, refl, subst, sym}
+use Rattle.std.proofs.Common.{◌≡◌, List, None, length, ap, subst, sym}
 use Rattle.audit.specs.declared.account.Transcript.{Transcript}
 use Rattle.audit.specs.Histories.{calls_in}
 use Rattle.kwire.specs.Configuration.{Configuration}

@@ -1,11 +1,10 @@
-use Rattle.std.proofs.Common.{◌≡◌, ◌∙◌, List, [], ◌∷◌, ◌++◌, ap, map, subst, sym}
+use Rattle.std.proofs.Common.{◌∙◌, List, [], ◌∷◌, ◌++◌, ap, subst, sym}
 use Rattle.std.proofs.lemmas.List.{map-append}
 use Rattle.std.proofs.lemmas.List.Elements.{All-tail}
 use Rattle.std.specs.Prelude.{All}
 use Rattle.std.specs.Vec.Iter.{into_iter_items}
 use Rattle.shared_broker.specs.Fresh.{IsNewOf, pass_with}
 use Rattle.shared_broker.specs.Passes.{PassView}
-use Rattle.shared_logs.specs.Shared.{LogPassView}
 use Rattle.shared_broker.proofs.broker.fresh_all.Goals as goal
 
 pub loop-seat-preserved : goal.loop-seat-preserved

@@ -1,4 +1,4 @@
-use Rattle.std.proofs.Common.{◌≡◌, ◌∙◌, ◌<◌, ℕ, List, [], ◌∷◌, ◌++◌, length, map, set, ap, arith, append_assoc, sym}
+use Rattle.std.proofs.Common.{◌≡◌, ◌∙◌, ◌<◌, List, [], ◌∷◌, ◌++◌, length, map, set, ap, arith, append_assoc, sym}
 use Rattle.std.proofs.lemmas.List.{length-set}
 use Rattle.std.specs.Vec.Iter.{into_iter_items}
 use Rattle.audit.specs.declared.account.Transcript.{Transcript}

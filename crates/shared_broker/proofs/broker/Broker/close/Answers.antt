@@ -3,9 +3,8 @@ use Rattle.std.specs.Prelude.{All}
 use Rattle.kwire.specs.Configuration.{followers_of}
 use Rattle.kwire.specs.DeclaredTopics.{AreDeclared}
 use Rattle.purgatory.specs.Ends.{IsUntaken}
-use Rattle.purgatory.specs.Rooms.{PassView as RoomPassView}
 use Rattle.shared_broker.specs.Closed.{gathered}
-use Rattle.shared_broker.specs.Passes.{BrokerView, PassView, made_with}
+use Rattle.shared_broker.specs.Passes.{BrokerView}
 use Rattle.shared_broker.proofs.ClosingAccount.{is_account, seats_made, seats_paid, seats_size, sheets_below, sheets_one, untaken_passes}
 use Rattle.shared_broker.proofs.broker.Broker.close.Goals as goal
 use Rattle.shared_logs.specs.Closing.{AreClosed, in_room}

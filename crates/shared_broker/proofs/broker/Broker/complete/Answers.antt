@@ -1,12 +1,9 @@
-use Rattle.std.proofs.Common.{List, Some, refl, sym, ap, subst, ◌∙◌}
+use Rattle.std.proofs.Common.{List, Some, refl, sym, subst}
 use Rattle.audit.specs.declared.account.CallHow.{CallHow}
 use Rattle.audit.specs.declared.account.CallHow.TheVariants.{Cut}
-use Rattle.kanswer.specs.Answer.{answer}
 use Rattle.kanswer.specs.declared.accepted.Accepted.{Accepted}
 use Rattle.kanswer.specs.declared.accepted.Reading.{Reading}
 use Rattle.kanswer.specs.LogReadings.{AreReadings}
-use Rattle.kwire.specs.Spelling.{spelling}
-use Rattle.shared_broker.specs.Passes.{BrokerView}
 use Rattle.shared_broker.specs.Serving.{HasEndedCall, HasFinished, IsToldTo, WillSit, finished_as}
 use Rattle.shared_calls.specs.Finished.{WasFinished, WasStopped}
 use Rattle.shared_broker.proofs.Results.{if_err}
@@ -17,12 +14,12 @@ pub returns-in_err-readings-clause-finished : goal.returns-in_err-readings-claus
 returns-in_err-readings-clause-finished g c call =
     let a = c.args in
     let s = subst (λ (xs : List Accepted). WasStopped a.current.now.seq a.current.now.request.now xs a.won.now.parked.now.op a.logs.now c.complete-readings.new.pass c.complete-readings.new.points) c.as_slice-accepted.ensures c.in_err-readings.ensures.stopped in
-    if_err (λ r. HasFinished a.self.now.config a.current.now.seq a.won.now.done (WillSit a.self.now.config a.current.now.seq a.current.now.request.now a.won.now.parked.now a.logs.now call) r a.logs.now c.settle.new.pass call (finished_as call c.complete-readings.new.points (Cut (Some a.won.now.done.by))))
+    if_err (λ r. HasFinished a.current.now.is_sent a.self.now.config a.current.now.seq a.won.now.done (WillSit a.self.now.config a.current.now.seq a.current.now.request.now a.won.now.parked.now a.logs.now call) r a.logs.now c.settle.new.pass call (finished_as call c.complete-readings.new.points (Cut (Some a.won.now.done.by))))
     c.from_residual.result c.from_residual.ensures.0
     (λ e. (call_stopped a.self.now.config a.current.now.seq a.current.now.request.now a.won.now.parked.now a.logs.now c.complete-readings.new.pass c.settle.new.pass c.settle.ensures.stepped c.settle.ensures.kept c.settle.ensures.paid a.won.now.done.by c.complete-readings.new.points call s, refl))
 
-pub reply_frame-requires-clause-read : goal.reply_frame-requires-clause-read
-reply_frame-requires-clause-read g c =
+pub frame-requires-clause-read : goal.frame-requires-clause-read
+frame-requires-clause-read g c =
     let a = c.args in
     let f = subst (λ (xs : List Accepted). WasFinished a.current.now.seq a.current.now.request.now xs a.won.now.parked.now.op a.won.now.done.how a.logs.now c.complete-readings.new.pass c.complete-readings.new.points c.in_ok-readings.readings) c.as_slice-accepted.ensures c.in_ok-readings.ensures.finished in
     let was = c.requires.waits in
@@ -33,7 +30,7 @@ pub returns-in_err-frame-clause-finished : goal.returns-in_err-frame-clause-fini
 returns-in_err-frame-clause-finished g c call =
     let a = c.args in
     let f = subst (λ (xs : List Accepted). WasFinished a.current.now.seq a.current.now.request.now xs a.won.now.parked.now.op a.won.now.done.how a.logs.now c.complete-readings.new.pass c.complete-readings.new.points c.in_ok-readings.readings) c.as_slice-accepted.ensures c.in_ok-readings.ensures.finished in
-    if_err (λ r. HasFinished a.self.now.config a.current.now.seq a.won.now.done (WillSit a.self.now.config a.current.now.seq a.current.now.request.now a.won.now.parked.now a.logs.now call) r a.logs.now c.settle.new.pass call (finished_as call c.complete-readings.new.points (Cut (Some a.won.now.done.by))))
+    if_err (λ r. HasFinished a.current.now.is_sent a.self.now.config a.current.now.seq a.won.now.done (WillSit a.self.now.config a.current.now.seq a.current.now.request.now a.won.now.parked.now a.logs.now call) r a.logs.now c.settle.new.pass call (finished_as call c.complete-readings.new.points (Cut (Some a.won.now.done.by))))
     c.from_residual-in_err-frame.result c.from_residual-in_err-frame.ensures.0
     (λ e. (call_cut a.self.now.config a.current.now.seq a.current.now.request.now a.won.now.parked.now a.logs.now c.complete-readings.new.pass c.settle.new.pass c.settle.ensures.stepped c.settle.ensures.kept c.settle.ensures.paid a.won.now.done c.complete-readings.new.points c.in_ok-readings.readings f call, refl))
 
@@ -47,8 +44,7 @@ returns-clause-finished g c call =
           (call_told a.self.now.config a.current.now.seq a.current.now.request.now a.won.now.parked.now a.logs.now c.complete-readings.new.pass c.settle.new.pass c.settle.ensures.stepped c.settle.ensures.kept c.settle.ensures.paid a.won.now.done c.complete-readings.new.points c.in_ok-readings.readings f call),
       told,
       call_left a.self.now.config a.current.now.seq a.current.now.request.now a.won.now.parked.now a.logs.now c.complete-readings.new.pass c.settle.new.pass c.settle.ensures.stepped c.settle.ensures.kept c.settle.ensures.paid a.won.now.done c.complete-readings.new.points c.in_ok-readings.readings f,
-      λ front transcript was. subst (λ (how : CallHow). IsToldTo a.self.now.config c.settle.new.pass (finished_as call c.complete-readings.new.points how) c.in_ok-frame.frame) (sym told)
-          (call_replied a.self.now.config a.current.now.seq a.current.now.request.now a.won.now.parked.now a.logs.now c.complete-readings.new.pass c.settle.new.pass c.settle.ensures.stepped c.settle.ensures.kept c.settle.ensures.paid a.won.now.done c.complete-readings.new.points c.in_ok-readings.readings f c.in_ok-frame.frame
-          (λ shown are. c.in_ok-frame.ensures shown (subst (λ (xs : List Accepted). AreReadings a.current.now.request.now.ask xs c.as_slice.result.now shown) (sym c.as_slice-accepted.ensures) (subst (λ (rs : List Reading). AreReadings a.current.now.request.now.ask a.won.now.parked.now.accepted rs shown) (sym c.as_slice.ensures) are))
-          ∙ ap (λ (b : BrokerView). spelling (answer b.config a.current.now.request.now shown)) c.self.view_is) call front transcript was),
+      λ front transcript was. subst (λ (how : CallHow). IsToldTo a.current.now.is_sent a.self.now.config c.settle.new.pass (finished_as call c.complete-readings.new.points how) c.in_ok-frame.frame) (sym told)
+          (call_replied a.self.now.config a.current.now.seq a.current.now.request.now a.won.now.parked.now a.logs.now c.complete-readings.new.pass c.settle.new.pass c.settle.ensures.stepped c.settle.ensures.kept c.settle.ensures.paid a.won.now.done c.complete-readings.new.points c.in_ok-readings.readings f a.current.now.is_sent c.in_ok-frame.frame
+          (λ shown are. c.in_ok-frame.ensures shown (subst (λ (xs : List Accepted). AreReadings a.current.now.request.now.ask xs c.as_slice.result.now shown) (sym c.as_slice-accepted.ensures) (subst (λ (rs : List Reading). AreReadings a.current.now.request.now.ask a.won.now.parked.now.accepted rs shown) (sym c.as_slice.ensures) are))) call front transcript was),
     )

@@ -44,10 +44,10 @@ pub returns-clause-finished : goal.returns-clause-finished
 returns-clause-finished g c =
     let a = c.args in
     let asked = subst (λ (body : List ℕ). IsRequest body c.in-Ok.request) c.as_slice.ensures c.in-Ok.ensures.request in
-    let made = finished_kept a.self.now.config a.seq a.won.now.parked.now a.logs.now a.call.now c.in-Ok.request asked a.won.now.done c.complete.new.logs (finished_as a.call.now c.complete.new.finish c.complete.new.how) c.complete.result (c.complete.ensures.finished a.call.now) in
+    let made = finished_kept a.self.now.config a.seq a.won.now.parked.now a.logs.now a.call.now c.in-Ok.request asked a.won.now.done c.complete.new.logs (finished_as a.call.now c.complete.new.finish c.complete.new.how) a.won.now.is_sent c.complete.result (c.complete.ensures.finished a.call.now) in
     let at : (after : Call) → after ≡ finished_as a.call.now c.complete.new.finish c.complete.new.how
-    → HasFinished a.self.now.config a.seq a.won.now.done (IsLastKept a.self.now.config a.seq a.won.now.parked.now a.logs.now a.call.now) c.complete.result a.logs.now c.complete.new.logs a.call.now after =
-    λ after is. subst (λ (k : Call). HasFinished a.self.now.config a.seq a.won.now.done (IsLastKept a.self.now.config a.seq a.won.now.parked.now a.logs.now a.call.now) c.complete.result a.logs.now c.complete.new.logs a.call.now k) (sym is) made in
+    → HasFinished a.won.now.is_sent a.self.now.config a.seq a.won.now.done (IsLastKept a.self.now.config a.seq a.won.now.parked.now a.logs.now a.call.now) c.complete.result a.logs.now c.complete.new.logs a.call.now after =
+    λ after is. subst (λ (k : Call). HasFinished a.won.now.is_sent a.self.now.config a.seq a.won.now.done (IsLastKept a.self.now.config a.seq a.won.now.parked.now a.logs.now a.call.now) c.complete.result a.logs.now c.complete.new.logs a.call.now k) (sym is) made in
     elim c.match-request.branch [
       | in-Produce-1 w ↦ at c.match-request.call w.call-is
       | in-Fetch-1 w ↦ at c.match-request.call w.call-is

@@ -19,7 +19,7 @@ returns-in_err-looked-clause-served g c =
     let a = c.args in
     let made : followers_in c.settle.new.pass.made ≡ followers_of a.self.now.config.topics =
     ap followers_in (c.settle.ensures.stepped.made ∙ c.look_at_clock-looked.ensures.made) ∙ c.self.invariant.1 ∙ ap (λ (b : BrokerView). followers_of b.config.topics) c.self.view_is in
-    if_err (λ r. HasServed a.self.now.config a.current.now.seq a.current.now.request.now (WillWait a.self.now.config a.current.now.seq a.current.now.request.now a.came.accepted a.logs.now a.call.now) r a.logs.now c.settle.new.pass a.call.now
+    if_err (λ r. HasServed a.current.now.is_sent a.self.now.config a.current.now.seq a.current.now.request.now (WillWait a.self.now.config a.current.now.seq a.current.now.request.now a.came.accepted a.logs.now a.call.now) r a.logs.now c.settle.new.pass a.call.now
     (record { frame = a.call.now.frame; accept = c.look_at_clock-looked.new.points; finish = a.call.now.finish; how = a.call.now.how })) c.from_residual.result c.from_residual.ensures.0
     (λ e. (
       look_refused a.self.now.config a.current.now.seq a.current.now.request.now a.came.accepted a.logs.now c.look_at_clock-looked.new.pass c.settle.new.pass a.call.now c.settle.ensures.stepped c.settle.ensures.kept c.settle.ensures.paid c.settle.ensures.seen.1 made
@@ -33,7 +33,7 @@ returns-in_err-op-clause-served g c =
     let made : followers_in c.settle.new.pass.made ≡ followers_of a.self.now.config.topics =
     ap followers_in (c.settle.ensures.stepped.made ∙ c.look_at_clock-looked.ensures.made) ∙ c.self.invariant.1 ∙ ap (λ (b : BrokerView). followers_of b.config.topics) c.self.view_is in
     let l = c.in_ok-looked.ensures.looked in
-    if_err (λ r. HasServed a.self.now.config a.current.now.seq a.current.now.request.now (WillWait a.self.now.config a.current.now.seq a.current.now.request.now a.came.accepted a.logs.now a.call.now) r a.logs.now c.settle.new.pass a.call.now
+    if_err (λ r. HasServed a.current.now.is_sent a.self.now.config a.current.now.seq a.current.now.request.now (WillWait a.self.now.config a.current.now.seq a.current.now.request.now a.came.accepted a.logs.now a.call.now) r a.logs.now c.settle.new.pass a.call.now
     (record { frame = a.call.now.frame; accept = c.look_at_clock-looked.new.points; finish = a.call.now.finish; how = a.call.now.how })) c.from_residual-in_err-op.result c.from_residual-in_err-op.ensures.0
     (λ e. (
       look_cut a.self.now.config a.current.now.seq a.current.now.request.now a.came.accepted a.logs.now c.look_at_clock-looked.new.pass c.settle.new.pass a.call.now c.settle.ensures.stepped c.settle.ensures.kept c.settle.ensures.paid c.settle.ensures.seen.1 made
@@ -85,4 +85,4 @@ returns-clause-served g c =
     refl
     (λ front transcript was. look_sits a.self.now.config a.current.now.seq a.current.now.request.now a.came.accepted a.logs.now c.look_at_clock-looked.new.pass c.settle.new.pass a.call.now c.settle.ensures.stepped c.settle.ensures.kept c.settle.ensures.paid c.settle.ensures.seen.1 made
     l.0 c.in_ok-looked.field-0 l.1 c.look_at_clock-looked.new.points l.2 (record { accepted = c.into_accepted.result; op = c.in_ok-op.op }) c.into_accepted.ensures op front transcript was)
-    c.enlist.result c.enlist.ensures.served
+    a.current.now.is_sent c.enlist.result c.enlist.ensures.served

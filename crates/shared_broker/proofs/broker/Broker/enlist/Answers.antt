@@ -19,7 +19,7 @@ returns-in_err-frame-in-Won-clause-served g c =
     let a = c.args in
     let done = c.in-Won.done in
     let f = c.in_err-frame-in-Won.ensures.finished a.call.now in
-    if_err (λ r. HasServed a.self.now.config a.current.now.seq a.current.now.request.now (WillSit a.self.now.config a.current.now.seq a.current.now.request.now a.parked a.logs.now a.call.now) r a.logs.now c.complete.new.logs a.call.now
+    if_err (λ r. HasServed a.current.now.is_sent a.self.now.config a.current.now.seq a.current.now.request.now (WillSit a.self.now.config a.current.now.seq a.current.now.request.now a.parked a.logs.now a.call.now) r a.logs.now c.complete.new.logs a.call.now
     (record { frame = a.call.now.frame; accept = a.call.now.accept; finish = c.complete.new.finish; how = c.complete.new.how })) c.from_residual.result c.from_residual.ensures.0
     (λ e. (
       won_come a.self.now.config a.current.now.seq a.current.now.request.now a.parked a.logs.now c.register.new.pass a.call.now c.register.ensures.stepped c.register.ensures.paid done c.in-Won.ensures.registered c.complete.new.logs _ f.0
@@ -47,5 +47,5 @@ returns-in_ok-frame-in-Won-clause-served g c =
       c.requires.loud,
       won_answered a.self.now.config a.current.now.seq a.current.now.request.now a.parked a.logs.now c.register.new.pass a.call.now c.register.ensures.stepped c.register.ensures.paid done c.in-Won.ensures.registered c.complete.new.logs _ f.0 names f.1,
       won_left a.self.now.config a.current.now.seq a.current.now.request.now a.parked a.logs.now c.register.new.pass a.call.now c.register.ensures.stepped c.register.ensures.paid done c.in-Won.ensures.registered c.complete.new.logs _ f.0 names f.2,
-      won_replied a.self.now.config a.current.now.seq a.current.now.request.now a.parked a.logs.now c.register.new.pass a.call.now c.register.ensures.stepped c.register.ensures.paid done c.in-Won.ensures.registered c.complete.new.logs _ f.0 names c.in_ok-frame-in-Won.frame f.3,
+      won_replied a.self.now.config a.current.now.seq a.current.now.request.now a.parked a.logs.now c.register.new.pass a.call.now c.register.ensures.stepped c.register.ensures.paid done c.in-Won.ensures.registered c.complete.new.logs _ f.0 names a.current.now.is_sent c.in_ok-frame-in-Won.frame f.3,
     )

@@ -3,9 +3,7 @@ use Rattle.std.specs.Prelude.{All}
 use Rattle.audit.proofs.broker.Laws.{followers_size}
 use Rattle.kwire.specs.Configuration.{partitions_of}
 use Rattle.shared_broker.specs.Fresh.{IsNewOf, pass_with}
-use Rattle.shared_broker.specs.Passes.{BrokerView}
 use Rattle.shared_broker.proofs.MakingPasses.{made_passes, new_passes}
-use Rattle.shared_logs.specs.Shared.{LogPassView}
 use Rattle.shared_broker.proofs.broker.Broker.make.Goals as goal
 
 pub make-requires-clause-parts : goal.make-requires-clause-parts

@@ -17,7 +17,7 @@ returns-in_err-came-clause-served g c =
     let a = c.args in
     let was = c.requires.written in
     let stopped = subst (λ (b : BrokerView). (decisions : List Decision) → Decides b.config a.current.now.request.now.ask decisions → HasStopped b.config a.current.now.seq decisions a.logs.now a.call.now.accept c.accept-came.new.pass c.accept-came.new.points) c.self.view_is c.in_err-came.ensures.stopped in
-    if_err (λ r. HasServed a.self.now.config a.current.now.seq a.current.now.request.now (IsWritten a.self.now.config a.current.now.seq a.current.now.request.now a.logs.now a.call.now) r a.logs.now c.settle.new.pass a.call.now
+    if_err (λ r. HasServed a.current.now.is_sent a.self.now.config a.current.now.seq a.current.now.request.now (IsWritten a.self.now.config a.current.now.seq a.current.now.request.now a.logs.now a.call.now) r a.logs.now c.settle.new.pass a.call.now
     (record { frame = a.call.now.frame; accept = c.accept-came.new.points; finish = a.call.now.finish; how = a.call.now.how })) c.from_residual.result c.from_residual.ensures.0
     (λ e. (
       stopped_come a.self.now.config a.current.now.seq a.current.now.request.now a.logs.now c.accept-came.new.pass c.settle.new.pass a.call.now c.settle.ensures.stepped c.settle.ensures.kept c.settle.ensures.paid c.requires.free.idle c.accept-came.new.points stopped was.0 was.1 was.2,
@@ -46,7 +46,7 @@ returns-then-needs_op-clause-served g c =
     (accepted_left a.self.now.config a.current.now.seq a.current.now.request.now a.logs.now c.accept-came.new.pass c.settle.new.pass a.call.now c.settle.ensures.stepped c.settle.ensures.kept c.settle.ensures.paid c.requires.free.idle c.accept-came.new.points c.in_ok-came.came accepted was.0 was.1 was.2)
     refl
     (λ front transcript w. will_wait a.self.now.config a.current.now.seq a.current.now.request.now a.logs.now c.accept-came.new.pass c.settle.new.pass a.call.now c.settle.ensures.stepped c.settle.ensures.kept c.settle.ensures.paid c.requires.free.idle c.accept-came.new.points c.in_ok-came.came accepted delayed front transcript w)
-    c.delay.result c.delay.ensures.served
+    a.current.now.is_sent c.delay.result c.delay.ensures.served
 
 pub returns-else-needs_op-clause-served : goal.returns-else-needs_op-clause-served
 returns-else-needs_op-clause-served g c =
@@ -56,4 +56,4 @@ returns-else-needs_op-clause-served g c =
     let undelayed : (shown : List Shown) → results_of shown ≡ c.in_ok-came.came.accepted → AreNumbers c.in_ok-came.came.numbers shown → becomes_delayed a.current.now.request.now.ask shown ≡ false =
     λ shown rs ns. sym (c.needs_op.ensures shown (rs ∙ sym c.accepted.ensures.results) (subst (λ (xs : List Numbers). AreNumbers xs shown) (sym c.numbers.ensures) ns)) ∙ c.if-needs_op.false in
     answered a.self.now.config a.current.now.seq a.current.now.request.now a.logs.now c.accept-came.new.pass c.settle.new.pass a.call.now c.settle.ensures.stepped c.settle.ensures.kept c.settle.ensures.paid c.requires.free.idle c.accept-came.new.points c.in_ok-came.came accepted was.0 was.1 was.2 undelayed
-    c.answer.result c.answer.new.call c.answer.ensures
+    a.current.now.is_sent c.answer.result c.answer.new.call c.answer.ensures

@@ -1,4 +1,4 @@
-use Rattle.std.proofs.Common.{◌≡◌, ◌∙◌, ℕ, List, subst, sym}
+use Rattle.std.proofs.Common.{◌∙◌, ℕ, List, subst, sym}
 use Rattle.shared_broker.specs.Passes.{BrokerView}
 use Rattle.trace_file.specs.declared.line.Line.{Line}
 use Rattle.trace_workers.specs.Closed.{CameTo, HasGoneOn, IsWhole}

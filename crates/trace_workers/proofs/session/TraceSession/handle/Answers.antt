@@ -13,8 +13,8 @@ use Rattle.trace_workers.proofs.Going.{uncut}
 use Rattle.trace_workers.proofs.session.TraceSession.handle.Goals as goal
 use Rattle.trace_workers.proofs.session.TraceSession.handle.Goals.{in-Reply, in-Ended, in-NoMemory}
 
-pub handle-requires-clause-whole : goal.handle-requires-clause-whole
-handle-requires-clause-whole g c =
+pub handle_unsent-requires-clause-whole : goal.handle_unsent-requires-clause-whole
+handle_unsent-requires-clause-whole g c =
     let r = c.requires.received in
     ap (λ (x : SessionView). is_cut_off x.pass.going) c.self.view_is ∙ uncut r.0 c.args.self.now c.requires.begun r.1
 
@@ -37,12 +37,12 @@ returns-clause-received g c =
     let i = c.self.inside in
     let s : SessionView = record { number = i.number; pass = i.pass; inbox = i.inbox; is_shut = i.is_shut; is_named = i.is_named } in
     let body = c.front_body-body.result.now in
-    let new = c.handle.new.pass in
+    let new = c.handle_unsent.new.pass in
     let parts : s.inbox ≡ framed body ++ drop c.args.end s.inbox = subst (λ (x : List ℕ). x ≡ framed body ++ drop c.args.end x) c.bytes.ensures c.front_body-body.ensures.parts in
-    elim c.match-handle.branch [
+    elim c.match-handle_unsent.branch [
       | in-Reply w ↦ rw (w.result-is, w.self-is) (λ input h.
           subst (λ (inbox : List ℕ). HasReceived input (record s { pass = new; inbox = inbox })) (sym w.drop_front.ensures)
-          (handled input s body c.args.end new c.front_body-body.ensures.small parts (call_of body c.handle.result s.pass new w.in-Reply.is c.handle.ensures) (subst (HasReceived input) (sym c.self.view_is) h)))
+          (handled input s body c.args.end new c.front_body-body.ensures.small parts (call_of body c.handle_unsent.result s.pass new w.in-Reply.is c.handle_unsent.ensures) (subst (HasReceived input) (sym c.self.view_is) h)))
       | in-Ended w ↦ rw (w.result-is, w.self-is)
           (on_ok_weaker w.end.result
           (λ (goes : (input : List ℕ) → HasReceived input (record s { pass = new }) → HasReceived input w.end.new.self) (input : List ℕ) (h : HasReceived input c.args.self.now).

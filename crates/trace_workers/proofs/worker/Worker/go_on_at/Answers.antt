@@ -1,4 +1,4 @@
-use Rattle.std.proofs.Common.{◌∙◌, ap, arith}
+use Rattle.std.proofs.Common.{◌∙◌, arith}
 use Rattle.trace_workers.proofs.Workers.{as_many_sessions, same_on}
 use Rattle.trace_workers.proofs.worker.Worker.go_on_at.Goals as goal
 
