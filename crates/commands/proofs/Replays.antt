@@ -21,7 +21,7 @@ use Rattle.trace_file.specs.IsLine.{IsLine}
 use Rattle.trace_file.specs.Trace.{IsTrace, pieces_of}
 use Rattle.trace_file.specs.declared.line.Line.TheVariants.{Topic, Feed, Shut, Clock, End}
 use Rattle.lone_broker.specs.Kept.{IsPlayable, Kept, TurnsBy}
-use Rattle.audit.proofs.broker.Laws.{play_is_lawful, play_is_run, trace_declared, play_is_one, front_of_play, trace_plays, lines_left, plays_on}
+use Rattle.audit.proofs.broker.Laws.{play_is_lawful, play_is_run, trace_declared, play_is_one, front_of_play, trace_plays, plays_on}
 use Rattle.trace_file.specs.declared.line.TheConstants.{MOST_TRACE_BYTES, REPLAY_PORT}
 use Rattle.trace_file.specs.declared.line.LineFault.{LineFault}
 use Rattle.trace_file.specs.declared.line.TraceFault.{TraceFault}
@@ -96,14 +96,7 @@ lines_playable (piece ∷ pieces) (line ∷ lines) each = (playable piece line e
 pub trace_playable : (text : List ℕ) (lines : List Line) → IsTrace text lines → AllByRecursion IsPlayable lines
 trace_playable text lines trace = lines_playable (pieces_of text) lines trace.spelled
 
-all_left : (lines : List Line) (i : ℕ) → AllByRecursion IsPlayable lines → AllByRecursion IsPlayable (drop i lines)
-all_left lines zero all = all
-all_left [] (suc i) all = tt
-all_left (line ∷ lines) (suc i) all = all_left lines i all.1
-
-pub playable_at : (lines : List Line) (i : ℕ) (line : Line) → AllByRecursion IsPlayable lines → i < length lines → line ≡ get_or lines i line → IsPlayable line
-playable_at lines i line all lt is = (subst (AllByRecursion IsPlayable) (lines_left lines i line lt is) (all_left lines i all)).0
-
+-- so can the one at hand
 pub playable_among : (lines done : List Line) (line : Line) (next : List Line) → AllByRecursion IsPlayable lines → done ++ line ∷ next ≡ lines → IsPlayable line
 playable_among lines [] line next all is = (subst (AllByRecursion IsPlayable) (sym is) all).0
 playable_among lines (first ∷ done) line next all is = playable_among (done ++ line ∷ next) done line next (subst (AllByRecursion IsPlayable) (sym is) all).1 refl
