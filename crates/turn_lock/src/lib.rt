@@ -37,7 +37,7 @@
 //! }
 //! ```
 //!
-//! The crate `tests_of_libraries` has both whole, with a turn of the first (`src/turns/examples.rt`).
+//! The crate `tests_of_libraries` has both whole, with a turn of the first (`src/turn_examples.rt`).
 //!
 //! # How the proof goes
 //!
