@@ -13,7 +13,7 @@ ghost use Rattle.commands.specs.Worked.{IsWorked};
 use crate::command::MOST_WORKERS;
 use crate::exit::{Stop, Unfinished};
 use crate::streams::write_all;
-use crate::trace::{read_lines, use_blocks_again};
+use crate::trace::{read_lines, reuse_large_blocks};
 use audit::Account;
 use audit::retelling::workers_text;
 use kbytes::{Bytes, NoMemory};
@@ -65,7 +65,7 @@ pub fn replay_on_workers<R: Threads + Wait + Sync, S: Source, K: Sink>(
     ensures write_fault { IfErr result (λ why. stop_in why ≡ Stop.WriteFault → Rose (K.faults sink.old) (K.faults sink.new)) }
     ensures bad_line { IfErr result (λ why. IfSome (bad_line_of (stop_in why)) (IsFirstBadOf (S.left source.old) false)) }
 {
-    use_blocks_again(alloc);
+    reuse_large_blocks(alloc);
     let lines = read_lines(alloc, source, false)?;
     let (account, text) = play(rt, alloc, lines.as_slice(), workers)?;
     match write_all(sink, text.as_slice()) {

@@ -13,7 +13,7 @@ ghost use Rattle.commands.specs.Replay.{IsReplayOf, IsReplay, IsReplayFront, IsF
 
 use crate::exit::Stop;
 use crate::streams::write_all;
-use crate::trace::{read_lines, use_blocks_again};
+use crate::trace::{read_lines, reuse_large_blocks};
 use audit::{Account, print_replay};
 use kbytes::{Bytes, List};
 use lone_broker::Lone;
@@ -21,8 +21,8 @@ use outside::{Sink, Source};
 use std::alloc::Global;
 use trace_file::{Line, REPLAY_PORT, config_of};
 
-// Plays the lines one after the other, and writes what each prints before the next. A line's memory is given back once it is played, and
-// so serves the account, which grows with each line.
+// Plays the lines one after the other, and writes what each prints before the next. A line is freed once it is
+// played, and the account, which grows with each line, reuses its memory.
 fn play_lines<K: Sink>(
     alloc: Global,
     lines: List<Line>,
@@ -87,7 +87,7 @@ pub fn replay<S: Source, K: Sink>(
     ensures write_fault { IsErrOf result Stop.WriteFault → Rose (K.faults sink.old) (K.faults sink.new) }
     ensures bad_line { IfErr result (λ stop. IfSome (bad_line_of stop) (IsFirstBadOf (S.left source.old) false)) }
 {
-    use_blocks_again(alloc);
+    reuse_large_blocks(alloc);
     let lines = read_lines(alloc, source, false)?;
     play(alloc, lines, sink)
 }

@@ -14,14 +14,14 @@ use outside::Source;
 use std::alloc::Global;
 use trace_file::{Line, read_trace};
 
-/// The largest block that glibc's allocator will take from its heap, once it was given back one of this size.
+/// Just below the largest block, 32 MiB, that glibc's allocator can be brought to take from its heap.
 const LARGEST_IN_HEAP: usize = 33_488_896;
 
-/// Has the blocks of a trace used again. glibc's allocator maps pages for each block of 128 KiB or more, and unmaps them once it is given
-/// back, until it was given back a larger one: blocks up to the size of that one then come from its heap. So a block is taken here and given
-/// back, untouched. The text of a trace is given back before its lines are played, and what is kept of the calls then lies on its pages.
-/// Another allocator, or one without memory, does nothing with it.
-pub fn use_blocks_again(alloc: Global) {
+/// Brings glibc's allocator to reuse the memory of large blocks. It maps pages for each block of 128 KiB or more, and unmaps them when the
+/// block is freed, until a larger one has been freed: from then on, blocks up to that size come from its heap. So this allocates one, and
+/// frees it untouched. The text of a trace is freed before its lines are played, and what is kept of the calls then takes its place.
+/// With another allocator, or where there is no memory for the block, nothing changes.
+pub fn reuse_large_blocks(alloc: Global) {
     let mut block = Bytes::new(alloc);
     let _ = block.reserve(LARGEST_IN_HEAP);
 }
