@@ -1,9 +1,9 @@
 //! Lines that are read, and written as they are spelled.
 
-use kbytes::{Bytes, NoMemory};
+use kbytes::{Bytes, List, NoMemory};
 use std::alloc::Global;
 use std::test::*;
-use trace_file::{Line, put_line, read_trace};
+use trace_file::{Line, LineFault, LineKind, TraceFault, put_line, read_trace, read_trace_on};
 
 // Every kind of line. The least number of in-sync replicas stands where it is above 1.
 const WHOLE: &[u8] =
@@ -13,6 +13,21 @@ const WHOLE: &[u8] =
 const OTHERWISE: &[u8] =
     b"topic t 1 1 1\ntopic u 1 1 2\ntopic v 1 8 9\nbytes 63 00fFAb\nclock 500\nclose 63\nend";
 
+// How many lines of bytes a trace has that is read in shares: with 64 KiB it is long enough.
+const MANY: u32 = 2000;
+
+// A trace with many lines of bytes, from this one on with a word that begins none.
+fn long_trace(alloc: Global, good: u32) -> Result<Bytes, NoMemory> {
+    let mut text = Bytes::new(alloc);
+    text.extend(b"topic t 1 1\n")?;
+    for line in 0..MANY {
+        text.extend(if line < good { b"bytes" } else { b"bites" })?;
+        text.extend(b" 63 00ffab00ffab00ffab00ffab00ffab\n")?;
+    }
+    text.extend(b"end\n")?;
+    Ok(text)
+}
+
 fn put_lines(out: &mut Bytes, lines: &[Line]) -> Result<(), NoMemory> {
     for line in lines {
         put_line(out, line)?;
@@ -20,17 +35,46 @@ fn put_lines(out: &mut Bytes, lines: &[Line]) -> Result<(), NoMemory> {
     Ok(())
 }
 
-fn is_written_as_whole(alloc: Global, text: &[u8]) -> bool {
-    let Ok(lines) = read_trace(alloc, text, false) else {
+fn are_written_as(alloc: Global, lines: Result<List<Line>, TraceFault>, text: &[u8]) -> bool {
+    let Ok(lines) = lines else {
         return false;
     };
     let mut out = Bytes::new(alloc);
-    put_lines(&mut out, lines.as_slice()).is_ok() && out.as_slice() == WHOLE
+    put_lines(&mut out, lines.as_slice()).is_ok() && out.as_slice() == text
+}
+
+fn fault_in(lines: Result<List<Line>, TraceFault>) -> Option<LineFault> {
+    match lines {
+        Err(TraceFault::Bad(fault)) => Some(fault),
+        Err(TraceFault::NoMemory) | Ok(_) => None,
+    }
 }
 
 #[test]
 fn lines_are_read_and_written(rt: HostRuntime) {
     for text in [WHOLE, OTHERWISE] {
-        assert!(rt; is_written_as_whole(rt.alloc(), text));
+        let lines = read_trace(rt.alloc(), text, false);
+        assert!(rt; are_written_as(rt.alloc(), lines, WHOLE));
     }
+}
+
+#[test]
+fn three_threads_read_a_long_trace(rt: HostRuntime) {
+    let text = long_trace(rt.alloc(), MANY).expect(&rt, "memory for the text");
+    let lines = read_trace_on(&rt, rt.alloc(), text.as_slice(), 3);
+    assert!(rt; are_written_as(rt.alloc(), lines, text.as_slice()));
+}
+
+#[test]
+fn three_threads_find_the_first_bad_line(rt: HostRuntime) {
+    let text = long_trace(rt.alloc(), MANY / 2 + 100).expect(&rt, "memory for the text");
+    let fault = fault_in(read_trace_on(&rt, rt.alloc(), text.as_slice(), 3));
+    assert!(rt; fault == fault_in(read_trace(rt.alloc(), text.as_slice(), false)));
+    assert!(rt;
+        fault
+            == Some(LineFault {
+                line: MANY / 2 + 102,
+                kind: LineKind::Word
+            })
+    );
 }

@@ -16,6 +16,8 @@ pub mod Lines
 pub mod Orders
 -- a text that is read line by line
 pub mod TextSoFar
+-- a text that is read in shares
+pub mod Sharing
 -- what a session receives is within the text
 pub mod FewBytes
 -- lines at the front of a trace

@@ -20,5 +20,7 @@ pub mod PrintedLine
 pub mod Refusals
 -- what is kept of the lines so far
 pub mod Sees
+-- what is read of a text in shares
+pub mod Shares
 -- the tables by which digits are written and read
 pub mod DigitTables

@@ -16,6 +16,7 @@ mod read_line;
 mod reading;
 mod refusal;
 mod reply_line;
+mod shares;
 mod words;
 
 pub use digits::Digits;
@@ -27,3 +28,4 @@ pub use line_text::put_line;
 pub use promises::{no_bad_line, one_first_bad_line, read_back};
 pub use reading::{config_of, read_trace};
 pub use reply_line::put_reply_line;
+pub use shares::read_trace_on;

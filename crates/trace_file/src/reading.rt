@@ -53,11 +53,16 @@ fn declare(config: &mut Config, line: &Line) -> Result<(), Refusal>
 
 impl Reading {
     ghost use Rattle.trace_file.specs.IsLine.{IsLine};
-    ghost use Rattle.trace_file.specs.LineFaults.{IsPieceFault};
-    ghost use Rattle.trace_file.specs.Sees.{AreRead};
+    ghost use Rattle.std.specs.Prelude.{false, Contains};
+    ghost use Rattle.std.specs.List.{AllByRecursion};
+    ghost use Rattle.trace_file.specs.declared.line.Line.TheVariants.{End};
+    ghost use Rattle.trace_file.specs.FirstBad.{MayBegin};
+    ghost use Rattle.trace_file.specs.IsInOrder.{IsInOrder};
+    ghost use Rattle.trace_file.specs.LineFaults.{IsPieceFault, IsPlaceFault};
+    ghost use Rattle.trace_file.specs.Sees.{AreRead, NamesOne};
 
-    // No lines.
-    fn new(alloc: Global) -> Reading
+    /// No lines.
+    pub fn new(alloc: Global) -> Reading
         ensures lines { result.lines ≡ [] }
         ensures read { (only_topics : Bool) → AreRead only_topics result }
     {
@@ -77,6 +82,17 @@ impl Reading {
         ensures fault { IfErr result (λ e. Tells e (IsPieceFault only_topics self.old.lines piece.now)) }
     {
         let line = read_line(alloc, &self.values, piece)?;
+        self.add(only_topics, line)
+    }
+
+    // Takes a line that was read, or answers what is wrong with its place.
+    fn add(&mut self, only_topics: bool, line: Line) -> Result<(), Refusal>
+        requires read { AreRead only_topics self.old }
+        requires named { NamesOne line }
+        ensures read { OnOk result (AreRead only_topics self.new) }
+        ensures line { OnOk result (self.new.lines ≡ self.old.lines ++ line ∷ []) }
+        ensures fault { IfErr result (λ e. Tells e (IsPlaceFault only_topics self.old.lines line)) }
+    {
         if !self.order.allows(only_topics, &line) {
             return Err(Refusal::Bad(LineKind::Order));
         }
@@ -84,6 +100,32 @@ impl Reading {
         self.order.pass(&line);
         self.lines.push(line)?;
         Ok(())
+    }
+
+    /// Takes lines that were read, in order, up to the first whose place is wrong.
+    pub fn add_all(&mut self, lines: List<Line>) -> Result<(), Refusal>
+        requires read { AreRead false self.old }
+        requires named { AllByRecursion NamesOne lines }
+        ensures read { OnOk result (AreRead false self.new) }
+        ensures lines { OnOk result (self.new.lines ≡ self.old.lines ++ lines) }
+        ensures fault { IfErr result (λ e. Tells e (λ kind. MayBegin false (self.old.lines ++ lines) → ⊥)) }
+    {
+        for line in lines.into_vec() {
+            self.add(false, line)?;
+        }
+        Ok(())
+    }
+
+    /// The lines, if the last of them is the end.
+    pub fn ended(self) -> Result<List<Line>, Refusal>
+        requires { AreRead false self }
+        ensures lines { IfOk result (λ lines. (lines ≡ self.lines) × IsInOrder lines) }
+        ensures fault { IfErr result (λ e. Tells e (λ kind. (kind ≡ kinds.NoEnd) × ¬ Contains self.lines End)) }
+    {
+        if !self.order.is_ended() {
+            return Err(Refusal::Bad(LineKind::NoEnd));
+        }
+        Ok(self.lines)
     }
 }
 
