@@ -8,5 +8,7 @@ pub use Rattle.audit.proofs.EntryOfCall.{entry_owned, entry_shows}
 pub use Rattle.audit.proofs.ResultsStand.{steps_results}
 -- the looks of a lawful call stand, and each call of a lawful account is lawful
 pub use Rattle.audit.proofs.Prints.{looks_stand, all_lawful}
+-- the calls that have a reply, as one more comes
+pub use Rattle.audit.proofs.Replied.{answered_more, answered_same, zip_push}
 -- what holds of a call that went well
 pub use Rattle.audit.proofs.Ends.{on_ok}

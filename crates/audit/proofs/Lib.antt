@@ -4,6 +4,8 @@ pub mod Laws
 pub mod Tallies
 -- a call was accepted in one way, and has one reply at most
 pub mod ReplyOnce
+-- the calls that have a reply, as one more comes
+mod Replied
 -- a lawful account has one print
 pub mod Prints
 -- worked calls that waited

@@ -1,5 +1,3 @@
--- what the crates above may cite
-pub mod Laws
 -- what flowed over a link, over one call and over two
 mod Flowing
 -- a pass that goes on, over two steps

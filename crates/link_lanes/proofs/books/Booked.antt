@@ -14,7 +14,7 @@ use Rattle.link_lanes.specs.books.Shown.{ShownLink}
 use Rattle.link_lanes.specs.books.Times.{one_where, times}
 use Rattle.link_lanes.proofs.books.Counting.{map_append, times_push}
 use Rattle.link_lanes.proofs.books.Over.{transcript_over}
-use Rattle.session.proofs.Laws.{zip_push}
+use Rattle.audit.proofs.Laws.{zip_push}
 use Rattle.session.specs.Flows.{LinkView}
 use Rattle.session.specs.Onwards.{HasGoneOn, latest}
 use Rattle.session.specs.Served.{HasServed, IsKept, ended_so}
