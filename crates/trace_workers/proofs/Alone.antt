@@ -67,13 +67,13 @@ abbrev pub told_of : SessionView → List Transcript
 told_of s = map told (transcripts_of s.pass)
 
 -- one that was named tells its one transcript
-told_one : (input : List ℕ) (s : SessionView) (h : HasHandled input s) → told_of s ≡ h.transcript ∷ []
+pub told_one : (input : List ℕ) (s : SessionView) (h : HasHandled input s) → told_of s ≡ h.transcript ∷ []
 told_one input s h =
     let t = h.transcript in
     ap (map told) (alone t s.pass h.only) ∙ ap (λ (x : Transcript). x ∷ []) (told_same t (last_whole t.calls h.whole))
 
 -- and any other nothing
-told_none : (input : List ℕ) (s : SessionView) → HasReceivedNothing input s → told_of s ≡ []
+pub told_none : (input : List ℕ) (s : SessionView) → HasReceivedNothing input s → told_of s ≡ []
 told_none input s h =
     ap (λ (ts : List Transcript). map told (ts ++ option_to_list s.pass.going)) h.ended
     ∙ ap (λ (going : Option Transcript). map told (option_to_list going)) h.going

@@ -14,12 +14,14 @@ use Rattle.trace_workers.specs.Sessions.{SessionView}
 use Rattle.trace_workers.specs.Workers.{AreNumbered, HasAll, HasTaken, HasToldAll, IfClock, WorkerView}
 use Rattle.trace_workers.specs.Dealing.{AreDealing, IsDealing, empty_worker, empty_workers, fresh_session}
 use Rattle.trace_workers.specs.Dealt.{AreDealt, HasClockOf, IsDealt, sessions_dealt}
+use Rattle.trace_workers.specs.Telling.{IsFresh}
+use Rattle.trace_workers.proofs.Telling.{kept_none}
 
-fresh_taken : (broker : BrokerView) (number : ℕ) → HasTaken broker [] (fresh_session broker number)
-fresh_taken broker number = record {
+fresh_taken : (broker : BrokerView) (number : ℕ) (told : Option (List ℕ)) → IsFresh told → HasTaken broker [] (fresh_session broker number told)
+fresh_taken broker number told fresh = record {
   made = refl;
   pass = refl;
-  received = record { none = refl; inbox = refl; unshut = refl; ended = refl; going = refl; waits = refl };
+  received = record { none = refl; inbox = refl; unshut = refl; ended = refl; going = refl; waits = refl; told = kept_none told number (fresh_pass broker number) fresh };
   shut = refl;
   named = refl;
   ticked = refl;
@@ -75,9 +77,9 @@ next_number dealt worker_count k size some is above below =
       ]
     ]
 
-numbered_more : (broker : BrokerView) (worker : WorkerView) (number : ℕ) → worker.number + length worker.sessions * worker.worker_count ≡ number → AreNumbered worker → AreNumbered (with_more worker (fresh_session broker number))
-numbered_more broker worker number next numbered k d less =
-    let s = fresh_session broker number in
+numbered_more : (broker : BrokerView) (worker : WorkerView) (number : ℕ) (told : Option (List ℕ)) → worker.number + length worker.sessions * worker.worker_count ≡ number → AreNumbered worker → AreNumbered (with_more worker (fresh_session broker number told))
+numbered_more broker worker number told next numbered k d less =
+    let s = fresh_session broker number told in
     elim (cases_eq k (length worker.sessions)) [
       | inl last ↦
           ap (λ (x : SessionView). x.number) (get_or_push worker.sessions s d k (sym last)) ∙ sym next ∙ ap (λ (n : ℕ). worker.number + n * worker.worker_count) (sym last)
@@ -95,17 +97,17 @@ all_more P xs s all here k d less =
           subst P (sym (get_or_append_left xs (s ∷ []) d k before)) (all k d before)
     ]
 
-one_dealt : (broker : BrokerView) (dealt worker_count k : ℕ) (worker : WorkerView) → 1 ≤ worker_count → k ≡ dealt % worker_count → IsDealing broker dealt worker_count k worker → IsDealing broker (dealt + 1) worker_count k (with_more worker (fresh_session broker dealt))
-one_dealt broker dealt worker_count k worker some is h =
+one_dealt : (broker : BrokerView) (dealt worker_count k : ℕ) (worker : WorkerView) (told : Option (List ℕ)) → IsFresh told → 1 ≤ worker_count → k ≡ dealt % worker_count → IsDealing broker dealt worker_count k worker → IsDealing broker (dealt + 1) worker_count k (with_more worker (fresh_session broker dealt told))
+one_dealt broker dealt worker_count k worker told fresh some is h =
     let next : k + length worker.sessions * worker_count ≡ dealt = next_number dealt worker_count k (length worker.sessions) some is h.above h.below in
     let own : worker.number + length worker.sessions * worker.worker_count ≡ dealt = ap (λ (n : ℕ). n + length worker.sessions * worker.worker_count) h.number ∙ ap (λ (w : ℕ). k + length worker.sessions * w) h.among ∙ next in
-    let size : length (worker.sessions ++ fresh_session broker dealt ∷ []) * worker_count ≡ length worker.sessions * worker_count + worker_count = ap (λ (n : ℕ). n * worker_count) (length_push worker.sessions (fresh_session broker dealt)) ∙ omega arith in
+    let size : length (worker.sessions ++ fresh_session broker dealt told ∷ []) * worker_count ≡ length worker.sessions * worker_count + worker_count = ap (λ (n : ℕ). n * worker_count) (length_push worker.sessions (fresh_session broker dealt told)) ∙ omega arith in
     record {
       number = h.number;
       among = h.among;
       begun = record {
-        numbered = numbered_more broker worker dealt own h.begun.numbered;
-        sessions = all_more (HasTaken broker []) worker.sessions (fresh_session broker dealt) h.begun.sessions (fresh_taken broker dealt);
+        numbered = numbered_more broker worker dealt told own h.begun.numbered;
+        sessions = all_more (HasTaken broker []) worker.sessions (fresh_session broker dealt told) h.begun.sessions (fresh_taken broker dealt told fresh);
         clock = h.begun.clock;
       };
       above = omega (arith, size, next, some);
@@ -130,18 +132,18 @@ other_dealt broker dealt worker_count k worker some less other h =
       clock = h.clock;
     }
 
-pub session_dealt : (broker : BrokerView) (dealt worker_count at : ℕ) (workers : List WorkerView) (worker d : WorkerView) → 1 ≤ worker_count → at ≡ dealt % worker_count → worker ≡ with_more (get_or workers at d) (fresh_session broker dealt)
+pub session_dealt : (broker : BrokerView) (dealt worker_count at : ℕ) (workers : List WorkerView) (worker d : WorkerView) (told : Option (List ℕ)) → IsFresh told → 1 ≤ worker_count → at ≡ dealt % worker_count → worker ≡ with_more (get_or workers at d) (fresh_session broker dealt told)
     → AreDealing broker dealt worker_count workers → AreDealing broker (dealt + 1) worker_count (set workers at worker)
-session_dealt broker dealt worker_count at workers worker d some is worker_is h =
+session_dealt broker dealt worker_count at workers worker d told fresh some is worker_is h =
     let within : at < worker_count = omega (arith, is, mod_below dealt worker_count some) in
     let there : at < length workers = omega (arith, within, h.size) in
-    let more : length worker.sessions ≡ length (get_or workers at d).sessions + 1 = ap (λ (l : WorkerView). length l.sessions) worker_is ∙ length_push (get_or workers at d).sessions (fresh_session broker dealt) in
+    let more : length worker.sessions ≡ length (get_or workers at d).sessions + 1 = ap (λ (l : WorkerView). length l.sessions) worker_is ∙ length_push (get_or workers at d).sessions (fresh_session broker dealt told) in
     record {
       size = length-set workers at worker ∙ h.size;
       each = λ k e less. elim (cases_eq k at) [
         | inl here ↦
             subst (λ (i : ℕ). IsDealing broker (dealt + 1) worker_count i (get_or (set workers at worker) i e)) (sym here)
-            (subst (IsDealing broker (dealt + 1) worker_count at) (sym (get_or-set_same workers at worker e there ∙ worker_is)) (one_dealt broker dealt worker_count at (get_or workers at d) some is (h.each at d within)))
+            (subst (IsDealing broker (dealt + 1) worker_count at) (sym (get_or-set_same workers at worker e there ∙ worker_is)) (one_dealt broker dealt worker_count at (get_or workers at d) told fresh some is (h.each at d within)))
         | inr other ↦
             subst (IsDealing broker (dealt + 1) worker_count k) (sym (get_or-set_other workers at k worker e other))
             (other_dealt broker dealt worker_count k (get_or workers k e) some less (λ own. other (own ∙ sym is)) (h.each k e less))

@@ -1,5 +1,5 @@
 -- The frame at the front is handled, or shows how its session ends.
-use Rattle.std.proofs.Common.{◌≡◌, ◌≢◌, ◌⊎◌, ℕ, ◌+◌, Bool, true, List, ◌++◌, length, drop, Option, None, MatchBool, sym, ap, subst, ◌∙◌, arith, inl, inr, [], ◌∷◌, false}
+use Rattle.std.proofs.Common.{◌≡◌, ◌≢◌, ◌⊎◌, ℕ, ◌+◌, Bool, true, List, ◌++◌, length, drop, Option, None, MatchBool, refl, sym, ap, subst, ◌∙◌, arith, inl, inr, [], ◌∷◌, false}
 use Rattle.std.specs.Prelude.{is_some}
 use Rattle.std.proofs.lemmas.Option.{same_Some}
 use Rattle.audit.specs.declared.account.Call.{Call}
@@ -9,7 +9,7 @@ use Rattle.audit.specs.declared.account.SessionEnd.{SessionEnd}
 use Rattle.audit.specs.declared.account.SessionEnd.TheVariants.{CallsFull, Refused}
 use Rattle.audit.specs.declared.account.TheConstants.{MOST_CALLS}
 use Rattle.audit.specs.declared.account.Transcript.{Transcript}
-use Rattle.audit.specs.Fits.{LastIsParked}
+use Rattle.audit.specs.Fits.{LastIsParked, is_answered}
 use Rattle.audit.specs.RunOf.{IsNotCut}
 use Rattle.kwire.specs.declared.frame.Frame.TheVariants.{Whole}
 use Rattle.kwire.specs.Frames.{IsFrameBody, framed, next_frame_of}
@@ -17,14 +17,16 @@ use Rattle.purgatory.specs.declared.outcome.Done.{Done}
 use Rattle.room_core.specs.declared.event.How.{How}
 use Rattle.room_table.specs.Seats.{CallerView}
 use Rattle.shared_broker.specs.declared.calling.Handled.{Handled}
-use Rattle.shared_broker.specs.Calling.{HasCalled, HasHandledAs, IsAnsweredAs, IsEndFor, how_by, told_as}
+use Rattle.shared_broker.specs.Calling.{HasCalled, HasHandledAs, IsAnsweredAs, IsEndFor, IsMadeOfReply, how_by, told_as}
 use Rattle.shared_broker.specs.Collecting.{HasCompleted}
-use Rattle.shared_broker.specs.Passes.{PassView, calls_made}
+use Rattle.shared_broker.specs.Passes.{BrokerView, PassView, calls_made}
 use Rattle.trace_workers.specs.Ending.{EndsSo, MayEndSo}
 use Rattle.trace_workers.specs.Received.{HasReceived}
 use Rattle.trace_workers.specs.Sessions.{SessionView}
+use Rattle.trace_workers.specs.Telling.{AreKept, HasPut}
 use Rattle.trace_workers.proofs.Fronts.{trace_end}
 use Rattle.trace_workers.proofs.Going.{called, completed, handled_of, named_of, received_of}
+use Rattle.trace_workers.proofs.Telling.{kept_front, kept_more, kept_on, kept_same}
 use Rattle.trace_workers.proofs.Transcripts.{goes_on, made_all, parked_last, unparked_last}
 
 -- ---- how a call is told that was answered
@@ -51,40 +53,71 @@ answered_over : (how : CallHow) (old new : CallerView) → IsAnsweredAs how old 
 answered_over how old new (inl at_once) e = absurd cc
 answered_over how old new (inr told) e = told_over told.1 (sym told.7 ∙ e)
 
+how_answered : (how : How) (by : ℕ) → is_answered (how_by how by) ≡ true
+how_answered How.Satisfied by = refl
+how_answered How.Expired by = refl
+
+told_answered : (done : Done) → is_answered (told_as done) ≡ true
+told_answered done = how_answered done.how done.by
+
+answered_is : (how : CallHow) (old new : CallerView) → IsAnsweredAs how old new → is_answered how ≡ true
+answered_is how old new (inl at_once) = ap is_answered at_once
+answered_is how old new (inr told) = ap is_answered told.7 ∙ told_answered told.1
+
 -- ---- a frame that was handled is that of a call
 
-pub record IsCall (body : List ℕ) (old new : PassView) : Type 0 where
+-- a session that had kept these lines keeps those now
+pub record IsCall (session : ℕ) (told now : Option (List ℕ)) (body : List ℕ) (old new : PassView) : Type 0 where
   pub call : HasCalled body old new
+  pub tells : (calls : List Call) → AreKept told session old calls → AreKept now session new (calls ++ call.call ∷ [])
   pub whole : IsNotCut call.call
   pub waits : MatchBool (is_some new.waits) (call.call.how ≡ Parked) (call.call.how ≢ Parked)
 
 over : (new : PassView) (how : CallHow) → new.waits ≡ None → how ≢ Parked → MatchBool (is_some new.waits) (how ≡ Parked) (how ≢ Parked)
 over new how none not = subst (λ (b : Bool). MatchBool b (how ≡ Parked) (how ≢ Parked)) (sym (ap is_some none)) not
 
-abbrev pub WasCalled : Handled → Type 0
-WasCalled result = ((bytes : List ℕ) × (result ≡ Handled.Reply bytes)) ⊎ ((result ≡ Handled.Quiet) ⊎ ((deadline : ℕ) × (result ≡ Handled.Parked deadline)))
+config_is : (body : List ℕ) (old new : PassView) → HasCalled body old new → new.config ≡ old.config
+config_is body old new c = ap (λ (b : BrokerView). b.config) c.made
 
-replied : (body bytes : List ℕ) (old new : PassView) → HasHandledAs false body (Handled.Reply bytes) old new → IsCall body old new
-replied body bytes old new h = record {
+unanswered : (session : ℕ) (told : Option (List ℕ)) (body : List ℕ) (old new : PassView) (c : HasCalled body old new) → is_answered c.call.how ≡ false → (calls : List Call)
+    → AreKept told session old calls → AreKept told session new (calls ++ c.call ∷ [])
+unanswered session told body old new c none calls h = kept_same told session new calls c.call none (kept_on told session old new calls (config_is body old new c) c.grown h)
+
+pub replied : (session : ℕ) (told now : Option (List ℕ)) (body bytes : List ℕ) (old new : PassView) → HasHandledAs (is_some told) body (Handled.Reply bytes) old new → HasPut session bytes told now
+    → IsCall session told now body old new
+replied session told now body bytes old new h put = record {
   call = h.0;
+  tells = λ calls k. kept_more told now session new calls h.0.call bytes (answered_is h.0.call.how old.logs.seat new.logs.seat h.2) h.3 put
+      (kept_on told session old new calls (config_is body old new h.0) h.0.grown k);
   whole = answered_whole h.0.call.how old.logs.seat new.logs.seat h.2;
   waits = over new h.0.call.how h.5 (answered_over h.0.call.how old.logs.seat new.logs.seat h.2);
 }
 
-hushed : (body : List ℕ) (old new : PassView) → HasHandledAs false body Handled.Quiet old new → IsCall body old new
-hushed body old new h = record { call = h.0; whole = λ won e. absurd (cc (h.2, e)); waits = over new h.0.call.how h.4 (λ e. absurd (cc (h.2, e))) }
-
-parked : (body : List ℕ) (deadline : ℕ) (old new : PassView) → HasHandledAs false body (Handled.Parked deadline) old new → IsCall body old new
-parked body deadline old new h = record {
+hushed : (session : ℕ) (told : Option (List ℕ)) (is_sent : Bool) (body : List ℕ) (old new : PassView) → HasHandledAs is_sent body Handled.Quiet old new → IsCall session told told body old new
+hushed session told is_sent body old new h = record {
   call = h.0;
+  tells = unanswered session told body old new h.0 (ap is_answered h.2);
+  whole = λ won e. absurd (cc (h.2, e));
+  waits = over new h.0.call.how h.4 (λ e. absurd (cc (h.2, e)));
+}
+
+parked : (session : ℕ) (told : Option (List ℕ)) (is_sent : Bool) (body : List ℕ) (deadline : ℕ) (old new : PassView) → HasHandledAs is_sent body (Handled.Parked deadline) old new
+    → IsCall session told told body old new
+parked session told is_sent body deadline old new h = record {
+  call = h.0;
+  tells = unanswered session told body old new h.0 (ap is_answered h.1);
   whole = λ won e. absurd (cc (h.1, e));
   waits = subst (λ (b : Bool). MatchBool b (h.0.call.how ≡ Parked) (h.0.call.how ≢ Parked)) (sym (ap is_some h.3)) h.1;
 }
 
-pub call_of : (body : List ℕ) (result : Handled) (old new : PassView) → WasCalled result → HasHandledAs false body result old new → IsCall body old new
-call_of body result old new (inl reply) h = replied body reply.0 old new (subst (λ (r : Handled). HasHandledAs false body r old new) reply.1 h)
-call_of body result old new (inr (inl quiet)) h = hushed body old new (subst (λ (r : Handled). HasHandledAs false body r old new) quiet h)
-call_of body result old new (inr (inr waits)) h = parked body waits.0 old new (subst (λ (r : Handled). HasHandledAs false body r old new) waits.1 h)
+-- one that has no reply
+abbrev pub WasUnreplied : Handled → Type 0
+WasUnreplied result = (result ≡ Handled.Quiet) ⊎ ((deadline : ℕ) × (result ≡ Handled.Parked deadline))
+
+pub unreplied : (session : ℕ) (told : Option (List ℕ)) (is_sent : Bool) (body : List ℕ) (result : Handled) (old new : PassView) → WasUnreplied result → HasHandledAs is_sent body result old new
+    → IsCall session told told body old new
+unreplied session told is_sent body result old new (inl quiet) h = hushed session told is_sent body old new (subst (λ (r : Handled). HasHandledAs is_sent body r old new) quiet h)
+unreplied session told is_sent body result old new (inr waits) h = parked session told is_sent body waits.0 old new (subst (λ (r : Handled). HasHandledAs is_sent body r old new) waits.1 h)
 
 -- ---- or no call is made of it
 
@@ -116,16 +149,21 @@ completed_moves old new c how same =
 
 -- ---- a reply is collected
 
-pub collected : (input : List ℕ) (s : SessionView) (new : PassView) → (c : HasCompleted s.pass new) → c.how ≡ told_as c.done → HasReceived input s → HasReceived input (record s { pass = new })
-collected input s new c how h =
+pub collected : (input : List ℕ) (s : SessionView) (new : PassView) (now : Option (List ℕ)) (bytes : List ℕ) → (c : HasCompleted s.pass new) → c.how ≡ told_as c.done
+    → IsMadeOfReply (is_some s.told) new (record c.call { finish = c.finish; how = c.how }) bytes → HasPut s.number bytes s.told now → HasReceived input s → HasReceived input (record s { pass = new; told = now })
+collected input s new now bytes c how made put h =
     let named : s.is_named ≡ true = named_of input s (ap is_some c.going) h in
-    received_of input (record s { pass = new }) named
-    (completed input s new (handled_of input s named h) c (λ won e. told_whole c.done won (sym how ∙ e)) (λ e. told_over c.done (sym how ∙ e)))
+    let call : Call = record c.call { finish = c.finish; how = c.how } in
+    received_of input (record s { pass = new; told = now }) named
+    (completed input s new now (handled_of input s named h) c (λ won e. told_whole c.done won (sym how ∙ e)) (λ e. told_over c.done (sym how ∙ e))
+    (λ calls k. kept_more s.told now s.number new calls call bytes (ap is_answered how ∙ told_answered c.done) made put
+    (kept_on s.told s.number s.pass new calls (ap (λ (b : BrokerView). b.config) c.made) c.grown (kept_front s.told s.number s.pass calls c.call c.waited k))))
 
 -- ---- a frame is handled
 
-pub handled : (input : List ℕ) (s : SessionView) (body : List ℕ) (end : ℕ) (new : PassView) → IsFrameBody body → s.inbox ≡ framed body ++ drop end s.inbox → IsCall body s.pass new
-    → HasReceived input s → HasReceived input (record s { pass = new; inbox = drop end s.inbox })
-handled input s body end new small parts call h =
+pub handled : (input : List ℕ) (s : SessionView) (body : List ℕ) (end : ℕ) (new : PassView) (now : Option (List ℕ)) → IsFrameBody body → s.inbox ≡ framed body ++ drop end s.inbox
+    → IsCall s.number s.told now body s.pass new → HasReceived input s → HasReceived input (record s { pass = new; inbox = drop end s.inbox; told = now })
+handled input s body end new now small parts call h =
     let named : s.is_named ≡ true = named_of input s (ap is_some call.call.going) h in
-    received_of input (record s { pass = new; inbox = drop end s.inbox }) named (called input s body end new (handled_of input s named h) small parts call.call call.whole call.waits)
+    received_of input (record s { pass = new; inbox = drop end s.inbox; told = now }) named
+    (called input s body end new now (handled_of input s named h) small parts call.call call.whole call.waits call.tells)

@@ -89,7 +89,7 @@ module _ (broker : BrokerView) (lines : List Line) (count worker_count : ℕ) (w
   its_session : All IsRunning workers → (number : ℕ) → number < count → Any (λ (x : SessionView). x.number ≡ number) (flat_map sessions_in workers)
   its_session running number less =
       let d = empty_worker worker_count 0 in
-      let s = fresh_session broker 0 in
+      let s = fresh_session broker 0 None in
       let k = number % worker_count in
       let within : k < worker_count = mod_below number worker_count some in
       let there : k < length workers = omega (arith, within, h.size) in

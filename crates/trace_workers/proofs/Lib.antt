@@ -4,6 +4,8 @@ pub mod Laws
 mod Transcripts
 -- an end that fits what is left of the input fits also what comes behind that
 mod Fronts
+-- the lines that a session keeps of its replies, as calls come and its pass sees more
+mod Telling
 -- what a session received, as it handles frames, collects replies and ends
 mod Going
 -- a frame is handled, or shows how its session ends
@@ -52,6 +54,10 @@ mod Places
 mod Alone
 -- the account of joined sessions that came to rest is that of a run
 mod WorkerRun
+-- the lines that its sessions kept
+mod Kept
+-- what is printed of them, pass by pass
+mod Parts
 -- whether a call is lawful asks neither passes nor winners
 mod LawfulAlike
 -- the lines of every trace have an account of a run

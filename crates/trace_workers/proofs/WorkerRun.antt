@@ -26,6 +26,7 @@ use Rattle.trace_workers.specs.Workers.{HasTaken}
 use Rattle.trace_workers.specs.Playable.{AreTraced}
 use Rattle.trace_workers.proofs.Clocks.{own_alone}
 use Rattle.trace_workers.proofs.Moments.{rising_after}
+use Rattle.trace_workers.specs.declared.played.Played.{Played}
 use Rattle.trace_workers.specs.Closed.{CameTo}
 use Rattle.trace_workers.specs.Joined.{JoinedView, HasCome, HasJoined, passes_in}
 use Rattle.trace_workers.specs.WorkerRun.{AreSeconds, IsWorkerRun, NobodyWaits, last_moment}
@@ -39,7 +40,7 @@ abbrev pass_of : SessionView → PassView
 pass_of s = s.pass
 
 -- all passes are those of the sessions, and that of the clock
-split : (P : PassView → Type 0) (joined : JoinedView) → All P (passes_in joined) → All (λ (s : SessionView). P s.pass) joined.sessions × P joined.clock
+pub split : (P : PassView → Type 0) (joined : JoinedView) → All P (passes_in joined) → All (λ (s : SessionView). P s.pass) joined.sessions × P joined.clock
 split P joined all =
     let parts = All-pop P (passes_in joined) (map pass_of joined.sessions) (Some joined.clock) refl all in
     (all_of_map P pass_of joined.sessions parts.0, parts.1)
@@ -53,8 +54,9 @@ record HasSession (broker : BrokerView) (lines : List Line) (drain : Bool) (acco
   drained : drain ≡ true → session.pass.waits ≡ None
   there : slice_get account.passes number ≡ Some (told_of session)
 
-abbrev IsToldIn : Account → PassView → Type 0
-IsToldIn account pass = slice_get account.passes pass.logs.number ≡ Some (map told (transcripts_of pass))
+-- the account has the transcripts of the pass under its number
+abbrev pub IsListedIn : Account → PassView → Type 0
+IsListedIn account pass = slice_get account.passes pass.logs.number ≡ Some (map told (transcripts_of pass))
 
 -- what the account has of all passes
 record HasAllPasses (broker : BrokerView) (lines : List Line) (count : ℕ) (drain : Bool) (account : Account) : Type 0 where
@@ -65,7 +67,7 @@ record HasAllPasses (broker : BrokerView) (lines : List Line) (count : ℕ) (dra
 has_passes : (broker : BrokerView) (lines : List Line) (added : List ℕ) (count : ℕ) (drain : Bool) (joined : JoinedView) (account : Account)
     → HasJoined broker (lines ++ map Clock added) count joined → HasCome drain joined → IsAccountOf broker (passes_in joined) account → HasAllPasses broker lines count drain account
 has_passes broker lines added count drain joined account whole come is =
-    let told_in = split (IsToldIn account) joined is.transcripts in
+    let told_in = split (IsListedIn account) joined is.transcripts in
     record {
       size = is.count ∙ omega (arith, length-append (map pass_of joined.sessions) (joined.clock ∷ []), length-map joined.sessions pass_of, whole.size);
       sessions = λ number less.
@@ -80,7 +82,7 @@ has_passes broker lines added count drain joined account whole come is =
             drained = λ on. All-contains (λ (x : SessionView). x.pass.waits ≡ None) joined.sessions s (come.drained on) (a.0, a.2, a.3);
             there =
                 ap (slice_get account.passes) (sym (taken.pass ∙ a.4))
-                ∙ All-contains (λ (x : SessionView). IsToldIn account x.pass) joined.sessions s told_in.0 (a.0, a.2, a.3);
+                ∙ All-contains (λ (x : SessionView). IsListedIn account x.pass) joined.sessions s told_in.0 (a.0, a.2, a.3);
           };
       clock =
           ap (slice_get account.passes) (sym whole.number)
@@ -144,9 +146,10 @@ beside : (P Q R : Type 0) (drain : Bool) → MatchBool drain P R → (drain ≡ 
 beside P Q R true h q = (h, q refl)
 beside P Q R false h q = h
 
-pub worker_run : (broker : BrokerView) (lines : List Line) (port count : ℕ) (drain : Bool) (account : Account) → AreTraced lines → count ≡ sessions_of lines → broker.config ≡ configuration_of port lines
-    → CameTo broker lines count drain account → IsWorkerRun lines port drain account
-worker_run broker lines port count drain account traced same config came =
+pub worker_run : (broker : BrokerView) (lines : List Line) (port count : ℕ) (drain : Bool) (played : Played) → AreTraced lines → count ≡ sessions_of lines → broker.config ≡ configuration_of port lines
+    → CameTo broker lines count drain played → IsWorkerRun lines port drain played.account
+worker_run broker lines port count drain played traced same config came =
+    let account = played.account in
     let is = came.account_is in
     let run = came.run in
     let whole = run.whole in

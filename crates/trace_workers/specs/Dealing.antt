@@ -1,5 +1,5 @@
 -- Sessions as they are dealt to workers, one after the other, before the clock is.
-use Rattle.std.specs.Prelude.{ℕ, ◌≡◌, ◌+◌, ◌*◌, ◌<◌, ◌≤◌, false, List, [], None, length, map, slice_index_or}
+use Rattle.std.specs.Prelude.{ℕ, ◌≡◌, ◌+◌, ◌*◌, ◌<◌, ◌≤◌, false, List, [], None, Option, length, map, slice_index_or}
 use Rattle.std.specs.List.{range_with_len}
 use Rattle.shared_broker.specs.Making.{fresh_pass}
 use Rattle.shared_broker.specs.Passes.{BrokerView}
@@ -15,8 +15,8 @@ abbrev pub empty_workers : ℕ → List WorkerView
 empty_workers worker_count = map (empty_worker worker_count) (range_with_len 0 worker_count)
 
 -- a session that no line has named, on the new pass of its own number
-abbrev pub fresh_session : BrokerView → ℕ → SessionView
-fresh_session broker number = record { number = number; pass = fresh_pass broker number; inbox = []; is_shut = false; is_named = false }
+abbrev pub fresh_session : BrokerView → ℕ → Option (List ℕ) → SessionView
+fresh_session broker number told = record { number = number; pass = fresh_pass broker number; inbox = []; is_shut = false; is_named = false; told = told }
 
 -- Worker k of these has its own of that many sessions, and no clock: the first of its own that it doesn't have is the first that isn't below that many.
 pub record IsDealing (broker : BrokerView) (dealt worker_count k : ℕ) (worker : WorkerView) : Type 0 where

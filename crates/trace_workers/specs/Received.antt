@@ -8,6 +8,7 @@ use Rattle.audit.specs.RunOf.{IsNotCut, IsTraceEnd}
 use Rattle.kwire.specs.Frames.{IsFrameBody, framed}
 use Rattle.shared_broker.specs.Passes.{PassView}
 use Rattle.trace_workers.specs.Sessions.{SessionView}
+use Rattle.trace_workers.specs.Telling.{AreKept}
 
 -- the one transcript that there is, which goes on or has ended
 abbrev pub IsOnlyOf : Transcript → List Transcript → Option Transcript → Type 0
@@ -23,7 +24,7 @@ abbrev pub StandsAt : SessionView → List ℕ → Transcript → Option Session
 StandsAt s rest transcript None = (rest ≡ s.inbox) × MatchBool (is_some s.pass.waits) (LastIsParked transcript.calls) (LastIsParked transcript.calls → ⊥)
 StandsAt s rest transcript (Some end) = EndFits rest s.is_shut transcript (Some end) × IsTraceEnd (Some end)
 
--- the frames of the calls stand at the front of this input, one after the other, and none of them was cut off
+-- the frames of the calls stand at the front of this input, one after the other, and none of them was cut off; lines that are kept are those of the replies
 pub record HasHandled (input : List ℕ) (s : SessionView) : Type 0 where
   pub transcript : Transcript
   pub only : IsOnly transcript s.pass
@@ -34,6 +35,7 @@ pub record HasHandled (input : List ℕ) (s : SessionView) : Type 0 where
   pub each : AllByRecursion (λ call. IsFrameBody call.frame) transcript.calls
   pub whole : AllByRecursion IsNotCut transcript.calls
   pub stands : StandsAt s rest transcript transcript.end
+  pub told : AreKept s.told s.number s.pass transcript.calls
 
 pub record HasReceivedNothing (input : List ℕ) (s : SessionView) : Type 0 where
   pub none : input ≡ []
@@ -42,6 +44,7 @@ pub record HasReceivedNothing (input : List ℕ) (s : SessionView) : Type 0 wher
   pub ended : s.pass.ended ≡ []
   pub going : s.pass.going ≡ None
   pub waits : s.pass.waits ≡ None
+  pub told : AreKept s.told s.number s.pass []
 
 -- this is all that it has received so far
 abbrev pub HasReceived : List ℕ → SessionView → Type 0

@@ -12,6 +12,7 @@ ghost use Rattle.trace_workers.specs.Gathered.{IsRunning, first_clock, sessions_
 ghost use Rattle.trace_workers.specs.Joined.{HasJoined};
 
 use crate::joined::JoinedSessions;
+use crate::reply_lines::lines_if;
 use crate::{TraceSession, Worker};
 use kbytes::{List, NoMemory};
 use shared_broker::Pass;
@@ -62,17 +63,27 @@ fn deal_session(
     workers: &mut [Worker],
     number: u32,
     pass: Pass,
+    is_told: bool,
 ) -> Result<(), NoMemory>
     requires some { 1 ≤ length workers.old }
     ensures { OnOk result ((broker : BrokerView) → pass ≡ fresh_pass broker number
         → AreDealing broker number (length workers.old) workers.old → AreDealing broker (number + 1) (length workers.old) workers.new) }
 {
     let at = number as usize % workers.len();
-    add_session(&mut workers[at], TraceSession::new(alloc, number, pass))
+    let told = lines_if(alloc, is_told)?;
+    add_session(
+        &mut workers[at],
+        TraceSession::new(alloc, number, pass, told),
+    )
 }
 
 // Makes a session of each pass, by their numbers, and gives it to its worker.
-fn deal_sessions(alloc: Global, workers: &mut [Worker], passes: List<Pass>) -> Result<(), NoMemory>
+fn deal_sessions(
+    alloc: Global,
+    workers: &mut [Worker],
+    passes: List<Pass>,
+    is_told: bool,
+) -> Result<(), NoMemory>
     requires some { 1 ≤ length workers.old }
     requires few { length passes ≤ 64 }
     ensures { OnOk result ((broker : BrokerView) (count : ℕ) → passes ≡ fresh_passes broker count
@@ -80,7 +91,7 @@ fn deal_sessions(alloc: Global, workers: &mut [Worker], passes: List<Pass>) -> R
 {
     let mut number = 0;
     for pass in passes.into_vec() {
-        deal_session(alloc, workers, number, pass)?;
+        deal_session(alloc, workers, number, pass, is_told)?;
         number += 1;
     }
     Ok(())
@@ -95,8 +106,14 @@ fn deal_clock(workers: &mut [Worker], clock: Pass)
     set_clock(&mut workers[0], clock);
 }
 
-/// Deals the passes to that many workers: the last pass is the clock's, and each other one is a session's.
-pub fn deal(alloc: Global, passes: List<Pass>, worker_count: u32) -> Result<List<Worker>, NoMemory>
+/// Deals the passes to that many workers: the last pass is the clock's, and each other one is a session's, which keeps the lines of its
+/// replies if it is told to.
+pub fn deal(
+    alloc: Global,
+    passes: List<Pass>,
+    worker_count: u32,
+    is_told: bool,
+) -> Result<List<Worker>, NoMemory>
     requires worker_count { (1 ≤ worker_count) × (worker_count ≤ 16) }
     requires fresh { (broker : BrokerView) × (count : ℕ) × (passes ≡ fresh_passes broker (count + 1)) × (count ≤ 64) }
     ensures { IfOk result (λ workers. (broker : BrokerView) (count : ℕ) → passes ≡ fresh_passes broker (count + 1) → AreDealt broker count worker_count workers) }
@@ -106,7 +123,7 @@ pub fn deal(alloc: Global, passes: List<Pass>, worker_count: u32) -> Result<List
     let Some(clock) = passes.pop() else {
         unreachable!()
     };
-    deal_sessions(alloc, workers.as_mut_slice(), passes)?;
+    deal_sessions(alloc, workers.as_mut_slice(), passes, is_told)?;
     deal_clock(workers.as_mut_slice(), clock);
     Ok(workers)
 }

@@ -1,6 +1,7 @@
-ghost use Rattle.std.specs.Prelude.{◌≡◌};
+ghost use Rattle.std.specs.Prelude.{◌≡◌, None};
 ghost use Rattle.trace_workers.specs.Sessions.{session_at};
 
+use crate::reply_lines::ReplyLines;
 use crate::session::TraceSession;
 use kwire::Inbox;
 use shared_broker::Pass;
@@ -15,6 +16,7 @@ pub struct Desk {
     pub(crate) inbox: Inbox,
     pub(crate) is_shut: bool,
     pub(crate) is_named: bool,
+    pub(crate) told: Option<ReplyLines>,
 }
 
 impl Model for Desk {
@@ -22,10 +24,25 @@ impl Model for Desk {
 
     ghost Value = { DeskView };
 
-    ghost view = { λ d. record { number = d.number; inbox = d.inbox; is_shut = d.is_shut; is_named = d.is_named } };
+    ghost view = { λ d. record { number = d.number; inbox = d.inbox; is_shut = d.is_shut; is_named = d.is_named; told = d.told } };
 }
 
 impl Desk {
+    /// The number of the session.
+    pub(crate) fn number(&self) -> u32
+        ensures { result ≡ self.now.number }
+    {
+        self.number
+    }
+
+    /// The lines that the session kept of its replies, if it kept any. They are taken from it.
+    pub(crate) fn take_lines(&mut self) -> Option<ReplyLines>
+        ensures lines { result ≡ self.old.told }
+        ensures left { self.new ≡ record self.old { told = None } }
+    {
+        self.told.take()
+    }
+
     /// The session again, with its pass.
     pub fn with(self, pass: Pass) -> TraceSession
         ensures { result ≡ session_at self pass }
@@ -36,6 +53,7 @@ impl Desk {
             inbox,
             is_shut,
             is_named,
+            told,
         } = self;
         TraceSession {
             alloc,
@@ -44,6 +62,7 @@ impl Desk {
             inbox,
             is_shut,
             is_named,
+            told,
         }
     }
 }

@@ -10,8 +10,8 @@ ghost use Rattle.trace_workers.specs.Sessions.{SessionView, desk_of};
 ghost use Rattle.trace_workers.specs.Closed.{CameTo, HasClosed, HasGoneOn, IsWhole};
 ghost use Rattle.trace_workers.specs.Joined.{JoinedView, HasCome, HasJoined, HasRun, passes_in};
 
+use crate::played::Played;
 use crate::{Desk, TraceSession};
-use audit::Account;
 use kbytes::{List, NoMemory};
 use partlog::MOST_MOMENT;
 use shared_broker::{Broker, BrokerEnd, Pass};
@@ -40,7 +40,7 @@ impl Model for JoinedSessions {
 /// What became of a broker that was to be closed.
 #[derive(Drop)]
 pub enum Closing {
-    Closed(Account),
+    Closed(Played),
     /// A request that waited was won meanwhile: everything is handed back.
     Again {
         broker: Broker,
@@ -119,7 +119,7 @@ fn after_close(alloc: Global, end: BrokerEnd, desks: List<Desk>) -> Result<Closi
         → HasClosed broker joined closing) }
 {
     match end {
-        BrokerEnd::Closed(account) => Ok(Closing::Closed(account)),
+        BrokerEnd::Closed(account) => Ok(Closing::Closed(Played { account, desks })),
         BrokerEnd::Untaken { broker, passes } => put_together(alloc, broker, passes, desks),
         BrokerEnd::NoMemory => Err(NoMemory),
     }
@@ -277,16 +277,16 @@ impl JoinedSessions {
         after_close(alloc, broker.close(rt, passes), desks)
     }
 
-    /// Lets the sessions and the clock go on until nobody can act, and closes the broker. If a request was won meanwhile, does that again.
+    /// Lets the sessions and the clock go on until nobody can act, and closes the broker, which gives the account. If a request was won meanwhile, does that again.
     pub fn close(
         self,
         rt: &impl Wait,
         alloc: Global,
         broker: Broker,
         drain: bool,
-    ) -> Result<Account, NoMemory>
+    ) -> Result<Played, NoMemory>
         requires { (lines : Items TheLine) × (count : ℕ) × HasRun broker lines count drain self × IsWhole broker count }
-        ensures { IfOk result (λ account. (lines : Items TheLine) (count : ℕ) → HasRun broker lines count drain self → CameTo broker lines count drain account) }
+        ensures { IfOk result (λ played. (lines : Items TheLine) (count : ℕ) → HasRun broker lines count drain self → CameTo broker lines count drain played) }
     {
         let mut left = Unclosed {
             broker,
@@ -294,7 +294,7 @@ impl JoinedSessions {
         };
         for _ in rt.forever() {
             match left.finish(rt, alloc, drain)? {
-                Closing::Closed(account) => return Ok(account),
+                Closing::Closed(played) => return Ok(played),
                 Closing::Again { broker, joined } => left = Unclosed { broker, joined },
             }
         }

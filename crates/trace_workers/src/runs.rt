@@ -1,15 +1,19 @@
-//! `run_lines`, which the programs call: it makes the broker, deals it to workers, starts their threads, and closes what they hand back.
-ghost use Rattle.std.specs.Prelude.{◌≡◌, ◌≤◌, ◌∷◌, [], false, IfOk, length};
+//! `run_lines` and `print_lines`, which the programs call: a broker is made and dealt to workers, their threads are started, and what they hand
+//! back is closed.
+ghost use Rattle.std.specs.Prelude.{◌≡◌, ◌≤◌, ◌∷◌, [], false, All, IfOk, length};
+ghost use Rattle.audit.specs.Printed.{IsPrintOf};
 ghost use Rattle.trace_file.specs.Contents.{sessions_of};
 ghost use Rattle.trace_workers.specs.Workers.{HasAll, HasDone, IsSameWorker};
 ghost use Rattle.trace_workers.specs.Playable.{AreTraced};
 ghost use Rattle.trace_workers.specs.Dealt.{AreDealt, AreWorked};
+ghost use Rattle.trace_workers.specs.Telling.{HasKept, joined};
 ghost use Rattle.trace_workers.specs.WorkerRun.{IsWorkerRun};
 
 use crate::dealing::{deal, gather};
-use crate::{Gate, Worker};
+use crate::played::{Played, print_parts};
+use crate::{Gate, NoGate, Worker};
 use audit::Account;
-use kbytes::NoMemory;
+use kbytes::{Bytes, List, NoMemory};
 use shared_broker::Broker;
 use std::alloc::Global;
 use std::sync::Wait;
@@ -65,6 +69,38 @@ fn work_all<R: Threads + Wait + Sync, G: Gate + Sync>(
     thread::for_each_mut(rt, workers, threads, &work);
 }
 
+// How lines are played: with which port in the replies to Metadata, on how many workers, whether the clock goes on after them, and whether each
+// session keeps the lines of its replies.
+#[derive(Clone, Copy)]
+struct Manner {
+    port: u16,
+    worker_count: u32,
+    drain: bool,
+    is_told: bool,
+}
+
+// Plays the lines in this manner.
+fn play<R: Threads + Wait + Sync, G: Gate + Sync>(
+    rt: &R,
+    alloc: Global,
+    lines: &[Line],
+    manner: Manner,
+    gate: &G,
+) -> Result<Played, NoMemory>
+    requires traced { AreTraced lines.now }
+    requires worker_count { (1 ≤ manner.worker_count) × (manner.worker_count ≤ 16) }
+    ensures run { IfOk result (λ played. IsWorkerRun lines.now manner.port manner.drain played.account) }
+    ensures kept { IfOk result (λ played. All (HasKept played.account) played.desks) }
+{
+    let config = config_of(alloc, lines, manner.port)?;
+    let count = sessions_of(lines);
+    let (broker, passes) = Broker::make(alloc, config, count + 1)?;
+    let mut workers = deal(alloc, passes, manner.worker_count, manner.is_told)?;
+    work_all(rt, &broker, gate, lines, workers.as_mut_slice());
+    let joined = gather(alloc, workers)?;
+    joined.close(rt, alloc, broker, manner.drain)
+}
+
 /// Plays the lines on that many workers, from 1 to 16, with this port in the replies to Metadata, and answers the account of the run. If `drain` is
 /// true, the clock goes on by the second after the lines until no request waits; if one waits past the greatest moment, that is forever. Each worker
 /// passes the gate before each line that it plays. An error if memory ran out, here or in a session.
@@ -81,11 +117,37 @@ pub fn run_lines<R: Threads + Wait + Sync, G: Gate + Sync>(
     requires worker_count { (1 ≤ worker_count) × (worker_count ≤ 16) }
     ensures { IfOk result (IsWorkerRun lines.now port drain) }
 {
-    let config = config_of(alloc, lines, port)?;
-    let count = sessions_of(lines);
-    let (broker, passes) = Broker::make(alloc, config, count + 1)?;
-    let mut workers = deal(alloc, passes, worker_count)?;
-    work_all(rt, &broker, gate, lines, workers.as_mut_slice());
-    let joined = gather(alloc, workers)?;
-    joined.close(rt, alloc, broker, drain)
+    let manner = Manner {
+        port,
+        worker_count,
+        drain,
+        is_told: false,
+    };
+    let Played { account, .. } = play(rt, alloc, lines, manner, gate)?;
+    Ok(account)
+}
+
+/// Plays the lines as `run_lines` does, without a drain or a gate, and answers the account together with what is printed of it, in parts: session
+/// by session what it was sent and how it ended, and then the summary. The line of a reply is made as its session is answered, in its worker's thread.
+pub fn print_lines<R: Threads + Wait + Sync>(
+    rt: &R,
+    alloc: Global,
+    lines: &[Line],
+    port: u16,
+    worker_count: u32,
+) -> Result<(Account, List<Bytes>), NoMemory>
+    requires traced { AreTraced lines.now }
+    requires worker_count { (1 ≤ worker_count) × (worker_count ≤ 16) }
+    ensures run { IfOk result (λ printed. IsWorkerRun lines.now port false printed.0) }
+    ensures text { IfOk result (λ printed. IsPrintOf printed.0 (joined printed.1)) }
+{
+    let manner = Manner {
+        port,
+        worker_count,
+        drain: false,
+        is_told: true,
+    };
+    let Played { account, mut desks } = play(rt, alloc, lines, manner, &NoGate)?;
+    let parts = print_parts(rt, alloc, &account, desks.as_mut_slice(), worker_count)?;
+    Ok((account, parts))
 }

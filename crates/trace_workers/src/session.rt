@@ -5,6 +5,7 @@ ghost use Rattle.trace_workers.specs.Received.{HasReceived};
 ghost use Rattle.trace_workers.specs.Sessions.{IsSameSession, desk_of};
 
 use crate::desk::Desk;
+use crate::reply_lines::ReplyLines;
 use kbytes::NoMemory;
 use kwire::Inbox;
 use shared_broker::{Broker, Pass};
@@ -20,6 +21,7 @@ pub struct TraceSession {
     pub(crate) inbox: Inbox,
     pub(crate) is_shut: bool,
     pub(crate) is_named: bool,
+    pub(crate) told: Option<ReplyLines>,
 }
 
 impl Model for TraceSession {
@@ -27,13 +29,13 @@ impl Model for TraceSession {
 
     ghost Value = { SessionView };
 
-    ghost view = { λ s. record { number = s.number; pass = s.pass; inbox = s.inbox; is_shut = s.is_shut; is_named = s.is_named } };
+    ghost view = { λ s. record { number = s.number; pass = s.pass; inbox = s.inbox; is_shut = s.is_shut; is_named = s.is_named; told = s.told } };
 }
 
 impl TraceSession {
-    /// The session of this number, on a pass that has no transcript. No line has named it.
-    pub fn new(alloc: Global, number: u32, pass: Pass) -> TraceSession
-        ensures { result ≡ record { number = number; pass = pass; inbox = []; is_shut = false; is_named = false } }
+    /// The session of this number, on a pass that has no transcript. No line has named it. It keeps the lines of its replies if it is given where.
+    pub fn new(alloc: Global, number: u32, pass: Pass, told: Option<ReplyLines>) -> TraceSession
+        ensures { result ≡ record { number = number; pass = pass; inbox = []; is_shut = false; is_named = false; told = told } }
     {
         TraceSession {
             alloc,
@@ -42,6 +44,7 @@ impl TraceSession {
             inbox: Inbox::new(alloc),
             is_shut: false,
             is_named: false,
+            told,
         }
     }
 
@@ -70,6 +73,7 @@ impl TraceSession {
             inbox,
             is_shut,
             is_named,
+            told,
         } = self;
         let desk = Desk {
             alloc,
@@ -77,6 +81,7 @@ impl TraceSession {
             inbox,
             is_shut,
             is_named,
+            told,
         };
         (pass, desk)
     }

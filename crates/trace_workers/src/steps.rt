@@ -1,20 +1,24 @@
 //! What a session does between lines: a worker calls `step` until it answers false. Each step asks the broker for one thing.
-ghost use Rattle.std.specs.Prelude.{◌≡◌, ◌≢◌, ℕ, true, false, List as Items, ◌++◌, drop, None, IsSome, is_some, IfOk, OnOk};
+ghost use Rattle.std.specs.Prelude.{Bool, ◌≡◌, ◌≢◌, ℕ, true, false, List as Items, ◌++◌, drop, None, IsSome, is_some, IfOk, OnOk};
 ghost use Rattle.kwire.specs.declared.frame.Frame.TheVariants.{Whole};
 ghost use Rattle.kwire.specs.Frames.{IsFrameBody, framed, next_frame_of};
 ghost use Rattle.purgatory.specs.Polled.{HasPolled};
 ghost use Rattle.room_table.specs.Seats.{CallerView};
+ghost use Rattle.shared_broker.specs.Calling.{HasHandledAs};
+ghost use Rattle.shared_broker.specs.Collecting.{HasCollectedAs};
 ghost use Rattle.shared_broker.specs.Passes.{made_with};
+ghost use Rattle.shared_broker.specs.Sessions.{is_cut_off};
 ghost use Rattle.trace_workers.specs.Ending.{EndsSo};
 ghost use Rattle.trace_workers.specs.Received.{HasReceived};
 ghost use Rattle.trace_workers.specs.Resting.{Rests};
 ghost use Rattle.trace_workers.specs.Sessions.{IsSameSession};
 
+use crate::reply_lines::put_line;
 use crate::session::TraceSession;
 use audit::{SessionEnd, end_of_input};
 use kbytes::NoMemory;
 use kwire::{Frame, next_frame};
-use shared_broker::{Broker, Collected, Handled};
+use shared_broker::{Broker, Collected, Handled, Pass};
 use std::sync::Wait;
 
 // The body of the first frame, which ends before the place `end`.
@@ -24,6 +28,34 @@ fn front_body(bytes: &[u8], end: usize) -> &[u8]
     ensures parts { bytes.now ≡ framed result.now ++ drop end bytes.now }
 {
     &bytes[4..end]
+}
+
+// Hands the broker a frame. If no line is kept of the reply, it has no bytes.
+fn ask(rt: &impl Wait, broker: &Broker, pass: &mut Pass, body: &[u8], is_told: bool) -> Handled
+    requires made { made_with pass.old ≡ broker.now }
+    requires begun { IsSome pass.old.going }
+    requires none { pass.old.waits ≡ None }
+    requires whole { is_cut_off pass.old.going ≡ false }
+    ensures { HasHandledAs is_told body.now result pass.old pass.new }
+{
+    if is_told {
+        broker.handle(rt, pass, body)
+    } else {
+        broker.handle_unsent(rt, pass, body)
+    }
+}
+
+// Asks the broker for the reply that its session waits for. If no line is kept of it, it has no bytes.
+fn ask_again(rt: &impl Wait, broker: &Broker, pass: &mut Pass, is_told: bool) -> Collected
+    requires made { made_with pass.old ≡ broker.now }
+    requires waits { IsSome pass.old.waits }
+    ensures { HasCollectedAs is_told result pass.old pass.new }
+{
+    if is_told {
+        broker.collect(rt, pass)
+    } else {
+        broker.collect_unsent(rt, pass)
+    }
 }
 
 impl TraceSession {
@@ -116,8 +148,11 @@ impl TraceSession {
         ensures rests { IfOk result (λ did. did ≡ false → Rests self.new) }
         ensures looked { IfOk result (λ did. did ≡ false → is_some self.new.pass.waits ≡ true → HasPolled None self.old.pass.logs.seat self.new.pass.logs.seat) }
     {
-        match broker.collect_unsent(rt, &mut self.pass) {
-            Collected::Reply(_frame) => Ok(true),
+        match ask_again(rt, broker, &mut self.pass, self.told.is_some()) {
+            Collected::Reply(frame) => {
+                put_line(&mut self.told, self.number, frame.as_slice())?;
+                Ok(true)
+            }
             Collected::NotYet => Ok(false),
             Collected::NoMemory => Err(NoMemory),
         }
@@ -138,8 +173,13 @@ impl TraceSession {
         ensures moved { OnOk result (self.new.pass.going ≢ self.old.pass.going) }
     {
         let body = front_body(self.inbox.bytes(), end);
-        match broker.handle_unsent(rt, &mut self.pass, body) {
-            Handled::Reply(_) | Handled::Quiet | Handled::Parked { .. } => {
+        match ask(rt, broker, &mut self.pass, body, self.told.is_some()) {
+            Handled::Reply(frame) => {
+                put_line(&mut self.told, self.number, frame.as_slice())?;
+                self.inbox.drop_front(end);
+                Ok(true)
+            }
+            Handled::Quiet | Handled::Parked { .. } => {
                 self.inbox.drop_front(end);
                 Ok(true)
             }

@@ -16,6 +16,6 @@ returns c =
     let worker = c.add_session.new.worker in
     on_ok_weaker c.add_session.result
     (λ (added : worker ≡ with_more (get_or workers at d) c.new.result) (broker : BrokerView) (fresh : c.args.pass ≡ fresh_pass broker number).
-    let session = c.new.ensures ∙ ap (λ (p : PassView). record (fresh_session broker number) { pass = p }) fresh in
-    session_dealt broker number worker_count at workers worker d c.requires.some refl (added ∙ ap (with_more (get_or workers at d)) session))
+    let session = c.new.ensures ∙ ap (λ (p : PassView). record (fresh_session broker number c.in_ok-told.told) { pass = p }) fresh in
+    session_dealt broker number worker_count at workers worker d c.in_ok-told.told c.in_ok-told.ensures c.requires.some refl (added ∙ ap (with_more (get_or workers at d)) session))
     c.add_session.ensures

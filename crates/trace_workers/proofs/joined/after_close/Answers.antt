@@ -14,7 +14,7 @@ put_together-requires c =
     (r.1, back.1, r.3)
 
 pub returns-in-Closed : goal.returns-in-Closed
-returns-in-Closed c broker joined h desks = subst (HasEnded broker (passes_in joined)) c.in-Closed.is h
+returns-in-Closed c broker joined h desks = (subst (HasEnded broker (passes_in joined)) c.in-Closed.is h, desks)
 
 pub returns-in-Untaken : goal.returns-in-Untaken
 returns-in-Untaken c =

@@ -26,7 +26,7 @@ loop-preserved g c =
     let again = c.in-Again in
     let gone : (lines : List Line) (count : ℕ) → HasRun c.args.broker lines count drain c.args.self → HasGoneOn left.broker lines count drain (Closing.Again again.broker again.joined)
     = λ lines count run. subst (HasGoneOn left.broker lines count drain) again.is
-    (c.in_ok-account.ensures lines count (subst (λ (b : BrokerView). HasRun b lines count drain left.joined) (sym i.broker) (i.run lines count run))) in
+    (c.in_ok-played.ensures lines count (subst (λ (b : BrokerView). HasRun b lines count drain left.joined) (sym i.broker) (i.run lines count run))) in
     record {
       broker = (gone r.0 r.1 r.2).0 ∙ i.broker;
       run = λ lines count run. subst (λ (b : BrokerView). HasRun b lines count drain again.joined) i.broker (gone lines count run).1;
@@ -38,5 +38,5 @@ returns-in-Closed g c lines count run =
     let left = c.loop.left in
     let drain = c.args.drain in
     let before = subst (λ (b : BrokerView). HasRun b lines count drain left.joined) (sym i.broker) (i.run lines count run) in
-    let gone = subst (HasGoneOn left.broker lines count drain) c.in-Closed.is (c.in_ok-account.ensures lines count before) in
-    subst (λ (b : BrokerView). CameTo b lines count drain c.in-Closed.account) i.broker gone
+    let gone = subst (HasGoneOn left.broker lines count drain) c.in-Closed.is (c.in_ok-played.ensures lines count before) in
+    subst (λ (b : BrokerView). CameTo b lines count drain c.in-Closed.played) i.broker gone

@@ -16,7 +16,7 @@ try_close-requires g c =
 
 gone_on : (broker : BrokerView) (lines : List Line) (count : ℕ) (drain : Bool) (joined : JoinedView) (closing : Closing) → HasRun broker lines count drain joined → HasCome drain joined
     → HasClosed broker joined closing → HasGoneOn broker lines count drain closing
-gone_on broker lines count drain joined (Closing.Closed account) run come is = record { joined = joined; run = run; come = come; account_is = is }
+gone_on broker lines count drain joined (Closing.Closed played) run come is = record { joined = joined; run = run; come = come; account_is = is.0; desks_are = is.1 }
 gone_on broker lines count drain joined (Closing.Again again back) run come is = (is.0, subst (HasRun broker lines count drain) (sym is.1) run)
 
 pub returns : goal.returns

@@ -1,30 +1,37 @@
-use Rattle.std.proofs.Common.{sym, subst, ap, ◌∙◌}
+use Rattle.std.proofs.Common.{Bool, List, ℕ, sym, subst, ap, ◌∙◌}
+use Rattle.audit.specs.declared.account.Call.{Call}
+use Rattle.shared_broker.specs.Calling.{IsMadeOfReply}
 use Rattle.shared_broker.specs.Passes.{PassView}
 use Rattle.trace_workers.specs.Received.{HasReceived}
 use Rattle.trace_workers.specs.Sessions.{SessionView}
-use Rattle.trace_workers.proofs.Going.{seen}
+use Rattle.trace_workers.specs.Telling.{HasPut}
 use Rattle.trace_workers.proofs.Frames.{collected, completed_moves}
+use Rattle.trace_workers.proofs.Going.{seen}
+use Rattle.trace_workers.proofs.Telling.{kept_still}
 use Rattle.trace_workers.proofs.session.TraceSession.collect.Goals as goal
-use Rattle.trace_workers.proofs.session.TraceSession.collect.Goals.{in-Reply, in-NotYet, in-NoMemory}
 
-pub returns-clause-received : goal.returns-clause-received
-returns-clause-received g c =
+pub returns-in_ok-put_line-in-Reply-clause-received : goal.returns-in_ok-put_line-in-Reply-clause-received
+returns-in_ok-put_line-in-Reply-clause-received g c input h =
     let i = c.self.inside in
-    let s : SessionView = record { number = i.number; pass = i.pass; inbox = i.inbox; is_shut = i.is_shut; is_named = i.is_named } in
-    let new = c.collect_unsent.new.pass in
-    elim c.match-collect_unsent.branch [
-      | in-Reply w ↦ rw w.result-is (λ input h. collected input s new w.in-Reply.ensures.0 w.in-Reply.ensures.1 (subst (HasReceived input) (sym c.self.view_is) h))
-      | in-NotYet w ↦ rw w.result-is (λ input h. let p = w.in-NotYet.ensures.2 in
-          seen input s new (ap (λ (x : PassView). x.ended) p) (ap (λ (x : PassView). x.going) p) (ap (λ (x : PassView). x.waits) p) (subst (HasReceived input) (sym c.self.view_is) h))
-      | in-NoMemory w ↦ rw w.result-is tt
-    ]
+    let s : SessionView = record { number = i.number; pass = i.pass; inbox = i.inbox; is_shut = i.is_shut; is_named = i.is_named; told = i.told } in
+    let e = c.in-Reply.ensures in
+    let new = c.ask_again.new.pass in
+    let call : Call = record e.0.call { finish = e.0.finish; how = e.0.how } in
+    let put = subst (λ (bytes : List ℕ). HasPut s.number bytes s.told c.put_line.new.told) c.as_slice.ensures c.in_ok-put_line-in-Reply.ensures in
+    let made = subst (λ (b : Bool). IsMadeOfReply b new call c.in-Reply.frame) c.is_some.ensures e.2 in
+    collected input s new c.put_line.new.told c.in-Reply.frame e.0 e.1 made put (subst (HasReceived input) (sym c.self.view_is) h)
 
-pub returns-clause-moved : goal.returns-clause-moved
-returns-clause-moved g c =
-    let new = c.collect_unsent.new.pass in
+pub returns-in-NotYet-clause-received : goal.returns-in-NotYet-clause-received
+returns-in-NotYet-clause-received g c input h =
+    let i = c.self.inside in
+    let s : SessionView = record { number = i.number; pass = i.pass; inbox = i.inbox; is_shut = i.is_shut; is_named = i.is_named; told = i.told } in
+    let e = c.in-NotYet.ensures in
+    let p = e.2 in
+    let new = c.ask_again.new.pass in
+    seen input s new (ap (λ (x : PassView). x.ended) p) (ap (λ (x : PassView). x.going) p) (ap (λ (x : PassView). x.waits) p)
+    (λ calls k. kept_still s.told s.number s.pass new calls (ap (λ (x : PassView). x.config) p) e.1.parts e.1.clock k) (subst (HasReceived input) (sym c.self.view_is) h)
+
+pub returns-in_ok-put_line-in-Reply-clause-moved : goal.returns-in_ok-put_line-in-Reply-clause-moved
+returns-in_ok-put_line-in-Reply-clause-moved g c did same =
     let back = ap (λ (x : SessionView). x.pass.going) c.self.view_is in
-    elim c.match-collect_unsent.branch [
-      | in-Reply w ↦ rw w.result-is (λ did same. completed_moves c.self.inside.pass new w.in-Reply.ensures.0 w.in-Reply.ensures.1 (same ∙ sym back))
-      | in-NotYet w ↦ rw w.result-is (λ did same. absurd cc)
-      | in-NoMemory w ↦ rw w.result-is tt
-    ]
+    completed_moves c.self.inside.pass c.ask_again.new.pass c.in-Reply.ensures.0 c.in-Reply.ensures.1 (same ∙ sym back)

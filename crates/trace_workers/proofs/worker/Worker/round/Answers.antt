@@ -1,4 +1,4 @@
-use Rattle.std.proofs.Common.{◌∙◌, ℕ, List, ap, get_or, inl, inr, refl, sym, subst, arith}
+use Rattle.std.proofs.Common.{◌∙◌, ℕ, List, None, ap, get_or, inl, inr, refl, sym, subst, arith}
 use Rattle.std.proofs.lemmas.Bool.{cases_eq, false≢true}
 use Rattle.trace_workers.specs.Dealing.{fresh_session}
 use Rattle.trace_workers.specs.Resting.{Rests}
@@ -49,5 +49,5 @@ loop-at-preserved g c =
 pub returns-clause-moved : goal.returns-clause-moved
 returns-clause-moved g c some is =
     let m = c.loop-at.invariant.moved some in
-    let d : SessionView = fresh_session c.args.broker.now 0 in
+    let d : SessionView = fresh_session c.args.broker.now 0 None in
     m.2 d (ap (λ (xs : List SessionView). get_or xs m.0 d) is)

@@ -1,0 +1,81 @@
+-- What is printed of a run's sessions, pass by pass, from the lines that they kept.
+use Rattle.std.proofs.Common.{◌≡◌, ◌∙◌, ℕ, ◌+◌, ◌<◌, get_or, length, List, [], ◌∷◌, ◌++◌, Option, Some, None, append-nil, append_assoc, refl, sym, ap, subst, take}
+use Rattle.std.specs.Prelude.{IfSome, slice_get}
+use Rattle.std.specs.List.{flat_map, zip}
+use Rattle.std.proofs.lemmas.List.Concat.{flat_map-append}
+use Rattle.std.proofs.lemmas.List.{take_more}
+use Rattle.std.proofs.lemmas.Option.{get_or_from_slice_get, same_Some, slice_get_read, slice_get_within}
+use Rattle.audit.specs.declared.account.Account.{Account}
+use Rattle.audit.specs.declared.account.Transcript.{Transcript}
+use Rattle.audit.specs.Printed.{end_line, session_text}
+use Rattle.audit.specs.retelling.Shares.{IsTextOf, sessions_in}
+use Rattle.audit.proofs.retelling.Laws.{told_on}
+use Rattle.trace_workers.specs.Sessions.{DeskView}
+use Rattle.trace_workers.specs.Telling.{HasKept, HasPutPass, IsToldBy, IsToldIn, joined, lines_of}
+
+-- ---- parts, one after the other
+
+pub joined_more : (parts more : List (List ℕ)) (last : List ℕ) → joined ((parts ++ more) ++ last ∷ []) ≡ joined parts ++ (joined more ++ last)
+joined_more parts more last =
+    let each : List ℕ → List ℕ = λ part. part in
+    flat_map-append each (parts ++ more) (last ∷ []) ∙ ap (λ (t : List ℕ). joined (parts ++ more) ++ t) (append-nil last) ∙ ap (λ (t : List ℕ). t ++ last) (flat_map-append each parts more)
+    ∙ append_assoc (joined parts) (joined more) last
+
+-- ---- one pass
+
+-- the transcripts of a pass, as they are read
+pub pass_at : (account : Account) (number : ℕ) (passes : List (List Transcript)) (ts pass : List Transcript) → passes ≡ account.passes → ts ≡ pass → number < length account.passes
+    → pass ≡ get_or passes number pass → slice_get account.passes number ≡ Some ts
+pass_at account number passes ts pass all own less at =
+    slice_get_read account.passes (length account.passes) number pass refl less (at ∙ ap (λ (ps : List (List Transcript)). get_or ps number pass) all) ∙ ap Some (sym own)
+
+pub first_none : {X : Type 0} (xs : List X) → None ≡ slice_get xs 0 → xs ≡ []
+first_none [] none = refl
+first_none (x ∷ xs) none = absurd cc
+
+-- without a transcript
+pub nothing_put : (account : Account) (number : ℕ) (ts : List Transcript) (before : List ℕ) → slice_get account.passes number ≡ Some ts → ts ≡ [] → HasPutPass account number before before
+nothing_put account number ts before there none = ([], there ∙ ap Some none, [], ([], tt, refl), sym (append-nil before))
+
+of_kept : (account : Account) (desk : DeskView) (text : List ℕ) → HasKept account desk → desk.told ≡ Some text → IsToldIn account desk.number text
+of_kept account desk text kept told = subst (λ (o : Option (List ℕ)). IfSome o (IsToldIn account desk.number)) told kept
+
+-- with that of its session, which kept these lines
+pub session_put : (account : Account) (number : ℕ) (ts : List Transcript) (t : Transcript) (desk : DeskView) (text before after : List ℕ) → slice_get account.passes number ≡ Some ts → slice_get ts 0 ≡ Some t
+    → desk.number ≡ number → HasKept account desk → desk.told ≡ Some text → after ≡ before ++ (text ++ end_line desk.number t.end) → HasPutPass account number before after
+session_put account number ts t desk text before after there first is kept told put =
+    let k = of_kept account desk text kept told in
+    let same : k.transcripts ≡ ts = same_Some k.transcripts ts (sym k.there ∙ ap (slice_get account.passes) is ∙ there) in
+    by_case ts there first (subst (λ (us : List Transcript). IsToldBy account desk.number us text) same k.told)
+  where
+    by_case : (us : List Transcript) → slice_get account.passes number ≡ Some us → slice_get us 0 ≡ Some t → IsToldBy account desk.number us text → HasPutPass account number before after
+    by_case [] at one k = absurd cc
+    by_case (u ∷ []) at one k =
+        let is_t : u ≡ t = same_Some u t one in
+        let replies = k.1.0 in
+        let lines : lines_of desk.number replies ≡ lines_of u.number replies = ap (λ (n : ℕ). lines_of n replies) (sym k.0) in
+        let ends : end_line desk.number t.end ≡ end_line u.number u.end =
+        ap (λ (n : ℕ). end_line n t.end) (sym k.0) ∙ ap (λ (x : Transcript). end_line u.number x.end) (sym is_t) in
+        let spelled : text ++ end_line desk.number t.end ≡ flat_map session_text (zip (u ∷ []) (replies ∷ [])) =
+        ap (λ (x : List ℕ). x ++ end_line desk.number t.end) (k.1.2 ∙ lines) ∙ ap (λ (x : List ℕ). lines_of u.number replies ++ x) ends ∙ sym (append-nil (session_text (u, replies))) in
+        (u ∷ [], at, text ++ end_line desk.number t.end, (replies ∷ [], (k.1.1, tt), spelled), put)
+    by_case (u ∷ v ∷ us) at one k = absurd k
+
+-- ---- all passes
+
+text_on : (account : Account) (xs ys : List Transcript) (a b : List ℕ) → IsTextOf account xs a → IsTextOf account ys b → IsTextOf account (xs ++ ys) (a ++ b)
+text_on account xs ys a b f g = told_on account xs ys [] a (a ++ b) f (g.0, g.1, ap (λ (x : List ℕ). a ++ x) g.2)
+
+one_more : {X : Type 0} (xs : List X) (i : ℕ) (x : X) → slice_get xs i ≡ Some x → take (i + 1) xs ≡ take i xs ++ x ∷ []
+one_more xs i x at = take_more xs i x (slice_get_within xs i x at) ∙ ap (λ y. take i xs ++ y ∷ []) (get_or_from_slice_get xs i x x at)
+
+pub none_put : (account : Account) → IsTextOf account (sessions_in []) []
+none_put account = ([], tt, refl)
+
+pub pass_put : (account : Account) (number : ℕ) (before after : List ℕ) → IsTextOf account (sessions_in (take number account.passes)) before → HasPutPass account number before after
+    → IsTextOf account (sessions_in (take (number + 1) account.passes)) after
+pass_put account number before after f p =
+    let front = take number account.passes in
+    let more : sessions_in (take (number + 1) account.passes) ≡ sessions_in front ++ p.0 =
+    ap sessions_in (one_more account.passes number p.0 p.1) ∙ flat_map-append (λ (ts : List Transcript). ts) front (p.0 ∷ []) ∙ ap (λ (l : List Transcript). sessions_in front ++ l) (append-nil p.0) in
+    subst (IsTextOf account (sessions_in (take (number + 1) account.passes))) (sym p.4) (subst (λ (ts : List Transcript). IsTextOf account ts (before ++ p.2)) (sym more) (text_on account (sessions_in front) p.0 before p.2 f p.3))
