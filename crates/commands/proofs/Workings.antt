@@ -1,17 +1,11 @@
 -- What a replay on workers comes to, from what was read and how it was run.
-use Rattle.std.proofs.Common.{◌≡◌, ℕ, false, List, [], ◌∷◌, Option, IfSome, refl, subst}
+use Rattle.std.proofs.Common.{◌≡◌, ℕ, false, List, Option, IfSome, subst}
 use Rattle.audit.specs.declared.account.Account.{Account}
 use Rattle.trace_file.specs.declared.line.Line.{Line}
 use Rattle.trace_file.specs.declared.line.TheConstants.{REPLAY_PORT}
 use Rattle.trace_file.specs.Trace.{IsTrace}
-use Rattle.audit.specs.retelling.Tellable.{IsTellable}
-use Rattle.audit.proofs.retelling.Laws.{run_tellable}
 use Rattle.trace_workers.specs.WorkerRun.{IsWorkerRun}
 use Rattle.commands.specs.Worked.{IsWorked}
-
--- what each session was sent may be told of it
-pub tellable : (text : List ℕ) (lines : List Line) (account : Account) → IsTrace text lines → IsWorkerRun lines REPLAY_PORT false account → IsTellable account
-tellable text lines account trace h = run_tellable text lines REPLAY_PORT ([] ∷ []) h.added account trace h.lawful h.run (refl, tt)
 
 -- what the lines that were read came to
 pub worked_of : (left : Option (List ℕ)) (text : List ℕ) (lines slice : List Line) (account : Account) → IsTrace text lines → slice ≡ lines → IfSome left (λ had. had ≡ text)

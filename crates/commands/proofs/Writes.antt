@@ -1,7 +1,10 @@
 -- Writing a part piece by piece.
-use Rattle.std.proofs.Common.{◌≡◌, ℕ, ◌+◌, ◌≤◌, List, ◌++◌, length, take, drop, Option, refl, sym, ap, ◌∙◌, subst}
+use Rattle.std.proofs.Common.{◌≡◌, ℕ, ◌+◌, ◌<◌, ◌≤◌, List, ◌∷◌, ◌++◌, length, get_or, take, drop, Option, Result, Ok, Err, refl, sym, ap, ◌∙◌, subst}
+use Rattle.std.specs.Prelude.{OnErr}
+use Rattle.std.specs.List.{flat_map}
 use Rattle.std.proofs.Math.Seq.{take-add}
-use Rattle.std.proofs.lemmas.List.{take-take, take_at, drop_at}
+use Rattle.std.proofs.lemmas.List.{drop_at, drop_more, take-append-drop, take-append-le, take-take, take_at}
+use Rattle.std.proofs.lemmas.List.Concat.{flat_map-append}
 use Rattle.std.proofs.KnownBytes.{Appends-trans}
 use Rattle.std.specs.Io.KnownBytes.{Appends}
 
@@ -20,3 +23,21 @@ front_behind a b c first last n h k =
     let parts : take (length first + n) (first ++ last) ≡ first ++ take n last =
     take-add (length first) n (first ++ last) ∙ rw (take_at first last (length first) refl, drop_at first last (length first) refl) refl in
     subst (λ (bytes : List ℕ). Appends a c bytes) (sym parts) (Appends-trans a b c first (take n last) h k)
+
+-- the front of a part stands behind the whole parts before it
+pub front_of_parts : (a b c : Option (List ℕ)) (parts : List (List ℕ)) (i n : ℕ) (part : List ℕ) → i < length parts → part ≡ get_or parts i part → n ≤ length part
+    → Appends a b (flat_map (λ x. x) (take i parts)) → Appends b c (take n part) → Appends a c (take (length (flat_map (λ x. x) (take i parts)) + n) (flat_map (λ x. x) parts))
+front_of_parts a b c parts i n part less at le h k =
+    let each : List ℕ → List ℕ = λ x. x in
+    let first = flat_map each (take i parts) in
+    let last = part ++ flat_map each (drop (i + 1) parts) in
+    let split : take i parts ++ part ∷ drop (i + 1) parts ≡ parts =
+    ap (λ (x : List ℕ). take i parts ++ x ∷ drop (i + 1) parts) at ∙ ap (λ (xs : List (List ℕ)). take i parts ++ xs) (sym (drop_more parts i part less)) ∙ take-append-drop i parts in
+    let whole : flat_map each parts ≡ first ++ last = ap (flat_map each) (sym split) ∙ flat_map-append each (take i parts) (part ∷ drop (i + 1) parts) in
+    let piece : Appends b c (take n last) = subst (λ (xs : List ℕ). Appends b c xs) (sym (take-append-le n part (flat_map each (drop (i + 1) parts)) le)) k in
+    subst (λ (xs : List ℕ). Appends a c (take (length first + n) xs)) (sym whole) (front_behind a b c first last n h piece)
+
+-- what is so however a call failed
+pub on_any_err : {T E : Type 0} (r : Result T E) (P : Type 0) → P → OnErr r P
+on_any_err (Ok x) P p = tt
+on_any_err (Err e) P p = p

@@ -1,45 +1,24 @@
-//! `replay --workers`: the trace is played by workers, each in a thread of its own, and the text is written once, after the run.
+//! `replay --workers`: the trace is played by workers, each in a thread of its own, and the text is written after the run.
 
 ghost use Rattle.std.specs.Prelude.{◌≡◌, ◌≢◌, ◌≤◌, ◌↔◌, ℕ, false, List as Items, take, IfOk, IfErr, OnOk, IfSome, IsSome, IsNone};
 ghost use Rattle.std.specs.Io.KnownBytes.{Appends, Keeps, IsAtEnd};
 ghost use Rattle.outside.specs.Causes.{Rose};
 ghost use Rattle.audit.specs.Printed.{IsPrintOf};
-ghost use Rattle.trace_file.specs.Trace.{IsTrace};
-ghost use Rattle.trace_workers.specs.WorkerRun.{IsWorkerRun};
 ghost use Rattle.commands.specs.Codes.{bad_line_of, stop_in, account_in};
 ghost use Rattle.commands.specs.Replay.{IsFirstBadOf};
 ghost use Rattle.commands.specs.Worked.{IsWorked};
 
 use crate::command::MOST_WORKERS;
 use crate::exit::{Stop, Unfinished};
-use crate::streams::write_all;
-use crate::trace::{read_lines, reuse_large_blocks};
+use crate::streams::write_parts;
+use crate::trace::{read_lines_on, reuse_large_blocks};
 use audit::Account;
-use audit::retelling::workers_text;
-use kbytes::{Bytes, NoMemory};
 use outside::{Sink, Source};
 use std::alloc::Global;
 use std::sync::Wait;
 use std::thread::Threads;
-use trace_file::{Line, REPLAY_PORT};
-use trace_workers::{NoGate, run_lines};
-
-// Plays the lines on `workers` threads, and makes the text of the run on as many.
-fn play<R: Threads + Wait + Sync>(
-    rt: &R,
-    alloc: Global,
-    lines: &[Line],
-    workers: u32,
-) -> Result<(Account, Bytes), NoMemory>
-    requires traced { (text : Items ℕ) × IsTrace text lines.now }
-    requires workers { (1 ≤ workers) × (workers ≤ MOST_WORKERS) }
-    ensures run { IfOk result (λ came. IsWorkerRun lines.now REPLAY_PORT false came.0) }
-    ensures told { IfOk result (λ came. IsPrintOf came.0 came.1) }
-{
-    let account = run_lines(rt, alloc, lines, REPLAY_PORT, workers, false, &NoGate)?;
-    let text = workers_text(rt, alloc, &account, workers)?;
-    Ok((account, text))
-}
+use trace_file::REPLAY_PORT;
+use trace_workers::print_lines;
 
 /// Replays the source's trace on `workers` threads. It never stops with `Usage`.
 pub fn replay_on_workers<R: Threads + Wait + Sync, S: Source, K: Sink>(
@@ -66,9 +45,9 @@ pub fn replay_on_workers<R: Threads + Wait + Sync, S: Source, K: Sink>(
     ensures bad_line { IfErr result (λ why. IfSome (bad_line_of (stop_in why)) (IsFirstBadOf (S.left source.old) false)) }
 {
     reuse_large_blocks(alloc);
-    let lines = read_lines(alloc, source, false)?;
-    let (account, text) = play(rt, alloc, lines.as_slice(), workers)?;
-    match write_all(sink, text.as_slice()) {
+    let lines = read_lines_on(rt, alloc, source, workers)?;
+    let (account, parts) = print_lines(rt, alloc, lines.as_slice(), REPLAY_PORT, workers)?;
+    match write_parts(sink, parts.as_slice()) {
         Ok(()) => Ok(account),
         Err(_) => Err(Unfinished::Unwritten(account)),
     }

@@ -1,6 +1,6 @@
 //! Reads the trace of a source, for both replays, or the topics that it declares, for a service.
 
-ghost use Rattle.std.specs.Prelude.{◌≡◌, ℕ, List as Items, IfOk, IfErr, OnOk, IsErrOf, IfSome, IsSome, ◌⊎◌};
+ghost use Rattle.std.specs.Prelude.{◌≡◌, ◌≤◌, ℕ, false, List as Items, IfOk, IfErr, OnOk, IsErrOf, IfSome, IsSome, ◌⊎◌};
 ghost use Rattle.std.specs.Io.KnownBytes.{IsAtEnd};
 ghost use Rattle.outside.specs.Causes.{Rose};
 ghost use Rattle.trace_file.specs.FirstBad.{IsTraceRead};
@@ -12,7 +12,8 @@ use crate::streams::read_all;
 use kbytes::{Bytes, List};
 use outside::Source;
 use std::alloc::Global;
-use trace_file::{Line, read_trace};
+use std::thread::Threads;
+use trace_file::{Line, read_trace, read_trace_on};
 
 /// Just below the largest block, 32 MiB, that glibc's allocator can be brought to take from its heap.
 const LARGEST_IN_HEAP: usize = 33_488_896;
@@ -40,5 +41,24 @@ pub fn read_lines<S: Source>(
 {
     let text = read_all(alloc, source)?;
     let lines = read_trace(alloc, text.as_slice(), only_topics)?;
+    Ok(lines)
+}
+
+/// Reads the lines of the source's trace by that many threads. The text isn't kept.
+pub fn read_lines_on<R: Threads + Sync, S: Source>(
+    rt: &R,
+    alloc: Global,
+    source: &mut S,
+    threads: u32,
+) -> Result<List<Line>, Stop>
+    requires { 1 ≤ threads }
+    ensures trace { IfOk result (λ lines. (text : Items ℕ) × IsTraceRead text false lines × IfSome (S.left source.old) (λ t. t ≡ text)) }
+    ensures end { OnOk result (IsAtEnd (S.left source.new)) }
+    ensures read_fault { IsErrOf result Stop.ReadFault → Rose (S.faults source.old) (S.faults source.new) }
+    ensures bad_line { IfErr result (λ stop. IfSome (bad_line_of stop) (IsFirstBadOf (S.left source.old) false)) }
+    ensures only { IfErr result (λ stop. (stop ≡ Stop.ReadFault) ⊎ (stop ≡ Stop.NoMemory) ⊎ IsSome (bad_line_of stop)) }
+{
+    let text = read_all(alloc, source)?;
+    let lines = read_trace_on(rt, alloc, text.as_slice(), threads)?;
     Ok(lines)
 }
