@@ -8,15 +8,19 @@ use std::test::*;
 const ON_TWO_WORKERS: &[&str] = &["replay", "--workers", "2"];
 
 #[test]
-fn on_one_worker_the_output_is_one_write_and_the_account_stays_where_it_fails(rt: HostRuntime) {
+fn on_one_worker_the_summary_is_a_write_of_its_own_and_the_account_stays_where_one_fails(
+    rt: HostRuntime,
+) {
     let printed = printed_before(rt.alloc(), 4).expect(&rt, "memory");
+    let replies = printed_before(rt.alloc(), 3).expect(&rt, "memory");
     for (writes, room, code, count) in [
         ([].as_slice(), 0, 4, 0),
         (&[], 1, 4, 1),
         (&[], 60, 4, 60),
         (&[], 600, 4, 600),
         (&[0], 4096, 4, 0),
-        (&[1], 4096, 0, 4096),
+        (&[1], 4096, 4, replies.len()),
+        (&[2], 4096, 0, 4096),
     ] {
         let faults = Faults {
             reads: &[],
