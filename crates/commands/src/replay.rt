@@ -19,6 +19,7 @@ use kbytes::{Bytes, List};
 use lone_broker::Lone;
 use outside::{Sink, Source};
 use std::alloc::Global;
+use std::thread::Threads;
 use trace_file::{Line, REPLAY_PORT, config_of};
 
 // Plays the lines one after the other, and writes what each prints before the next. A line is freed once it is
@@ -66,7 +67,8 @@ fn play<K: Sink>(alloc: Global, lines: List<Line>, sink: &mut K) -> Result<Accou
 }
 
 /// Replays the trace that the source has. It is never stopped by its words.
-pub fn replay<S: Source, K: Sink>(
+pub fn replay<R: Threads + Sync, S: Source, K: Sink>(
+    rt: &R,
     alloc: Global,
     source: &mut S,
     sink: &mut K,
@@ -88,6 +90,6 @@ pub fn replay<S: Source, K: Sink>(
     ensures bad_line { IfErr result (λ stop. IfSome (bad_line_of stop) (IsFirstBadOf (S.left source.old) false)) }
 {
     reuse_large_blocks(alloc);
-    let lines = read_lines(alloc, source, false)?;
+    let lines = read_lines(rt, alloc, source, false, 1)?;
     play(alloc, lines, sink)
 }

@@ -116,7 +116,7 @@ where
         return Exit::stopped(Stop::Usage, port, clock);
     };
     match command {
-        Command::Replay => match replay(alloc, source, sink) {
+        Command::Replay => match replay(rt, alloc, source, sink) {
             Ok(account) => Exit::done(account, port, clock),
             Err(stop) => Exit::stopped(stop, port, clock),
         },

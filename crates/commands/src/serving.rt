@@ -31,14 +31,19 @@ use std::thread::Threads;
 use trace_file::config_of;
 
 // The configuration of the topics that the source declares, with this port.
-fn read_config<S: Source>(alloc: Global, source: &mut S, port: u16) -> Result<Config, Stop>
+fn read_config<R: Threads + Sync, S: Source>(
+    rt: &R,
+    alloc: Global,
+    source: &mut S,
+    port: u16,
+) -> Result<Config, Stop>
     ensures topics { IfOk result (λ config. (lines : Items TheLine) × AreTopicsOf (S.left source.old) lines × (config ≡ configuration_of port lines)) }
     ensures end { OnOk result (IsAtEnd (S.left source.new)) }
     ensures read_fault { IsErrOf result Stop.ReadFault → Rose (S.faults source.old) (S.faults source.new) }
     ensures bad_line { IfErr result (λ stop. IfSome (bad_line_of stop) (IsFirstBadOf (S.left source.old) true)) }
     ensures only { IfErr result (λ stop. (stop ≡ Stop.ReadFault) ⊎ (stop ≡ Stop.NoMemory) ⊎ IsSome (bad_line_of stop)) }
 {
-    let lines = read_lines(alloc, source, true)?;
+    let lines = read_lines(rt, alloc, source, true, 1)?;
     let config = config_of(alloc, lines.as_slice(), port)?;
     Ok(config)
 }
@@ -120,7 +125,7 @@ where
     ensures port { IsSilent result.code → result.port ≡ Some port }
     ensures clock { IsSilent result.code → result.clock ≡ Some clock }
 {
-    let config = match read_config(alloc, source, service.port) {
+    let config = match read_config(rt, alloc, source, service.port) {
         Ok(config) => config,
         Err(stop) => return Exit::stopped(stop, port, clock),
     };

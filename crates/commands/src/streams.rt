@@ -9,54 +9,19 @@ ghost use Rattle.commands.specs.Streams.{IsInput};
 use crate::exit::Stop;
 use kbytes::Bytes;
 use outside::{Failed, Sink, Source};
-use std::alloc::{AllocError, Global};
-use trace_file::MOST_TRACE_BYTES;
 
-/// The most bytes that are read at a time.
-const PIECE: usize = 65_536;
-
-// Reads once, and puts what came at the end of the text. The answer is how many bytes came.
-fn read_piece<S: Source>(source: &mut S, room: &mut [u8], text: &mut Bytes) -> Result<usize, Stop>
-    requires { 0 < length room.old }
-    ensures came { IfOk result (λ n. (piece : List ℕ) × (length piece ≡ n) × (n ≤ length room.old)
-        × (text.new ≡ text.old ++ piece) × Consumes (S.left source.old) (S.left source.new) piece) }
-    ensures end { IfOk result (λ n. n ≡ 0 → IsAtEnd (S.left source.new)) }
-    ensures later { S.faults source.old ≤ S.faults source.new }
-    ensures failed { IsErrOf result Stop.ReadFault → Rose (S.faults source.old) (S.faults source.new) }
-    ensures only { IfErr result (λ stop. (stop ≡ Stop.ReadFault) ⊎ (stop ≡ Stop.NoMemory)) }
+/// Reads until the room is full or the source ends. The answer is how many bytes came.
+pub fn fill<S: Source>(source: &mut S, room: &mut [u8]) -> Result<usize, Stop>
 {
-    match source.read(room) {
-        Err(_) => Err(Stop::ReadFault),
-        Ok(count) => {
-            text.extend(&room[..count])?;
-            Ok(count)
+    let mut count = 0;
+    while count < room.len() {
+        match source.read(&mut room[count..]) {
+            Err(_) => return Err(Stop::ReadFault),
+            Ok(0) => return Ok(count),
+            Ok(more) => count += more,
         }
     }
-}
-
-fn make_room(alloc: Global) -> Result<Vec<u8>, AllocError>
-    ensures { IfOk result (λ room. vec_len room ≡ PIECE) }
-{
-    vec![in alloc; 0u8; PIECE]
-}
-
-/// Reads the source until it ends, fails, or has given one byte more than a trace may have.
-pub fn read_all<S: Source>(alloc: Global, source: &mut S) -> Result<Bytes, Stop>
-    ensures input { IfOk result (IsInput (S.left source.old) (S.left source.new)) }
-    ensures later { S.faults source.old ≤ S.faults source.new }
-    ensures failed { IsErrOf result Stop.ReadFault → Rose (S.faults source.old) (S.faults source.new) }
-    ensures only { IfErr result (λ stop. (stop ≡ Stop.ReadFault) ⊎ (stop ≡ Stop.NoMemory)) }
-{
-    let mut text = Bytes::new(alloc);
-    let mut room = make_room(alloc)?;
-    while text.len() <= MOST_TRACE_BYTES {
-        let want = PIECE.min(MOST_TRACE_BYTES + 1 - text.len());
-        let came = read_piece(source, &mut room[..want], &mut text)?;
-        if came == 0 {
-            return Ok(text);
-        }
-    }
-    Ok(text)
+    Ok(count)
 }
 
 /// Writes the whole part. If a write fails, a prefix of the part was written.

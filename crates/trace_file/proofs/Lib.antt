@@ -16,8 +16,12 @@ pub mod Lines
 pub mod Orders
 -- a text that is read line by line
 pub mod TextSoFar
--- a text that is read in shares
+-- a text that is cut after line feeds, and read in shares
 pub mod Sharing
+-- the lines that were read of a text, and those of the part that comes next
+pub mod Taking
+-- the whole lines of a text, and the one that has begun
+pub mod Begun
 -- what a session receives is within the text
 pub mod FewBytes
 -- lines at the front of a trace

@@ -13,7 +13,9 @@ pub record ArePairs (pairs : List ℕ) : Type 0 where
 abbrev pub value_or_none : ℕ → ℕ
 value_or_none digit = unwrap_or (hex_digit_value digit) NO_DIGIT
 
--- the values of all digits
-pub record AreValues (values : List ℕ) : Type 0 where
-  pub all : length values ≡ BYTES
-  pub each : (digit : ℕ) → digit < BYTES → slice_index values digit ≡ value_or_none digit
+-- the values of all digits: of the first of two, as what it adds to their byte, and of the second
+pub record AreValues (high low : List ℕ) : Type 0 where
+  pub all_high : length high ≡ BYTES
+  pub all_low : length low ≡ BYTES
+  pub each_high : (digit : ℕ) → digit < BYTES → slice_index high digit ≡ value_or_none digit * 16
+  pub each_low : (digit : ℕ) → digit < BYTES → slice_index low digit ≡ value_or_none digit

@@ -12,6 +12,8 @@ pub mod Trace
 pub mod LineFaults
 -- the first bad line of a text
 pub mod FirstBad
+-- what was read of a text that comes in parts
+pub mod TextRead
 -- one line that is written
 pub mod PrintedLine
 -- ==== the words of private functions

@@ -17,6 +17,7 @@ mod reading;
 mod refusal;
 mod reply_line;
 mod shares;
+mod trace_reader;
 mod words;
 
 pub use digits::Digits;
@@ -28,4 +29,4 @@ pub use line_text::put_line;
 pub use promises::{no_bad_line, one_first_bad_line, read_back};
 pub use reading::{config_of, read_trace};
 pub use reply_line::put_reply_line;
-pub use shares::read_trace_on;
+pub use trace_reader::TraceReader;

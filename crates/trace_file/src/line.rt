@@ -1,7 +1,10 @@
 //! A line of a trace as data, the limits of a trace, and what can be wrong with a line. `reading` makes lines of a text, and
 //! brokers play them.
 
-use kbytes::Bytes;
+ghost use Rattle.std.specs.Prelude.{◌≡◌};
+ghost use Rattle.trace_file.specs.declared.line.TraceFault.TheVariants.{NoMemory as OutOfMemory};
+
+use kbytes::{Bytes, NoMemory};
 use thiserror::Error;
 
 /// The number of sessions that a trace may have. They are numbered from 0.
@@ -90,4 +93,12 @@ pub enum TraceFault {
     Bad(LineFault),
     #[error("no memory was left")]
     NoMemory,
+}
+
+impl From<NoMemory> for TraceFault {
+    ghost from_gives = { λ _ e. e ≡ OutOfMemory };
+
+    fn from(_refused: NoMemory) -> TraceFault {
+        TraceFault::NoMemory
+    }
 }

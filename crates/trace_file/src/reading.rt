@@ -1,7 +1,7 @@
-//! Reading a whole text, line by line: what the program does first with a trace.
+//! Reading a text as the lines of a trace: what a part of it has, and what all of it so far comes to.
 
-ghost use Rattle.std.specs.Prelude.{Bool, ◌==◌, ◌≡◌, ◌<◌, ◌≤◌, ◌++◌, ◌∷◌, [], length, IfOk, IfErr, OnOk, List as Items};
-ghost use Rattle.std.specs.List.{count_by, flat_map};
+ghost use Rattle.std.specs.Prelude.{Bool, ◌≡◌, ◌≤◌, ◌<◌, ◌++◌, ◌∷◌, [], ℕ, length, is_some, IfOk, IfErr, OnOk, OnErr, List as Items};
+ghost use Rattle.std.specs.List.{flat_map};
 ghost use Rattle.trace_file.specs.declared.line.Line.{Line};
 ghost use Rattle.trace_file.specs.declared.line.LineKind.TheVariants as kinds;
 ghost use Rattle.trace_file.specs.Contents.{configuration_of, topic_in};
@@ -9,6 +9,8 @@ ghost use Rattle.trace_file.specs.IsInOrder.{AreNewTopics};
 ghost use Rattle.trace_file.specs.LineFaults.{IsNewLine};
 ghost use Rattle.trace_file.specs.FirstBad.{IsTooLong, IsTraceRead, TellsFirstBad};
 ghost use Rattle.trace_file.specs.Refusals.{Tells};
+ghost use Rattle.trace_file.specs.Trace.{pieces_of};
+ghost use Rattle.trace_file.specs.TextRead.{AreLinesOf, HasRead, feeds_in};
 
 use crate::digit_values::DigitValues;
 use crate::line::{Line, LineFault, LineKind, MOST_TRACE_BYTES, REPLAY_PORT, TraceFault};
@@ -20,10 +22,43 @@ use kbytes::{List, NoMemory};
 use kwire::Config;
 use std::alloc::Global;
 
-/// The lines so far, all of them good, and which may come next.
+/// The lines of a part of a text, up to the first whose text is bad, whatever their order.
+#[derive(Drop)]
+pub struct PartLines {
+    lines: List<Line>,
+    /// What is wrong with the line after these.
+    fault: Option<LineKind>,
+}
+
+/// Reads the lines of a part that begins where a line does.
+pub fn part_lines(alloc: Global, values: &DigitValues, part: &[u8]) -> Result<PartLines, NoMemory>
+    ensures { IfOk result (AreLinesOf (pieces_of part.now)) }
+{
+    let mut lines = List::new(alloc);
+    let mut rest = part;
+    while let Some((piece, after)) = next_piece(rest) {
+        match read_line(alloc, values, piece) {
+            Ok(line) => lines.push(line)?,
+            Err(Refusal::Bad(kind)) => {
+                return Ok(PartLines {
+                    lines,
+                    fault: Some(kind),
+                });
+            }
+            Err(Refusal::NoMemory) => return Err(NoMemory),
+        }
+        rest = after;
+    }
+    Ok(PartLines { lines, fault: None })
+}
+
+/// What was read of a text so far: its lines up to the first bad one, and what is wrong with that.
 #[derive(Drop)]
 pub struct Reading {
+    only_topics: bool,
     lines: List<Line>,
+    /// What is wrong with the line after these.
+    fault: Option<LineKind>,
     config: Config,
     order: Order,
     values: DigitValues,
@@ -35,6 +70,7 @@ fn declare(config: &mut Config, line: &Line) -> Result<(), Refusal>
     ensures allowed { OnOk result ((before : Items Line) → config.old.topics ≡ flat_map topic_in before → IsNewLine before line.now) }
     ensures fault { IfErr result (λ e. Tells e (λ kind. (kind ≡ kinds.BadTopic)
         × ((before : Items Line) → config.old.topics ≡ flat_map topic_in before → IsNewLine before line.now → ⊥))) }
+    ensures refused { OnErr result (config.new ≡ config.old) }
 {
     let Line::Topic {
         name,
@@ -52,48 +88,53 @@ fn declare(config: &mut Config, line: &Line) -> Result<(), Refusal>
 }
 
 impl Reading {
-    ghost use Rattle.trace_file.specs.IsLine.{IsLine};
-    ghost use Rattle.std.specs.Prelude.{false, Contains};
-    ghost use Rattle.std.specs.List.{AllByRecursion};
-    ghost use Rattle.trace_file.specs.declared.line.Line.TheVariants.{End};
-    ghost use Rattle.trace_file.specs.FirstBad.{MayBegin};
-    ghost use Rattle.trace_file.specs.IsInOrder.{IsInOrder};
-    ghost use Rattle.trace_file.specs.LineFaults.{IsPieceFault, IsPlaceFault};
+    ghost use Rattle.trace_file.specs.LineFaults.{IsPlaceFault};
     ghost use Rattle.trace_file.specs.Sees.{AreRead, NamesOne};
 
-    /// No lines.
-    pub fn new(alloc: Global) -> Reading
-        ensures lines { result.lines ≡ [] }
-        ensures read { (only_topics : Bool) → AreRead only_topics result }
+    /// Nothing was read. With `only_topics` the lines are to be those of a server's topics.
+    pub fn new(alloc: Global, only_topics: bool) -> Reading
+        ensures read { HasRead only_topics [] result }
     {
         Reading {
+            only_topics,
             lines: List::new(alloc),
+            fault: None,
             config: Config::new(alloc, REPLAY_PORT),
             order: Order::new(),
             values: DigitValues::make(),
         }
     }
 
-    // Reads the next line, or answers what is wrong with it.
-    fn take(&mut self, alloc: Global, only_topics: bool, piece: &[u8]) -> Result<(), Refusal>
-        requires { AreRead only_topics self.old }
-        ensures read { OnOk result (AreRead only_topics self.new) }
-        ensures line { OnOk result ((line : Line) × IsLine piece.now line × (self.new.lines ≡ self.old.lines ++ line ∷ [])) }
-        ensures fault { IfErr result (λ e. Tells e (IsPieceFault only_topics self.old.lines piece.now)) }
-    {
-        let line = read_line(alloc, &self.values, piece)?;
-        self.add(only_topics, line)
+    /// The values of digits, by which lines are read.
+    pub fn values(&self) -> &DigitValues {
+        &self.values
     }
 
-    // Takes a line that was read, or answers what is wrong with its place.
-    fn add(&mut self, only_topics: bool, line: Line) -> Result<(), Refusal>
-        requires read { AreRead only_topics self.old }
-        requires named { NamesOne line }
-        ensures read { OnOk result (AreRead only_topics self.new) }
-        ensures line { OnOk result (self.new.lines ≡ self.old.lines ++ line ∷ []) }
-        ensures fault { IfErr result (λ e. Tells e (IsPlaceFault only_topics self.old.lines line)) }
+    /// How many lines there are before the first bad one.
+    pub fn len(&self) -> usize
+        ensures { result ≡ length self.now.lines }
     {
-        if !self.order.allows(only_topics, &line) {
+        self.lines.len()
+    }
+
+    /// Whether a line is bad.
+    pub fn is_bad(&self) -> bool
+        ensures { result ≡ is_some self.now.fault }
+    {
+        self.fault.is_some()
+    }
+
+    // Takes the next line, or answers what is wrong with its place.
+    fn add(&mut self, line: Line) -> Result<(), Refusal>
+        requires read { AreRead self.old.only_topics self.old }
+        requires named { NamesOne line }
+        ensures read { OnOk result (AreRead self.new.only_topics self.new) }
+        ensures line { OnOk result (self.new.lines ≡ self.old.lines ++ line ∷ []) }
+        ensures same { (self.new.only_topics ≡ self.old.only_topics) × (self.new.fault ≡ self.old.fault) }
+        ensures fault { IfErr result (λ e. Tells e (IsPlaceFault self.old.only_topics self.old.lines line)) }
+        ensures refused { IfErr result (λ e. Tells e (λ kind. self.new ≡ self.old)) }
+    {
+        if !self.order.allows(self.only_topics, &line) {
             return Err(Refusal::Bad(LineKind::Order));
         }
         declare(&mut self.config, &line)?;
@@ -102,35 +143,72 @@ impl Reading {
         Ok(())
     }
 
-    /// Takes lines that were read, in order, up to the first whose place is wrong.
-    pub fn add_all(&mut self, lines: List<Line>) -> Result<(), Refusal>
-        requires read { AreRead false self.old }
-        requires named { AllByRecursion NamesOne lines }
-        ensures read { OnOk result (AreRead false self.new) }
-        ensures lines { OnOk result (self.new.lines ≡ self.old.lines ++ lines) }
-        ensures fault { IfErr result (λ e. Tells e (λ kind. MayBegin false (self.old.lines ++ lines) → ⊥)) }
+    // Keeps what is wrong with the next line, if it is bad.
+    fn stop(&mut self, fault: Option<LineKind>)
+        ensures { self.new ≡ record self.old { fault = fault } }
     {
-        for line in lines.into_vec() {
-            self.add(false, line)?;
+        self.fault = fault;
+    }
+
+    /// Takes the lines of the part that comes next, up to the first bad one. Out of memory, it may only be dropped.
+    pub fn take(&mut self, part: PartLines) -> Result<(), NoMemory>
+        requires read { AreRead self.old.only_topics self.old }
+        requires part { (pieces : Items (Items ℕ)) × AreLinesOf pieces part }
+        ensures read { OnOk result (AreRead self.new.only_topics self.new) }
+        ensures taken { OnOk result ((only_topics : Bool) (before pieces : Items (Items ℕ)) → HasRead only_topics before self.old → AreLinesOf pieces part
+            → HasRead only_topics (before ++ pieces) self.new) }
+    {
+        if self.fault.is_some() {
+            return Ok(());
         }
+        for line in part.lines.into_vec() {
+            match self.add(line) {
+                Ok(()) => {}
+                Err(Refusal::Bad(kind)) => {
+                    self.stop(Some(kind));
+                    return Ok(());
+                }
+                Err(Refusal::NoMemory) => return Err(NoMemory),
+            }
+        }
+        self.stop(part.fault);
         Ok(())
     }
 
-    /// The lines, if the last of them is the end.
-    pub fn ended(self) -> Result<List<Line>, Refusal>
-        requires { AreRead false self }
-        ensures lines { IfOk result (λ lines. (lines ≡ self.lines) × IsInOrder lines) }
-        ensures fault { IfErr result (λ e. Tells e (λ kind. (kind ≡ kinds.NoEnd) × ¬ Contains self.lines End)) }
+    /// Reads the part that comes next, which begins where a line does, up to the first bad line. Out of memory, it may only be dropped.
+    pub fn read(&mut self, alloc: Global, part: &[u8]) -> Result<(), NoMemory>
+        requires { AreRead self.old.only_topics self.old }
+        ensures read { OnOk result (AreRead self.new.only_topics self.new) }
+        ensures taken { OnOk result ((only_topics : Bool) (before : Items (Items ℕ)) → HasRead only_topics before self.old
+            → HasRead only_topics (before ++ pieces_of part.now) self.new) }
     {
+        let lines = part_lines(alloc, &self.values, part)?;
+        self.take(lines)
+    }
+
+    /// The lines, if none is bad and the last of them is the end, or else the first bad one. No more lines come.
+    pub fn ended(self) -> Result<List<Line>, TraceFault>
+        requires { (only_topics : Bool) × (text : Items ℕ) × (length text ≤ MOST_TRACE_BYTES) × HasRead only_topics (pieces_of text) self }
+        ensures trace { IfOk result (λ lines. (only_topics : Bool) (text : Items ℕ) → length text ≤ MOST_TRACE_BYTES → HasRead only_topics (pieces_of text) self
+            → IsTraceRead text only_topics lines) }
+        ensures bad { IfErr result (λ fault. (only_topics : Bool) (text : Items ℕ) → length text ≤ MOST_TRACE_BYTES → HasRead only_topics (pieces_of text) self
+            → TellsFirstBad text only_topics fault) }
+    {
+        let line = self.lines.len() as u32 + 1;
+        if let Some(kind) = self.fault {
+            return Err(TraceFault::Bad(LineFault { line, kind }));
+        }
         if !self.order.is_ended() {
-            return Err(Refusal::Bad(LineKind::NoEnd));
+            let kind = LineKind::NoEnd;
+            return Err(TraceFault::Bad(LineFault { line, kind }));
         }
         Ok(self.lines)
     }
 }
 
-fn line_feeds(text: &[u8]) -> usize
-    ensures { result ≡ count_by (λ byte. byte == 10) text.now }
+/// How many lines of a text are ended.
+pub fn line_feeds(text: &[u8]) -> usize
+    ensures { result ≡ feeds_in text.now }
 {
     text.iter().filter(|byte| **byte == b'\n').count()
 }
@@ -146,31 +224,6 @@ fn too_long(text: &[u8]) -> LineFault
     }
 }
 
-// Reads the lines of a text that isn't too long.
-fn read_lines(alloc: Global, text: &[u8], only_topics: bool) -> Result<List<Line>, TraceFault>
-    requires { length text.now ≤ MOST_TRACE_BYTES }
-    ensures trace { IfOk result (IsTraceRead text.now only_topics) }
-    ensures bad { IfErr result (TellsFirstBad text.now only_topics) }
-{
-    let mut reading = Reading::new(alloc);
-    let mut line: u32 = 1;
-    let mut rest = text;
-    while let Some((piece, after)) = next_piece(rest) {
-        if let Err(refusal) = reading.take(alloc, only_topics, piece) {
-            return Err(refusal.at(line));
-        }
-        line += 1;
-        rest = after;
-    }
-    if !reading.order.is_ended() {
-        return Err(TraceFault::Bad(LineFault {
-            line,
-            kind: LineKind::NoEnd,
-        }));
-    }
-    Ok(reading.lines)
-}
-
 /// Reads the text of a trace, or with `only_topics` that of a server's topics, which has only lines `topic` and `end`. It
 /// answers `Bad`, with the first bad line, exactly where the text is no such trace.
 pub fn read_trace(alloc: Global, text: &[u8], only_topics: bool) -> Result<List<Line>, TraceFault>
@@ -180,7 +233,9 @@ pub fn read_trace(alloc: Global, text: &[u8], only_topics: bool) -> Result<List<
     if text.len() > MOST_TRACE_BYTES {
         return Err(TraceFault::Bad(too_long(text)));
     }
-    read_lines(alloc, text, only_topics)
+    let mut reading = Reading::new(alloc, only_topics);
+    reading.read(alloc, text)?;
+    reading.ended()
 }
 
 /// The configuration that the lines of a trace declare, with this port.

@@ -1,28 +1,22 @@
-//! Reading a trace in shares, each share in a thread of its own.
+//! Reading the lines of a part in shares, each share in a thread of its own.
 
-ghost use Rattle.std.specs.Prelude.{false, ◌≡◌, ◌<◌, ◌≤◌, ◌++◌, ◌+◌, length, vec_len, List as Items, IfOk, IfErr};
-ghost use Rattle.std.specs.List.{AllByRecursion, AllZip};
-ghost use Rattle.trace_file.specs.declared.line.Line.{Line};
-ghost use Rattle.trace_file.specs.FirstBad.{IsTraceRead, MayBegin, TellsFirstBad};
-ghost use Rattle.trace_file.specs.IsLine.{IsLine};
-ghost use Rattle.trace_file.specs.Refusals.{Tells};
+ghost use Rattle.std.specs.Prelude.{Bool, ◌≡◌, ◌<◌, ◌≤◌, ◌++◌, ◌+◌, ℕ, length, vec_len, List as Items, IfOk, OnOk};
+ghost use denote.Ref.{Bor};
+ghost use Rattle.std.specs.List.{AllZip};
 ghost use Rattle.trace_file.specs.Sees.{AreRead};
-ghost use Rattle.trace_file.specs.Shares.{AllNameOne, HasNoLines, IsShareRead, Joins, MayJoin, pieces_in};
+ghost use Rattle.trace_file.specs.Shares.{IsShareRead, pieces_in};
+ghost use Rattle.trace_file.specs.TextRead.{AreLinesOf, HasRead};
 ghost use Rattle.trace_file.specs.Trace.{pieces_of};
 
 use crate::digit_values::DigitValues;
-use crate::line::{Line, MOST_TRACE_BYTES, TraceFault};
-use crate::pieces::next_piece;
-use crate::read_line::read_line;
-use crate::reading::{Reading, read_trace};
-use crate::refusal::Refusal;
-use kbytes::{List, NoMemory};
+use crate::reading::{PartLines, Reading, part_lines};
+use kbytes::NoMemory;
 use memchr::memchr;
 use std::alloc::Global;
 use std::thread;
 use std::thread::Threads;
 
-/// A text with fewer bytes is read by one thread: more wouldn't be done sooner.
+/// A part with fewer bytes is read by one thread: more wouldn't be done sooner.
 const LEAST_SHARED_BYTES: usize = 65_536;
 
 // Cuts a text after the first line feed at this place or behind it. Where there is none, all is before the cut.
@@ -55,88 +49,56 @@ fn shares_of(alloc: Global, text: &[u8], threads: u32) -> Result<Vec<&[u8]>, NoM
     Ok(shares)
 }
 
-// The lines of a share, whatever their order.
-fn share_lines(alloc: Global, share: &[u8]) -> Result<List<Line>, Refusal>
-    ensures lines { IfOk result (AllZip IsLine (pieces_of share.now)) }
-    ensures fault { IfErr result (λ e. Tells e (λ kind. HasNoLines share.now)) }
-{
-    let values = DigitValues::make();
-    let mut lines = List::new(alloc);
-    let mut rest = share;
-    while let Some((piece, after)) = next_piece(rest) {
-        let line = read_line(alloc, &values, piece)?;
-        lines.push(line)?;
-        rest = after;
-    }
-    Ok(lines)
-}
-
 // The lines of each share, each read in a thread of its own if one can be started.
 fn read_shares<R: Threads + Sync>(
     rt: &R,
     alloc: Global,
+    values: &DigitValues,
     shares: Vec<&[u8]>,
-) -> Result<Vec<Result<List<Line>, Refusal>>, NoMemory>
+) -> Result<Vec<Result<PartLines, NoMemory>>, NoMemory>
     ensures { IfOk result (λ reads. AllZip IsShareRead shares.entry.items reads.items) }
 {
-    let read = |share: &[u8]| -> Result<List<Line>, Refusal>
-        ensures lines { IfOk result (AllZip IsLine (pieces_of share.entry.now)) }
-        ensures fault { IfErr result (λ e. Tells e (λ kind. HasNoLines share.entry.now)) }
-    { share_lines(alloc, share) };
+    let read = |share: &[u8]| -> Result<PartLines, NoMemory>
+        ensures { IfOk result (AreLinesOf (pieces_of share.entry.now)) }
+    { part_lines(alloc, values, share) };
     Ok(thread::map_vec(rt, shares, &read)?)
 }
 
-// Takes the lines of one share after the other, if each was read and all of them are in order.
-fn joined(alloc: Global, reads: Vec<Result<List<Line>, Refusal>>) -> Result<Reading, Refusal>
-    requires { AllByRecursion AllNameOne reads.items }
-    ensures read { IfOk result (AreRead false) }
-    ensures lines { IfOk result (λ reading. Joins reads.items reading.lines) }
-    ensures fault { IfErr result (λ e. Tells e (λ kind. (lines : Items Line) → MayJoin reads.items lines → MayBegin false lines → ⊥)) }
+// Takes the lines of one share after the other.
+fn join(reading: &mut Reading, reads: Vec<Result<PartLines, NoMemory>>) -> Result<(), NoMemory>
+    requires read { AreRead reading.old.only_topics reading.old }
+    requires shares { (shares : Items (Bor (Items ℕ))) × AllZip IsShareRead shares reads.items }
+    ensures read { OnOk result (AreRead reading.new.only_topics reading.new) }
+    ensures taken { OnOk result ((only_topics : Bool) (before : Items (Items ℕ)) (shares : Items (Bor (Items ℕ))) → HasRead only_topics before reading.old
+        → AllZip IsShareRead shares reads.items → HasRead only_topics (before ++ pieces_in shares) reading.new) }
 {
-    let mut reading = Reading::new(alloc);
     for read in reads {
-        reading.add_all(read?)?;
+        let lines = read?;
+        reading.take(lines)?;
     }
-    Ok(reading)
+    Ok(())
 }
 
-// The lines of a trace, which is cut into at most so many shares. A bad line is refused, but not always the first one.
-fn read_in_shares<R: Threads + Sync>(
+/// Takes the lines of the part that comes next, which begins where a line does. They are read by `threads` threads, the caller's among them: the
+/// part is cut after line feeds into at most that many shares, and the lines of each are read in a thread of its own if one can be started.
+/// Out of memory, the reading may only be dropped.
+pub fn take_shares<R: Threads + Sync>(
     rt: &R,
     alloc: Global,
-    text: &[u8],
+    reading: &mut Reading,
+    part: &[u8],
     threads: u32,
-) -> Result<List<Line>, Refusal>
-    requires size { length text.now ≤ MOST_TRACE_BYTES }
+) -> Result<(), NoMemory>
     requires threads { 1 ≤ threads }
-    ensures trace { IfOk result (IsTraceRead text.now false) }
-    ensures fault { IfErr result (λ e. Tells e (λ kind. (lines : Items Line) → IsTraceRead text.now false lines → ⊥)) }
+    requires read { AreRead reading.old.only_topics reading.old }
+    ensures read { OnOk result (AreRead reading.new.only_topics reading.new) }
+    ensures taken { OnOk result ((only_topics : Bool) (before : Items (Items ℕ)) → HasRead only_topics before reading.old
+        → HasRead only_topics (before ++ pieces_of part.now) reading.new) }
 {
-    let shares = shares_of(alloc, text, threads)?;
-    let reads = read_shares(rt, alloc, shares)?;
-    let reading = joined(alloc, reads)?;
-    reading.ended()
-}
-
-/// What `read_trace` answers of a whole trace, read by `threads` threads, the caller's among them: the text is cut after line feeds
-/// into at most that many shares, and the lines of each are read in a thread of its own if one can be started.
-pub fn read_trace_on<R: Threads + Sync>(
-    rt: &R,
-    alloc: Global,
-    text: &[u8],
-    threads: u32,
-) -> Result<List<Line>, TraceFault>
-    requires threads { 1 ≤ threads }
-    ensures trace { IfOk result (IsTraceRead text.now false) }
-    ensures bad { IfErr result (TellsFirstBad text.now false) }
-{
-    if threads == 1 || text.len() < LEAST_SHARED_BYTES || text.len() > MOST_TRACE_BYTES {
-        return read_trace(alloc, text, false);
+    if threads == 1 || part.len() < LEAST_SHARED_BYTES {
+        return reading.read(alloc, part);
     }
-    match read_in_shares(rt, alloc, text, threads) {
-        Ok(lines) => Ok(lines),
-        Err(Refusal::NoMemory) => Err(TraceFault::NoMemory),
-        // Which bad line is the first is found by one thread.
-        Err(Refusal::Bad(_)) => read_trace(alloc, text, false),
-    }
+    let shares = shares_of(alloc, part, threads)?;
+    let reads = read_shares(rt, alloc, reading.values(), shares)?;
+    join(reading, reads)
 }

@@ -9,4 +9,4 @@ returns g c =
     let reads = c.in_ok-map_vec.field-0.items in
     let many = sym c.in_ok-map_vec.field-0.ok.0 ∙ c.in_ok-map_vec.ensures.len ∙ c.args.shares.ok.0 in
     each_read shares reads many (λ i d e lt.
-    let at = (c.in_ok-map_vec.ensures.each i d lt).1 in subst (λ (share : Bor (List ℕ)). IsShareRead share (get_or reads i d)) (sym (at.job_is e)) (record { lines = at.call.met.0; fault = at.call.met.1 }))
+    let at = (c.in_ok-map_vec.ensures.each i d lt).1 in subst (λ (share : Bor (List ℕ)). IsShareRead share (get_or reads i d)) (sym (at.job_is e)) at.call.met)

@@ -1,22 +1,24 @@
-use Rattle.std.proofs.Common.{◌≡◌, ◌%◌, ◌*◌, length, arith, ◌∙◌}
-use Rattle.hex.proofs.HexLemmas.{decode_of-even}
-use Rattle.hex.proofs.Pairs.{decode_step, decode_done, decode_err, decode_start}
+use Rattle.std.proofs.Common.{◌+◌, ◌*◌, ◌<◌, length, slice_index, arith}
+use Rattle.hex.proofs.Pairs.{decode_start}
+use Rattle.trace_file.proofs.DigitTables.{sums_on, sums_end}
 use Rattle.trace_file.proofs.digit_values.DigitValues.decode.Goals as goal
 
 pub bytes-init : goal.bytes-init
-bytes-init c = decode_start c.args.digits.now c.args.out.now
+bytes-init c = record { good = λ small. decode_start c.args.digits.now c.args.out.now; bad = λ great. absurd (omega (arith, great)) }
 
 pub bytes-preserved : goal.bytes-preserved
 bytes-preserved c =
-    decode_step _ _ c.bytes.i _ (omega arith) (omega arith) (c.in-Some.ensures.some (2 * c.bytes.i)) c.bytes.invariant
-
-pub returns-in-None : goal.returns-in-None
-returns-in-None c =
-    let even : length c.args.digits.now % 2 ≡ 0 = omega arith in
-    let bad = c.in-None.ensures.none (2 * c.bytes.i) in
-    (bad.0, decode_of-even _ even ∙ decode_err _ c.bytes.out c.bytes.i bad.0 (omega arith) bad.1 c.bytes.invariant)
+    let values = c.args.self.now.right in
+    let digits = c.args.digits.now in
+    let i = c.bytes.i in
+    let h = slice_index digits (2 * i) in
+    let l = slice_index digits (2 * i + 1) in
+    let fits : 2 * i + 1 < length digits = omega (arith, c.requires, c.bytes-test.true) in
+    let on = sums_on digits c.bytes.out i c.bytes.seen _ _ fits (omega (arith, c.bytes.auto.out, c.bytes-test.true)) (values.each_high h (omega (arith, c.type_inv.digits (2 * i))))
+    (values.each_low l (omega (arith, c.type_inv.digits (2 * i + 1)))) c.bytes.invariant.good c.bytes.invariant.bad
+    in record { good = on.0; bad = on.1 }
 
 pub returns : goal.returns
 returns c =
-    let even : length c.args.digits.now % 2 ≡ 0 = omega arith in
-    decode_of-even _ even ∙ decode_done _ c.bytes.out c.bytes.i (omega arith) (omega arith) c.bytes.invariant
+    sums_end c.args.digits.now c.bytes.out c.bytes.i c.bytes.seen (omega (arith, c.bytes.auto.out, c.bytes-test.false)) (omega (arith, c.requires, c.bytes-test.false)) (omega (arith, c.requires))
+    c.bytes.invariant.good c.bytes.invariant.bad
