@@ -10,6 +10,10 @@ pub mod DecidedOnce
 pub mod Stamped
 -- what is told from the readings is the answer over the states that were read
 pub mod AnswersAgree
+-- so it is for a produce and for a fetch
+mod ToldOnce
+-- what is told of the partition or the topic at a place
+mod ToldAt
 -- the needs of a request beside what became of its partitions
 pub mod Needs
 -- the values of an operation's gauges

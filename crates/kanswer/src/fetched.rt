@@ -1,23 +1,46 @@
-//! The topics in a reply to a fetch, for `replies`.
+//! The topics in a reply to a fetch, for `replies`, and what is told of one partition, for `fetched_frame` too.
 ghost use Rattle.std.specs.Prelude.{◌≡◌, [], negsuc, length, sum_by, All, IfOk};
 ghost use Rattle.kanswer.specs.LogReadings.{HasCarriable};
 ghost use Rattle.kanswer.specs.ToldParts.{parts_by, fetched_part, fetched_topic, fetched_of};
 
 use crate::accepted::{Accepted, LOG_START, Reading};
-use kbytes::{Bytes, List, NoMemory, copied};
-use kwire::{FetchPart, FetchTopicView, FetchedPart, FetchedTopic, codes};
+use kbytes::{List, NoMemory, copied};
+use kwire::{FetchPart, FetchTopicView, FetchedPart, FetchedPartView, FetchedTopic, codes};
 use std::alloc::Global;
 
 // A partition with an error has the high watermark -1, the log start -1 and no records.
-fn without_records(alloc: Global, index: i32, code: i16) -> FetchedPart
+fn without_records<'a>(index: i32, code: i16) -> FetchedPartView<'a>
     ensures { result ≡ record { index = index; code = code; high = negsuc 0; start = negsuc 0; records = [] } }
 {
-    FetchedPart {
+    FetchedPartView {
         index,
         code,
         high: -1,
         start: -1,
-        records: Bytes::new(alloc),
+        records: &[],
+    }
+}
+
+/// What a fetch is told of one partition, with the records of the reading where it is seen.
+pub fn fetched_view<'a>(
+    asked: &FetchPart,
+    became: &Accepted,
+    reading: &'a Reading,
+) -> FetchedPartView<'a>
+    requires { HasCarriable reading.now }
+    ensures { result ≡ fetched_part asked.now became.now reading.now }
+{
+    let index = asked.index;
+    match *became {
+        Accepted::Refused { code } => without_records(index, code),
+        Accepted::Appended { .. } => without_records(index, 0),
+        Accepted::Seen { .. } => FetchedPartView {
+            index,
+            code: codes::NONE,
+            high: reading.numbers.high as i64,
+            start: LOG_START,
+            records: reading.records.as_slice(),
+        },
     }
 }
 
@@ -30,18 +53,14 @@ fn fetched_part(
     requires { HasCarriable reading.now }
     ensures { IfOk result (λ told. told ≡ fetched_part asked.now became.now reading.now) }
 {
-    let index = asked.index;
-    match *became {
-        Accepted::Refused { code } => Ok(without_records(alloc, index, code)),
-        Accepted::Appended { .. } => Ok(without_records(alloc, index, 0)),
-        Accepted::Seen { .. } => Ok(FetchedPart {
-            index,
-            code: codes::NONE,
-            high: reading.numbers.high as i64,
-            start: LOG_START,
-            records: copied(alloc, reading.records.as_slice())?,
-        }),
-    }
+    let told = fetched_view(asked, became, reading);
+    Ok(FetchedPart {
+        index: told.index,
+        code: told.code,
+        high: told.high,
+        start: told.start,
+        records: copied(alloc, told.records)?,
+    })
 }
 
 fn fetched_parts(

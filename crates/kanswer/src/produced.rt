@@ -1,4 +1,4 @@
-//! The topics in a reply to a produce, for `replies`.
+//! The topics in a reply to a produce, for `replies`, and what is told of one partition, for `produced_frame` too.
 ghost use Rattle.std.specs.Prelude.{◌≡◌, negsuc, length, sum_by, All, IfOk};
 ghost use Rattle.kanswer.specs.LogReadings.{IsCarriable};
 ghost use Rattle.kanswer.specs.ToldParts.{code_at, parts_by, produced_part, produced_topic, produced_of};
@@ -44,7 +44,8 @@ fn without_base(index: i32, code: i16) -> ProducedPart
     }
 }
 
-fn produced_part(
+/// What a produce is told of one partition.
+pub fn produced_part(
     produce: &Producing<'_>,
     asked: &ProducePartView<'_>,
     became: &Accepted,

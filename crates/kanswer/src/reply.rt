@@ -1,4 +1,5 @@
-//! The last step of answering: the reply of `replies`, written as a frame.
+//! The last step of answering: the frame of the reply. That of a produce or a fetch is written from what was read, and the
+//! others from the reply of `replies`.
 
 ghost use Rattle.std.specs.Prelude.{ℕ, ◌≡◌, ◌≤◌, length, All, List as Items, IfOk};
 ghost use Rattle.kanswer.specs.Waiting.{Shown};
@@ -9,9 +10,12 @@ ghost use Rattle.kwire.specs.Spelling.{spelling};
 ghost use Rattle.kwire.specs.DeclaredTopics.{AreDeclared};
 ghost use Rattle.kanswer.specs.BytesRead.{bytes_read, most_left};
 
+use crate::fetched_frame::{AnsweredFetch, fetched_frame};
+use crate::produced::Producing;
+use crate::produced_frame::{AnsweredProduce, produced_frame};
 use crate::{Accepted, Reading, answer};
 use kbytes::{Bytes, NoMemory};
-use kwire::{Config, RequestView, reply_bytes};
+use kwire::{AskView, Config, RequestView, reply_bytes};
 use std::alloc::Global;
 
 /// The frame of the reply, from what became of each named partition and what was read of it. The request was read from a
@@ -34,6 +38,41 @@ pub fn reply_frame(
     ensures { IfOk result (λ frame. (shown : Items Shown) → AreReadings request.now.ask accepted.now readings.now shown
         → frame ≡ spelling (answer config.now request.now shown)) }
 {
-    let reply = answer(alloc, config, request, accepted, readings)?;
-    reply_bytes(alloc, &reply)
+    match &request.ask {
+        AskView::Produce {
+            version,
+            acks,
+            topics,
+            ..
+        } => {
+            let answered = AnsweredProduce {
+                correlation: request.correlation,
+                version: *version,
+                produce: Producing {
+                    config,
+                    acks: *acks,
+                },
+                topics: topics.as_slice(),
+            };
+            produced_frame(alloc, &answered, accepted, readings)
+        }
+        AskView::Fetch {
+            version,
+            isolation,
+            topics,
+            ..
+        } => {
+            let answered = AnsweredFetch {
+                correlation: request.correlation,
+                version: *version,
+                isolation: *isolation,
+                topics: topics.as_slice(),
+            };
+            fetched_frame(alloc, &answered, accepted, readings)
+        }
+        AskView::Metadata { .. } | AskView::Versions { .. } => {
+            let reply = answer(alloc, config, request, accepted, readings)?;
+            reply_bytes(alloc, &reply)
+        }
+    }
 }

@@ -14,3 +14,7 @@ pub use Rattle.kwire.proofs.NeverForMemory.{refused_for}
 pub use Rattle.kwire.proofs.FewNamed.{spelled_fits, spelled_topics, spelled_partitions}
 -- replies that have a frame
 pub use Rattle.kwire.proofs.SpellableLaws.{IsProducedTopic, IsFetchedPart, IsFetchedTopic, IsInfo, records_in, produced_spellable, fetched_spellable, metadata_spellable, versions_spellable}
+-- fields that are written one after the other
+pub use Rattle.kwire.proofs.Spelled.{Put, put_start, put_on, then_field, on_ok, put_item, put_all, in_range_item, in_range_first}
+-- a reply's frame that was begun, with its fields
+pub use Rattle.kwire.proofs.ReplyFrames.{has_size, frame_short, frame_spelled}

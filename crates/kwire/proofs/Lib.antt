@@ -36,6 +36,8 @@ pub mod Lookups
 pub mod FramesOnce
 -- fields that are written one after the other
 pub mod Spelled
+-- a reply's frame that was begun, with its fields
+pub mod ReplyFrames
 -- fields of the numbers from 0 on
 pub mod Ranges
 -- replies to produces and fetches whose lengths and counts are in range

@@ -1,5 +1,5 @@
 -- Fields that are written one after the other.
-use Rattle.std.proofs.Common.{◌≡◌, Bool, true, false, refl, ℕ, zero, suc, ◌+◌, ◌<◌, ◌≤◌, List, [], ◌∷◌, ◌++◌, length, get_or, take, sym, ap, subst, ◌∙◌, append_assoc, arith}
+use Rattle.std.proofs.Common.{◌≡◌, Bool, true, false, refl, ℕ, zero, suc, ◌+◌, ◌<◌, ◌≤◌, ◌^◌, ℤ, Some, List, [], ◌∷◌, ◌++◌, length, get_or, take, sym, ap, subst, ◌∙◌, append_assoc, arith}
 use Rattle.std.specs.List.{flat_map}
 use Rattle.std.proofs.lemmas.List.{append-nil, take_more, take_all}
 use Rattle.std.proofs.lemmas.Grind.{flat_map-append}
@@ -7,7 +7,10 @@ use Rattle.kbytes.specs.Field.{Field, field, fields, Int8, Int16, Int32, Uint32,
 use Rattle.kbytes.specs.FitsField.{FitsField}
 use Rattle.std.specs.Prelude.{Result, Ok, Err, OnOk}
 use Rattle.kbytes.specs.declared.no_memory.NoMemory.{NoMemory}
+use Rattle.kwire.specs.Apis.{has_log_start}
 use Rattle.kwire.specs.IsRequest.{only_field}
+use Rattle.kwire.specs.Spelling.{aborted, fetched_part_fields}
+use Rattle.kwire.specs.declared.reply.FetchedPart.{FetchedPart}
 use Rattle.kwire.specs.IsSpellable.{HasShortLength, AreInRange}
 use Rattle.kwire.proofs.Places.{AllFit, fields-append}
 
@@ -22,7 +25,7 @@ pub put_on : (before now after : List ℕ) (fs gs : List Field) → Put before n
 put_on before now after fs gs first next =
     next ∙ ap (λ (t : List ℕ). t ++ fields gs) first ∙ append_assoc before (fields fs) (fields gs) ∙ ap (λ (t : List ℕ). before ++ t) (sym (fields-append fs gs))
 
-in_range_first : (fs gs : List Field) → AreInRange (fs ++ gs) → AreInRange fs
+pub in_range_first : (fs gs : List Field) → AreInRange (fs ++ gs) → AreInRange fs
 in_range_first [] gs h = tt
 in_range_first (f ∷ fs) gs h = (h.0, in_range_first fs gs h.1)
 
@@ -71,6 +74,14 @@ on_ok (Err e) f h = tt
 pub started : (b : Bool) (f : Field) (fs : List Field) → only_field b f [] ++ fs ≡ only_field b f fs
 started true f fs = refl
 started false f fs = refl
+
+behind_started : (b : Bool) (f : Field) (fs : List Field) → AreInRange (only_field b f fs) → AreInRange fs
+behind_started true f fs h = h.1
+behind_started false f fs h = h
+
+pub records_short : (version isolation : ℤ) (part : FetchedPart) → AreInRange (fetched_part_fields version isolation part) → length part.records < 2 ^ 31
+records_short version isolation part h =
+    (behind_started (has_log_start version) (Int64 part.start) (Array (aborted isolation) ∷ Records (Some part.records) ∷ []) h.1.1.1.1).1.0
 
 -- ---- fields in the range of their types have short lengths
 

@@ -35,8 +35,15 @@ pub use frame::{Frame, WireFault};
 pub use framing::{MOST_FRAME_BYTES, next_frame};
 pub use inbox::Inbox;
 pub use promises::{frames_are_one, frames_in_pieces, layouts_are_one, requests_are_one};
-pub use put_reply::reply_bytes;
+pub use put_fetched::put_fetched_part;
+pub use put_produced::put_produced_part;
+pub use put_reply::{
+    FETCHED_PART_BYTES, PRODUCED_PART_BYTES, REPLY_HEAD_BYTES, TOLD_TOPIC_BYTES, begin_reply,
+    end_reply, reply_bytes,
+};
 pub use put_request::request_bytes;
-pub use reply::{FetchedPart, FetchedTopic, ProducedPart, ProducedTopic, Reply, Told, TopicInfo};
+pub use reply::{
+    FetchedPart, FetchedPartView, FetchedTopic, ProducedPart, ProducedTopic, Reply, Told, TopicInfo,
+};
 pub use request::{Ask, FetchPart, FetchTopic, MOST_NAMED, ProducePart, ProduceTopic, Request};
 pub use view::{AskView, FetchTopicView, ProducePartView, ProduceTopicView, RequestView};

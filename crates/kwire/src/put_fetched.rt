@@ -7,7 +7,7 @@ ghost use Rattle.kwire.specs.Spelling.{aborted, fetched_part_fields, fetched_top
 ghost use Rattle.kwire.specs.IsSpellable.{AreInRange};
 
 use crate::put_produced::put_start;
-use crate::reply::{FetchedPart, FetchedTopic};
+use crate::reply::{FetchedPart, FetchedPartView, FetchedTopic};
 use kbytes::{Bytes, NoMemory, put_array, put_i16, put_i32, put_i64, put_records, put_string};
 
 // The aborted transactions: null for the isolation level 0, an empty list for 1.
@@ -21,12 +21,13 @@ fn put_aborted(out: &mut Bytes, isolation: i8) -> Result<(), NoMemory>
     }
 }
 
-// The last stable offset is the high watermark.
-fn put_part(
+/// What is told of one partition, with the records where they stand. The last stable offset is the high watermark. The
+/// isolation level is 0 or 1.
+pub fn put_fetched_part(
     out: &mut Bytes,
     version: i16,
     isolation: i8,
-    part: &FetchedPart,
+    part: &FetchedPartView<'_>,
 ) -> Result<(), NoMemory>
     requires { AreInRange (fetched_part_fields version isolation part.now) }
     ensures { OnOk result (out.new ≡ out.old ++ fields (fetched_part_fields version isolation part.now)) }
@@ -37,7 +38,26 @@ fn put_part(
     put_i64(out, part.high)?;
     put_start(out, version, part.start)?;
     put_aborted(out, isolation)?;
-    put_records(out, Some(part.records.as_slice()))
+    put_records(out, Some(part.records))
+}
+
+fn put_part(
+    out: &mut Bytes,
+    version: i16,
+    isolation: i8,
+    part: &FetchedPart,
+) -> Result<(), NoMemory>
+    requires { AreInRange (fetched_part_fields version isolation part.now) }
+    ensures { OnOk result (out.new ≡ out.old ++ fields (fetched_part_fields version isolation part.now)) }
+{
+    let part = FetchedPartView {
+        index: part.index,
+        code: part.code,
+        high: part.high,
+        start: part.start,
+        records: part.records.as_slice(),
+    };
+    put_fetched_part(out, version, isolation, &part)
 }
 
 fn put_parts(

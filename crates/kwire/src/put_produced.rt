@@ -23,16 +23,22 @@ pub fn put_start(out: &mut Bytes, version: i16, start: i64) -> Result<(), NoMemo
     Ok(())
 }
 
+/// What is told of one partition. The append time is always -1.
+pub fn put_produced_part(out: &mut Bytes, version: i16, part: &ProducedPart) -> Result<(), NoMemory>
+    ensures { OnOk result (out.new ≡ out.old ++ fields (produced_part_fields version part.now)) }
+{
+    put_i32(out, part.index)?;
+    put_i16(out, part.code)?;
+    put_i64(out, part.base)?;
+    put_i64(out, -1)?;
+    put_start(out, version, part.start)
+}
+
 impl Written for ProducedPart {
     ghost written = { produced_part_fields };
 
-    // The append time is always -1.
     fn put(&self, out: &mut Bytes, version: i16) -> Result<(), NoMemory> {
-        put_i32(out, self.index)?;
-        put_i16(out, self.code)?;
-        put_i64(out, self.base)?;
-        put_i64(out, -1)?;
-        put_start(out, version, self.start)
+        put_produced_part(out, version, self)
     }
 }
 

@@ -1,7 +1,7 @@
 //! Writing a reply as a frame: the last step of each answer. The fields of each kind are in the other `put_` modules.
 
-ghost use Rattle.std.specs.Prelude.{◌≡◌, ◌≤◌, ◌<◌, ◌+◌, ◌^◌, ◌++◌, length, drop, IfOk, OnOk};
-ghost use Rattle.kbytes.specs.Field.{fields};
+ghost use Rattle.std.specs.Prelude.{◌≡◌, ◌≤◌, ◌<◌, ◌+◌, ◌^◌, ◌++◌, ◌∷◌, [], pos, length, drop, IfOk, OnOk};
+ghost use Rattle.kbytes.specs.Field.{fields, Int32};
 ghost use Rattle.kwire.specs.declared.reply.Told.TheVariants.{Produced, Fetched};
 ghost use Rattle.kwire.specs.IsSpellable.{AreInRange, IsSpellable};
 ghost use Rattle.kwire.specs.Frames.{framed};
@@ -14,17 +14,18 @@ use crate::reply::{FetchedPart, FetchedTopic, ProducedTopic, Reply, Told};
 use kbytes::{Bytes, NoMemory, put_i32};
 use std::alloc::Global;
 
-// The bytes around the topics of a reply: the size, the correlation id, the throttle time and the count.
-const HEAD_BYTES: usize = 16;
+/// The bytes around the topics of a reply to a produce or a fetch: the size, the correlation id, the throttle time and the
+/// count.
+pub const REPLY_HEAD_BYTES: usize = 16;
 
-// The bytes of a topic beside its name and partitions: the name's length and the count.
-const TOPIC_BYTES: usize = 6;
+/// The bytes of a topic in such a reply beside its name and partitions: the name's length and the count.
+pub const TOLD_TOPIC_BYTES: usize = 6;
 
-// The most bytes of a partition that a produce names: those of the last version.
-const PRODUCED_PART_BYTES: usize = 30;
+/// The most bytes of a partition in a reply to a produce: those of the last version.
+pub const PRODUCED_PART_BYTES: usize = 30;
 
-// The most bytes of a partition that a fetch names, beside its records.
-const FETCHED_PART_BYTES: usize = 38;
+/// The most bytes of a partition in a reply to a fetch, beside its records.
+pub const FETCHED_PART_BYTES: usize = 38;
 
 // The topics, and after them the throttle time 0.
 fn put_produced_told(
@@ -75,7 +76,7 @@ fn produced_room(topics: &[ProducedTopic]) -> usize {
     for topic in topics {
         let parts = topic.parts.len().saturating_mul(PRODUCED_PART_BYTES);
         room = room.saturating_add(topic.name.len()).saturating_add(parts);
-        room = room.saturating_add(TOPIC_BYTES);
+        room = room.saturating_add(TOLD_TOPIC_BYTES);
     }
     room
 }
@@ -95,7 +96,7 @@ fn fetched_room(topics: &[FetchedTopic]) -> usize {
     for topic in topics {
         let parts = fetched_parts_room(topic.parts.as_slice());
         room = room.saturating_add(topic.name.len()).saturating_add(parts);
-        room = room.saturating_add(TOPIC_BYTES);
+        room = room.saturating_add(TOLD_TOPIC_BYTES);
     }
     room
 }
@@ -104,9 +105,11 @@ fn fetched_room(topics: &[FetchedTopic]) -> usize {
 fn room_of(told: &Told) -> usize {
     match told {
         Told::Produced { topics, .. } => produced_room(topics.as_slice()).saturating_add(
-            HEAD_BYTES,
+            REPLY_HEAD_BYTES,
         ),
-        Told::Fetched { topics, .. } => fetched_room(topics.as_slice()).saturating_add(HEAD_BYTES),
+        Told::Fetched { topics, .. } => fetched_room(topics.as_slice()).saturating_add(
+            REPLY_HEAD_BYTES,
+        ),
         Told::Metadata { .. } | Told::Versions { .. } => 0,
     }
 }
@@ -120,8 +123,20 @@ fn put_front(bytes: &mut [u8], front: &[u8])
     bytes[..count].copy_from_slice(front);
 }
 
-// Writes the size of a frame over its first four bytes.
-fn set_size(frame: &mut Bytes)
+/// The beginning of a reply's frame, with memory reserved for so many bytes in all: 0 in place of the size, and the
+/// correlation id. The reply's fields follow, and `end_reply` after them.
+pub fn begin_reply(alloc: Global, correlation: i32, room: usize) -> Result<Bytes, NoMemory>
+    ensures { IfOk result (λ frame. frame ≡ fields (Int32 (pos 0) ∷ Int32 correlation ∷ [])) }
+{
+    let mut frame = Bytes::new(alloc);
+    frame.reserve(room)?;
+    put_i32(&mut frame, 0)?;
+    put_i32(&mut frame, correlation)?;
+    Ok(frame)
+}
+
+/// Writes the size of a whole frame over its first four bytes.
+pub fn end_reply(frame: &mut Bytes)
     requires least { 4 ≤ length frame.old }
     requires most { length frame.old < 2 ^ 31 + 4 }
     ensures { frame.new ≡ framed (drop 4 frame.old) }
@@ -135,11 +150,8 @@ pub fn reply_bytes(alloc: Global, reply: &Reply) -> Result<Bytes, NoMemory>
     requires { IsSpellable reply.now }
     ensures { IfOk result (λ frame. frame ≡ spelling reply.now) }
 {
-    let mut frame = Bytes::new(alloc);
-    frame.reserve(room_of(&reply.told))?;
-    put_i32(&mut frame, 0)?;
-    put_i32(&mut frame, reply.correlation)?;
+    let mut frame = begin_reply(alloc, reply.correlation, room_of(&reply.told))?;
     put_told(&mut frame, &reply.told)?;
-    set_size(&mut frame);
+    end_reply(&mut frame);
     Ok(frame)
 }

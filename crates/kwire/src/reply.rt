@@ -1,6 +1,7 @@
 //! A reply as data: `kanswer` builds it, `put_reply` writes it as bytes.
 
 use kbytes::{Bytes, List};
+use std::marker::Model;
 
 /// What a produce is told of one partition. `start` is where its log starts, or -1 where nothing was appended; it is written
 /// in the versions that tell it.
@@ -27,6 +28,24 @@ pub struct FetchedPart {
     pub high: i64,
     pub start: i64,
     pub records: Bytes,
+}
+
+/// A `FetchedPart` with borrowed records: what `put_fetched_part` writes without a copy of them.
+#[derive(Drop)]
+pub struct FetchedPartView<'a> {
+    pub index: i32,
+    pub code: i16,
+    pub high: i64,
+    pub start: i64,
+    pub records: &'a [u8],
+}
+
+impl<'a> Model for FetchedPartView<'a> {
+    ghost use Rattle.kwire.specs.declared.reply.FetchedPart.{FetchedPart};
+
+    ghost Value = { FetchedPart };
+
+    ghost view = { λ p. record { index = p.index; code = p.code; high = p.high; start = p.start; records = p.records.now } };
 }
 
 #[derive(Drop)]

@@ -1,47 +1,31 @@
-use Rattle.std.proofs.Common.{◌∙◌, ℤ, Some, [], ◌∷◌, ◌++◌, ap, rules}
+use Rattle.std.proofs.Common.{ℤ, List, ℕ, subst, rules}
+use Rattle.std.specs.Prelude.{OnOk}
 use Rattle.std.specs.Int.{w8, w16, w32, w64}
 use mir.Val.{SFits, of_z, to_z}
 use Rattle.std.proofs.lemmas.Int.{to_z-of_z}
-use Rattle.kbytes.specs.Field.{field, fields, Int16, Int32, Int64, Array, Records}
-use Rattle.kwire.specs.Apis.{has_log_start}
-use Rattle.kwire.specs.IsRequest.{only_field}
-use Rattle.kwire.specs.Spelling.{aborted}
-use Rattle.kwire.proofs.Spelled.{put_start, put_on, then_field, on_ok, started}
-use Rattle.std.proofs.lemmas.List.{append_assoc}
+use Rattle.kwire.specs.declared.reply.FetchedPart.{FetchedPart}
+use Rattle.kwire.specs.Spelling.{fetched_part_fields}
+use Rattle.kwire.proofs.Spelled.{Put}
 use Rattle.kwire.proofs.put_fetched.put_part.Goals as goal
 
 pub returns : goal.returns
 returns c =
-    let old = c.args.out.now in
     let part = c.args.part.now in
-    let version = c.args.version in
-    let isolation = c.args.isolation in
-    let o1 = c.put_i32.new.out in
-    let o2 = c.put_i16.new.out in
-    let o3 = c.put_i64.new.out in
-    let o4 = c.put_i64-2.new.out in
-    let o5 = c.put_start.new.out in
-    let o6 = c.put_aborted.new.out in
-    let o7 = c.put_records.new.out in
     let f1 : SFits w32 part.index = search rules in
     let f2 : SFits w16 part.code = search rules in
     let f3 : SFits w64 part.high = search rules in
     let f4 : SFits w64 part.start = search rules in
-    let high = to_z-of_z w64 part.high f3 in
-    let fs2 = Int32 part.index ∷ Int16 part.code ∷ [] in
-    let fs4 = fs2 ++ Int64 part.high ∷ Int64 part.high ∷ [] in
-    let start = only_field (has_log_start version) (Int64 part.start) [] in
-    let p1 = then_field old old o1 [] (Int32 part.index) (put_start old) (c.in_ok-put_i32.ensures.ok ∙ ap (λ (z : ℤ). old ++ field (Int32 z)) (to_z-of_z w32 part.index f1)) in
-    let p2 = then_field old o1 o2 (Int32 part.index ∷ []) (Int16 part.code) p1 (c.in_ok-put_i16.ensures.ok ∙ ap (λ (z : ℤ). o1 ++ field (Int16 z)) (to_z-of_z w16 part.code f2)) in
-    let p3 = then_field old o2 o3 fs2 (Int64 part.high) p2 (c.in_ok-put_i64.ensures.ok ∙ ap (λ (z : ℤ). o2 ++ field (Int64 z)) high) in
-    let p4 = then_field old o3 o4 (fs2 ++ Int64 part.high ∷ []) (Int64 part.high) p3 (c.in_ok-put_i64-2.ensures.ok ∙ ap (λ (z : ℤ). o3 ++ field (Int64 z)) high) in
-    let p5 = put_on old o4 o5 fs4 start p4 (c.in_ok-put_start.ensures
-    ∙ ap (λ (v : ℤ). o4 ++ fields (only_field (has_log_start v) (Int64 (to_z w64 (of_z w64 part.start))) [])) (to_z-of_z w16 version c.ranges.version)
-    ∙ ap (λ (z : ℤ). o4 ++ fields (only_field (has_log_start version) (Int64 z) [])) (to_z-of_z w64 part.start f4)) in
-    let p6 = then_field old o5 o6 (fs4 ++ start) (Array (aborted isolation)) p5 (c.in_ok-put_aborted.ensures ∙ ap (λ (z : ℤ). o5 ++ field (Array (aborted z))) (to_z-of_z w8 isolation c.ranges.isolation)) in
-    let last = Array (aborted isolation) ∷ Records (Some part.records) ∷ [] in
-    let whole = append_assoc (fs4 ++ start) (Array (aborted isolation) ∷ []) (Records (Some part.records) ∷ []) ∙ append_assoc fs4 start last ∙ ap (λ fs. fs4 ++ fs) (started (has_log_start version) (Int64 part.start) last) in
-    on_ok c.put_records.result
-    (λ is. then_field old o6 o7 ((fs4 ++ start) ++ Array (aborted isolation) ∷ []) (Records (Some part.records)) p6 (is ∙ ap (λ bytes. o6 ++ field (Records (Some bytes))) c.as_slice.ensures)
-    ∙ ap (λ fs. old ++ fields fs) whole)
-    c.put_records.ensures.ok
+    let told : ℤ → ℤ → ℤ → ℤ → List ℕ → FetchedPart = λ index code high start records. record { index = index; code = code; high = high; start = start; records = records } in
+    let Is : ℤ → ℤ → FetchedPart → Type 0 = λ version isolation p. OnOk c.put_fetched_part.result (Put c.args.out.now c.put_fetched_part.new.out (fetched_part_fields version isolation p)) in
+    let version : ℤ = to_z w16 (of_z w16 c.args.version) in
+    let isolation : ℤ = to_z w8 (of_z w8 c.args.isolation) in
+    let code : ℤ = to_z w16 (of_z w16 part.code) in
+    let high : ℤ = to_z w64 (of_z w64 part.high) in
+    let start : ℤ = to_z w64 (of_z w64 part.start) in
+    subst (λ (v : ℤ). Is v c.args.isolation part) (to_z-of_z w16 c.args.version c.ranges.version)
+    (subst (λ (i : ℤ). Is version i part) (to_z-of_z w8 c.args.isolation c.ranges.isolation)
+    (subst (λ (z : ℤ). Is version isolation (told z part.code part.high part.start part.records)) (to_z-of_z w32 part.index f1)
+    (subst (λ (z : ℤ). Is version isolation (told (to_z w32 (of_z w32 part.index)) z part.high part.start part.records)) (to_z-of_z w16 part.code f2)
+    (subst (λ (z : ℤ). Is version isolation (told (to_z w32 (of_z w32 part.index)) code z part.start part.records)) (to_z-of_z w64 part.high f3)
+    (subst (λ (z : ℤ). Is version isolation (told (to_z w32 (of_z w32 part.index)) code high z part.records)) (to_z-of_z w64 part.start f4)
+    (subst (λ (bytes : List ℕ). Is version isolation (told (to_z w32 (of_z w32 part.index)) code high start bytes)) c.as_slice.ensures c.put_fetched_part.ensures))))))

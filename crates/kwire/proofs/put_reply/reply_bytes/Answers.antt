@@ -1,12 +1,14 @@
-use Rattle.std.proofs.Common.{◌≡◌, ◌++◌, ◌+◌, ℕ, List, [], ◌∙◌, refl, length, arith, ap, length-append}
+use Rattle.std.proofs.Common.{◌∙◌, ℤ, pos, [], ◌∷◌, ap, rules}
+use Rattle.std.specs.Int.{w32}
+use mir.Val.{SFits}
+use Rattle.std.proofs.lemmas.Int.{to_z-of_z}
+use Rattle.kbytes.specs.Field.{Int32, fields}
+use Rattle.kwire.proofs.ReplyFrames.{frame_short}
 use Rattle.kwire.proofs.put_reply.reply_bytes.Goals as goal
 
--- four parts, one after the other
-put_in_turn : (a b d e size head body : List ℕ) → a ≡ [] → b ≡ a ++ size → d ≡ b ++ head → e ≡ d ++ body → length size ≡ 4 → length head ≡ 4 → length e ≡ 8 + length body
-put_in_turn a b d e size head body none first next last four too =
-    omega (arith, ap length none, ap length first ∙ length-append a size, ap length next ∙ length-append b head, ap length last ∙ length-append d body)
-
-pub set_size-requires-clause-most : goal.set_size-requires-clause-most
-set_size-requires-clause-most c =
-    let long = put_in_turn _ _ _ _ _ _ _ (c.reserve.ensures ∙ c.new-frame.ensures) c.in_ok-put_i32.ensures.ok c.in_ok-put_i32-2.ensures.ok c.in_ok-put_told.ensures refl refl in
-    omega (arith, c.requires.short, long)
+pub end_reply-requires-clause-most : goal.end_reply-requires-clause-most
+end_reply-requires-clause-most c =
+    let reply = c.args.reply.now in
+    let fits : SFits w32 reply.correlation = search rules in
+    let begun = c.in_ok-frame.ensures ∙ ap (λ (z : ℤ). fields (Int32 (pos 0) ∷ Int32 z ∷ [])) (to_z-of_z w32 reply.correlation fits) in
+    frame_short reply c.in_ok-frame.frame c.put_told.new.out begun c.in_ok-put_told.ensures c.requires

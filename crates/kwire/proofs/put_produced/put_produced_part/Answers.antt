@@ -6,12 +6,12 @@ use Rattle.kbytes.specs.Field.{field, fields, Int16, Int32, Int64}
 use Rattle.kwire.specs.Apis.{has_log_start}
 use Rattle.kwire.specs.IsRequest.{only_field}
 use Rattle.kwire.proofs.Spelled.{put_start, put_on, then_field, on_ok}
-use Rattle.kwire.proofs.put_produced.ProducedPartWritten.put.Goals as goal
+use Rattle.kwire.proofs.put_produced.put_produced_part.Goals as goal
 
 pub returns : goal.returns
 returns c =
     let old = c.args.out.now in
-    let part = c.args.self.now in
+    let part = c.args.part.now in
     let version = c.args.version in
     let o1 = c.put_i32.new.out in
     let o2 = c.put_i16.new.out in

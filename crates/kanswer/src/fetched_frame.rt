@@ -1,0 +1,168 @@
+//! The frame of a reply to a fetch, for `reply`. The topics are written from the request and the readings, so that neither
+//! names nor records are copied before.
+ghost use Rattle.std.specs.Prelude.{◌≡◌, ◌++◌, length, sum_by, All, IfOk, OnOk};
+ghost use Rattle.std.specs.List.{flat_map};
+ghost use Rattle.kbytes.specs.Field.{fields};
+ghost use Rattle.kwire.specs.declared.reply.Told.TheVariants.{Fetched};
+ghost use Rattle.kwire.specs.IsSpellable.{AreInRange, IsSpellable};
+ghost use Rattle.kwire.specs.Spelling.{fetched_part_fields, fetched_topic_fields, told_fields, spelling};
+ghost use Rattle.kanswer.specs.LogReadings.{HasCarriable};
+ghost use Rattle.kanswer.specs.ToldParts.{parts_by, fetched_part, fetched_topic, fetched_of};
+
+use crate::accepted::{Accepted, Reading};
+use crate::fetched::fetched_view;
+use kbytes::{Bytes, NoMemory, put_array, put_i32, put_string};
+use kwire::{
+    FETCHED_PART_BYTES, FetchPart, FetchTopicView, REPLY_HEAD_BYTES, TOLD_TOPIC_BYTES, begin_reply,
+    end_reply, put_fetched_part,
+};
+use std::alloc::Global;
+
+/// A fetch that is answered by a frame: what the frame has of its request. The isolation level is 0 or 1.
+#[derive(Clone, Copy)]
+pub struct AnsweredFetch<'a> {
+    pub correlation: i32,
+    pub version: i16,
+    pub isolation: i8,
+    pub topics: &'a [FetchTopicView<'a>],
+}
+
+fn put_parts(
+    out: &mut Bytes,
+    answered: &AnsweredFetch<'_>,
+    parts: &[FetchPart],
+    accepted: &[Accepted],
+    readings: &[Reading],
+) -> Result<(), NoMemory>
+    requires accepted { length accepted.now ≡ length parts.now }
+    requires readings { length readings.now ≡ length parts.now }
+    requires carriable { All HasCarriable readings.now }
+    requires in_range { AreInRange (flat_map (fetched_part_fields answered.now.version answered.now.isolation)
+        (parts_by fetched_part parts.now accepted.now readings.now)) }
+    ensures { OnOk result (out.new ≡ out.old ++ fields (flat_map (fetched_part_fields answered.now.version answered.now.isolation)
+        (parts_by fetched_part parts.now accepted.now readings.now))) }
+{
+    for at in 0..parts.len() {
+        let told = fetched_view(&parts[at], &accepted[at], &readings[at]);
+        put_fetched_part(out, answered.version, answered.isolation, &told)?;
+    }
+    Ok(())
+}
+
+fn put_topic(
+    out: &mut Bytes,
+    answered: &AnsweredFetch<'_>,
+    topic: &FetchTopicView<'_>,
+    accepted: &[Accepted],
+    readings: &[Reading],
+) -> Result<(), NoMemory>
+    requires accepted { length accepted.now ≡ length topic.now.parts }
+    requires readings { length readings.now ≡ length topic.now.parts }
+    requires carriable { All HasCarriable readings.now }
+    requires in_range { AreInRange (fetched_topic_fields answered.now.version answered.now.isolation
+        (fetched_topic topic.now accepted.now readings.now)) }
+    ensures { OnOk result (out.new ≡ out.old ++ fields (fetched_topic_fields answered.now.version answered.now.isolation
+        (fetched_topic topic.now accepted.now readings.now))) }
+{
+    put_string(out, topic.name)?;
+    put_array(out, Some(topic.parts.len() as u32))?;
+    put_parts(out, answered, topic.parts.as_slice(), accepted, readings)
+}
+
+fn put_topics(
+    out: &mut Bytes,
+    answered: &AnsweredFetch<'_>,
+    accepted: &[Accepted],
+    readings: &[Reading],
+) -> Result<(), NoMemory>
+    requires accepted { length accepted.now ≡ sum_by (λ topic. length topic.parts) answered.now.topics.now }
+    requires readings { length readings.now ≡ sum_by (λ topic. length topic.parts) answered.now.topics.now }
+    requires carriable { All HasCarriable readings.now }
+    requires in_range { AreInRange (flat_map (fetched_topic_fields answered.now.version answered.now.isolation)
+        (fetched_of answered.now.topics.now accepted.now readings.now)) }
+    ensures { OnOk result (out.new ≡ out.old ++ fields (flat_map (fetched_topic_fields answered.now.version answered.now.isolation)
+        (fetched_of answered.now.topics.now accepted.now readings.now))) }
+{
+    let mut from = 0;
+    for topic in answered.topics {
+        let upto = from + topic.parts.len();
+        put_topic(
+            out,
+            answered,
+            topic,
+            &accepted[from..upto],
+            &readings[from..upto],
+        )?;
+        from = upto;
+    }
+    Ok(())
+}
+
+// The throttle time 0, and after it the topics.
+fn put_told(
+    out: &mut Bytes,
+    answered: &AnsweredFetch<'_>,
+    accepted: &[Accepted],
+    readings: &[Reading],
+) -> Result<(), NoMemory>
+    requires accepted { length accepted.now ≡ sum_by (λ topic. length topic.parts) answered.now.topics.now }
+    requires readings { length readings.now ≡ sum_by (λ topic. length topic.parts) answered.now.topics.now }
+    requires carriable { All HasCarriable readings.now }
+    requires in_range { AreInRange (told_fields (Fetched answered.now.version answered.now.isolation
+        (fetched_of answered.now.topics.now accepted.now readings.now))) }
+    ensures { OnOk result (out.new ≡ out.old ++ fields (told_fields (Fetched answered.now.version answered.now.isolation
+        (fetched_of answered.now.topics.now accepted.now readings.now)))) }
+{
+    put_i32(out, 0)?;
+    put_array(out, Some(answered.topics.len() as u32))?;
+    put_topics(out, answered, accepted, readings)
+}
+
+// The bytes of the topics, beside their partitions. Nothing but what is reserved rests on it.
+fn topics_room(topics: &[FetchTopicView<'_>]) -> usize {
+    let mut room: usize = 0;
+    for topic in topics {
+        room = room
+            .saturating_add(topic.name.len())
+            .saturating_add(TOLD_TOPIC_BYTES);
+    }
+    room
+}
+
+// The most bytes of the partitions: each has its reading.
+fn parts_room(readings: &[Reading]) -> usize {
+    let mut room: usize = 0;
+    for reading in readings {
+        room = room
+            .saturating_add(reading.records.len())
+            .saturating_add(FETCHED_PART_BYTES);
+    }
+    room
+}
+
+/// The frame of the reply to a fetch, from what became of each named partition and what was read of it.
+pub fn fetched_frame(
+    alloc: Global,
+    answered: &AnsweredFetch<'_>,
+    accepted: &[Accepted],
+    readings: &[Reading],
+) -> Result<Bytes, NoMemory>
+    requires accepted { length accepted.now ≡ sum_by (λ topic. length topic.parts) answered.now.topics.now }
+    requires readings { length readings.now ≡ sum_by (λ topic. length topic.parts) answered.now.topics.now }
+    requires carriable { All HasCarriable readings.now }
+    requires spellable { IsSpellable (record {
+      correlation = answered.now.correlation;
+      told = Fetched answered.now.version answered.now.isolation (fetched_of answered.now.topics.now accepted.now readings.now);
+    }) }
+    ensures { IfOk result (λ frame. frame ≡ spelling (record {
+      correlation = answered.now.correlation;
+      told = Fetched answered.now.version answered.now.isolation (fetched_of answered.now.topics.now accepted.now readings.now);
+    })) }
+{
+    let room = topics_room(answered.topics).saturating_add(parts_room(readings));
+    let room = room.saturating_add(REPLY_HEAD_BYTES);
+    let mut frame = begin_reply(alloc, answered.correlation, room)?;
+    put_told(&mut frame, answered, accepted, readings)?;
+    end_reply(&mut frame);
+    Ok(frame)
+}
