@@ -9,12 +9,10 @@ use Rattle.kwire.specs.Configuration.{IsNewTopic}
 use Rattle.kwire.specs.declared.config.Topic as topics
 use Rattle.trace_file.specs.declared.line.Line.{Line}
 use Rattle.trace_file.specs.declared.line.Line.TheVariants.{Topic, Feed, Shut, Clock, End}
-use Rattle.trace_file.specs.declared.line.LineKind.{LineKind}
-use Rattle.trace_file.specs.declared.line.LineKind.TheVariants as kinds
 use Rattle.trace_file.specs.declared.reading.Reading.{Reading}
 use Rattle.trace_file.specs.Contents.{topic_in}
 use Rattle.trace_file.specs.IsInOrder.{MayFollow, AreNewTopics, DeclaresOrEnds, IsInOrder}
-use Rattle.trace_file.specs.LineFaults.{MayStand, IsNewLine, IsPlaceFault}
+use Rattle.trace_file.specs.LineFaults.{MayStand, IsNewLine}
 use Rattle.trace_file.specs.FirstBad.{MayBegin}
 use Rattle.trace_file.specs.Sees.{is_end, Sees, AreRead}
 
@@ -74,30 +72,6 @@ begin_parts only_topics front back line h =
       },
       λ name partitions followers least is. h.topics front back name partitions followers least (ap (λ (l : Line). front ++ l ∷ back) is),
     )
-
--- so may the lines before others that do
-pub begin_front : (only_topics : Bool) (front back : List Line) → MayBegin only_topics (front ++ back) → MayBegin only_topics front
-begin_front only_topics front back h =
-    let there : (k : ℕ) (d : Line) → k < length front → get_or (front ++ back) k d ≡ get_or front k d = λ k d lt. get_or_append_left front back d k lt in
-    let long = length-append front back in record {
-      pairs = λ i j d lt within.
-          subst (λ (l : Line). MayFollow (get_or front i d) l) (there j d within) (subst (λ (l : Line). MayFollow l (get_or (front ++ back) j d)) (there i d (omega (arith, lt, within))) (h.pairs i j d lt (omega (arith, within, long))));
-      topics = λ before behind name partitions followers least is.
-          h.topics before (behind ++ back) name partitions followers least
-          (ap (λ (ls : List Line). ls ++ back) is ∙ append_assoc before (Topic name partitions followers least ∷ behind) back);
-      declares = λ only k d lt. subst DeclaresOrEnds (there k d lt) (h.declares only k d (omega (arith, lt, long)));
-    }
-
--- where one may not, the lines don't begin a trace
-pub misplaced : (only_topics : Bool) (front back : List Line) (line : Line) (kind : LineKind) → IsPlaceFault only_topics front line kind → MayBegin only_topics (front ++ line ∷ back) → ⊥
-misplaced only_topics front back line kinds.Order fault h = fault (begin_parts only_topics front back line h).0
-misplaced only_topics front back line kinds.BadTopic fault h = fault.1 (begin_parts only_topics front back line h).1
-misplaced only_topics front back line kinds.Word fault h = fault
-misplaced only_topics front back line kinds.Form fault h = fault
-misplaced only_topics front back line kinds.Number fault h = fault
-misplaced only_topics front back line kinds.Hex fault h = fault
-misplaced only_topics front back line kinds.NoEnd fault h = fault
-misplaced only_topics front back line kinds.TooLong fault h = fault
 
 -- what was read, with one more line
 pub read_more : (only_topics : Bool) (before after : Reading) (line : Line) → AreRead only_topics before → MayStand only_topics before.lines line → IsNewLine before.lines line
