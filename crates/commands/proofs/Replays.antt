@@ -1,6 +1,6 @@
 -- What a replay comes to, from what was read and what was played.
-use Rattle.std.proofs.Common.{◌≡◌, ◌≤◌, ◌<◌, ◌+◌, ◌⊎◌, ℕ, zero, suc, Bool, false, eqb, List, [], ◌∷◌, ◌++◌, length, take, drop, append_assoc, get_or, Option, Some, None, IfSome, IsSome, inl, inr, refl, sym, ap, subst, ◌∙◌, arith, append-nil, length-append}
-use Rattle.std.proofs.KnownBytes.{Appends-trans}
+use Rattle.std.proofs.Common.{◌≡◌, ◌≤◌, ◌<◌, ◌+◌, ◌-◌, ◌⊎◌, ℕ, zero, suc, Bool, false, eqb, List, [], ◌∷◌, ◌++◌, length, take, drop, append_assoc, get_or, Option, Some, None, IfSome, IsSome, inl, inr, refl, sym, ap, subst, ◌∙◌, arith, append-nil, length-append}
+use Rattle.std.proofs.KnownBytes.{Appends-trans, Consumes-trans}
 use Rattle.std.proofs.lemmas.List.{nil_from_length, take_all, take-append-le}
 use Rattle.std.specs.Io.KnownBytes.{Appends, Consumes, IsAtEnd}
 use Rattle.std.specs.List.{count_by, AllByRecursion, AllZip}
@@ -26,6 +26,8 @@ use Rattle.trace_file.specs.declared.line.TheConstants.{MOST_TRACE_BYTES, REPLAY
 use Rattle.trace_file.specs.declared.line.LineFault.{LineFault}
 use Rattle.trace_file.specs.declared.line.TraceFault.{TraceFault}
 use Rattle.trace_file.specs.declared.line.TraceFault.TheVariants.{Bad, NoMemory}
+use Rattle.trace_file.specs.declared.trace_reader.TraceReader.{TraceReader}
+use Rattle.trace_file.specs.TextRead.{HasTaken}
 use Rattle.trace_file.specs.FirstBad.{IsFirstBad, TellsFirstBad}
 use Rattle.trace_file.proofs.Laws.{trace_has_none}
 use Rattle.commands.specs.declared.exit.Stop.{Stop}
@@ -76,6 +78,20 @@ text_of left new text input size = (read_whole left new text input size, told le
     told None new text consumed at = tt
     told (Some trace) None text consumed at = absurd consumed
     told (Some trace) (Some rest) text consumed at = consumed ∙ ap (λ (r : List ℕ). text ++ r) at ∙ append-nil text
+
+-- one part more was read, and it is the last
+pub part_read : (left mid new : Option (List ℕ)) (text part : List ℕ) (want room : ℕ) → Consumes left mid text → Consumes mid new part → length text ≤ MOST_TRACE_BYTES
+    → room ≡ (MOST_TRACE_BYTES + 1) - length text → length part ≤ want → want ≤ room → (length part < want → IsAtEnd new)
+    → (length part < want) ⊎ ((MOST_TRACE_BYTES + 1) - length (text ++ part) ≡ 0) → IsInput left new (text ++ part)
+part_read left mid new text part want room before came few left_over most within ended last = record {
+  consumed = Consumes-trans left mid new text part before came;
+  whole = elim last [ inl less ↦ inl (ended less) | inr full ↦ inr (omega (arith, length-append text part, few, left_over, most, within, full)) ];
+}
+
+-- what a reader has room for
+pub room_left : (only_topics : Bool) (text : List ℕ) (reader : TraceReader) → HasTaken only_topics text reader → (MOST_TRACE_BYTES + 1) - reader.length ≡ (MOST_TRACE_BYTES + 1) - length text
+room_left only_topics text reader (inl short) = omega (arith, short.length_is)
+room_left only_topics text reader (inr long) = omega (arith, long.length_is, long.size)
 
 -- ---- the lines
 

@@ -3,10 +3,27 @@ use Rattle.std.proofs.Common.{◌≡◌, ℕ, ◌+◌, ◌<◌, ◌≤◌, List,
 use Rattle.std.specs.Prelude.{OnErr}
 use Rattle.std.specs.List.{flat_map}
 use Rattle.std.proofs.Math.Seq.{take-add}
-use Rattle.std.proofs.lemmas.List.{drop_at, drop_more, take-append-drop, take-append-le, take-take, take_at}
+use Rattle.std.proofs.lemmas.List.{drop_at, drop_more, length-take-le, take-append-drop, take-append-le, take-take, take_at}
 use Rattle.std.proofs.lemmas.List.Concat.{flat_map-append}
-use Rattle.std.proofs.KnownBytes.{Appends-trans}
-use Rattle.std.specs.Io.KnownBytes.{Appends}
+use Rattle.std.proofs.KnownBytes.{Appends-trans, Consumes-trans}
+use Rattle.std.specs.Io.KnownBytes.{Appends, Consumes}
+use borrow.Rule.Slice.PartMut.{put_mid, post_of}
+
+-- ---- reading into a room
+
+-- what was read stands behind what was read before, whatever stands behind it
+pub filled : (a b c : Option (List ℕ)) (room into : List ℕ) (count n k : ℕ) → count ≤ length room → n ≤ length into → Consumes a b (take count room) → Consumes b c (take n into)
+    → Consumes a c (take (count + n) (put_mid count k room into))
+filled a b c room into count n k le few first second =
+    let front = take count room in
+    let long : length front ≡ count = length-take-le count room le in
+    let behind = post_of count k room in
+    let cut : take (count + n) (front ++ (into ++ behind)) ≡ front ++ take n into =
+    ap (λ (m : ℕ). take (m + n) (front ++ (into ++ behind))) (sym long) ∙ take-add (length front) n (front ++ (into ++ behind))
+    ∙ rw (take_at front (into ++ behind) (length front) refl, drop_at front (into ++ behind) (length front) refl) (ap (λ (t : List ℕ). front ++ t) (take-append-le n into behind few)) in
+    subst (Consumes a c) (sym cut) (Consumes-trans a b c front (take n into) first second)
+
+-- ---- writing a part
 
 -- the next piece stands behind those before it
 pub appends_on : (a b c : Option (List ℕ)) (part : List ℕ) (done n k : ℕ) → n ≤ k → Appends a b (take done part)

@@ -11,7 +11,7 @@ ghost use Rattle.commands.specs.Worked.{IsWorked};
 use crate::command::MOST_WORKERS;
 use crate::exit::{Stop, Unfinished};
 use crate::streams::write_parts;
-use crate::trace::{read_lines, reuse_large_blocks};
+use crate::trace::read_lines;
 use audit::Account;
 use outside::{Sink, Source};
 use std::alloc::Global;
@@ -44,7 +44,6 @@ pub fn replay_on_workers<R: Threads + Wait + Sync, S: Source, K: Sink>(
     ensures write_fault { IfErr result (λ why. stop_in why ≡ Stop.WriteFault → Rose (K.faults sink.old) (K.faults sink.new)) }
     ensures bad_line { IfErr result (λ why. IfSome (bad_line_of (stop_in why)) (IsFirstBadOf (S.left source.old) false)) }
 {
-    reuse_large_blocks(alloc);
     let lines = read_lines(rt, alloc, source, false, workers)?;
     let (account, parts) = print_lines(rt, alloc, lines.as_slice(), REPLAY_PORT, workers)?;
     match write_parts(sink, parts.as_slice()) {

@@ -13,7 +13,7 @@ ghost use Rattle.commands.specs.Replay.{IsReplayOf, IsReplay, IsReplayFront, IsF
 
 use crate::exit::Stop;
 use crate::streams::write_all;
-use crate::trace::{read_lines, reuse_large_blocks};
+use crate::trace::read_lines;
 use audit::{Account, print_replay};
 use kbytes::{Bytes, List};
 use lone_broker::Lone;
@@ -89,7 +89,6 @@ pub fn replay<R: Threads + Sync, S: Source, K: Sink>(
     ensures write_fault { IsErrOf result Stop.WriteFault → Rose (K.faults sink.old) (K.faults sink.new) }
     ensures bad_line { IfErr result (λ stop. IfSome (bad_line_of stop) (IsFirstBadOf (S.left source.old) false)) }
 {
-    reuse_large_blocks(alloc);
     let lines = read_lines(rt, alloc, source, false, 1)?;
     play(alloc, lines, sink)
 }

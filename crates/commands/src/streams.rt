@@ -1,27 +1,30 @@
-//! Reads a source to its end, for `read_lines`, and writes a part to a sink whole, for both replays.
+//! Reads a part of a source, for `read_lines`, and writes a part to a sink whole, for both replays.
 
-ghost use Rattle.std.specs.Prelude.{◌≡◌, ◌<◌, ◌≤◌, ◌++◌, ℕ, List, length, take, vec_len, IfOk, IfErr, OnOk, OnErr, IsErrOf, ◌⊎◌};
+ghost use Rattle.std.specs.Prelude.{◌≡◌, ◌<◌, ◌≤◌, ◌++◌, ℕ, length, take, IfOk, IfErr, OnOk, OnErr};
 ghost use Rattle.std.specs.List.{flat_map};
 ghost use Rattle.std.specs.Io.KnownBytes.{Appends, Consumes, IsAtEnd};
 ghost use Rattle.outside.specs.Causes.{Rose};
-ghost use Rattle.commands.specs.Streams.{IsInput};
 
-use crate::exit::Stop;
 use kbytes::Bytes;
 use outside::{Failed, Sink, Source};
 
-/// Reads until the room is full or the source ends. The answer is how many bytes came.
-pub fn fill<S: Source>(source: &mut S, room: &mut [u8]) -> Result<usize, Stop>
+/// Reads into the room until it is full or the source ends. The answer is what came, at the front of the room.
+pub fn fill<'a, S: Source>(source: &mut S, room: &'a mut [u8]) -> Result<&'a [u8], Failed>
+    ensures came { IfOk result (λ part. Consumes (S.left source.old) (S.left source.new) part.now) }
+    ensures most { IfOk result (λ part. length part.now ≤ length room.old) }
+    ensures end { IfOk result (λ part. length part.now < length room.old → IsAtEnd (S.left source.new)) }
+    ensures later { S.faults source.old ≤ S.faults source.new }
+    ensures failed { OnErr result (Rose (S.faults source.old) (S.faults source.new)) }
 {
     let mut count = 0;
     while count < room.len() {
-        match source.read(&mut room[count..]) {
-            Err(_) => return Err(Stop::ReadFault),
-            Ok(0) => return Ok(count),
-            Ok(more) => count += more,
+        let came = source.read(&mut room[count..])?;
+        if came == 0 {
+            break;
         }
+        count += came;
     }
-    Ok(count)
+    Ok(&room[..count])
 }
 
 /// Writes the whole part. If a write fails, a prefix of the part was written.

@@ -1,6 +1,6 @@
 //! Reads the trace of a source, for both replays, or the topics that it declares, for a service.
 
-ghost use Rattle.std.specs.Prelude.{◌≡◌, ◌≤◌, ℕ, false, List as Items, IfOk, IfErr, OnOk, IsErrOf, IfSome, IsSome, ◌⊎◌};
+ghost use Rattle.std.specs.Prelude.{◌≡◌, ◌<◌, ◌≤◌, ℕ, List as Items, IfOk, IfErr, OnOk, IsErrOf, IfSome, IsSome, ◌⊎◌, vec_len};
 ghost use Rattle.std.specs.Io.KnownBytes.{IsAtEnd};
 ghost use Rattle.outside.specs.Causes.{Rose};
 ghost use Rattle.trace_file.specs.FirstBad.{IsTraceRead};
@@ -9,35 +9,33 @@ ghost use Rattle.commands.specs.Replay.{IsFirstBadOf};
 
 use crate::exit::Stop;
 use crate::streams::fill;
-use kbytes::{Bytes, List};
+use kbytes::List;
 use outside::Source;
 use std::alloc::{AllocError, Global};
 use std::thread::Threads;
 use trace_file::{Line, TraceReader};
 
-/// The most bytes that one thread reads at a time.
-const PIECE: usize = 65_536;
+/// How many bytes of a trace are read at a time where one thread reads its lines.
+const PART: usize = 65_536;
 
-/// Just below the largest block, 32 MiB, that glibc's allocator can be brought to take from its heap.
-const LARGEST_IN_HEAP: usize = 33_488_896;
+/// How many where several do: for each of them.
+const SHARE: usize = 524_288;
 
-/// Brings glibc's allocator to reuse the memory of large blocks. It maps pages for each block of 128 KiB or more, and unmaps them when the
-/// block is freed, until a larger one has been freed: from then on, blocks up to that size come from its heap. So this allocates one, and
-/// frees it untouched. The text of a trace is freed before its lines are played, and what is kept of the calls then takes its place.
-/// With another allocator, or where there is no memory for the block, nothing changes.
-pub fn reuse_large_blocks(alloc: Global) {
-    let mut block = Bytes::new(alloc);
-    let _ = block.reserve(LARGEST_IN_HEAP);
-}
-
+// Room for the part of a trace that so many threads read at a time.
 fn make_room(alloc: Global, threads: u32) -> Result<Vec<u8>, AllocError>
+    requires { 1 ≤ threads }
+    ensures { IfOk result (λ room. 0 < vec_len room) }
 {
-    let size = if threads == 1 { PIECE } else { PIECE * 4 * threads as usize };
+    let size = if threads == 1 {
+        PART
+    } else {
+        SHARE * threads as usize
+    };
     vec![in alloc; 0u8; size]
 }
 
 /// Reads the lines of the source's trace, or with `only_topics` those of its topics, which are lines `topic` and `end` alone, by `threads` threads.
-/// The text isn't kept.
+/// The source is read until it ends, fails, or has given one byte more than a trace may have. The text isn't kept.
 pub fn read_lines<R: Threads + Sync, S: Source>(
     rt: &R,
     alloc: Global,
@@ -53,14 +51,16 @@ pub fn read_lines<R: Threads + Sync, S: Source>(
     ensures only { IfErr result (λ stop. (stop ≡ Stop.ReadFault) ⊎ (stop ≡ Stop.NoMemory) ⊎ IsSome (bad_line_of stop)) }
 {
     let mut reader = TraceReader::new(alloc, only_topics);
-    let mut part = make_room(alloc, threads)?;
-    while reader.room() > 0 {
-        let want = part.len().min(reader.room());
-        let came = fill(source, &mut part[..want])?;
-        reader = reader.take(rt, alloc, &part[..came], threads)?;
-        if came < want {
-            break;
+    let mut room = make_room(alloc, threads)?;
+    'parts: loop {
+        let want = room.len().min(reader.room());
+        let Ok(part) = fill(source, &mut room[..want]) else {
+            return Err(Stop::ReadFault);
+        };
+        let came = part.len();
+        reader = reader.take(rt, alloc, part, threads)?;
+        if came < want || reader.room() == 0 {
+            return Ok(reader.lines(alloc)?);
         }
     }
-    Ok(reader.lines(alloc)?)
 }

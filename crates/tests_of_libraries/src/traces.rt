@@ -1,9 +1,11 @@
 //! Lines that are read, and written as they are spelled.
 
+ghost use Rattle.std.specs.Prelude.{◌≤◌};
+
 use kbytes::{Bytes, List, NoMemory};
 use std::alloc::Global;
 use std::test::*;
-use trace_file::{Line, LineFault, LineKind, TraceFault, put_line, read_trace, read_trace_on};
+use trace_file::{Line, LineFault, LineKind, TraceFault, TraceReader, put_line, read_trace};
 
 // Every kind of line. The least number of in-sync replicas stands where it is above 1.
 const WHOLE: &[u8] =
@@ -13,7 +15,7 @@ const WHOLE: &[u8] =
 const OTHERWISE: &[u8] =
     b"topic t 1 1 1\ntopic u 1 1 2\ntopic v 1 8 9\nbytes 63 00fFAb\nclock 500\nclose 63\nend";
 
-// How many lines of bytes a trace has that is read in shares: with 64 KiB it is long enough.
+// How many lines of bytes a trace has that threads read in shares: with 64 KiB it is long enough.
 const MANY: u32 = 2000;
 
 // A trace with many lines of bytes, from this one on with a word that begins none.
@@ -58,17 +60,41 @@ fn lines_are_read_and_written(rt: HostRuntime) {
     }
 }
 
+// The lines of a text that comes in parts of so many bytes, each read by so many threads.
+fn read_in_parts(
+    rt: &HostRuntime,
+    text: &[u8],
+    size: usize,
+    threads: u32,
+) -> Result<List<Line>, TraceFault>
+    requires { (1 ≤ size) × (1 ≤ threads) }
+{
+    let mut reader = TraceReader::new(rt.alloc(), false);
+    for part in text.chunks(size) {
+        reader = reader.take(rt, rt.alloc(), part, threads)?;
+    }
+    reader.lines(rt.alloc())
+}
+
+#[test]
+fn parts_of_lines_are_read(rt: HostRuntime) {
+    for text in [WHOLE, OTHERWISE] {
+        let lines = read_in_parts(&rt, text, 7, 1);
+        assert!(rt; are_written_as(rt.alloc(), lines, WHOLE));
+    }
+}
+
 #[test]
 fn three_threads_read_a_long_trace(rt: HostRuntime) {
     let text = long_trace(rt.alloc(), MANY).expect(&rt, "memory for the text");
-    let lines = read_trace_on(&rt, rt.alloc(), text.as_slice(), 3);
+    let lines = read_in_parts(&rt, text.as_slice(), 70_000, 3);
     assert!(rt; are_written_as(rt.alloc(), lines, text.as_slice()));
 }
 
 #[test]
 fn three_threads_find_the_first_bad_line(rt: HostRuntime) {
     let text = long_trace(rt.alloc(), MANY / 2 + 100).expect(&rt, "memory for the text");
-    let fault = fault_in(read_trace_on(&rt, rt.alloc(), text.as_slice(), 3));
+    let fault = fault_in(read_in_parts(&rt, text.as_slice(), 70_000, 3));
     assert!(rt; fault == fault_in(read_trace(rt.alloc(), text.as_slice(), false)));
     assert!(rt;
         fault
