@@ -5,6 +5,7 @@ ghost use Rattle.std.specs.Prelude.{◌≤◌};
 use kbytes::{Bytes, List, NoMemory};
 use std::alloc::Global;
 use std::test::*;
+use std::thread::Threads;
 use trace_file::{Line, LineFault, LineKind, TraceFault, TraceReader, put_line, read_trace};
 
 // Every kind of line. The least number of in-sync replicas stands where it is above 1.
@@ -61,25 +62,26 @@ fn lines_are_read_and_written(rt: HostRuntime) {
 }
 
 // The lines of a text that comes in parts of so many bytes, each read by so many threads.
-fn read_in_parts(
-    rt: &HostRuntime,
+fn read_in_parts<R: Threads + Sync>(
+    rt: &R,
+    alloc: Global,
     text: &[u8],
     size: usize,
     threads: u32,
 ) -> Result<List<Line>, TraceFault>
     requires { (1 ≤ size) × (1 ≤ threads) }
 {
-    let mut reader = TraceReader::new(rt.alloc(), false);
+    let mut reader = TraceReader::new(alloc, false);
     for part in text.chunks(size) {
-        reader = reader.take(rt, rt.alloc(), part, threads)?;
+        reader = reader.take(rt, alloc, part, threads)?;
     }
-    reader.lines(rt.alloc())
+    reader.lines(alloc)
 }
 
 #[test]
 fn parts_of_lines_are_read(rt: HostRuntime) {
     for text in [WHOLE, OTHERWISE] {
-        let lines = read_in_parts(&rt, text, 7, 1);
+        let lines = read_in_parts(&rt, rt.alloc(), text, 7, 1);
         assert!(rt; are_written_as(rt.alloc(), lines, WHOLE));
     }
 }
@@ -87,14 +89,14 @@ fn parts_of_lines_are_read(rt: HostRuntime) {
 #[test]
 fn three_threads_read_a_long_trace(rt: HostRuntime) {
     let text = long_trace(rt.alloc(), MANY).expect(&rt, "memory for the text");
-    let lines = read_in_parts(&rt, text.as_slice(), 70_000, 3);
+    let lines = read_in_parts(&rt, rt.alloc(), text.as_slice(), 70_000, 3);
     assert!(rt; are_written_as(rt.alloc(), lines, text.as_slice()));
 }
 
 #[test]
 fn three_threads_find_the_first_bad_line(rt: HostRuntime) {
     let text = long_trace(rt.alloc(), MANY / 2 + 100).expect(&rt, "memory for the text");
-    let fault = fault_in(read_in_parts(&rt, text.as_slice(), 70_000, 3));
+    let fault = fault_in(read_in_parts(&rt, rt.alloc(), text.as_slice(), 70_000, 3));
     assert!(rt; fault == fault_in(read_trace(rt.alloc(), text.as_slice(), false)));
     assert!(rt;
         fault
