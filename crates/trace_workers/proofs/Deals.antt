@@ -4,24 +4,25 @@ use Rattle.std.specs.Prelude.{All, Bool, MatchBool, None, Option, Some}
 use Rattle.std.specs.List.{range_with_len}
 use Rattle.std.proofs.lemmas.Bool.{cases_eq, cases_lt, ne_eqb}
 use Rattle.std.proofs.lemmas.List.{get_or-set_other, get_or-set_same, get_or_append_left, get_or_push, length_push, length-set}
+use Rattle.std.proofs.lemmas.List.Elements.{All-map, All-nil, All-push, All-set}
 use Rattle.std.proofs.lemmas.List.FromFn.{get_or-map-range_with_len, length-map-range_with_len, sum_by-map-range_with_len_more}
 use Rattle.std.proofs.lemmas.List.Sums.{sum_by-set}
 use Rattle.std.proofs.Math.Nat.{mul-le-mul_right}
 use Rattle.std.proofs.lemmas.Nat.{div-add-mod', mod-mul-add, mod_below}
 use Rattle.shared_broker.specs.Making.{fresh_pass}
 use Rattle.shared_broker.specs.Passes.{BrokerView, PassView}
-use Rattle.trace_workers.specs.Sessions.{SessionView}
-use Rattle.trace_workers.specs.Workers.{AreNumbered, HasAll, HasTaken, HasToldAll, IfClock, WorkerView}
+use Rattle.trace_workers.specs.Sessions.{KeepsLines, SessionView}
+use Rattle.trace_workers.specs.Workers.{AllKeep, AreNumbered, HasAll, HasTaken, HasToldAll, IfClock, WorkerView}
 use Rattle.trace_workers.specs.Dealing.{AreDealing, IsDealing, empty_worker, empty_workers, fresh_session}
 use Rattle.trace_workers.specs.Dealt.{AreDealt, HasClockOf, IsDealt, sessions_dealt}
 use Rattle.trace_workers.specs.Telling.{IsFresh}
 use Rattle.trace_workers.proofs.Telling.{kept_none}
 
-fresh_taken : (broker : BrokerView) (number : ℕ) (told : Option (List ℕ)) → IsFresh told → HasTaken broker [] (fresh_session broker number told)
-fresh_taken broker number told fresh = record {
+fresh_taken : (broker : BrokerView) (number : ℕ) (kept : Option (List ℕ)) → IsFresh kept → HasTaken broker [] (fresh_session broker number kept)
+fresh_taken broker number kept fresh = record {
   made = refl;
   pass = refl;
-  received = record { none = refl; inbox = refl; unshut = refl; ended = refl; going = refl; waits = refl; told = kept_none told number (fresh_pass broker number) fresh };
+  received = record { none = refl; inbox = refl; unshut = refl; ended = refl; going = refl; waits = refl; kept = kept_none kept number (fresh_pass broker number) fresh };
   shut = refl;
   named = refl;
   ticked = refl;
@@ -60,6 +61,10 @@ at_first broker worker_count = record {
   sessions = none_dealt worker_count worker_count;
 }
 
+-- no session is there that could keep other lines
+pub none_keep : (keeps : Bool) (worker_count : ℕ) → All (AllKeep keeps) (empty_workers worker_count)
+none_keep keeps worker_count = All-map (AllKeep keeps) (empty_worker worker_count) (range_with_len 0 worker_count) (λ k d less. All-nil (KeepsLines keeps))
+
 -- ---- one more session
 
 abbrev pub with_more : WorkerView → SessionView → WorkerView
@@ -77,9 +82,9 @@ next_number dealt worker_count k size some is above below =
       ]
     ]
 
-numbered_more : (broker : BrokerView) (worker : WorkerView) (number : ℕ) (told : Option (List ℕ)) → worker.number + length worker.sessions * worker.worker_count ≡ number → AreNumbered worker → AreNumbered (with_more worker (fresh_session broker number told))
-numbered_more broker worker number told next numbered k d less =
-    let s = fresh_session broker number told in
+numbered_more : (broker : BrokerView) (worker : WorkerView) (number : ℕ) (kept : Option (List ℕ)) → worker.number + length worker.sessions * worker.worker_count ≡ number → AreNumbered worker → AreNumbered (with_more worker (fresh_session broker number kept))
+numbered_more broker worker number kept next numbered k d less =
+    let s = fresh_session broker number kept in
     elim (cases_eq k (length worker.sessions)) [
       | inl last ↦
           ap (λ (x : SessionView). x.number) (get_or_push worker.sessions s d k (sym last)) ∙ sym next ∙ ap (λ (n : ℕ). worker.number + n * worker.worker_count) (sym last)
@@ -97,17 +102,17 @@ all_more P xs s all here k d less =
           subst P (sym (get_or_append_left xs (s ∷ []) d k before)) (all k d before)
     ]
 
-one_dealt : (broker : BrokerView) (dealt worker_count k : ℕ) (worker : WorkerView) (told : Option (List ℕ)) → IsFresh told → 1 ≤ worker_count → k ≡ dealt % worker_count → IsDealing broker dealt worker_count k worker → IsDealing broker (dealt + 1) worker_count k (with_more worker (fresh_session broker dealt told))
-one_dealt broker dealt worker_count k worker told fresh some is h =
+one_dealt : (broker : BrokerView) (dealt worker_count k : ℕ) (worker : WorkerView) (kept : Option (List ℕ)) → IsFresh kept → 1 ≤ worker_count → k ≡ dealt % worker_count → IsDealing broker dealt worker_count k worker → IsDealing broker (dealt + 1) worker_count k (with_more worker (fresh_session broker dealt kept))
+one_dealt broker dealt worker_count k worker kept fresh some is h =
     let next : k + length worker.sessions * worker_count ≡ dealt = next_number dealt worker_count k (length worker.sessions) some is h.above h.below in
     let own : worker.number + length worker.sessions * worker.worker_count ≡ dealt = ap (λ (n : ℕ). n + length worker.sessions * worker.worker_count) h.number ∙ ap (λ (w : ℕ). k + length worker.sessions * w) h.among ∙ next in
-    let size : length (worker.sessions ++ fresh_session broker dealt told ∷ []) * worker_count ≡ length worker.sessions * worker_count + worker_count = ap (λ (n : ℕ). n * worker_count) (length_push worker.sessions (fresh_session broker dealt told)) ∙ omega arith in
+    let size : length (worker.sessions ++ fresh_session broker dealt kept ∷ []) * worker_count ≡ length worker.sessions * worker_count + worker_count = ap (λ (n : ℕ). n * worker_count) (length_push worker.sessions (fresh_session broker dealt kept)) ∙ omega arith in
     record {
       number = h.number;
       among = h.among;
       begun = record {
-        numbered = numbered_more broker worker dealt told own h.begun.numbered;
-        sessions = all_more (HasTaken broker []) worker.sessions (fresh_session broker dealt told) h.begun.sessions (fresh_taken broker dealt told fresh);
+        numbered = numbered_more broker worker dealt kept own h.begun.numbered;
+        sessions = all_more (HasTaken broker []) worker.sessions (fresh_session broker dealt kept) h.begun.sessions (fresh_taken broker dealt kept fresh);
         clock = h.begun.clock;
       };
       above = omega (arith, size, next, some);
@@ -132,24 +137,30 @@ other_dealt broker dealt worker_count k worker some less other h =
       clock = h.clock;
     }
 
-pub session_dealt : (broker : BrokerView) (dealt worker_count at : ℕ) (workers : List WorkerView) (worker d : WorkerView) (told : Option (List ℕ)) → IsFresh told → 1 ≤ worker_count → at ≡ dealt % worker_count → worker ≡ with_more (get_or workers at d) (fresh_session broker dealt told)
+pub session_dealt : (broker : BrokerView) (dealt worker_count at : ℕ) (workers : List WorkerView) (worker d : WorkerView) (kept : Option (List ℕ)) → IsFresh kept → 1 ≤ worker_count → at ≡ dealt % worker_count → worker ≡ with_more (get_or workers at d) (fresh_session broker dealt kept)
     → AreDealing broker dealt worker_count workers → AreDealing broker (dealt + 1) worker_count (set workers at worker)
-session_dealt broker dealt worker_count at workers worker d told fresh some is worker_is h =
+session_dealt broker dealt worker_count at workers worker d kept fresh some is worker_is h =
     let within : at < worker_count = omega (arith, is, mod_below dealt worker_count some) in
     let there : at < length workers = omega (arith, within, h.size) in
-    let more : length worker.sessions ≡ length (get_or workers at d).sessions + 1 = ap (λ (l : WorkerView). length l.sessions) worker_is ∙ length_push (get_or workers at d).sessions (fresh_session broker dealt told) in
+    let more : length worker.sessions ≡ length (get_or workers at d).sessions + 1 = ap (λ (l : WorkerView). length l.sessions) worker_is ∙ length_push (get_or workers at d).sessions (fresh_session broker dealt kept) in
     record {
       size = length-set workers at worker ∙ h.size;
       each = λ k e less. elim (cases_eq k at) [
         | inl here ↦
             subst (λ (i : ℕ). IsDealing broker (dealt + 1) worker_count i (get_or (set workers at worker) i e)) (sym here)
-            (subst (IsDealing broker (dealt + 1) worker_count at) (sym (get_or-set_same workers at worker e there ∙ worker_is)) (one_dealt broker dealt worker_count at (get_or workers at d) told fresh some is (h.each at d within)))
+            (subst (IsDealing broker (dealt + 1) worker_count at) (sym (get_or-set_same workers at worker e there ∙ worker_is)) (one_dealt broker dealt worker_count at (get_or workers at d) kept fresh some is (h.each at d within)))
         | inr other ↦
             subst (IsDealing broker (dealt + 1) worker_count k) (sym (get_or-set_other workers at k worker e other))
             (other_dealt broker dealt worker_count k (get_or workers k e) some less (λ own. other (own ∙ sym is)) (h.each k e less))
       ];
       sessions = omega (arith, sum_by-set (λ (l : WorkerView). length l.sessions) workers at worker d there, more, h.sessions);
     }
+
+-- it keeps lines as the others do
+pub session_keeps : (keeps : Bool) (workers : List WorkerView) (at : ℕ) (worker d : WorkerView) (s : SessionView) → at < length workers → worker ≡ with_more (get_or workers at d) s → KeepsLines keeps s
+    → All (AllKeep keeps) workers → All (AllKeep keeps) (set workers at worker)
+session_keeps keeps workers at worker d s there is here all =
+    All-set (AllKeep keeps) workers at worker (subst (AllKeep keeps) (sym is) (All-push (KeepsLines keeps) (get_or workers at d).sessions s (all at d there) here)) all
 
 -- ---- the clock
 
@@ -206,6 +217,10 @@ clock_dealt broker count worker_count workers worker d some is h =
       ];
       sessions = omega (arith, sum_by-set (λ (l : WorkerView). length l.sessions) workers 0 worker d there, same, h.sessions);
     }
+
+pub clock_keeps : (keeps : Bool) (workers : List WorkerView) (worker d : WorkerView) (pass : PassView) → 0 < length workers → worker ≡ with_clock (get_or workers 0 d) pass → All (AllKeep keeps) workers
+    → All (AllKeep keeps) (set workers 0 worker)
+clock_keeps keeps workers worker d pass there is all = All-set (AllKeep keeps) workers 0 worker (subst (AllKeep keeps) (sym is) (all 0 d there)) all
 
 -- ---- the same workers, as many as they are
 pub as_many : (broker : BrokerView) (dealt worker_count : ℕ) (workers others : List WorkerView) → workers ≡ others → AreDealing broker dealt worker_count workers → AreDealing broker dealt (length others) others

@@ -44,7 +44,7 @@ all_both P xs ys front back k d less =
       | inr behind ↦ subst P (sym (get_or-append_right xs ys (length xs) k d refl behind)) (back (k - length xs) d (omega (arith, less, behind, length-append xs ys)))
     ]
 
-all_sessions : (P : SessionView → Type 0) (workers : List WorkerView) → ((k : ℕ) (d : WorkerView) → k < length workers → All P (get_or workers k d).sessions) → All P (flat_map sessions_in workers)
+pub all_sessions : (P : SessionView → Type 0) (workers : List WorkerView) → ((k : ℕ) (d : WorkerView) → k < length workers → All P (get_or workers k d).sessions) → All P (flat_map sessions_in workers)
 all_sessions P [] each = λ k d less. absurd (omega (arith, less))
 all_sessions P (worker ∷ workers) each =
     all_both P worker.sessions (flat_map sessions_in workers) (each 0 worker (omega arith)) (all_sessions P workers (λ k d less. each (suc k) d (omega (arith, less))))

@@ -69,7 +69,7 @@ begun input s h =
       each = tt;
       whole = tt;
       stands = (sym h.inbox, subst (λ (b : Bool). MatchBool b ⊥ (⊥ → ⊥)) (sym (ap is_some h.waits)) (λ parked. parked));
-      told = kept_still s.told s.number s.pass (with_begun s.pass s.number) [] refl refl refl h.told;
+      kept = kept_still s.kept s.number s.pass (with_begun s.pass s.number) [] refl refl refl h.kept;
     }
 
 -- ---- one call more
@@ -82,8 +82,8 @@ stand_last false front call h = unparked_last front call h
 -- the frame at the front is that of a call, and leaves the inbox
 pub called : (input : List ℕ) (s : SessionView) (body : List ℕ) (end : ℕ) (new : PassView) (now : Option (List ℕ)) → HasHandled input s → IsFrameBody body → s.inbox ≡ framed body ++ drop end s.inbox
     → (c : HasCalled body s.pass new) → IsNotCut c.call → MatchBool (is_some new.waits) (c.call.how ≡ Parked) (c.call.how ≢ Parked)
-    → ((calls : List Call) → AreKept s.told s.number s.pass calls → AreKept now s.number new (calls ++ c.call ∷ []))
-    → HasHandled input (record s { pass = new; inbox = drop end s.inbox; told = now })
+    → ((calls : List Call) → AreKept s.kept s.number s.pass calls → AreKept now s.number new (calls ++ c.call ∷ []))
+    → HasHandled input (record s { pass = new; inbox = drop end s.inbox; kept = now })
 called input s body end new now h small parts c whole waits tells =
     let t = h.transcript in
     let g = goes_on t s.pass (ap is_some c.going) h.only in
@@ -102,15 +102,15 @@ called input s body end new now h small parts c whole waits tells =
           ∙ sym (append_assoc (framed_calls t.calls) (framed c.call.frame) rest) ∙ ap (λ (x : List ℕ). x ++ rest) (sym (frames_more t.calls c.call));
       each = all_append (λ (call : Call). IsFrameBody call.frame) t.calls (c.call ∷ []) h.each (subst IsFrameBody (sym c.frame_is) small, tt);
       whole = all_append IsNotCut t.calls (c.call ∷ []) h.whole (whole, tt);
-      stands = subst (StandsAt (record s { pass = new; inbox = rest; told = now }) rest u) (sym g.end) (refl, stand_last (is_some new.waits) t.calls c.call waits);
-      told = tells t.calls h.told;
+      stands = subst (StandsAt (record s { pass = new; inbox = rest; kept = now }) rest u) (sym g.end) (refl, stand_last (is_some new.waits) t.calls c.call waits);
+      kept = tells t.calls h.kept;
     }
 
 -- ---- the last call is completed
 
 pub completed : (input : List ℕ) (s : SessionView) (new : PassView) (now : Option (List ℕ)) → HasHandled input s → (c : HasCompleted s.pass new) → ((won : Option ℕ) → c.how ≢ Cut won) → c.how ≢ Parked
-    → ((calls : List Call) → AreKept s.told s.number s.pass (calls ++ c.call ∷ []) → AreKept now s.number new (calls ++ record c.call { finish = c.finish; how = c.how } ∷ []))
-    → HasHandled input (record s { pass = new; told = now })
+    → ((calls : List Call) → AreKept s.kept s.number s.pass (calls ++ c.call ∷ []) → AreKept now s.number new (calls ++ record c.call { finish = c.finish; how = c.how } ∷ []))
+    → HasHandled input (record s { pass = new; kept = now })
 completed input s new now h c whole over tells =
     let t = h.transcript in
     let g = goes_on t s.pass (ap is_some c.going) h.only in
@@ -132,9 +132,9 @@ completed input s new now h c whole over tells =
       frames = h.frames ∙ ap (λ (x : Transcript). framed_calls x.calls ++ h.rest) same ∙ ap (λ (x : List ℕ). x ++ h.rest) (frames_more front c.call ∙ sym (frames_more front call));
       each = all_append (λ (x : Call). IsFrameBody x.frame) front (call ∷ []) (all_front (λ (x : Call). IsFrameBody x.frame) front c.call small) (all_last (λ (x : Call). IsFrameBody x.frame) front c.call small, tt);
       whole = all_append IsNotCut front (call ∷ []) (all_front IsNotCut front c.call uncut) (whole, tt);
-      stands = subst (StandsAt (record s { pass = new; told = now }) h.rest u) (sym goes)
+      stands = subst (StandsAt (record s { pass = new; kept = now }) h.rest u) (sym goes)
           (stood.0, subst (λ (b : Bool). MatchBool b (LastIsParked (front ++ call ∷ [])) (LastIsParked (front ++ call ∷ []) → ⊥)) (sym (ap is_some c.waits)) (unparked_last front call over));
-      told = tells front (subst (λ (x : Transcript). AreKept s.told s.number s.pass x.calls) same h.told);
+      kept = tells front (subst (λ (x : Transcript). AreKept s.kept s.number s.pass x.calls) same h.kept);
     }
 
 -- ---- its transcript ends
@@ -159,13 +159,13 @@ ended input s end new h shows e =
       each = h.each;
       whole = h.whole;
       stands = (same_end h.rest s.is_shut t u end refl refl (subst (λ (x : List ℕ). MayEndSo x s.is_shut end t) (sym stood.0) may).0, may.1);
-      told = kept_still s.told s.number s.pass new t.calls (ap (λ (p : PassView). p.config) e.new_is) (ap (λ (p : PassView). p.logs.parts) e.new_is) (ap (λ (p : PassView). p.logs.clock) e.new_is) h.told;
+      kept = kept_still s.kept s.number s.pass new t.calls (ap (λ (p : PassView). p.config) e.new_is) (ap (λ (p : PassView). p.logs.parts) e.new_is) (ap (λ (p : PassView). p.logs.clock) e.new_is) h.kept;
     }
 
 -- ---- the pass has only seen what others did
 
 same_handled : (input : List ℕ) (s : SessionView) (new : PassView) → new.ended ≡ s.pass.ended → new.going ≡ s.pass.going → new.waits ≡ s.pass.waits
-    → ((calls : List Call) → AreKept s.told s.number s.pass calls → AreKept s.told s.number new calls) → HasHandled input s → HasHandled input (record s { pass = new })
+    → ((calls : List Call) → AreKept s.kept s.number s.pass calls → AreKept s.kept s.number new calls) → HasHandled input s → HasHandled input (record s { pass = new })
 same_handled input s new over goes waits tells h = record {
   transcript = h.transcript;
   only = subst (λ (ts : List Transcript). IsOnlyOf h.transcript ts new.going) (sym over) (subst (IsOnlyOf h.transcript s.pass.ended) (sym goes) h.only);
@@ -176,7 +176,7 @@ same_handled input s new over goes waits tells h = record {
   each = h.each;
   whole = h.whole;
   stands = by_end h.transcript.end h.stands;
-  told = tells h.transcript.calls h.told;
+  kept = tells h.transcript.calls h.kept;
 }
   where
     by_end : (end : Option SessionEnd) → StandsAt s h.rest h.transcript end → StandsAt (record s { pass = new }) h.rest h.transcript end
@@ -184,12 +184,12 @@ same_handled input s new over goes waits tells h = record {
     by_end (Some end) stood = stood
 
 pub seen : (input : List ℕ) (s : SessionView) (new : PassView) → new.ended ≡ s.pass.ended → new.going ≡ s.pass.going → new.waits ≡ s.pass.waits
-    → ((calls : List Call) → AreKept s.told s.number s.pass calls → AreKept s.told s.number new calls) → HasReceived input s → HasReceived input (record s { pass = new })
+    → ((calls : List Call) → AreKept s.kept s.number s.pass calls → AreKept s.kept s.number new calls) → HasReceived input s → HasReceived input (record s { pass = new })
 seen input s new over goes waits tells h = by_name s.is_named h
   where
     by_name : (b : Bool) → MatchBool b (HasHandled input s) (HasReceivedNothing input s) → MatchBool b (HasHandled input (record s { pass = new })) (HasReceivedNothing input (record s { pass = new }))
     by_name true here = same_handled input s new over goes waits tells here
-    by_name false here = record { none = here.none; inbox = here.inbox; unshut = here.unshut; ended = over ∙ here.ended; going = goes ∙ here.going; waits = waits ∙ here.waits; told = tells [] here.told }
+    by_name false here = record { none = here.none; inbox = here.inbox; unshut = here.unshut; ended = over ∙ here.ended; going = goes ∙ here.going; waits = waits ∙ here.waits; kept = tells [] here.kept }
 
 -- ---- a line brings it bytes, or ends its input
 
@@ -209,7 +209,7 @@ fed input bytes s goes h =
       each = h.each;
       whole = h.whole;
       stands = subst (StandsAt (record s { inbox = s.inbox ++ bytes }) (h.rest ++ bytes) t) (sym g.end) (ap (λ (x : List ℕ). x ++ bytes) stood.0, stood.1);
-      told = h.told;
+      kept = h.kept;
     }
 
 -- it has ended
@@ -224,7 +224,7 @@ fed_over input bytes s none unshut h = record {
   each = h.each;
   whole = h.whole;
   stands = by_end h.transcript.end (is_over h.transcript s.pass none h.only) h.stands;
-  told = h.told;
+  kept = h.kept;
 }
   where
     by_end : (end : Option SessionEnd) → is_some end ≡ true → StandsAt s h.rest h.transcript end → StandsAt s (h.rest ++ bytes) h.transcript end
@@ -246,7 +246,7 @@ shut input s h = record {
   each = h.each;
   whole = h.whole;
   stands = by_end h.transcript.end h.stands;
-  told = h.told;
+  kept = h.kept;
 }
   where
     by_end : (end : Option SessionEnd) → StandsAt s h.rest h.transcript end → StandsAt (record s { is_shut = true }) h.rest h.transcript end

@@ -1,10 +1,8 @@
 -- All sessions and the clock in one hand, as one of the sessions goes on and as the clock does.
 use Rattle.std.proofs.Common.{◌≡◌, ◌∙◌, ℕ, ◌+◌, ◌<◌, Bool, true, MatchBool, List, [], ◌∷◌, ◌++◌, drop, fold, get_or, length, map, max, set, take, refl, sym, ap, subst, inl, inr, cond, ltb}
-use Rattle.std.specs.Prelude.{Any}
-use Rattle.std.proofs.lemmas.Bool.{cases_eq, cases_lt, le-ltb, lt-ltb}
-use Rattle.std.proofs.lemmas.List.{append_assoc, get_or-set_other, get_or_default, length-set, map-append, same_from_push, take_at}
+use Rattle.std.proofs.lemmas.Bool.{cases_lt, le-ltb, lt-ltb}
+use Rattle.std.proofs.lemmas.List.{append_assoc, length-set, map-append, same_from_push, take_at}
 use Rattle.std.proofs.lemmas.List.Elements.{All-set}
-use Rattle.std.proofs.lemmas.List.Quantifiers.{any-set}
 use Rattle.partlog.specs.declared.clock_event.ClockEvent.TheVariants.{Tick}
 use Rattle.partlog.specs.Moment.{moment_of}
 use Rattle.audit.specs.Histories.{ticks_of}
@@ -18,28 +16,13 @@ use Rattle.trace_workers.specs.Sessions.{IsSameSession, SessionView}
 use Rattle.trace_workers.specs.declared.joined.TheConstants.{DRAIN_STEP}
 use Rattle.trace_workers.specs.Joined.{JoinedView, HasJoined, HasRun}
 use Rattle.trace_workers.specs.WorkerRun.{AreSeconds, last_moment}
+use Rattle.trace_workers.proofs.Places.{any_with}
 use Rattle.trace_workers.proofs.Seconds.{last_of, latest_second, seconds_more}
 use Rattle.trace_workers.specs.Workers.{HasTaken, HasToldAll}
 use Rattle.trace_workers.proofs.Clocks.{own_alone, ticks_after, told_number, told_tick}
 use Rattle.trace_workers.proofs.Untouched.{taken_on, taken_past}
 
 -- ---- one session goes on
-
-abbrev number_of : SessionView → ℕ
-number_of s = s.number
-
-each_with : (xs : List SessionView) (at : ℕ) (d s : SessionView) (number : ℕ) → at < length xs → s.number ≡ (get_or xs at d).number → Any (λ (x : SessionView). x.number ≡ number) xs
-    → Any (λ (x : SessionView). x.number ≡ number) (set xs at s)
-each_with xs at d s number less same any =
-    let k = any.0 in
-    let x = any.1 in
-    elim (cases_eq k at) [
-      | inl here ↦
-          any-set (λ (y : SessionView). y.number ≡ number) xs at s less
-          (same ∙ ap number_of (get_or_default xs at d x less ∙ ap (λ (i : ℕ). get_or xs i x) (sym here) ∙ any.3) ∙ any.4)
-      | inr other ↦
-          (k, x, subst (λ (n : ℕ). k < n) (sym (length-set xs at s)) any.2, get_or-set_other xs at k s x other ∙ any.3, any.4)
-    ]
 
 abbrev pub with_session : JoinedView → ℕ → SessionView → JoinedView
 with_session joined at s = record joined { sessions = set joined.sessions at s }
@@ -50,7 +33,7 @@ pub step_joined : (broker : BrokerView) (lines : List Line) (count : ℕ) (joine
 step_joined broker lines count joined at d s there same named shut goes h = record {
   sessions = All-set (HasTaken broker lines) joined.sessions at s (taken_on broker lines (get_or joined.sessions at d) s (h.sessions at d there) same named shut goes) h.sessions;
   size = length-set joined.sessions at s ∙ h.size;
-  each = λ number less. each_with joined.sessions at d s number there same.number (h.each number less);
+  each = λ number less. any_with (λ (x : SessionView). x.number) joined.sessions at d s number there same.number (h.each number less);
   clock = h.clock;
   number = h.number;
 }

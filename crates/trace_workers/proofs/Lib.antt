@@ -48,7 +48,7 @@ mod JoinedOn
 mod Sessions
 -- the ticks of an account whose clock one pass alone has told
 mod Ticks
--- what holds of each pass in a list
+-- what holds of each pass in a list, and what is found by its number
 mod Places
 -- one session that rests, and what the account has of it
 mod Alone

@@ -1,5 +1,5 @@
 -- What is printed of a run's sessions, pass by pass, from the lines that they kept.
-use Rattle.std.proofs.Common.{◌≡◌, ◌∙◌, ℕ, ◌+◌, ◌<◌, get_or, length, List, [], ◌∷◌, ◌++◌, Option, Some, None, append-nil, append_assoc, refl, sym, ap, subst, take}
+use Rattle.std.proofs.Common.{◌≡◌, ◌∙◌, ℕ, ◌+◌, ◌<◌, get_or, length, set, List, [], ◌∷◌, ◌++◌, Option, Some, None, append-nil, append_assoc, refl, sym, ap, subst, take}
 use Rattle.std.specs.Prelude.{IfSome, slice_get}
 use Rattle.std.specs.List.{flat_map, zip}
 use Rattle.std.proofs.lemmas.List.Concat.{flat_map-append}
@@ -11,7 +11,8 @@ use Rattle.audit.specs.Printed.{end_line, session_text}
 use Rattle.audit.specs.retelling.Shares.{IsTextOf, sessions_in}
 use Rattle.audit.proofs.retelling.Laws.{told_on}
 use Rattle.trace_workers.specs.Sessions.{DeskView}
-use Rattle.trace_workers.specs.Telling.{HasKept, HasPutPass, IsToldBy, IsToldIn, joined, lines_of}
+use Rattle.trace_workers.specs.Telling.{HasKept, HasPutPass, HaveDesks, IsToldBy, IsToldIn, joined, lines_of}
+use Rattle.trace_workers.proofs.Places.{any_with}
 
 -- ---- parts, one after the other
 
@@ -37,14 +38,14 @@ first_none (x ∷ xs) none = absurd cc
 pub nothing_put : (account : Account) (number : ℕ) (ts : List Transcript) (before : List ℕ) → slice_get account.passes number ≡ Some ts → ts ≡ [] → HasPutPass account number before before
 nothing_put account number ts before there none = ([], there ∙ ap Some none, [], ([], tt, refl), sym (append-nil before))
 
-of_kept : (account : Account) (desk : DeskView) (text : List ℕ) → HasKept account desk → desk.told ≡ Some text → IsToldIn account desk.number text
-of_kept account desk text kept told = subst (λ (o : Option (List ℕ)). IfSome o (IsToldIn account desk.number)) told kept
+of_kept : (account : Account) (desk : DeskView) (text : List ℕ) → HasKept account desk → desk.kept ≡ Some text → IsToldIn account desk.number text
+of_kept account desk text kept is = subst (λ (o : Option (List ℕ)). IfSome o (IsToldIn account desk.number)) is kept
 
 -- with that of its session, which kept these lines
 pub session_put : (account : Account) (number : ℕ) (ts : List Transcript) (t : Transcript) (desk : DeskView) (text before after : List ℕ) → slice_get account.passes number ≡ Some ts → slice_get ts 0 ≡ Some t
-    → desk.number ≡ number → HasKept account desk → desk.told ≡ Some text → after ≡ before ++ (text ++ end_line desk.number t.end) → HasPutPass account number before after
-session_put account number ts t desk text before after there first is kept told put =
-    let k = of_kept account desk text kept told in
+    → desk.number ≡ number → HasKept account desk → desk.kept ≡ Some text → after ≡ before ++ (text ++ end_line desk.number t.end) → HasPutPass account number before after
+session_put account number ts t desk text before after there first is kept lines put =
+    let k = of_kept account desk text kept lines in
     let same : k.transcripts ≡ ts = same_Some k.transcripts ts (sym k.there ∙ ap (slice_get account.passes) is ∙ there) in
     by_case ts there first (subst (λ (us : List Transcript). IsToldBy account desk.number us text) same k.told)
   where
@@ -60,6 +61,10 @@ session_put account number ts t desk text before after there first is kept told 
         ap (λ (x : List ℕ). x ++ end_line desk.number t.end) (k.1.2 ∙ lines) ∙ ap (λ (x : List ℕ). lines_of u.number replies ++ x) ends ∙ sym (append-nil (session_text (u, replies))) in
         (u ∷ [], at, text ++ end_line desk.number t.end, (replies ∷ [], (k.1.1, tt), spelled), put)
     by_case (u ∷ v ∷ us) at one k = absurd k
+
+-- its desk stays, without them
+pub desks_with : (account : Account) (at : ℕ) (desks : List DeskView) (d desk : DeskView) → at < length desks → desk.number ≡ (get_or desks at d).number → HaveDesks account desks → HaveDesks account (set desks at desk)
+desks_with account at desks d desk less same have number transcripts there some = any_with (λ (x : DeskView). x.number) desks at d desk number less same (have number transcripts there some)
 
 -- ---- all passes
 

@@ -17,13 +17,13 @@ use Rattle.trace_workers.specs.Telling.{AreKept, HasPut, IsFresh, lines_of}
 
 -- ---- the pass goes on
 
-pub kept_none : (told : Option (List ℕ)) (session : ℕ) (pass : PassView) → IsFresh told → AreKept told session pass []
+pub kept_none : (kept : Option (List ℕ)) (session : ℕ) (pass : PassView) → IsFresh kept → AreKept kept session pass []
 kept_none None session pass fresh = tt
 kept_none (Some text) session pass fresh = ([], λ account on. tt, fresh)
 
 -- it has seen more
-pub kept_on : (told : Option (List ℕ)) (session : ℕ) (old new : PassView) (calls : List Call) → new.config ≡ old.config → HaveGrown old.logs.parts old.logs.clock new.logs.parts new.logs.clock
-    → AreKept told session old calls → AreKept told session new calls
+pub kept_on : (kept : Option (List ℕ)) (session : ℕ) (old new : PassView) (calls : List Call) → new.config ≡ old.config → HaveGrown old.logs.parts old.logs.clock new.logs.parts new.logs.clock
+    → AreKept kept session old calls → AreKept kept session new calls
 kept_on None session old new calls config grown h = tt
 kept_on (Some text) session old new calls config grown h = (
   h.0,
@@ -33,8 +33,8 @@ kept_on (Some text) session old new calls config grown h = (
 )
 
 -- it has seen nothing
-pub kept_still : (told : Option (List ℕ)) (session : ℕ) (old new : PassView) (calls : List Call) → new.config ≡ old.config → new.logs.parts ≡ old.logs.parts → new.logs.clock ≡ old.logs.clock
-    → AreKept told session old calls → AreKept told session new calls
+pub kept_still : (kept : Option (List ℕ)) (session : ℕ) (old new : PassView) (calls : List Call) → new.config ≡ old.config → new.logs.parts ≡ old.logs.parts → new.logs.clock ≡ old.logs.clock
+    → AreKept kept session old calls → AreKept kept session new calls
 kept_still None session old new calls config parts clock h = tt
 kept_still (Some text) session old new calls config parts clock h = (
   h.0,
@@ -50,15 +50,15 @@ kept_still (Some text) session old new calls config parts clock h = (
 -- ---- one call more
 
 -- that has no reply
-pub kept_same : (told : Option (List ℕ)) (session : ℕ) (pass : PassView) (calls : List Call) (call : Call) → is_answered call.how ≡ false
-    → AreKept told session pass calls → AreKept told session pass (calls ++ call ∷ [])
+pub kept_same : (kept : Option (List ℕ)) (session : ℕ) (pass : PassView) (calls : List Call) (call : Call) → is_answered call.how ≡ false
+    → AreKept kept session pass calls → AreKept kept session pass (calls ++ call ∷ [])
 kept_same None session pass calls call none h = tt
 kept_same (Some text) session pass calls call none h =
     (h.0, λ account on. subst (λ (cs : List Call). AllZip (IsReplyOf account) cs h.0) (sym (answered_same calls call none)) (h.1 account on), h.2)
 
 -- that has one, and its line was put
-pub kept_more : (told now : Option (List ℕ)) (session : ℕ) (pass : PassView) (calls : List Call) (call : Call) (frame : List ℕ) → is_answered call.how ≡ true
-    → IsMadeOfReply (is_some told) pass call frame → HasPut session frame told now → AreKept told session pass calls → AreKept now session pass (calls ++ call ∷ [])
+pub kept_more : (kept now : Option (List ℕ)) (session : ℕ) (pass : PassView) (calls : List Call) (call : Call) (frame : List ℕ) → is_answered call.how ≡ true
+    → IsMadeOfReply (is_some kept) pass call frame → HasPut session frame kept now → AreKept kept session pass calls → AreKept now session pass (calls ++ call ∷ [])
 kept_more None now session pass calls call frame has made put h = subst (λ (o : Option (List ℕ)). AreKept o session pass (calls ++ call ∷ [])) (sym put) tt
 kept_more (Some text) now session pass calls call frame has made put h =
     let r = made.reply in
@@ -71,8 +71,8 @@ kept_more (Some text) now session pass calls call frame has made put h =
     )
 
 -- without the last call, which waits
-pub kept_front : (told : Option (List ℕ)) (session : ℕ) (pass : PassView) (front : List Call) (call : Call) → call.how ≡ Parked
-    → AreKept told session pass (front ++ call ∷ []) → AreKept told session pass front
+pub kept_front : (kept : Option (List ℕ)) (session : ℕ) (pass : PassView) (front : List Call) (call : Call) → call.how ≡ Parked
+    → AreKept kept session pass (front ++ call ∷ []) → AreKept kept session pass front
 kept_front None session pass front call waits h = tt
 kept_front (Some text) session pass front call waits h =
     (h.0, λ account on. subst (λ (cs : List Call). AllZip (IsReplyOf account) cs h.0) (answered_same front call (ap is_answered waits)) (h.1 account on), h.2)

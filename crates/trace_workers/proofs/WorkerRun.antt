@@ -46,25 +46,25 @@ split P joined all =
     (all_of_map P pass_of joined.sessions parts.0, parts.1)
 
 -- a session that rests, and what the account has of it
-record HasSession (broker : BrokerView) (lines : List Line) (drain : Bool) (account : Account) (number : ℕ) : Type 0 where
-  session : SessionView
-  number_is : session.number ≡ number
-  taken : HasTaken broker lines session
-  rests : Rests session
-  drained : drain ≡ true → session.pass.waits ≡ None
-  there : slice_get account.passes number ≡ Some (told_of session)
+pub record HasSession (broker : BrokerView) (lines : List Line) (drain : Bool) (account : Account) (number : ℕ) : Type 0 where
+  pub session : SessionView
+  pub number_is : session.number ≡ number
+  pub taken : HasTaken broker lines session
+  pub rests : Rests session
+  pub drained : drain ≡ true → session.pass.waits ≡ None
+  pub there : slice_get account.passes number ≡ Some (told_of session)
 
 -- the account has the transcripts of the pass under its number
 abbrev pub IsListedIn : Account → PassView → Type 0
 IsListedIn account pass = slice_get account.passes pass.logs.number ≡ Some (map told (transcripts_of pass))
 
 -- what the account has of all passes
-record HasAllPasses (broker : BrokerView) (lines : List Line) (count : ℕ) (drain : Bool) (account : Account) : Type 0 where
-  size : length account.passes ≡ count + 1
-  sessions : (number : ℕ) → number < count → HasSession broker lines drain account number
-  clock : slice_get account.passes count ≡ Some []
+pub record HasAllPasses (broker : BrokerView) (lines : List Line) (count : ℕ) (drain : Bool) (account : Account) : Type 0 where
+  pub size : length account.passes ≡ count + 1
+  pub sessions : (number : ℕ) → number < count → HasSession broker lines drain account number
+  pub clock : slice_get account.passes count ≡ Some []
 
-has_passes : (broker : BrokerView) (lines : List Line) (added : List ℕ) (count : ℕ) (drain : Bool) (joined : JoinedView) (account : Account)
+pub has_passes : (broker : BrokerView) (lines : List Line) (added : List ℕ) (count : ℕ) (drain : Bool) (joined : JoinedView) (account : Account)
     → HasJoined broker (lines ++ map Clock added) count joined → HasCome drain joined → IsAccountOf broker (passes_in joined) account → HasAllPasses broker lines count drain account
 has_passes broker lines added count drain joined account whole come is =
     let told_in = split (IsListedIn account) joined is.transcripts in

@@ -27,7 +27,7 @@ clock_on (Some pass) b c f g =
     (h.0, h.1, h.2 ∙ f.2)
 
 pub same_self : (worker : WorkerView) → IsSameWorker worker worker
-same_self worker = record { number = refl; worker_count = refl; sessions = refl; passes = refl; clock = same_clock worker.clock }
+same_self worker = record { number = refl; worker_count = refl; sessions = refl; passes = refl; clock = same_clock worker.clock; kept = refl }
 
 pub same_on : (a b c : WorkerView) → IsSameWorker a b → IsSameWorker b c → IsSameWorker a c
 same_on a b c f g = record {
@@ -36,6 +36,7 @@ same_on a b c f g = record {
   sessions = g.sessions ∙ f.sessions;
   passes = g.passes ∙ f.passes;
   clock = clock_on a.clock b.clock c.clock f.clock g.clock;
+  kept = g.kept ∙ f.kept;
 }
 
 abbrev number_of : SessionView → ℕ
@@ -69,6 +70,7 @@ same_with worker at d s less same = record {
   sessions = map_kept (λ (x : SessionView). x.number) worker.sessions at s d less same.number;
   passes = map_kept (λ (x : SessionView). x.pass.logs.number) worker.sessions at s d less same.pass;
   clock = same_clock worker.clock;
+  kept = map_kept (λ (x : SessionView). is_some x.kept) worker.sessions at s d less same.kept;
 }
 
 numbered_with : (worker : WorkerView) (at : ℕ) (d s : SessionView) → at < length worker.sessions → s.number ≡ (get_or worker.sessions at d).number → AreNumbered worker → AreNumbered (with_session worker at s)

@@ -1,12 +1,12 @@
 -- Workers that have worked are those to whom the sessions were dealt.
 use Rattle.std.proofs.Common.{◌≡◌, ◌∙◌, ℕ, ◌/◌, ◌%◌, ◌<◌, Bool, true, false, eqb, List, [], ◌∷◌, ◌++◌, drop, get_or, length, take, suc, refl, sym, ap, subst, arith}
-use Rattle.std.specs.Prelude.{MatchBool, None, Option, Some, sum_by}
-use Rattle.std.proofs.lemmas.List.{length-map, take_at}
+use Rattle.std.specs.Prelude.{All, MatchBool, None, Option, Some, is_some, map, sum_by}
+use Rattle.std.proofs.lemmas.List.{get_or-map, length-map, take_at}
 use Rattle.std.proofs.lemmas.List.Sums.{sum_by-cons}
 use Rattle.shared_broker.specs.Passes.{BrokerView, PassView}
 use Rattle.trace_file.specs.declared.line.Line.{Line}
-use Rattle.trace_workers.specs.Sessions.{SessionView}
-use Rattle.trace_workers.specs.Workers.{HasAll, HasDone, IsSameClock, IsSameWorker, WorkerView}
+use Rattle.trace_workers.specs.Sessions.{KeepsLines, SessionView}
+use Rattle.trace_workers.specs.Workers.{AllKeep, HasAll, HasDone, IsSameClock, IsSameWorker, WorkerView}
 use Rattle.trace_workers.specs.Dealt.{AreDealt, AreWorked, IsDealt, IsWorked}
 
 as_many_sessions : (old new : WorkerView) → IsSameWorker old new → length new.sessions ≡ length old.sessions
@@ -67,6 +67,20 @@ all_worked broker lines count worker_count olds news size each h = record {
       worked_worker broker lines count worker_count k (get_or olds k d) (get_or news k d) p.same p.done (h.each k d less);
   sessions = same_sum (λ (l : WorkerView). length l.sessions) olds news size (λ k d less. as_many_sessions (get_or olds k d) (get_or news k d) (each k d less).same) ∙ h.sessions;
 }
+
+-- sessions that keep lines where others do
+keep_still : (keeps : Bool) (olds news : List SessionView) → map (λ (s : SessionView). is_some s.kept) news ≡ map (λ (s : SessionView). is_some s.kept) olds → All (KeepsLines keeps) olds → All (KeepsLines keeps) news
+keep_still keeps olds news same all k d less =
+    let f : SessionView → Bool = λ s. is_some s.kept in
+    let size : length news ≡ length olds = sym (length-map news f) ∙ ap length same ∙ length-map olds f in
+    let within : k < length olds = omega (arith, less, size) in
+    sym (get_or-map f news k d (f d) less) ∙ ap (λ (bs : List Bool). get_or bs k (f d)) same ∙ get_or-map f olds k d (f d) within ∙ all k d within
+
+pub all_keep : (broker : BrokerView) (lines : List Line) (keeps : Bool) (olds news : List WorkerView) → length news ≡ length olds
+    → ((k : ℕ) (d : WorkerView) → k < length olds → IsPlayed broker lines (get_or olds k d) (get_or news k d)) → All (AllKeep keeps) olds → All (AllKeep keeps) news
+all_keep broker lines keeps olds news size each all k d less =
+    let within : k < length olds = omega (arith, less, size) in
+    keep_still keeps (get_or olds k d).sessions (get_or news k d).sessions (each k d within).same.kept (all k d within)
 
 -- ---- as the workers are lent out and come back
 

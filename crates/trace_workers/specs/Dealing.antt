@@ -16,7 +16,7 @@ empty_workers worker_count = map (empty_worker worker_count) (range_with_len 0 w
 
 -- a session that no line has named, on the new pass of its own number
 abbrev pub fresh_session : BrokerView → ℕ → Option (List ℕ) → SessionView
-fresh_session broker number told = record { number = number; pass = fresh_pass broker number; inbox = []; is_shut = false; is_named = false; told = told }
+fresh_session broker number kept = record { number = number; pass = fresh_pass broker number; inbox = []; is_shut = false; is_named = false; kept = kept }
 
 -- Worker k of these has its own of that many sessions, and no clock: the first of its own that it doesn't have is the first that isn't below that many.
 pub record IsDealing (broker : BrokerView) (dealt worker_count k : ℕ) (worker : WorkerView) : Type 0 where

@@ -35,7 +35,7 @@ pub record HasHandled (input : List ℕ) (s : SessionView) : Type 0 where
   pub each : AllByRecursion (λ call. IsFrameBody call.frame) transcript.calls
   pub whole : AllByRecursion IsNotCut transcript.calls
   pub stands : StandsAt s rest transcript transcript.end
-  pub told : AreKept s.told s.number s.pass transcript.calls
+  pub kept : AreKept s.kept s.number s.pass transcript.calls
 
 pub record HasReceivedNothing (input : List ℕ) (s : SessionView) : Type 0 where
   pub none : input ≡ []
@@ -44,7 +44,7 @@ pub record HasReceivedNothing (input : List ℕ) (s : SessionView) : Type 0 wher
   pub ended : s.pass.ended ≡ []
   pub going : s.pass.going ≡ None
   pub waits : s.pass.waits ≡ None
-  pub told : AreKept s.told s.number s.pass []
+  pub kept : AreKept s.kept s.number s.pass []
 
 -- this is all that it has received so far
 abbrev pub HasReceived : List ℕ → SessionView → Type 0

@@ -1,5 +1,5 @@
 -- The lines of a session's replies, which are kept as it is answered.
-use Rattle.std.specs.Prelude.{ℕ, ◌≡◌, List, [], ◌∷◌, ◌++◌, Option, Some, None, IfSome, slice_get, ⊤}
+use Rattle.std.specs.Prelude.{ℕ, ◌≡◌, ◌≢◌, ◌≤◌, All, Any, true, List, [], ◌∷◌, ◌++◌, Option, Some, None, IfSome, slice_get, ⊤}
 use Rattle.std.specs.List.{flat_map}
 use Rattle.audit.specs.declared.account.Account.{Account}
 use Rattle.audit.specs.declared.account.Call.{Call}
@@ -11,7 +11,7 @@ use Rattle.kwire.specs.declared.reply.Reply.{Reply}
 use Rattle.kwire.specs.Spelling.{spelling}
 use Rattle.shared_broker.specs.Passes.{PassView}
 use Rattle.trace_file.specs.PrintedLine.{reply_line}
-use Rattle.trace_workers.specs.Sessions.{DeskView}
+use Rattle.trace_workers.specs.Sessions.{DeskView, HasLines}
 
 -- parts, one after the other
 abbrev pub joined : List (List ℕ) → List ℕ
@@ -34,7 +34,7 @@ HasPut session frame (Some before) now = (reply : Reply) → frame ≡ spelling 
 
 -- none, so far
 abbrev pub IsFresh : Option (List ℕ) → Type 0
-IsFresh told = IfSome told (λ text. text ≡ [])
+IsFresh kept = IfSome kept (λ text. text ≡ [])
 
 -- the lines of the replies to these calls, in the account
 abbrev pub AreLines : Account → ℕ → List Call → List ℕ → Type 0
@@ -53,7 +53,16 @@ pub record IsToldIn (account : Account) (number : ℕ) (text : List ℕ) : Type 
 
 -- where the session kept lines, they are those of its replies in the account
 abbrev pub HasKept : Account → DeskView → Type 0
-HasKept account desk = IfSome desk.told (IsToldIn account desk.number)
+HasKept account desk = IfSome desk.kept (IsToldIn account desk.number)
+
+-- each pass that has a transcript has a desk of its number
+abbrev pub HaveDesks : Account → List DeskView → Type 0
+HaveDesks account desks =
+    (number : ℕ) (transcripts : List Transcript) → slice_get account.passes number ≡ Some transcripts → transcripts ≢ [] → Any (λ (desk : DeskView). desk.number ≡ number) desks
+
+-- the desks of this number and of greater ones have the lines of their replies
+abbrev pub HaveLinesFrom : ℕ → List DeskView → Type 0
+HaveLinesFrom number desks = All (λ (desk : DeskView). number ≤ desk.number → HasLines true desk) desks
 
 -- what is printed of the pass of this number was put behind what stood there
 abbrev pub HasPutPass : Account → ℕ → List ℕ → List ℕ → Type 0

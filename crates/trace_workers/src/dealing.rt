@@ -1,6 +1,6 @@
 //! `run_lines` deals the passes of a new broker to workers by `deal`, and has their sessions and the clock back from `gather` once all threads
 //! are joined.
-ghost use Rattle.std.specs.Prelude.{◌≡◌, ◌+◌, ◌<◌, ◌≤◌, ◌++◌, ◌∷◌, ℕ, [], false, All, Some, List as Items, IfOk, OnOk, length};
+ghost use Rattle.std.specs.Prelude.{◌≡◌, ◌+◌, ◌<◌, ◌≤◌, ◌++◌, ◌∷◌, Bool, ℕ, [], false, All, Some, List as Items, IfOk, OnOk, length};
 ghost use Rattle.std.specs.List.{flat_map};
 ghost use Rattle.std.specs.Option.{option_or};
 ghost use Rattle.shared_broker.specs.Making.{fresh_pass, fresh_passes};
@@ -10,6 +10,8 @@ ghost use Rattle.trace_workers.specs.Dealing.{AreDealing, empty_worker, empty_wo
 ghost use Rattle.trace_workers.specs.Dealt.{AreDealt, AreWorked};
 ghost use Rattle.trace_workers.specs.Gathered.{IsRunning, first_clock, sessions_in};
 ghost use Rattle.trace_workers.specs.Joined.{HasJoined};
+ghost use Rattle.trace_workers.specs.Sessions.{KeepsLines};
+ghost use Rattle.trace_workers.specs.Workers.{AllKeep};
 
 use crate::joined::JoinedSessions;
 use crate::reply_lines::lines_if;
@@ -63,17 +65,18 @@ fn deal_session(
     workers: &mut [Worker],
     number: u32,
     pass: Pass,
-    is_told: bool,
+    keeps_lines: bool,
 ) -> Result<(), NoMemory>
     requires some { 1 ≤ length workers.old }
-    ensures { OnOk result ((broker : BrokerView) → pass ≡ fresh_pass broker number
+    ensures dealt { OnOk result ((broker : BrokerView) → pass ≡ fresh_pass broker number
         → AreDealing broker number (length workers.old) workers.old → AreDealing broker (number + 1) (length workers.old) workers.new) }
+    ensures kept { OnOk result (All (AllKeep keeps_lines) workers.old → All (AllKeep keeps_lines) workers.new) }
 {
     let at = number as usize % workers.len();
-    let told = lines_if(alloc, is_told)?;
+    let kept = lines_if(alloc, keeps_lines)?;
     add_session(
         &mut workers[at],
-        TraceSession::new(alloc, number, pass, told),
+        TraceSession::new(alloc, number, pass, kept),
     )
 }
 
@@ -82,16 +85,17 @@ fn deal_sessions(
     alloc: Global,
     workers: &mut [Worker],
     passes: List<Pass>,
-    is_told: bool,
+    keeps_lines: bool,
 ) -> Result<(), NoMemory>
     requires some { 1 ≤ length workers.old }
     requires few { length passes ≤ 64 }
-    ensures { OnOk result ((broker : BrokerView) (count : ℕ) → passes ≡ fresh_passes broker count
+    ensures dealt { OnOk result ((broker : BrokerView) (count : ℕ) → passes ≡ fresh_passes broker count
         → AreDealing broker 0 (length workers.old) workers.old → AreDealing broker count (length workers.old) workers.new) }
+    ensures kept { OnOk result (All (AllKeep keeps_lines) workers.old → All (AllKeep keeps_lines) workers.new) }
 {
     let mut number = 0;
     for pass in passes.into_vec() {
-        deal_session(alloc, workers, number, pass, is_told)?;
+        deal_session(alloc, workers, number, pass, keeps_lines)?;
         number += 1;
     }
     Ok(())
@@ -100,30 +104,32 @@ fn deal_sessions(
 // Gives the clock to the first worker.
 fn deal_clock(workers: &mut [Worker], clock: Pass)
     requires some { 1 ≤ length workers.old }
-    ensures { (broker : BrokerView) (count : ℕ) → clock ≡ fresh_pass broker count
+    ensures dealt { (broker : BrokerView) (count : ℕ) → clock ≡ fresh_pass broker count
         → AreDealing broker count (length workers.old) workers.old → AreDealt broker count (length workers.old) workers.new }
+    ensures kept { (keeps : Bool) → All (AllKeep keeps) workers.old → All (AllKeep keeps) workers.new }
 {
     set_clock(&mut workers[0], clock);
 }
 
 /// Deals the passes to that many workers: the last pass is the clock's, and each other one is a session's, which keeps the lines of its
-/// replies if it is told to.
+/// replies if `keeps_lines` is true.
 pub fn deal(
     alloc: Global,
     passes: List<Pass>,
     worker_count: u32,
-    is_told: bool,
+    keeps_lines: bool,
 ) -> Result<List<Worker>, NoMemory>
     requires worker_count { (1 ≤ worker_count) × (worker_count ≤ 16) }
     requires fresh { (broker : BrokerView) × (count : ℕ) × (passes ≡ fresh_passes broker (count + 1)) × (count ≤ 64) }
-    ensures { IfOk result (λ workers. (broker : BrokerView) (count : ℕ) → passes ≡ fresh_passes broker (count + 1) → AreDealt broker count worker_count workers) }
+    ensures dealt { IfOk result (λ workers. (broker : BrokerView) (count : ℕ) → passes ≡ fresh_passes broker (count + 1) → AreDealt broker count worker_count workers) }
+    ensures kept { IfOk result (All (AllKeep keeps_lines)) }
 {
     let mut workers = empty_workers(alloc, worker_count)?;
     let mut passes = passes;
     let Some(clock) = passes.pop() else {
         unreachable!()
     };
-    deal_sessions(alloc, workers.as_mut_slice(), passes, is_told)?;
+    deal_sessions(alloc, workers.as_mut_slice(), passes, keeps_lines)?;
     deal_clock(workers.as_mut_slice(), clock);
     Ok(workers)
 }
@@ -200,8 +206,9 @@ fn gather_all(alloc: Global, workers: List<Worker>) -> Result<Gathered, NoMemory
 /// The sessions and the clock of all workers. An error if one of them ran out of memory.
 pub fn gather(alloc: Global, workers: List<Worker>) -> Result<JoinedSessions, NoMemory>
     requires { (broker : BrokerView) × (lines : Items TheLine) × (count : ℕ) × (worker_count : ℕ) × (1 ≤ worker_count) × AreWorked broker lines count worker_count workers }
-    ensures { IfOk result (λ joined. (broker : BrokerView) (lines : Items TheLine) (count worker_count : ℕ) → 1 ≤ worker_count → AreWorked broker lines count worker_count workers
+    ensures joined { IfOk result (λ joined. (broker : BrokerView) (lines : Items TheLine) (count worker_count : ℕ) → 1 ≤ worker_count → AreWorked broker lines count worker_count workers
         → HasJoined broker lines count joined) }
+    ensures kept { IfOk result (λ joined. (keeps : Bool) → All (AllKeep keeps) workers → All (KeepsLines keeps) joined.sessions) }
 {
     let Gathered { sessions, clock } = gather_all(alloc, workers)?;
     let Some(clock) = clock else { unreachable!() };

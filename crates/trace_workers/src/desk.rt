@@ -16,7 +16,7 @@ pub struct Desk {
     pub(crate) inbox: Inbox,
     pub(crate) is_shut: bool,
     pub(crate) is_named: bool,
-    pub(crate) told: Option<ReplyLines>,
+    pub(crate) kept: Option<ReplyLines>,
 }
 
 impl Model for Desk {
@@ -24,7 +24,7 @@ impl Model for Desk {
 
     ghost Value = { DeskView };
 
-    ghost view = { λ d. record { number = d.number; inbox = d.inbox; is_shut = d.is_shut; is_named = d.is_named; told = d.told } };
+    ghost view = { λ d. record { number = d.number; inbox = d.inbox; is_shut = d.is_shut; is_named = d.is_named; kept = d.kept } };
 }
 
 impl Desk {
@@ -37,10 +37,10 @@ impl Desk {
 
     /// The lines that the session kept of its replies, if it kept any. They are taken from it.
     pub(crate) fn take_lines(&mut self) -> Option<ReplyLines>
-        ensures lines { result ≡ self.old.told }
-        ensures left { self.new ≡ record self.old { told = None } }
+        ensures lines { result ≡ self.old.kept }
+        ensures left { self.new ≡ record self.old { kept = None } }
     {
-        self.told.take()
+        self.kept.take()
     }
 
     /// The session again, with its pass.
@@ -53,7 +53,7 @@ impl Desk {
             inbox,
             is_shut,
             is_named,
-            told,
+            kept,
         } = self;
         TraceSession {
             alloc,
@@ -62,7 +62,7 @@ impl Desk {
             inbox,
             is_shut,
             is_named,
-            told,
+            kept,
         }
     }
 }

@@ -1,14 +1,14 @@
 //! The sessions and the clock of a run once `gather` has them from the workers: `run_lines` calls `close`, by which one thread lets them go on
 //! and then closes the broker.
-ghost use Rattle.std.specs.Prelude.{◌≡◌, ◌≢◌, ◌≤◌, ◌<◌, ◌+◌, ◌++◌, ◌∷◌, [], ℕ, true, false, All, List as Items, IfOk, OnOk, is_some, length, map, slice_index_or};
+ghost use Rattle.std.specs.Prelude.{◌≡◌, ◌≢◌, ◌≤◌, ◌<◌, ◌+◌, ◌++◌, ◌∷◌, [], Bool, ℕ, true, false, All, List as Items, IfOk, OnOk, is_some, length, map, slice_index_or};
 ghost use Rattle.std.specs.List.{list_any};
 ghost use Rattle.trace_file.specs.declared.line.Line.{Line as TheLine};
 ghost use Rattle.shared_broker.specs.Closing.{HasClosed as HasEnded};
 ghost use Rattle.shared_broker.specs.Passes.{BrokerView};
 ghost use Rattle.trace_workers.specs.Resting.{Rests};
-ghost use Rattle.trace_workers.specs.Sessions.{SessionView, desk_of};
-ghost use Rattle.trace_workers.specs.Closed.{CameTo, HasClosed, HasGoneOn, IsWhole};
-ghost use Rattle.trace_workers.specs.Joined.{JoinedView, HasCome, HasJoined, HasRun, passes_in};
+ghost use Rattle.trace_workers.specs.Sessions.{HasLines, KeepsLines, SessionView, desk_of};
+ghost use Rattle.trace_workers.specs.Closed.{CameTo, HasClosed, HasGoneOn, IsWhole, StillKeep};
+ghost use Rattle.trace_workers.specs.Joined.{JoinedView, HasCome, HasJoined, HasRun, KeepAsBefore, passes_in};
 
 use crate::played::Played;
 use crate::{Desk, TraceSession};
@@ -150,7 +150,8 @@ impl Unclosed {
     // Lets the sessions and the clock go on until nobody can act, and then closes the broker, or hands everything back.
     fn finish(self, rt: &impl Wait, alloc: Global, drain: bool) -> Result<Closing, NoMemory>
         requires { (lines : Items TheLine) × (count : ℕ) × HasRun self.broker lines count drain self.joined × IsWhole self.broker count }
-        ensures { IfOk result (λ closing. (lines : Items TheLine) (count : ℕ) → HasRun self.broker lines count drain self.joined → HasGoneOn self.broker lines count drain closing) }
+        ensures gone { IfOk result (λ closing. (lines : Items TheLine) (count : ℕ) → HasRun self.broker lines count drain self.joined → HasGoneOn self.broker lines count drain closing) }
+        ensures kept { IfOk result (λ closing. (keeps : Bool) → All (KeepsLines keeps) self.joined.sessions → StillKeep keeps closing) }
     {
         let Unclosed { broker, mut joined } = self;
         joined.finish(rt, &broker, drain)?;
@@ -166,6 +167,7 @@ impl JoinedSessions {
         ensures clock { self.new.clock ≡ self.old.clock }
         ensures size { length self.new.sessions ≡ length self.old.sessions }
         ensures whole { OnOk result ((lines : Items TheLine) (count : ℕ) → HasJoined broker.now lines count self.old → HasJoined broker.now lines count self.new) }
+        ensures kept { KeepAsBefore self.old self.new }
         ensures alone { (k : ℕ) (s : SessionView) → k ≢ at → slice_index_or self.new.sessions k s ≡ slice_index_or self.old.sessions k s }
         ensures moved { IfOk result (λ did. did ≡ true → (s : SessionView) → slice_index_or self.new.sessions at s ≢ slice_index_or self.old.sessions at s) }
         ensures rests { IfOk result (λ did. did ≡ false → (s : SessionView) → Rests (slice_index_or self.new.sessions at s)) }
@@ -178,6 +180,7 @@ impl JoinedSessions {
         requires whole { (lines : Items TheLine) × (count : ℕ) × HasJoined broker.now lines count self.old }
         ensures clock { self.new.clock ≡ self.old.clock }
         ensures whole { OnOk result ((lines : Items TheLine) (count : ℕ) → HasJoined broker.now lines count self.old → HasJoined broker.now lines count self.new) }
+        ensures kept { KeepAsBefore self.old self.new }
         ensures moved { IfOk result (λ did. did ≡ true → self.new.sessions ≢ self.old.sessions) }
         ensures rests { IfOk result (λ did. did ≡ false → All Rests self.new.sessions) }
     {
@@ -195,6 +198,7 @@ impl JoinedSessions {
         requires whole { (lines : Items TheLine) × (count : ℕ) × HasJoined broker.now lines count self.old }
         ensures clock { self.new.clock ≡ self.old.clock }
         ensures whole { OnOk result ((lines : Items TheLine) (count : ℕ) → HasJoined broker.now lines count self.old → HasJoined broker.now lines count self.new) }
+        ensures kept { KeepAsBefore self.old self.new }
         ensures rests { OnOk result (All Rests self.new.sessions) }
     {
         for _ in rt.forever() {
@@ -218,7 +222,8 @@ impl JoinedSessions {
     // Moves the clock on by a second. If there is no such moment, this waits forever.
     fn tick(&mut self, rt: &impl Wait, broker: &Broker) -> Result<(), NoMemory>
         requires { (lines : Items TheLine) × (count : ℕ) × HasRun broker.now lines count true self.old }
-        ensures { OnOk result ((lines : Items TheLine) (count : ℕ) → HasRun broker.now lines count true self.old → HasRun broker.now lines count true self.new) }
+        ensures run { OnOk result ((lines : Items TheLine) (count : ℕ) → HasRun broker.now lines count true self.old → HasRun broker.now lines count true self.new) }
+        ensures sessions { self.new.sessions ≡ self.old.sessions }
     {
         let t = later(rt, self.clock.ticked());
         broker.tick(rt, &mut self.clock, t)
@@ -229,6 +234,7 @@ impl JoinedSessions {
         requires { (lines : Items TheLine) × (count : ℕ) × HasRun broker.now lines count drain self.old }
         ensures run { OnOk result ((lines : Items TheLine) (count : ℕ) → HasRun broker.now lines count drain self.old → HasRun broker.now lines count drain self.new) }
         ensures come { OnOk result (HasCome drain self.new) }
+        ensures kept { KeepAsBefore self.old self.new }
     {
         for _ in rt.forever() {
             self.go_on(rt, broker)?;
@@ -286,7 +292,8 @@ impl JoinedSessions {
         drain: bool,
     ) -> Result<Played, NoMemory>
         requires { (lines : Items TheLine) × (count : ℕ) × HasRun broker lines count drain self × IsWhole broker count }
-        ensures { IfOk result (λ played. (lines : Items TheLine) (count : ℕ) → HasRun broker lines count drain self → CameTo broker lines count drain played) }
+        ensures come { IfOk result (λ played. (lines : Items TheLine) (count : ℕ) → HasRun broker lines count drain self → CameTo broker lines count drain played) }
+        ensures kept { IfOk result (λ played. (keeps : Bool) → All (KeepsLines keeps) self.sessions → All (HasLines keeps) played.desks) }
     {
         let mut left = Unclosed {
             broker,

@@ -1,5 +1,5 @@
 //! The printed lines of a session's replies, made as it is answered. A session of a trace has them if its run is printed session by session.
-ghost use Rattle.std.specs.Prelude.{◌≡◌, ◌++◌, [], OnOk, IfOk};
+ghost use Rattle.std.specs.Prelude.{◌≡◌, ◌++◌, [], OnOk, IfOk, is_some};
 ghost use Rattle.kwire.specs.Spelling.{spelling};
 ghost use Rattle.kwire.specs.declared.reply.Reply.{Reply};
 ghost use Rattle.trace_file.specs.PrintedLine.{reply_line};
@@ -82,20 +82,22 @@ impl ReplyLines {
 }
 
 /// No lines yet, if a session is to keep them.
-pub fn lines_if(alloc: Global, is_told: bool) -> Result<Option<ReplyLines>, NoMemory>
-    ensures { IfOk result IsFresh }
+pub fn lines_if(alloc: Global, keeps_lines: bool) -> Result<Option<ReplyLines>, NoMemory>
+    ensures fresh { IfOk result IsFresh }
+    ensures kept { IfOk result (λ lines. is_some lines ≡ keeps_lines) }
 {
-    if !is_told {
+    if !keeps_lines {
         return Ok(None);
     }
     Ok(Some(ReplyLines::make(alloc)?))
 }
 
 /// Adds the line of a reply, if lines are kept.
-pub fn put_line(told: &mut Option<ReplyLines>, session: u32, frame: &[u8]) -> Result<(), NoMemory>
-    ensures { OnOk result (HasPut session frame.now told.old told.new) }
+pub fn put_line(kept: &mut Option<ReplyLines>, session: u32, frame: &[u8]) -> Result<(), NoMemory>
+    ensures line { OnOk result (HasPut session frame.now kept.old kept.new) }
+    ensures still { is_some kept.new ≡ is_some kept.old }
 {
-    match told {
+    match kept {
         Some(lines) => lines.put(session, frame),
         None => Ok(()),
     }

@@ -1,12 +1,13 @@
 //! `run_lines` and `print_lines`, which the programs call: a broker is made and dealt to workers, their threads are started, and what they hand
 //! back is closed.
-ghost use Rattle.std.specs.Prelude.{◌≡◌, ◌≤◌, ◌∷◌, [], false, All, IfOk, length};
+ghost use Rattle.std.specs.Prelude.{◌≡◌, ◌≤◌, ◌∷◌, [], Bool, false, All, IfOk, length};
 ghost use Rattle.audit.specs.Printed.{IsPrintOf};
 ghost use Rattle.trace_file.specs.Contents.{sessions_of};
-ghost use Rattle.trace_workers.specs.Workers.{HasAll, HasDone, IsSameWorker};
+ghost use Rattle.trace_workers.specs.Sessions.{HasLines};
+ghost use Rattle.trace_workers.specs.Workers.{AllKeep, HasAll, HasDone, IsSameWorker};
 ghost use Rattle.trace_workers.specs.Playable.{AreTraced};
 ghost use Rattle.trace_workers.specs.Dealt.{AreDealt, AreWorked};
-ghost use Rattle.trace_workers.specs.Telling.{HasKept, joined};
+ghost use Rattle.trace_workers.specs.Telling.{HasKept, HaveDesks, joined};
 ghost use Rattle.trace_workers.specs.WorkerRun.{IsWorkerRun};
 
 use crate::dealing::{deal, gather};
@@ -55,7 +56,8 @@ fn work_all<R: Threads + Wait + Sync, G: Gate + Sync>(
     requires traced { AreTraced lines.now }
     requires some { 1 ≤ length workers.old }
     requires dealt { AreDealt broker.now (sessions_of lines.now) (length workers.old) workers.old }
-    ensures { AreWorked broker.now lines.now (sessions_of lines.now) (length workers.old) workers.new }
+    ensures worked { AreWorked broker.now lines.now (sessions_of lines.now) (length workers.old) workers.new }
+    ensures kept { (keeps : Bool) → All (AllKeep keeps) workers.old → All (AllKeep keeps) workers.new }
 {
     let threads = workers.len();
     let work = |_at: usize, worker: &mut Worker|
@@ -76,7 +78,7 @@ struct Manner {
     port: u16,
     worker_count: u32,
     drain: bool,
-    is_told: bool,
+    keeps_lines: bool,
 }
 
 // Plays the lines in this manner.
@@ -91,11 +93,13 @@ fn play<R: Threads + Wait + Sync, G: Gate + Sync>(
     requires worker_count { (1 ≤ manner.worker_count) × (manner.worker_count ≤ 16) }
     ensures run { IfOk result (λ played. IsWorkerRun lines.now manner.port manner.drain played.account) }
     ensures kept { IfOk result (λ played. All (HasKept played.account) played.desks) }
+    ensures lines { IfOk result (λ played. All (HasLines manner.keeps_lines) played.desks) }
+    ensures desks { IfOk result (λ played. HaveDesks played.account played.desks) }
 {
     let config = config_of(alloc, lines, manner.port)?;
     let count = sessions_of(lines);
     let (broker, passes) = Broker::make(alloc, config, count + 1)?;
-    let mut workers = deal(alloc, passes, manner.worker_count, manner.is_told)?;
+    let mut workers = deal(alloc, passes, manner.worker_count, manner.keeps_lines)?;
     work_all(rt, &broker, gate, lines, workers.as_mut_slice());
     let joined = gather(alloc, workers)?;
     joined.close(rt, alloc, broker, manner.drain)
@@ -121,7 +125,7 @@ pub fn run_lines<R: Threads + Wait + Sync, G: Gate + Sync>(
         port,
         worker_count,
         drain,
-        is_told: false,
+        keeps_lines: false,
     };
     let Played { account, .. } = play(rt, alloc, lines, manner, gate)?;
     Ok(account)
@@ -145,9 +149,9 @@ pub fn print_lines<R: Threads + Wait + Sync>(
         port,
         worker_count,
         drain: false,
-        is_told: true,
+        keeps_lines: true,
     };
     let Played { account, mut desks } = play(rt, alloc, lines, manner, &NoGate)?;
-    let parts = print_parts(rt, alloc, &account, desks.as_mut_slice(), worker_count)?;
+    let parts = print_parts(alloc, &account, desks.as_mut_slice())?;
     Ok((account, parts))
 }

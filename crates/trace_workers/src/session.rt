@@ -21,7 +21,7 @@ pub struct TraceSession {
     pub(crate) inbox: Inbox,
     pub(crate) is_shut: bool,
     pub(crate) is_named: bool,
-    pub(crate) told: Option<ReplyLines>,
+    pub(crate) kept: Option<ReplyLines>,
 }
 
 impl Model for TraceSession {
@@ -29,13 +29,13 @@ impl Model for TraceSession {
 
     ghost Value = { SessionView };
 
-    ghost view = { λ s. record { number = s.number; pass = s.pass; inbox = s.inbox; is_shut = s.is_shut; is_named = s.is_named; told = s.told } };
+    ghost view = { λ s. record { number = s.number; pass = s.pass; inbox = s.inbox; is_shut = s.is_shut; is_named = s.is_named; kept = s.kept } };
 }
 
 impl TraceSession {
     /// The session of this number, on a pass that has no transcript. No line has named it. It keeps the lines of its replies if it is given where.
-    pub fn new(alloc: Global, number: u32, pass: Pass, told: Option<ReplyLines>) -> TraceSession
-        ensures { result ≡ record { number = number; pass = pass; inbox = []; is_shut = false; is_named = false; told = told } }
+    pub fn new(alloc: Global, number: u32, pass: Pass, kept: Option<ReplyLines>) -> TraceSession
+        ensures { result ≡ record { number = number; pass = pass; inbox = []; is_shut = false; is_named = false; kept = kept } }
     {
         TraceSession {
             alloc,
@@ -44,7 +44,7 @@ impl TraceSession {
             inbox: Inbox::new(alloc),
             is_shut: false,
             is_named: false,
-            told,
+            kept,
         }
     }
 
@@ -73,7 +73,7 @@ impl TraceSession {
             inbox,
             is_shut,
             is_named,
-            told,
+            kept,
         } = self;
         let desk = Desk {
             alloc,
@@ -81,7 +81,7 @@ impl TraceSession {
             inbox,
             is_shut,
             is_named,
-            told,
+            kept,
         };
         (pass, desk)
     }

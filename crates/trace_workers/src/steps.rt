@@ -31,14 +31,14 @@ fn front_body(bytes: &[u8], end: usize) -> &[u8]
 }
 
 // Hands the broker a frame. If no line is kept of the reply, it has no bytes.
-fn ask(rt: &impl Wait, broker: &Broker, pass: &mut Pass, body: &[u8], is_told: bool) -> Handled
+fn ask(rt: &impl Wait, broker: &Broker, pass: &mut Pass, body: &[u8], keeps_lines: bool) -> Handled
     requires made { made_with pass.old ≡ broker.now }
     requires begun { IsSome pass.old.going }
     requires none { pass.old.waits ≡ None }
     requires whole { is_cut_off pass.old.going ≡ false }
-    ensures { HasHandledAs is_told body.now result pass.old pass.new }
+    ensures { HasHandledAs keeps_lines body.now result pass.old pass.new }
 {
-    if is_told {
+    if keeps_lines {
         broker.handle(rt, pass, body)
     } else {
         broker.handle_unsent(rt, pass, body)
@@ -46,12 +46,12 @@ fn ask(rt: &impl Wait, broker: &Broker, pass: &mut Pass, body: &[u8], is_told: b
 }
 
 // Asks the broker for the reply that its session waits for. If no line is kept of it, it has no bytes.
-fn ask_again(rt: &impl Wait, broker: &Broker, pass: &mut Pass, is_told: bool) -> Collected
+fn ask_again(rt: &impl Wait, broker: &Broker, pass: &mut Pass, keeps_lines: bool) -> Collected
     requires made { made_with pass.old ≡ broker.now }
     requires waits { IsSome pass.old.waits }
-    ensures { HasCollectedAs is_told result pass.old pass.new }
+    ensures { HasCollectedAs keeps_lines result pass.old pass.new }
 {
-    if is_told {
+    if keeps_lines {
         broker.collect(rt, pass)
     } else {
         broker.collect_unsent(rt, pass)
@@ -148,9 +148,9 @@ impl TraceSession {
         ensures rests { IfOk result (λ did. did ≡ false → Rests self.new) }
         ensures looked { IfOk result (λ did. did ≡ false → is_some self.new.pass.waits ≡ true → HasPolled None self.old.pass.logs.seat self.new.pass.logs.seat) }
     {
-        match ask_again(rt, broker, &mut self.pass, self.told.is_some()) {
+        match ask_again(rt, broker, &mut self.pass, self.kept.is_some()) {
             Collected::Reply(frame) => {
-                put_line(&mut self.told, self.number, frame.as_slice())?;
+                put_line(&mut self.kept, self.number, frame.as_slice())?;
                 Ok(true)
             }
             Collected::NotYet => Ok(false),
@@ -173,9 +173,9 @@ impl TraceSession {
         ensures moved { OnOk result (self.new.pass.going ≢ self.old.pass.going) }
     {
         let body = front_body(self.inbox.bytes(), end);
-        match ask(rt, broker, &mut self.pass, body, self.told.is_some()) {
+        match ask(rt, broker, &mut self.pass, body, self.kept.is_some()) {
             Handled::Reply(frame) => {
-                put_line(&mut self.told, self.number, frame.as_slice())?;
+                put_line(&mut self.kept, self.number, frame.as_slice())?;
                 self.inbox.drop_front(end);
                 Ok(true)
             }

@@ -27,11 +27,12 @@ loop-pass-preserved c =
           let h = i.dealt broker count fresh first in
           let is : pass ≡ fresh_pass broker number = next_pass broker count front next pass (whole ∙ fresh) ∙ ap (fresh_pass broker) (sym i.number) in
           subst (λ (w : ℕ). AreDealing broker (number + 1) w c.deal_session.new.workers) h.size
-          (c.in_ok-deal_session.ensures broker is (subst (λ (w : ℕ). AreDealing broker number w c.loop-pass.workers) (sym h.size) h));
+          (c.in_ok-deal_session.ensures.dealt broker is (subst (λ (w : ℕ). AreDealing broker number w c.loop-pass.workers) (sym h.size) h));
+      kept = λ all. c.in_ok-deal_session.ensures.kept (i.kept all);
     }
 
-pub returns : goal.returns
-returns c broker count fresh first =
+pub returns-clause-dealt : goal.returns-clause-dealt
+returns-clause-dealt c broker count fresh first =
     let i = c.loop-pass.invariant in
     let front = c.loop-pass.yielded in
     let rest = into_iter_items c.loop-pass.pass-iterator in

@@ -1,19 +1,28 @@
 use Rattle.std.proofs.Common.{◌≡◌, ◌∙◌, ℕ, List, ◌∷◌, ◌++◌, [], sym, ap, subst}
+use Rattle.std.proofs.lemmas.Result.{on_ok_weaker}
 use Rattle.audit.specs.Printed.{end_line}
 use Rattle.trace_workers.specs.Sessions.{DeskView}
 use Rattle.trace_workers.specs.Telling.{HasKept, joined}
-use Rattle.trace_workers.proofs.Parts.{first_none, joined_more, nothing_put, pass_at, session_put}
+use Rattle.trace_workers.proofs.Parts.{desks_with, first_none, joined_more, nothing_put, pass_at, session_put}
 use Rattle.trace_workers.proofs.played.put_pass.Goals as goal
 
 pub returns-in_default-clause-put : goal.returns-in_default-clause-put
-returns-in_default-clause-put c is_put =
+returns-in_default-clause-put c =
     let account = c.args.account.now in
     let ts = c.as_slice-transcripts.result.now in
     let there = pass_at account c.args.number c.as_slice.result.now ts c.index-as_slice-number.result c.as_slice.ensures c.as_slice-transcripts.ensures c.requires.there c.index-as_slice-number.is in
     nothing_put account c.args.number ts (joined c.args.parts.now) there (first_none ts c.in_default.ensures.value)
 
+pub returns-clause-desks : goal.returns-clause-desks
+returns-clause-desks c =
+    let desks = c.args.desks.now in
+    let at = c.in-Some-place_of.at in
+    let d = c.index-desks-at-2.result in
+    let same = ap (λ (x : DeskView). x.number) c.in-Some-take_lines.ensures.left in
+    on_ok_weaker c.push.result (λ _. desks_with c.args.account.now at desks d c.take_lines.new.self c.in-Some-place_of.ensures.there same c.requires.desks) c.push.ensures.ok
+
 pub returns-clause-put : goal.returns-clause-put
-returns-clause-put c is_put =
+returns-clause-put c =
     let account = c.args.account.now in
     let number = c.args.number in
     let ts = c.as_slice-transcripts.result.now in
@@ -28,8 +37,12 @@ returns-clause-put c is_put =
     let more = c.in_ok-into_parts.field-0 in
     let end = c.in_ok-end_text.field-0 in
     let lines = c.in-Some-take_lines.lines in
+    let new = c.push.new.self in
     let end_is : end ≡ end_line desk.number t.end = c.in_ok-end_text.ensures ∙ ap (λ (n : ℕ). end_line n t.end) (c.number-session.ensures ∙ same) in
-    let put = ap joined (c.in_ok-push.ensures.ok ∙ ap (λ (ps : List (List ℕ)). ps ++ end ∷ []) c.in_ok-put_all.ensures) ∙ joined_more old more end
-    ∙ ap (λ (x : List ℕ). joined old ++ (x ++ end)) c.in_ok-into_parts.ensures ∙ ap (λ (x : List ℕ). joined old ++ (lines ++ x)) end_is in
-    session_put account number ts t desk lines (joined old) (joined c.push.new.self) there (sym c.in-Some.ensures.value) (ap (λ (d : DeskView). d.number) c.index-desks-at-2.is ∙ found.ensures.number desk) kept
-    (ap (λ (d : DeskView). d.told) c.index-desks-at-2.is ∙ sym c.in-Some-take_lines.ensures.lines) put
+    let put : c.put_all.new.parts ++ end ∷ [] ≡ (old ++ more) ++ end ∷ [] = ap (λ (ps : List (List ℕ)). ps ++ end ∷ []) c.in_ok-put_all.ensures in
+    let text = joined_more old more end ∙ ap (λ (x : List ℕ). joined old ++ (x ++ end)) c.in_ok-into_parts.ensures ∙ ap (λ (x : List ℕ). joined old ++ (lines ++ x)) end_is in
+    on_ok_weaker c.push.result
+    (λ (pushed : new ≡ c.put_all.new.parts ++ end ∷ []).
+    session_put account number ts t desk lines (joined old) (joined new) there (sym c.in-Some.ensures.value) (ap (λ (d : DeskView). d.number) c.index-desks-at-2.is ∙ found.ensures.number desk) kept
+    (ap (λ (d : DeskView). d.kept) c.index-desks-at-2.is ∙ sym c.in-Some-take_lines.ensures.lines) (ap joined (pushed ∙ put) ∙ text))
+    c.push.ensures.ok

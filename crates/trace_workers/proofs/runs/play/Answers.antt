@@ -1,18 +1,15 @@
-use Rattle.std.proofs.Common.{◌+◌, ◌∙◌, ℕ, List, ap, arith, refl}
+use Rattle.std.proofs.Common.{◌+◌, ◌∙◌, ℕ, ap, arith, length, refl, subst, sym}
 use Rattle.std.proofs.lemmas.Result.{IfOk-weaker}
-use Rattle.std.specs.Prelude.{All}
+use Rattle.std.specs.Prelude.{All, IfOk}
 use Rattle.trace_file.specs.Contents.{sessions_of}
-use Rattle.trace_file.specs.declared.line.Line.{Line}
-use Rattle.trace_workers.specs.declared.played.Played.{Played}
 use Rattle.trace_workers.specs.Closed.{CameTo}
-use Rattle.trace_workers.specs.Joined.{HasRun}
-use Rattle.trace_workers.specs.Telling.{HasKept}
-use Rattle.trace_workers.specs.WorkerRun.{IsWorkerRun}
+use Rattle.trace_workers.specs.Sessions.{KeepsLines}
+use Rattle.trace_workers.specs.Workers.{AllKeep}
 use Rattle.trace_workers.proofs.Begun.{begun}
 use Rattle.trace_workers.proofs.Counting.{few_counted}
-use Rattle.trace_workers.proofs.Kept.{all_kept}
+use Rattle.trace_workers.proofs.Kept.{all_kept, have_desks}
 use Rattle.trace_workers.proofs.WorkerRun.{worker_run}
-use Rattle.trace_workers.proofs.Working.{worked_again}
+use Rattle.trace_workers.proofs.Working.{worked_again, written}
 use Rattle.trace_workers.proofs.runs.play.Goals as goal
 
 pub overflow_add-count : goal.overflow_add-count
@@ -33,8 +30,8 @@ gather-requires g c =
     let broker = c.in_ok-broker.broker in
     let lines = c.args.lines.now in
     let count = sessions_of lines in
-    let size = (c.in_ok-workers.ensures broker c.sessions_of-count.result c.in_ok-broker.ensures.passes).size in
-    let worked = worked_again broker lines count c.args.manner.worker_count c.in_ok-workers.workers c.as_mut_slice.result.now c.work_all.new.workers size c.as_mut_slice.ensures.value c.work_all.auto.workers c.work_all.ensures in
+    let size = (c.in_ok-workers.ensures.dealt broker c.sessions_of-count.result c.in_ok-broker.ensures.passes).size in
+    let worked = worked_again broker lines count c.args.manner.worker_count c.in_ok-workers.workers c.as_mut_slice.result.now c.work_all.new.workers size c.as_mut_slice.ensures.value c.work_all.auto.workers c.work_all.ensures.worked in
     (broker, lines, count, c.args.manner.worker_count, c.requires.worker_count.0, worked)
 
 pub close-requires : goal.close-requires
@@ -42,36 +39,33 @@ close-requires g c =
     let broker = c.in_ok-broker.broker in
     let lines = c.args.lines.now in
     let count = sessions_of lines in
-    let size = (c.in_ok-workers.ensures broker c.sessions_of-count.result c.in_ok-broker.ensures.passes).size in
-    let worked = worked_again broker lines count c.args.manner.worker_count c.in_ok-workers.workers c.as_mut_slice.result.now c.work_all.new.workers size c.as_mut_slice.ensures.value c.work_all.auto.workers c.work_all.ensures in
-    let run = begun broker lines count c.args.manner.drain c.in_ok-joined.joined (c.in_ok-joined.ensures broker lines count c.args.manner.worker_count c.requires.worker_count.0 worked) in
+    let size = (c.in_ok-workers.ensures.dealt broker c.sessions_of-count.result c.in_ok-broker.ensures.passes).size in
+    let worked = worked_again broker lines count c.args.manner.worker_count c.in_ok-workers.workers c.as_mut_slice.result.now c.work_all.new.workers size c.as_mut_slice.ensures.value c.work_all.auto.workers c.work_all.ensures.worked in
+    let run = begun broker lines count c.args.manner.drain c.in_ok-joined.joined (c.in_ok-joined.ensures.joined broker lines count c.args.manner.worker_count c.requires.worker_count.0 worked) in
     (lines, count, run, c.in_ok-broker.ensures.size ∙ ap (λ (n : ℕ). n + 1) c.sessions_of-count.ensures)
 
-pub returns-clause-run : goal.returns-clause-run
-returns-clause-run g c =
+pub returns : goal.returns
+returns g c =
     let broker = c.in_ok-broker.broker in
     let lines = c.args.lines.now in
     let count = sessions_of lines in
     let drain = c.args.manner.drain in
+    let keeps = c.args.manner.keeps_lines in
     let joined = c.in_ok-joined.joined in
-    let size = (c.in_ok-workers.ensures broker c.sessions_of-count.result c.in_ok-broker.ensures.passes).size in
-    let worked = worked_again broker lines count c.args.manner.worker_count c.in_ok-workers.workers c.as_mut_slice.result.now c.work_all.new.workers size c.as_mut_slice.ensures.value c.work_all.auto.workers c.work_all.ensures in
-    let run = begun broker lines count drain joined (c.in_ok-joined.ensures broker lines count c.args.manner.worker_count c.requires.worker_count.0 worked) in
+    let workers = c.in_ok-workers.workers in
+    let worked = c.work_all.new.workers in
+    let lent_is = c.as_mut_slice.ensures.value in
+    let size = (c.in_ok-workers.ensures.dealt broker c.sessions_of-count.result c.in_ok-broker.ensures.passes).size in
+    let done = worked_again broker lines count c.args.manner.worker_count workers c.as_mut_slice.result.now worked size lent_is c.work_all.auto.workers c.work_all.ensures.worked in
+    let run = begun broker lines count drain joined (c.in_ok-joined.ensures.joined broker lines count c.args.manner.worker_count c.requires.worker_count.0 done) in
     let config = c.in_ok-broker.ensures.config ∙ c.in_ok-config.ensures in
-    IfOk-weaker c.close.result (λ (played : Played). (ls : List Line) (n : ℕ) → HasRun broker ls n drain joined → CameTo broker ls n drain played) (λ (played : Played). IsWorkerRun lines c.args.manner.port drain played.account)
-    (λ played came. worker_run broker lines c.args.manner.port count drain played c.requires.traced refl config (came lines count run))
-    c.close.ensures
-
-pub returns-clause-kept : goal.returns-clause-kept
-returns-clause-kept g c =
-    let broker = c.in_ok-broker.broker in
-    let lines = c.args.lines.now in
-    let count = sessions_of lines in
-    let drain = c.args.manner.drain in
-    let joined = c.in_ok-joined.joined in
-    let size = (c.in_ok-workers.ensures broker c.sessions_of-count.result c.in_ok-broker.ensures.passes).size in
-    let worked = worked_again broker lines count c.args.manner.worker_count c.in_ok-workers.workers c.as_mut_slice.result.now c.work_all.new.workers size c.as_mut_slice.ensures.value c.work_all.auto.workers c.work_all.ensures in
-    let run = begun broker lines count drain joined (c.in_ok-joined.ensures broker lines count c.args.manner.worker_count c.requires.worker_count.0 worked) in
-    IfOk-weaker c.close.result (λ (played : Played). (ls : List Line) (n : ℕ) → HasRun broker ls n drain joined → CameTo broker ls n drain played) (λ (played : Played). All (HasKept played.account) played.desks)
-    (λ played came. all_kept broker lines count drain played (came lines count run))
-    c.close.ensures
+    let all = c.work_all.ensures.kept keeps (subst (All (AllKeep keeps)) (sym lent_is) c.in_ok-workers.ensures.kept) in
+    let again = subst (All (AllKeep keeps)) (sym (written workers worked (c.work_all.auto.workers ∙ ap length lent_is))) all in
+    let still : All (KeepsLines keeps) joined.sessions = c.in_ok-joined.ensures.kept keeps again in
+    let came : IfOk c.close.result (CameTo broker lines count drain) = IfOk-weaker c.close.result _ (CameTo broker lines count drain) (λ played goes. goes lines count run) c.close.ensures.come in
+    record {
+      run = IfOk-weaker c.close.result (CameTo broker lines count drain) _ (λ played is. worker_run broker lines c.args.manner.port count drain played c.requires.traced refl config is) came;
+      kept = IfOk-weaker c.close.result (CameTo broker lines count drain) _ (λ played is. all_kept broker lines count drain played is) came;
+      lines = IfOk-weaker c.close.result _ _ (λ played goes. goes keeps still) c.close.ensures.kept;
+      desks = IfOk-weaker c.close.result (CameTo broker lines count drain) _ (λ played is. have_desks broker lines count drain played is) came;
+    }

@@ -14,6 +14,7 @@ loop-at-init g c = record {
   clock = refl;
   size = refl;
   whole = λ lines count h. h;
+  kept = λ keeps all. all;
   untouched = λ k s past. refl;
   moved = λ some. absurd (false≢true some);
   rests = λ none k s less. absurd (omega (arith, less));
@@ -28,6 +29,7 @@ loop-at-preserved g c =
       clock = c.step.ensures.clock ∙ was.clock;
       size = c.step.ensures.size ∙ was.size;
       whole = λ lines count h. c.in_ok-step.ensures.whole lines count (was.whole lines count h);
+      kept = λ keeps all. c.step.ensures.kept keeps (was.kept keeps all);
       untouched = λ k s past. c.step.ensures.alone k s (λ is. omega (arith, past, is)) ∙ was.untouched k s (omega (arith, past));
       moved = λ some. elim c.if-branch.branch [
         | then-branch w ↦ (at, omega arith, λ s is. c.in_ok-step.ensures.moved w.if-branch.true s (is ∙ sym (was.untouched at s (omega arith))))
@@ -43,6 +45,9 @@ loop-at-preserved g c =
         ]
       ];
     }
+
+pub returns-in_err-step-clause-kept : goal.returns-in_err-step-clause-kept
+returns-in_err-step-clause-kept g c keeps all = c.step.ensures.kept keeps (c.loop-at.invariant.kept keeps all)
 
 pub returns-clause-moved : goal.returns-clause-moved
 returns-clause-moved g c some is =

@@ -1,10 +1,12 @@
 use Rattle.std.proofs.Common.{◌≡◌, ◌≢◌, ◌∙◌, ◌<◌, ℕ, Bool, List, true, false, get_or, length, sym, ap, subst}
 use Rattle.std.proofs.lemmas.List.{get_or-set_same, length-set}
+use Rattle.std.specs.Prelude.{All}
+use Rattle.std.proofs.lemmas.List.Elements.{All-set}
 use Rattle.std.proofs.lemmas.Result.{IfOk-weaker, on_ok_weaker}
 use Rattle.trace_file.specs.declared.line.Line.{Line}
 use Rattle.trace_workers.specs.Received.{HasReceived}
 use Rattle.trace_workers.specs.Resting.{Rests}
-use Rattle.trace_workers.specs.Sessions.{IsSameSession, SessionView}
+use Rattle.trace_workers.specs.Sessions.{IsSameSession, KeepsLines, SessionView}
 use Rattle.trace_workers.specs.Joined.{JoinedView, HasJoined}
 use Rattle.trace_workers.proofs.JoinedOn.{lent_on, one_written, step_joined}
 use Rattle.trace_workers.proofs.Moving.{moved_at}
@@ -36,6 +38,19 @@ returns-clause-whole g c =
     (step_joined broker lines count joined at d s there same named shut
     (subst (λ (xs : List SessionView). (input : List ℕ) → HasReceived input (get_or xs at d) → HasReceived input s) value goes)))
     c.step.ensures.received
+
+pub returns-clause-kept : goal.returns-clause-kept
+returns-clause-kept g c keeps =
+    let i = c.self.inside in
+    let joined : JoinedView = record { sessions = i.sessions; clock = i.clock } in
+    let at = c.args.at in
+    let d = c.index-as_mut_slice-at.result in
+    let s = c.step.new.self in
+    let value = c.as_mut_slice.ensures.value in
+    let there = subst (λ (l : JoinedView). at < length l.sessions) (sym c.self.view_is) c.requires.there in
+    let same = subst (λ (xs : List SessionView). IsSameSession (get_or xs at d) s) value c.step.ensures.same in
+    lent_on (λ (old new : JoinedView). All (KeepsLines keeps) old.sessions → All (KeepsLines keeps) new.sessions) joined c.args.self.now c.as_mut_slice.result.now at s c.self.view_is value
+    (λ all. All-set (KeepsLines keeps) i.sessions at s (same.kept ∙ all at d there) all)
 
 pub returns-clause-rests : goal.returns-clause-rests
 returns-clause-rests g c =

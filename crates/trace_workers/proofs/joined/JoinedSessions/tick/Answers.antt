@@ -7,8 +7,8 @@ use Rattle.trace_workers.specs.Joined.{JoinedView, HasRun}
 use Rattle.trace_workers.proofs.JoinedOn.{tick_run}
 use Rattle.trace_workers.proofs.joined.JoinedSessions.tick.Goals as goal
 
-pub returns : goal.returns
-returns g c =
+pub returns-clause-run : goal.returns-clause-run
+returns-clause-run g c =
     let i = c.self.inside in
     let joined : JoinedView = record { sessions = i.sessions; clock = i.clock } in
     let broker = c.args.broker.now in

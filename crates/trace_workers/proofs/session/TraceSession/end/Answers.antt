@@ -17,7 +17,7 @@ finish-requires-clause-cut c cut =
 pub returns-clause-received : goal.returns-clause-received
 returns-clause-received c input h =
     let i = c.self.inside in
-    let s : SessionView = record { number = i.number; pass = i.pass; inbox = i.inbox; is_shut = i.is_shut; is_named = i.is_named; told = i.told } in
+    let s : SessionView = record { number = i.number; pass = i.pass; inbox = i.inbox; is_shut = i.is_shut; is_named = i.is_named; kept = i.kept } in
     let back = sym c.self.view_is in
     let here : HasReceived input s = subst (HasReceived input) back h in
     let goes : is_some s.pass.going ≡ true = subst (λ (x : SessionView). is_some x.pass.going ≡ true) back c.requires.begun in

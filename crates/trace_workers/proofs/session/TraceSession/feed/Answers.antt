@@ -21,7 +21,7 @@ returns-clause-received c =
     (λ (is : c.feed.new.self ≡ c.self.inside.inbox ++ c.args.bytes.now) (input : List ℕ) (h : HasReceived input c.args.self.now).
     let i = c.self.inside in
     let n = c.name.ensures in
-    let s : SessionView = record { number = i.number; pass = i.pass; inbox = i.inbox; is_shut = i.is_shut; is_named = i.is_named; told = i.told } in
+    let s : SessionView = record { number = i.number; pass = i.pass; inbox = i.inbox; is_shut = i.is_shut; is_named = i.is_named; kept = i.kept } in
     let named : s.is_named ≡ true = ap (λ (x : SessionView). x.is_named) c.self.view_is ∙ n.named in
     let here : HasReceived input s = subst (HasReceived input) (sym c.self.view_is) (n.received input h) in
     let goes : is_some i.pass.going ≡ true = sym c.is_begun.ensures ∙ c.if-not-is_begun.false in

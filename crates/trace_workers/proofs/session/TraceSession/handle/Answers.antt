@@ -23,7 +23,7 @@ ask-requires-clause-whole g c =
 pub end-requires-clause-shown : goal.end-requires-clause-shown
 end-requires-clause-shown g c =
     let i = c.self.inside in
-    let s : SessionView = record { number = i.number; pass = i.pass; inbox = i.inbox; is_shut = i.is_shut; is_named = i.is_named; told = i.told } in
+    let s : SessionView = record { number = i.number; pass = i.pass; inbox = i.inbox; is_shut = i.is_shut; is_named = i.is_named; kept = i.kept } in
     let back = sym c.self.view_is in
     let r = c.requires.received in
     let goes : is_some s.pass.going ≡ true = subst (λ (x : SessionView). is_some x.pass.going ≡ true) back c.requires.begun in
@@ -37,31 +37,31 @@ end-requires-clause-shown g c =
 pub returns-in_ok-put_line-in-Reply-clause-received : goal.returns-in_ok-put_line-in-Reply-clause-received
 returns-in_ok-put_line-in-Reply-clause-received g c input h =
     let i = c.self.inside in
-    let s : SessionView = record { number = i.number; pass = i.pass; inbox = i.inbox; is_shut = i.is_shut; is_named = i.is_named; told = i.told } in
+    let s : SessionView = record { number = i.number; pass = i.pass; inbox = i.inbox; is_shut = i.is_shut; is_named = i.is_named; kept = i.kept } in
     let body = c.front_body-body.result.now in
     let new = c.ask.new.pass in
-    let told = c.put_line.new.told in
+    let kept = c.put_line.new.kept in
     let parts : s.inbox ≡ framed body ++ drop c.args.end s.inbox = subst (λ (x : List ℕ). x ≡ framed body ++ drop c.args.end x) c.bytes.ensures c.front_body-body.ensures.parts in
-    let put = subst (λ (bytes : List ℕ). HasPut s.number bytes s.told told) c.as_slice.ensures c.in_ok-put_line-in-Reply.ensures in
-    let call = replied s.number s.told told body c.in-Reply.frame s.pass new (subst (λ (b : Bool). HasHandledAs b body (Handled.Reply c.in-Reply.frame) s.pass new) c.is_some.ensures c.in-Reply.ensures) put in
-    subst (λ (inbox : List ℕ). HasReceived input (record s { pass = new; inbox = inbox; told = told })) (sym c.drop_front.ensures)
-    (handled input s body c.args.end new told c.front_body-body.ensures.small parts call (subst (HasReceived input) (sym c.self.view_is) h))
+    let put = subst (λ (bytes : List ℕ). HasPut s.number bytes s.kept kept) c.as_slice.ensures c.in_ok-put_line-in-Reply.ensures.line in
+    let call = replied s.number s.kept kept body c.in-Reply.frame s.pass new (subst (λ (b : Bool). HasHandledAs b body (Handled.Reply c.in-Reply.frame) s.pass new) c.is_some.ensures c.in-Reply.ensures) put in
+    subst (λ (inbox : List ℕ). HasReceived input (record s { pass = new; inbox = inbox; kept = kept })) (sym c.drop_front.ensures)
+    (handled input s body c.args.end new kept c.front_body-body.ensures.small parts call (subst (HasReceived input) (sym c.self.view_is) h))
 
 pub returns-in-Quiet-clause-received : goal.returns-in-Quiet-clause-received
 returns-in-Quiet-clause-received g c input h =
     let i = c.self.inside in
-    let s : SessionView = record { number = i.number; pass = i.pass; inbox = i.inbox; is_shut = i.is_shut; is_named = i.is_named; told = i.told } in
+    let s : SessionView = record { number = i.number; pass = i.pass; inbox = i.inbox; is_shut = i.is_shut; is_named = i.is_named; kept = i.kept } in
     let body = c.front_body-body.result.now in
     let new = c.ask.new.pass in
     let parts : s.inbox ≡ framed body ++ drop c.args.end s.inbox = subst (λ (x : List ℕ). x ≡ framed body ++ drop c.args.end x) c.bytes.ensures c.front_body-body.ensures.parts in
-    let call = unreplied s.number s.told c.is_some.result body c.ask.result s.pass new c.in-Quiet.is c.ask.ensures in
+    let call = unreplied s.number s.kept c.is_some.result body c.ask.result s.pass new c.in-Quiet.is c.ask.ensures in
     subst (λ (inbox : List ℕ). HasReceived input (record s { pass = new; inbox = inbox })) (sym c.drop_front-in-Quiet.ensures)
-    (handled input s body c.args.end new s.told c.front_body-body.ensures.small parts call (subst (HasReceived input) (sym c.self.view_is) h))
+    (handled input s body c.args.end new s.kept c.front_body-body.ensures.small parts call (subst (HasReceived input) (sym c.self.view_is) h))
 
 pub returns-in-Ended-clause-received : goal.returns-in-Ended-clause-received
 returns-in-Ended-clause-received g c =
     let i = c.self.inside in
-    let s : SessionView = record { number = i.number; pass = i.pass; inbox = i.inbox; is_shut = i.is_shut; is_named = i.is_named; told = i.told } in
+    let s : SessionView = record { number = i.number; pass = i.pass; inbox = i.inbox; is_shut = i.is_shut; is_named = i.is_named; kept = i.kept } in
     on_ok_weaker c.end.result
     (λ (goes : (input : List ℕ) → HasReceived input (record s { pass = c.ask.new.pass }) → HasReceived input c.end.new.self) (input : List ℕ) (h : HasReceived input c.args.self.now).
     goes input (subst (λ (p : PassView). HasReceived input (record s { pass = p })) (sym c.in-Ended.ensures.0) (subst (HasReceived input) (sym c.self.view_is) h)))
