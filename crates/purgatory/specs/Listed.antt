@@ -1,5 +1,5 @@
 -- An operation that a pass describes, opens, sees listed, and checks.
-use Rattle.std.specs.Prelude.{◌≡◌, ℕ, ◌+◌, ◌<◌, true, false, List, Some, All, length, slice_index_or}
+use Rattle.std.specs.Prelude.{◌≡◌, ◌≢◌, ℕ, ◌+◌, ◌<◌, true, false, List, Some, All, length, slice_index_or}
 use Rattle.opcond.specs.declared.need.Need.{Need}
 use Rattle.opcond.specs.Operation.{Operation}
 use Rattle.opcond.specs.Tally.{IsOverdue, IsSatisfied}
@@ -33,15 +33,24 @@ pub record IsDescribed (op : Operation) (words : ℕ → ℕ) : Type 0 where
   pub count : needs_of words ≡ length op.needs
   pub needs : AreDescribed op.needs (length op.needs) words
 
--- a need, as its words
-abbrev pub need_described : CallerView → ℕ → Need → CallerView
-need_described seat at need = caller_did (caller_did (caller_did seat
-    (CallerStep.Described at need.gauge)) (CallerStep.Described (at + 1) need.start)) (CallerStep.Described (at + 2) need.cap)
-
 -- nothing changed but the description
 pub record Describes (old new : CallerView) : Type 0 where
   pub went : GoesOn old new
   pub same : caller_now new ≡ with_words (caller_now old) (caller_now new).description
+
+-- a word of the description stands there: the pass wrote it, or found it there
+pub record HasWritten (at word : ℕ) (old new : CallerView) : Type 0 where
+  pub describes : Describes old new
+  pub here : (caller_now new).description at ≡ word
+  pub others : (i : ℕ) → i ≢ at → (caller_now new).description i ≡ (caller_now old).description i
+
+-- so do the three words of a need
+pub record HasWrittenNeed (at : ℕ) (need : Need) (old new : CallerView) : Type 0 where
+  pub describes : Describes old new
+  pub gauge : (caller_now new).description at ≡ need.gauge
+  pub start : (caller_now new).description (at + 1) ≡ need.start
+  pub cap : (caller_now new).description (at + 2) ≡ need.cap
+  pub before : (i : ℕ) → i < at → (caller_now new).description i ≡ (caller_now old).description i
 
 -- which operation it is, what is owed and what was taken are as they were
 pub record KeepsAccount (old new : Caller) : Type 0 where

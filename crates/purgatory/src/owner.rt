@@ -8,8 +8,9 @@ ghost use Rattle.room_core.specs.Checks.{AreRead, IsRead, IsWon};
 ghost use Rattle.room_core.specs.Description.{IsMark, IsOperation};
 ghost use Rattle.room_core.specs.Gauges.{IsGauge, IsPass, IsShape, clock_of};
 ghost use Rattle.room_core.specs.Numbers.{clock_mark, description_words};
-ghost use Rattle.room_table.specs.declared.part.CallerStep.TheVariants.{Asked, Described, Left, Opened, Read, SawMark, Won};
+ghost use Rattle.room_table.specs.declared.part.CallerStep.TheVariants.{Asked, Left, Opened, Read, SawMark, Won};
 ghost use Rattle.room_table.specs.Seats.{caller_did, caller_now};
+ghost use Rattle.purgatory.specs.Listed.{HasWritten};
 ghost use Rattle.purgatory.specs.Polled.{HasPolled};
 ghost use Rattle.purgatory.specs.Going.{OwesNothing};
 ghost use Rattle.purgatory.specs.Owing.{IsOutside};
@@ -191,13 +192,16 @@ impl Owner {
         true
     }
 
-    /// Writes a word of the description.
+    /// Sees to it that a word of the description stands there: a word that is there already isn't written again.
     pub(crate) fn describe(&mut self, table: &RoomTable, at: u32, word: u64)
         requires table { self.old.table ≡ table.now }
         requires idle { (caller_now self.old).stage ≡ Idle }
         requires at { at < description_words }
-        ensures { self.new ≡ caller_did self.old (Described at word) }
+        ensures { HasWritten at word self.old self.new }
     {
+        if table.recall(&mut self.seat, at) == word {
+            return;
+        }
         table.describe(&mut self.seat, at, word);
     }
 

@@ -9,7 +9,7 @@ ghost use Rattle.room_core.specs.Gauges.{IsGauge, clock_of};
 ghost use Rattle.room_core.specs.Numbers.{clock_mark, most_needs};
 ghost use Rattle.room_table.specs.Seats.{caller_now};
 ghost use Rattle.purgatory.specs.Going.{GoesOn, OwesNothing};
-ghost use Rattle.purgatory.specs.Listed.{BeginsCheck, Describes, Ends, GoesListing, HasChecked, HasReadAll, HasReadings, HasSeen, HasSeenBelow, IsDescribed, IsEarned, need_described};
+ghost use Rattle.purgatory.specs.Listed.{BeginsCheck, Describes, Ends, GoesListing, HasChecked, HasReadAll, HasReadings, HasSeen, HasSeenBelow, HasWrittenNeed, IsDescribed, IsEarned};
 ghost use Rattle.purgatory.specs.Registered.{HasRegistered};
 ghost use Rattle.purgatory.specs.Rooms.{IsOfRoom};
 
@@ -45,7 +45,7 @@ impl Room {
         requires table { owner.old.table ≡ self.now.table }
         requires idle { (caller_now owner.old).stage ≡ Idle }
         requires few { i < most_needs }
-        ensures { owner.new ≡ need_described owner.old (gauge_word i) need }
+        ensures { HasWrittenNeed (gauge_word i) need owner.old owner.new }
     {
         let at = GAUGE_WORD + NEED_WORDS * i;
         owner.describe(&self.table, at, u64::from(need.gauge));

@@ -1,5 +1,5 @@
 -- The steps of a pass.
-use Rattle.std.proofs.Common.{◌≡◌, ◌≢◌, ℕ, ◌+◌, ◌≤◌, List, [], ◌∷◌, max, sym, refl, ap, ◌∙◌, subst, arith}
+use Rattle.std.proofs.Common.{◌≡◌, ◌≢◌, ℕ, ◌+◌, ◌<◌, ◌≤◌, List, [], ◌∷◌, max, sym, refl, ap, ◌∙◌, subst, arith}
 use Rattle.std.specs.Prelude.{◌==◌}
 use mathlib.Core.Option.{none}
 use prog.Atomic.{either}
@@ -16,6 +16,7 @@ use Rattle.room_core.specs.declared.shape.Shape.{Shape}
 use Rattle.room_core.specs.declared.word.Word.{Word}
 use Rattle.room_core.specs.Checks.{OwnerMayLeave, OwnerMayWin, caller_reads, caller_leaves, caller_wins, exchanged, pass_reading, pass_leaving, pass_winning}
 use Rattle.room_core.specs.Gauges.{IsGauge, IsPass}
+use Rattle.room_core.specs.Numbers.{description_words}
 use Rattle.room_core.specs.Packing.{packed, unpacked}
 use Rattle.room_core.specs.Passes.{MayDescribe, MayOpen, MaySeeMark, MayPeek, MayIdle, caller_describes, caller_opens, caller_sees_mark, caller_peeks, caller_idles, describing, opening, seeing_mark, peeking, idling}
 use Rattle.room_core.specs.Scans.{MayAsk, asking, caller_asks, relieving, caller_relieves}
@@ -25,7 +26,7 @@ use Rattle.room_table.specs.declared.part.CallerStep.{CallerStep}
 use Rattle.room_table.specs.Layout.{place_of}
 use Rattle.room_table.specs.Parts.{caller_of}
 use Rattle.room_table.specs.Shown.{IsShown}
-use Rattle.room_table.specs.Tells.{IsOwnWord, asked, relieved, described, opened, saw_mark, caller_read, caller_left, caller_won, peeked_own, idled}
+use Rattle.room_table.specs.Tells.{IsOwnWord, asked, relieved, described, recalled, opened, saw_mark, caller_read, caller_left, caller_won, peeked_own, idled}
 use Rattle.room_table.proofs.Changes.{words_but, caller_others, place_else}
 use Rattle.room_table.proofs.Exchanges.{below_256, own_word, exchange_is, number_how, rest_is}
 use Rattle.room_table.proofs.Stepping.{allowed}
@@ -102,6 +103,21 @@ module _ (shape : Shape) (slots id pass : ℕ) (steps : List CallerStep) where
       (λ n m is _ to on.
       let same : at ≡ to = omega (arith, on) in
       subst (λ h. m ≡ (Part.Caller shape pass (CallerStep.Described h word ∷ steps) ∷ [], [])) same is)
+
+  pub recalls : (at : ℕ) → IsPass shape pass × (at < description_words)
+      → Allows (IsShown shape) slots id (Part.Caller shape pass steps ∷ [], []) (place_of shape (Word.Description pass at)) (λ n. n)
+      (recalled (step slots (place_of shape (Word.Description pass at)) 0 0 none) (Part.Caller shape pass steps ∷ [], []))
+  recalls at may =
+      allowed shape slots id (Part.Caller shape pass steps) (Word.Description pass at) (λ n. n) (λ n. Part.Caller shape pass steps) (λ n. n ≡ (caller_of shape pass steps).description at)
+      (recalled (step slots (place_of shape (Word.Description pass at)) 0 0 none) (Part.Caller shape pass steps ∷ [], []))
+      (λ s. s) may (λ n. refl)
+      (λ s c e shows. (
+        record { shape = refl; carried = c; here = refl; words = λ x n. refl; mine = shows; others = λ q n there. there },
+        c.sound.owners.description pass at ∙ ap (λ x. x.description at) shows.2,
+      ))
+      (λ n m is says to on.
+      let same : at ≡ to = omega (arith, on) in
+      (is, subst (λ h. n ≡ (caller_of shape pass steps).description h) same says))
 
   pub opens : MayOpen shape pass (caller_of shape pass steps)
       → Allows (IsShown shape) slots id (Part.Caller shape pass steps ∷ [], []) (place_of shape (Word.Session pass)) (λ _. packed (record { generation = (caller_of shape pass steps).generation + 1; phase = Open }))

@@ -13,6 +13,7 @@ use Rattle.room_core.specs.declared.word.Word.{Word}
 use Rattle.room_core.specs.Checks.{OwnerMayLeave, OwnerMayWin, ScannerMayLeave, ScannerMayWin}
 use Rattle.room_core.specs.Gauges.{IsGauge, IsPass, IsScanner}
 use Rattle.room_core.specs.Meetings.{MayLearn, MayMark, generation_met}
+use Rattle.room_core.specs.Numbers.{description_words}
 use Rattle.room_core.specs.Packing.{packed}
 use Rattle.room_core.specs.Passes.{MayDescribe, MayOpen, MaySeeMark, MayPeek, MayIdle}
 use Rattle.room_core.specs.Scans.{MayStore, MayAsk, MayHear, MayBegin, number_heard}
@@ -20,7 +21,7 @@ use Rattle.room_table.specs.Layout.{place_of}
 use Rattle.room_table.specs.Parts.{scanner_of}
 use Rattle.room_table.specs.Seats.{TableView, SourceView, CallerView, ScanView, source_now, caller_now, scanner_now}
 use Rattle.room_table.specs.Shown.{IsShown}
-use Rattle.room_table.specs.Tells.{Sat, source_steps, caller_steps, scanner_steps, caller_in, scanner_in, stored, hushed, asked, relieved, described, opened, saw_mark, caller_read, caller_left, caller_won, peeked_own, idled, heard, began, met_word, learned_word, marked_word, scanner_read, scanner_left, scanner_won}
+use Rattle.room_table.specs.Tells.{Sat, source_steps, caller_steps, scanner_steps, caller_in, scanner_in, stored, hushed, asked, relieved, described, recalled, opened, saw_mark, caller_read, caller_left, caller_won, peeked_own, idled, heard, began, met_word, learned_word, marked_word, scanner_read, scanner_left, scanner_won}
 use Rattle.room_table.proofs.Callers as callers
 use Rattle.room_table.proofs.Scanners as scanners
 use Rattle.room_table.proofs.Seatings.{SourceStands, CallerStands, ScannerStands, word_small, source_same, source_here, source_may, caller_same, caller_here, caller_may, scanner_same, scanner_here, scanner_may}
@@ -79,6 +80,17 @@ describe_ready key room board owner slots id pass m table seat to word at stands
       word_small room board.words at (Word.Description pass to) stands.words place (may.0, may.1),
       subst (λ (z : Sat × ℕ × Shape). Allows (IsShown z.2) slots id z.0 z.1 (λ _. word) (λ _. described (step slots z.1 word 0 none) z.0 word)) (λ i. (sym (caller_here stands) i, sym place i, sym stands.rule i))
           (callers.describes room slots id pass (caller_steps m.0) to word may),
+    )
+
+pub recall_ready : (key room : Shape) (board owner : TableId) (slots id pass : ℕ) (m : Sat) (table : TableView) (seat : CallerView) (to : ℕ) (at : ℕ)
+    → CallerStands key room board owner pass m table seat → at ≡ place_of room (Word.Description pass to) → IsPass table.shape seat.pass × (to < description_words)
+    → (owner ≡ board) × (at < board.words) × Allows (IsShown key) slots id m at (λ n. n) (recalled (step slots at 0 0 none) m)
+recall_ready key room board owner slots id pass m table seat to at stands place there =
+    let may = caller_may stands (λ s j x. IsPass s j × (to < description_words)) there in (
+      caller_same stands,
+      word_small room board.words at (Word.Description pass to) stands.words place may,
+      subst (λ (z : Sat × ℕ × Shape). Allows (IsShown z.2) slots id z.0 z.1 (λ n. n) (recalled (step slots z.1 0 0 none) z.0)) (λ i. (sym (caller_here stands) i, sym place i, sym stands.rule i))
+          (callers.recalls room slots id pass (caller_steps m.0) to may),
     )
 
 pub mark_ready : (key room : Shape) (board owner : TableId) (slots id pass : ℕ) (m : Sat) (table : TableView) (seat : CallerView) (to : ℕ) (at : ℕ)

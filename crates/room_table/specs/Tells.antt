@@ -117,6 +117,10 @@ relieved st m found m' = (gauge : ℕ) → IsOn st m (Word.Begun gauge) → m' �
 abbrev pub described : Step ℕ → Sat → ℕ → Sat → Type 0
 described st m found m' = (at : ℕ) → IsOn st m (Word.Description (pass_in m.0) at) → m' ≡ (caller_made (CallerStep.Described at st.first) m.0, m.1)
 
+-- a pass finds a word of its description as it knows it, and nothing changes
+abbrev pub recalled : Step ℕ → Sat → ℕ → Sat → Type 0
+recalled st m found m' = (at : ℕ) → IsOn st m (Word.Description (pass_in m.0) at) → (m' ≡ m) × (found ≡ (caller_in m.0).description at)
+
 abbrev pub opened : Step ℕ → Sat → ℕ → Sat → Type 0
 opened st m found m' = m' ≡ (caller_made CallerStep.Opened m.0, m.1)
 

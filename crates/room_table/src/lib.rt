@@ -1,5 +1,5 @@
 //! The room as words that threads share: each call of `RoomTable` is one atomic step on one word, and one event of the room's
-//! machine.
+//! machine, or, as a pass reads its own description back, none.
 //!
 //! The layer above may use the table, its seats and their calls, and cite what a seat knows by its steps (`specs/Seats.antt`).
 //! This is how a gauge is raised and scanned, with the seats of its source, of a pass and of its scanner:

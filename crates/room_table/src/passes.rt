@@ -1,6 +1,8 @@
 //! The steps of a pass on its own operation, from the first word of the description to the end that it takes. In `purgatory`
 //! `Owner` makes them.
-ghost use Rattle.std.specs.Prelude.{◌≡◌, ◌≤◌};
+ghost use Rattle.std.specs.Prelude.{◌≡◌, ◌<◌, ◌≤◌};
+ghost use Rattle.room_core.specs.Gauges.{IsPass};
+ghost use Rattle.room_core.specs.Numbers.{description_words};
 ghost use Rattle.room_core.specs.Packing.{unpacked};
 ghost use Rattle.room_core.specs.Passes.{MayDescribe, MayIdle, MayOpen, MayPeek, MaySeeMark};
 ghost use Rattle.room_table.specs.declared.part.CallerStep.TheVariants.{Described, Idled, Opened, Peeked, SawMark};
@@ -8,7 +10,7 @@ ghost use Rattle.room_table.specs.Seats.{caller_did, caller_now};
 ghost use Rattle.room_table.specs.Tells.{IsOwnWord};
 
 use crate::layout::place;
-use crate::plays::{Describes, Idles, Opens, Peeks, SeesMark};
+use crate::plays::{Describes, Idles, Opens, Peeks, Recalls, SeesMark};
 use crate::seats::CallerSeat;
 use crate::table::RoomTable;
 use room_core::{Phase, Session, Word};
@@ -26,6 +28,18 @@ impl RoomTable {
         self.board
             .shared
             .store::<Describes>(&mut caller.seat, at, word);
+    }
+
+    /// The pass reads a word of the description back. Nobody else writes there, so it is as the pass wrote it last, and nothing changes.
+    pub fn recall(&self, caller: &mut CallerSeat, at: u32) -> u64
+        requires table { caller.old.table ≡ self.now }
+        requires may { IsPass self.now.shape caller.old.pass × (at < description_words) }
+        ensures still { caller.new ≡ caller.old }
+        ensures word { result ≡ (caller_now caller.old).description at }
+    {
+        let pass = caller.pass;
+        let place = place(self.shape, Word::Description { pass, at });
+        self.board.shared.load::<Recalls>(&mut caller.seat, place)
     }
 
     /// The pass opens the operation that it has described, at the next generation.

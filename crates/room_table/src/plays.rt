@@ -1,7 +1,7 @@
 //! A marker type for each step on the table: it names the definition that says what the step found and what the seat then knows.
 //! The steps pass these to `atomic_table`; they have no values.
 ghost use Rattle.std.specs.Prelude.{[], ◌++◌, take, drop};
-ghost use Rattle.room_table.specs.Tells.{asked, began, caller_left, caller_read, caller_won, described, heard, hushed, idled, learned_word, marked_word, met_word, opened, peeked_own, relieved, saw_mark, scanner_left, scanner_read, scanner_won, stored};
+ghost use Rattle.room_table.specs.Tells.{asked, began, caller_left, caller_read, caller_won, described, heard, hushed, idled, learned_word, marked_word, met_word, opened, peeked_own, recalled, relieved, saw_mark, scanner_left, scanner_read, scanner_won, stored};
 
 use crate::part::Parts;
 use atomic_table::{Join, Play, Split};
@@ -34,6 +34,12 @@ pub(crate) struct Describes;
 
 impl Play<u64, Parts> for Describes {
     ghost then = { described };
+}
+
+pub(crate) struct Recalls;
+
+impl Play<u64, Parts> for Recalls {
+    ghost then = { recalled };
 }
 
 pub(crate) struct Opens;

@@ -23,8 +23,8 @@
 //! bucket that holds an entry starts. A turn that stays before it has nothing to do there, so a step
 //! over empty buckets reads eight moments and moves on.
 //!
-//! The layer above may use `Wheels` and `Due`: `insert`, `remove` and `where_is` in constant time,
-//! and `pop_due` in the time of the entries that it moves and the buckets that it passes. Nothing
+//! The layer above may use `Wheels` and `Due`: `insert`, `remove`, `deadline` and `where_is` in
+//! constant time, and `pop_due` in the time of the entries that it moves and the buckets that it passes. Nothing
 //! takes memory after `new`.
 #![tactic(auto)]
 

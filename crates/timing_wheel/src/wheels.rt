@@ -103,6 +103,15 @@ impl Wheels {
         self.moment
     }
 
+    /// The deadline of an id, `None` exactly where it isn't listed.
+    pub fn deadline(&self, id: u32) -> Option<u64>
+        requires { id < ids_of self.now }
+        ensures { result ≡ deadline_of self.now id }
+    {
+        let timer = self.entries.get(id)?;
+        Some(timer.deadline)
+    }
+
     /// The place of an id, `None` exactly where it isn't listed.
     pub fn where_is(&self, id: u32) -> Option<Place>
         requires { id < ids_of self.now }

@@ -17,7 +17,7 @@ use Rattle.room_table.specs.Parts.{scanner_of}
 use Rattle.room_table.specs.Seats.{ScanView, TableView, scanner_did, scanner_now}
 use Rattle.timing_wheel.specs.declared.timer.Timer.{Timer}
 use Rattle.timing_wheel.specs.Timers.{Timers, deadline_of, ids_of}
-use Rattle.purgatory.specs.scans.Coming.{IsClockListing, IsSettled, WasMet, is_stale}
+use Rattle.purgatory.specs.scans.Coming.{IsClockListing, IsSettled, WasMet, is_stale, entry_at}
 use Rattle.purgatory.specs.scans.Desks.{ClockView}
 use Rattle.purgatory.specs.scans.Going.{GoesOn}
 use Rattle.purgatory.specs.scans.Scanned.{scan_begun}
@@ -27,7 +27,7 @@ use Rattle.purgatory.proofs.scans.Deadlines.{marked_is}
 use Rattle.purgatory.proofs.scans.Entries.{live_entry_some}
 use Rattle.purgatory.proofs.scans.Goes.{goes_by, one_step, stays}
 use Rattle.purgatory.proofs.scans.Sessions.{is_live_at, not_live}
-use Rattle.purgatory.proofs.scans.Settling.{live_none, live_some}
+use Rattle.purgatory.proofs.scans.Settling.{live_none, live_some, timed_nothing}
 use Rattle.purgatory.proofs.scans.Timers.{none_there}
 
 abbrev desk_of : ScanView → Timers → ClockView
@@ -170,23 +170,18 @@ module _ (kept : List (Option Entry)) (seat new : ScanView) (w : Timers) (i : Is
     pub met_stays : WasMet pass found (desk_of seat w) (desk_of new w)
     met_stays = record {
       step = step;
-      moment = refl;
-      others = λ other n. refl;
-      both = inl (
-        ap (λ (v : ScanView). (scanner_now v).listing (clock_of v.table.shape) pass) step ∙ put_here row pass (live_entry found (row pass)) ∙ entry_stays ∙ sym (i.each pass),
-        refl,
-      );
+      timers = refl;
+      entry = inl (ap (λ (v : ScanView). (scanner_now v).listing (clock_of v.table.shape) pass) step ∙ put_here row pass (live_entry found (row pass)) ∙ entry_stays ∙ sym (i.each pass));
     }
 
-  -- it isn't: it goes, with its timer
-  module _ (stale : is_stale (get_or kept pass None) (open_generation found) ≡ true) (less : Timers) (there : pass < length kept) (moment : less.moment ≡ w.moment) (ids : ids_of less ≡ ids_of w)
-      (gone : deadline_of less pass ≡ None) (others : (other : ℕ) → other ≢ pass → deadline_of less other ≡ deadline_of w other) where
+  -- it isn't: it goes
+  module _ (stale : is_stale (get_or kept pass None) (open_generation found) ≡ true) (there : pass < length kept) where
     entry_goes : live_entry found (row pass) ≡ None
     entry_goes = ap (live_entry found) (i.each pass) ∙ live_goes found (get_or kept pass None) stale
 
-    pub listing_dropped : IsClockListing (set kept pass None) (desk_of new less)
+    pub listing_dropped : IsClockListing (set kept pass None) (desk_of new w)
     listing_dropped =
-        listing_after kept (set kept pass None) seat new w less i went ids (began_same seat new w less moment i.moment began) (length-set kept pass None)
+        listing_after kept (set kept pass None) seat new w w i went refl (began_same seat new w w refl i.moment began) (length-set kept pass None)
         (mirrors_set kept row ((scanner_now new).listing clock) pass None there
         (row_now pass ∙ put_here row pass (live_entry found (row pass)) ∙ entry_goes)
         (λ q n. row_now q ∙ put_else row pass (live_entry found (row pass)) q n)
@@ -194,15 +189,11 @@ module _ (kept : List (Option Entry)) (seat new : ScanView) (w : Timers) (i : Is
         own_now
         (numbered_set kept pass None there (λ entry e. absurd (none_some entry e)) i.numbered)
 
-    pub met_dropped : WasMet pass found (desk_of seat w) (desk_of new less)
+    pub met_dropped : WasMet pass found (desk_of seat w) (desk_of new w)
     met_dropped = record {
       step = step;
-      moment = moment;
-      others = others;
-      both = inr (
-        ap (λ (v : ScanView). (scanner_now v).listing (clock_of v.table.shape) pass) step ∙ put_here row pass (live_entry found (row pass)) ∙ entry_goes,
-        gone,
-      );
+      timers = refl;
+      entry = inr (ap (λ (v : ScanView). (scanner_now v).listing (clock_of v.table.shape) pass) step ∙ put_here row pass (live_entry found (row pass)) ∙ entry_goes);
     }
 
 -- a desk that is new
@@ -228,8 +219,7 @@ module _ (seat : ScanView) (timers : Timers) (n : ℕ) (fresh : seat.steps ≡ [
   pub settled_fresh : (pass : ℕ) → IsSettled pass (desk_of seat timers)
   settled_fresh pass = record {
     no_duty = ap (λ (s : Scanner). s.duties pass) idle;
-    timed = subst (λ o. IsTimed timers.moment o (deadline_of timers pass)) (sym (ap (λ (s : Scanner). s.listing (clock_of seat.table.shape) pass) idle))
-        (ap (λ (t : Timers). deadline_of t pass) none ∙ ap (option_map (λ (t : Timer). t.deadline)) (none_there n pass));
+    timed = timed_nothing timers.moment (entry_at (desk_of seat timers) pass) (deadline_of timers pass) (ap (λ (s : Scanner). s.listing (clock_of seat.table.shape) pass) idle);
   }
 
 -- a scan that begins

@@ -18,7 +18,7 @@ use Rattle.purgatory.specs.scans.Desks.{ClockView}
 use Rattle.purgatory.specs.scans.Scanned.{scan_begun}
 use Rattle.purgatory.specs.scans.Timing.{IsTimed}
 use Rattle.purgatory.proofs.scans.Settling.{come_else, settled_else}
-use Rattle.purgatory.proofs.scans.Timers.{comes_out, due_some, some_due, stays_timed, timed_within}
+use Rattle.purgatory.proofs.scans.Timers.{comes_out, due_some, some_due, stays_timed, timed_later, timed_within}
 
 -- an entry under the clock is a duty where its deadline comes in this scan
 
@@ -53,15 +53,19 @@ module _ (shape : Shape) (begun heard : ℕ) (entry : Entry) where
       (or_from (not (clock == clock)) (nat_lt begun entry.deadline && nat_le entry.deadline heard) the_clock
       (and_left (nat_lt begun entry.deadline) (nat_le entry.deadline heard) (le-ltb begun entry.deadline earlier)))
 
+no_entry_free : (shape : Shape) (begun heard : ℕ) → duty_of shape (clock_of shape) begun heard None ≡ None
+unfolding duty_of
+no_entry_free shape begun heard = refl
+
 stays_free : (shape : Shape) (begun heard : ℕ) (entry : Option Entry) (timer : Option ℕ) → IsTimed begun entry timer → ((d : ℕ) → timer ≡ Some d → heard < d)
     → duty_of shape (clock_of shape) begun heard entry ≡ None
 unfolding duty_of
-stays_free shape begun heard None timer timed late = refl
+stays_free shape begun heard None timer timed late = no_entry_free shape begun heard
 stays_free shape begun heard (Some entry) None timed late = duty_earlier shape begun heard entry timed
 stays_free shape begun heard (Some entry) (Some d) timed late =
-    let reach = timed.is in
+    let by = timed.in_time in
     let later = late d refl in
-    duty_later shape begun heard entry (omega (arith, reach, later))
+    duty_later shape begun heard entry (omega (arith, by, later))
 
 -- a place among ids
 at_place : (ids : List ℕ) (i : ℕ) → i < length ids → Contains ids (slice_index ids i)
@@ -91,18 +95,19 @@ module _ (kept : List (Option Entry)) (old new : ClockView) (heard : ℕ) (ids :
   duty_here : (entry : Entry) → Some (duty_on old entry) ≡ Some (duty_on new entry)
   duty_here entry = ap (λ (v : ScanView). Some (let d : Duty = record { gauge = clock_of v.table.shape; generation = entry.generation } in d)) (sym step)
 
+  duty_as : (pass : ℕ) (o : Option Entry) → entry_at new pass ≡ o → duty_at new pass ≡ duty_of sh (clock_of sh) before heard o
+  duty_as pass o e = duty_is pass ∙ ap (duty_of sh (clock_of sh) before heard) (sym (entry_is pass) ∙ e)
+
   comes : (pass : ℕ) → Contains ids pass → HasComeOut pass new
   comes pass there =
       let timer = due_some (entry_of old.timers pass) heard ((due pass).0 there) in
-      let out = comes_out before heard (entry_at old pass) (timer_at old pass) (timer_at new pass) timer.0 (others pass) (all pass).timed timer.1 timer.2 in
-      let entry = out.0 in
+      let after : (entry : Entry) → entry_at new pass ≡ Some entry → before < entry.deadline = λ entry e.
+      timed_later before entry (timer_at old pass) timer.0 (subst (λ o. IsTimed before o (timer_at old pass)) (sym (entry_is pass) ∙ e) (all pass).timed) timer.1 in
       record {
-        entry = entry;
-        listed = entry_is pass ∙ out.1;
-        no_timer = out.3;
-        duty = λ l. duty_is pass ∙ ap (duty_of sh (clock_of sh) before heard) out.1
-            ∙ duty_due sh before heard entry out.2 (subst (λ n. entry.deadline ≤ n) moment l) ∙ duty_here entry;
-        no_duty = λ l. duty_is pass ∙ ap (duty_of sh (clock_of sh) before heard) out.1 ∙ duty_later sh before heard entry (subst (λ n. n < entry.deadline) moment l);
+        no_timer = comes_out heard (timer_at old pass) (timer_at new pass) (others pass) timer.0 timer.1 timer.2;
+        no_entry = λ e. duty_as pass None e ∙ no_entry_free sh before heard;
+        duty = λ entry e l. duty_as pass (Some entry) e ∙ duty_due sh before heard entry (after entry e) (subst (λ n. entry.deadline ≤ n) moment l) ∙ duty_here entry;
+        no_duty = λ entry e l. duty_as pass (Some entry) e ∙ duty_later sh before heard entry (subst (λ n. n < entry.deadline) moment l);
       }
 
   stays : (pass : ℕ) → (Contains ids pass → ⊥) → IsSettled pass new

@@ -24,7 +24,6 @@ use Rattle.purgatory.specs.scans.Timing.{HasTimer, IsTimed}
 use Rattle.purgatory.proofs.scans.Deadlines.{marked_is}
 use Rattle.purgatory.proofs.scans.Goes.{goes_by, goes_far, one_step, stays}
 use Rattle.purgatory.proofs.scans.Sessions.{is_live_at, not_live}
-use Rattle.purgatory.proofs.scans.Tables.{some_same}
 use Rattle.purgatory.proofs.scans.Watching.{duty_left, meeting_is}
 
 -- nothing changed but of a pass
@@ -53,6 +52,10 @@ timed_as : (m n : ℕ) (e f : Option Entry) (o p : Option ℕ) → n ≡ m → f
 timed_as m n e f o p moment entry timer h =
     subst (λ k. IsTimed k f p) (sym moment) (subst (λ x. IsTimed m x p) (sym entry) (subst (IsTimed m e) (sym timer) h))
 
+-- without an entry any timer will do
+pub timed_nothing : (m : ℕ) (e : Option Entry) (o : Option ℕ) → e ≡ None → IsTimed m e o
+timed_nothing m e o none = subst (λ x. IsTimed m x o) (sym none) tt
+
 pub settled_else : (pass other : ℕ) (a b : ClockView) → ChangesOnly pass a b → other ≢ pass → IsSettled other a → IsSettled other b
 settled_else pass other a b only n h = record {
   no_duty = only.duties other n ∙ h.no_duty;
@@ -72,13 +75,14 @@ duty_same : (a b : ClockView) (entry : Entry) → b.seat.table ≡ a.seat.table 
 duty_same a b entry e = ap (λ (t : TableView). Some (let d : Duty = record { gauge = clock_of t.shape; generation = entry.generation } in d)) (sym e)
 
 pub come_else : (pass other : ℕ) (a b : ClockView) → ChangesOnly pass a b → other ≢ pass → HasComeOut other a → HasComeOut other b
-come_else pass other a b only n h = record {
-  entry = h.entry;
-  listed = only.entries other n ∙ h.listed;
-  no_timer = only.timers other n ∙ h.no_timer;
-  duty = λ l. only.duties other n ∙ h.duty (subst (λ m. h.entry.deadline ≤ m) only.moment l) ∙ duty_same a b h.entry only.went.table;
-  no_duty = λ l. only.duties other n ∙ h.no_duty (subst (λ m. m < h.entry.deadline) only.moment l);
-}
+come_else pass other a b only n h =
+    let same : entry_at a other ≡ entry_at b other = sym (only.entries other n) in
+    record {
+      no_timer = only.timers other n ∙ h.no_timer;
+      no_entry = λ e. only.duties other n ∙ h.no_entry (same ∙ e);
+      duty = λ entry e l. only.duties other n ∙ h.duty entry (same ∙ e) (subst (λ m. entry.deadline ≤ m) only.moment l) ∙ duty_same a b entry only.went.table;
+      no_duty = λ entry e l. only.duties other n ∙ h.no_duty entry (same ∙ e) (subst (λ m. m < entry.deadline) only.moment l);
+    }
 
 -- a pass that is met
 
@@ -106,14 +110,20 @@ module _ (pass : ℕ) (found : Session) (a b : ClockView) (met : WasMet pass fou
   duties_now : (q : ℕ) → duty_at b q ≡ put duties pass (live_duty found (duties pass)) q
   duties_now q = ap (λ (v : ScanView). (scanner_now v).duties q) met.step
 
+  moment_same : b.timers.moment ≡ a.timers.moment
+  moment_same = ap (λ (t : Timers). t.moment) met.timers
+
+  timer_same : (q : ℕ) → timer_at b q ≡ timer_at a q
+  timer_same q = ap (λ (t : Timers). deadline_of t q) met.timers
+
   pub met_only : ChangesOnly pass a b
   met_only = record {
     went = one_step a.seat b.seat (ScannerStep.Met pass found) met.step;
     began = ap (λ (v : ScanView). (scanner_now v).began) met.step;
-    moment = met.moment;
+    moment = moment_same;
     entries = λ other n. row_now other ∙ put_else row pass (live_entry found (row pass)) other n;
     duties = λ other n. duties_now other ∙ put_else duties pass (live_duty found (duties pass)) other n;
-    timers = met.others;
+    timers = λ other n. timer_same other;
   }
 
   pub met_settled : IsSettled pass a → IsSettled pass b
@@ -121,11 +131,10 @@ module _ (pass : ℕ) (found : Session) (a b : ClockView) (met : WasMet pass fou
     no_duty = duties_now pass ∙ put_here duties pass (live_duty found (duties pass)) ∙ no_duty_lives found (duties pass) h.no_duty;
     timed =
         ⊎_elim
-        (λ (same : (entry_at b pass ≡ entry_at a pass) × (timer_at b pass ≡ timer_at a pass)).
-        timed_as a.timers.moment b.timers.moment (entry_at a pass) (entry_at b pass) (timer_at a pass) (timer_at b pass) met.moment same.0 same.1 h.timed)
-        (λ (gone : (entry_at b pass ≡ None) × (timer_at b pass ≡ None)).
-        subst (λ x. IsTimed b.timers.moment x (timer_at b pass)) (sym gone.0) gone.1)
-        met.both;
+        (λ (same : entry_at b pass ≡ entry_at a pass).
+        timed_as a.timers.moment b.timers.moment (entry_at a pass) (entry_at b pass) (timer_at a pass) (timer_at b pass) moment_same same (timer_same pass) h.timed)
+        (λ (gone : entry_at b pass ≡ None). timed_nothing b.timers.moment (entry_at b pass) (timer_at b pass) gone)
+        met.entry;
   }
 
   pub met_settles : ((other : ℕ) → IsSettled other a) → (other : ℕ) → IsSettled other b
@@ -134,11 +143,7 @@ module _ (pass : ℕ) (found : Session) (a b : ClockView) (met : WasMet pass fou
   -- on whose entry there is a duty
   module _ (entry : Entry) (h : IsOnDuty pass entry a) where
     no_timer_now : timer_at b pass ≡ None
-    no_timer_now =
-        ⊎_elim
-        (λ (same : (entry_at b pass ≡ entry_at a pass) × (timer_at b pass ≡ timer_at a pass)). same.1 ∙ h.no_timer)
-        (λ (gone : (entry_at b pass ≡ None) × (timer_at b pass ≡ None)). gone.1)
-        met.both
+    no_timer_now = timer_same pass ∙ h.no_timer
 
     entry_now : entry_at b pass ≡ live_entry found (Some entry)
     entry_now = row_now pass ∙ put_here row pass (live_entry found (row pass)) ∙ ap (live_entry found) h.listed
@@ -151,7 +156,7 @@ module _ (pass : ℕ) (found : Session) (a b : ClockView) (met : WasMet pass fou
         let live = is_live_at found entry.generation some (sym e) in
         record {
           listed = entry_now ∙ live_some found entry live;
-          has_come = subst (λ m. entry.deadline ≤ m) (sym met.moment) h.has_come;
+          has_come = subst (λ m. entry.deadline ≤ m) (sym moment_same) h.has_come;
           no_timer = no_timer_now;
           duty = duty_now ∙ duty_left found clock entry.generation true live ∙ duty_same a b entry (ap (λ (v : ScanView). v.table) met.step);
         }
@@ -161,7 +166,7 @@ module _ (pass : ℕ) (found : Session) (a b : ClockView) (met : WasMet pass fou
         let dead = not_live found entry.generation n in
         record {
           no_duty = duty_now ∙ duty_left found clock entry.generation false dead;
-          timed = subst (λ x. IsTimed b.timers.moment x (timer_at b pass)) (sym (entry_now ∙ live_none found entry dead)) no_timer_now;
+          timed = timed_nothing b.timers.moment (entry_at b pass) (timer_at b pass) (entry_now ∙ live_none found entry dead);
         }
 
 -- a duty of the meeting
@@ -265,24 +270,18 @@ module _ (seat new : ScanView) (timers : Timers) (pass : ℕ) (entry : Entry) (h
     pub tried_settled : IsSettled pass (desk_of new timers)
     tried_settled = record {
       no_duty = ap (λ (d : ℕ → Option Duty). d pass) t.duties ∙ put_here s.duties pass None;
-      timed = subst (λ x. IsTimed timers.moment x (timer_at (desk_of new timers) pass)) (sym tried_here) h.no_timer;
+      timed = timed_nothing timers.moment (entry_at (desk_of new timers) pass) (timer_at (desk_of new timers) pass) tried_here;
     }
 
 -- whose timer has come out
 
-come_is : (pass : ℕ) (a : ClockView) (entry : Entry) (h : HasComeOut pass a) → entry_at a pass ≡ Some entry → h.entry ≡ entry
-come_is pass a entry h e = some_same h.entry entry (sym h.listed ∙ e)
+-- it has no entry any more
+pub come_settled : (pass : ℕ) (a : ClockView) → HasComeOut pass a → entry_at a pass ≡ None → IsSettled pass a
+come_settled pass a h e = record { no_duty = h.no_entry e; timed = timed_nothing a.timers.moment (entry_at a pass) (timer_at a pass) e }
 
 -- its deadline has come
 pub come_on_duty : (pass : ℕ) (a : ClockView) (entry : Entry) → HasComeOut pass a → entry_at a pass ≡ Some entry → entry.deadline ≤ a.timers.moment → IsOnDuty pass entry a
-come_on_duty pass a entry h e due =
-    let is = come_is pass a entry h e in
-    record {
-      listed = e;
-      has_come = due;
-      no_timer = h.no_timer;
-      duty = h.duty (subst (λ (x : Entry). x.deadline ≤ a.timers.moment) (sym is) due) ∙ ap (λ (x : Entry). Some (duty_on a x)) is;
-    }
+come_on_duty pass a entry h e due = record { listed = e; has_come = due; no_timer = h.no_timer; duty = h.duty entry e due }
 
 -- its deadline is later: it is put again
 module _ (pass : ℕ) (seat : ScanView) (w timers : Timers) (moment : timers.moment ≡ w.moment) where
@@ -299,9 +298,8 @@ module _ (pass : ℕ) (seat : ScanView) (w timers : Timers) (moment : timers.mom
   pub put_settled : (entry : Entry) → HasComeOut pass (desk_of seat w) → entry_at (desk_of seat w) pass ≡ Some entry → w.moment < entry.deadline
       → HasTimer w.moment entry.deadline (deadline_of timers pass) → IsSettled pass (desk_of seat timers)
   put_settled entry h e later timed =
-      let is = come_is pass (desk_of seat w) entry h e in
       record {
-        no_duty = h.no_duty (subst (λ (x : Entry). w.moment < x.deadline) (sym is) later);
+        no_duty = h.no_duty entry e later;
         timed = timed_as w.moment timers.moment (Some entry) (entry_at (desk_of seat w) pass) (deadline_of timers pass) (deadline_of timers pass) moment e refl timed;
       }
 

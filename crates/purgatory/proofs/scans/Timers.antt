@@ -7,7 +7,11 @@ use Rattle.std.proofs.lemmas.List.{get_or-replicate, get_or-set_other, get_or-se
 use Rattle.room_core.specs.declared.parts.Entry.{Entry}
 use Rattle.timing_wheel.specs.declared.timer.Timer.{Timer}
 use Rattle.timing_wheel.specs.Timers.{Timers, deadline_of, ids_of, with_entry}
-use Rattle.purgatory.specs.scans.Timing.{HasTimer, IsTimed, farthest}
+use Rattle.purgatory.specs.scans.Timing.{HasTimer, IsTimed}
+
+-- how far ahead a timer may be, in milliseconds
+abbrev farthest : ℕ
+farthest = 2147483647
 
 abbrev deadline_in : Option Timer → Option ℕ
 deadline_in o = option_map (λ (t : Timer). t.deadline) o
@@ -77,7 +81,7 @@ module _ (w new : Timers) (id deadline reach : ℕ) (put : WasPut w new id reach
       ⊎_elim
       (λ (p : WasPut w new id reach).
       subst (HasTimer w.moment deadline) (sym (ap (λ (t : Timers). deadline_of t id) p.1 ∙ timer_here w id _ there))
-      (record { later = p.0; put = w.moment; has_come = omega arith; is = is }))
+      (record { later = p.0; in_time = omega (arith, is) }))
       (λ (p : WasRefused w new id reach).
       let few = p.0 in
       subst (HasTimer w.moment deadline) (sym (out_here w new id p.1 there)) (omega (arith, few, is)))
@@ -95,12 +99,12 @@ no_number d e = absurd (cc)
 number_same : (d e : ℕ) → Some d ≡ Some e → d ≡ e
 number_same d e same = cc
 
-module _ (m t : ℕ) (entry : Option Entry) (old new : Option ℕ) (others : (d : ℕ) → (new ≡ Some d) ↔ ((old ≡ Some d) × (t < d))) where
+module _ (t : ℕ) (old new : Option ℕ) (others : (d : ℕ) → (new ≡ Some d) ↔ ((old ≡ Some d) × (t < d))) where
   none_left : old ≡ None → new ≡ None
   none_left none = none_new new (λ d e. no_number d (sym none ∙ ((others d).0 e).0))
 
-  none_due : (d : ℕ) → old ≡ Some d → d ≤ t → new ≡ None
-  none_due d is due = none_new new (λ other e.
+  pub comes_out : (d : ℕ) → old ≡ Some d → d ≤ t → new ≡ None
+  comes_out d is due = none_new new (λ other e.
       let was = (others other).0 e in
       let same = number_same d other (sym is ∙ was.0) in
       let less = was.1 in
@@ -111,23 +115,23 @@ module _ (m t : ℕ) (entry : Option Entry) (old new : Option ℕ) (others : (d 
 
 pub stays_timed : (m t : ℕ) (entry : Option Entry) (old new : Option ℕ) → m ≤ t → ((d : ℕ) → (new ≡ Some d) ↔ ((old ≡ Some d) × (t < d)))
     → IsTimed m entry old → ((d : ℕ) → old ≡ Some d → t < d) → IsTimed t entry new
-stays_timed m t None old new later others timed late = none_left m t None old new others timed
+stays_timed m t None old new later others timed late = tt
 stays_timed m t (Some entry) None new later others timed late =
-    subst (HasTimer t entry.deadline) (sym (none_left m t (Some entry) None new others refl)) (omega (arith, timed, later))
+    subst (HasTimer t entry.deadline) (sym (none_left t None new others refl)) (omega (arith, timed, later))
 stays_timed m t (Some entry) (Some d) new later others timed late =
-    let come = timed.has_come in
-    subst (HasTimer t entry.deadline) (sym (some_left m t (Some entry) (Some d) new others d refl (late d refl)))
-    (record { later = late d refl; put = timed.put; has_come = omega (arith, come, later); is = timed.is })
+    subst (HasTimer t entry.deadline) (sym (some_left t (Some d) new others d refl (late d refl))) (record { later = late d refl; in_time = timed.in_time })
 
--- the entry of a timer that comes out
-pub comes_out : (m t : ℕ) (entry : Option Entry) (old new : Option ℕ) (d : ℕ) → ((x : ℕ) → (new ≡ Some x) ↔ ((old ≡ Some x) × (t < x)))
-    → IsTimed m entry old → old ≡ Some d → d ≤ t → (e : Entry) × (entry ≡ Some e) × (m < e.deadline) × (new ≡ None)
-comes_out m t None old new d others timed is due = absurd (no_number d (sym timed ∙ is))
-comes_out m t (Some entry) None new d others timed is due = absurd (no_number d is)
-comes_out m t (Some entry) (Some x) new d others timed is due =
+-- the deadline of an entry that has a timer is past the moment
+pub timed_later : (m : ℕ) (entry : Entry) (timer : Option ℕ) (d : ℕ) → HasTimer m entry.deadline timer → timer ≡ Some d → m < entry.deadline
+timed_later m entry None d timed is = absurd (no_number d is)
+timed_later m entry (Some x) d timed is =
     let later = timed.later in
-    let reach = timed.is in
-    (entry, refl, omega (arith, later, reach), none_due m t (Some entry) (Some x) new others d is due)
+    let by = timed.in_time in
+    omega (arith, later, by)
+
+-- a timer that comes in time stays
+pub stays_in_time : (m deadline d : ℕ) (timer : Option ℕ) → timer ≡ Some d → m < d → d ≤ deadline → HasTimer m deadline timer
+stays_in_time m deadline d timer is later by = subst (HasTimer m deadline) (sym is) (record { later = later; in_time = by })
 
 -- what a timer says of being due
 pub due_some : (o : Option Timer) (t : ℕ) → IsSomeAnd o (λ timer. timer.deadline ≤ t) → (d : ℕ) × (option_map (λ (x : Timer). x.deadline) o ≡ Some d) × (d ≤ t)

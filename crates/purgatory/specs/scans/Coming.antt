@@ -52,13 +52,12 @@ pub record IsOnDuty (pass : ℕ) (entry : Entry) (desk : ClockView) : Type 0 whe
   pub no_timer : timer_at desk pass ≡ None
   pub duty : duty_at desk pass ≡ Some (duty_on desk entry)
 
--- the timer of the pass's entry has come out: the entry is a duty exactly where its deadline has come
+-- the timer of the pass has come out: if it has an entry, that is a duty exactly where its deadline has come
 pub record HasComeOut (pass : ℕ) (desk : ClockView) : Type 0 where
-  pub entry : Entry
-  pub listed : entry_at desk pass ≡ Some entry
   pub no_timer : timer_at desk pass ≡ None
-  pub duty : entry.deadline ≤ desk.timers.moment → duty_at desk pass ≡ Some (duty_on desk entry)
-  pub no_duty : desk.timers.moment < entry.deadline → duty_at desk pass ≡ None
+  pub no_entry : entry_at desk pass ≡ None → duty_at desk pass ≡ None
+  pub duty : (entry : Entry) → entry_at desk pass ≡ Some entry → entry.deadline ≤ desk.timers.moment → duty_at desk pass ≡ Some (duty_on desk entry)
+  pub no_duty : (entry : Entry) → entry_at desk pass ≡ Some entry → desk.timers.moment < entry.deadline → duty_at desk pass ≡ None
 
 -- the scanner goes on, and nothing of another pass changes
 pub record ChangesOnly (pass : ℕ) (old new : ClockView) : Type 0 where
@@ -69,12 +68,11 @@ pub record ChangesOnly (pass : ℕ) (old new : ClockView) : Type 0 where
   pub duties : (other : ℕ) → other ≢ pass → duty_at new other ≡ duty_at old other
   pub timers : (other : ℕ) → other ≢ pass → timer_at new other ≡ timer_at old other
 
--- the pass was met: its entry stays with its timer, or both are gone
+-- the pass was met: its entry stays, or is gone, and the timers stay
 pub record WasMet (pass : ℕ) (found : Session) (old new : ClockView) : Type 0 where
   pub step : new.seat ≡ scanner_did old.seat (ScannerStep.Met pass found)
-  pub moment : new.timers.moment ≡ old.timers.moment
-  pub others : (other : ℕ) → other ≢ pass → timer_at new other ≡ timer_at old other
-  pub both : ((entry_at new pass ≡ entry_at old pass) × (timer_at new pass ≡ timer_at old pass)) ⊎ ((entry_at new pass ≡ None) × (timer_at new pass ≡ None))
+  pub timers : new.timers ≡ old.timers
+  pub entry : (entry_at new pass ≡ entry_at old pass) ⊎ (entry_at new pass ≡ None)
 
 -- an entry of another generation than this
 abbrev pub is_stale : Option Entry → ℕ → Bool

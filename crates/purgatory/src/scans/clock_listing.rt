@@ -54,8 +54,9 @@ fn is_stale(entry: Option<Entry>, generation: u32) -> bool
     }
 }
 
-// Sets a pass's timer to its deadline, if that is past the present moment. A deadline farther ahead than the wheels reach gets a
-// timer as far ahead as they do.
+// Gives a pass a timer for its deadline, if that is past the present moment. A timer that the pass has already stays if it comes no
+// later: when it comes out, the pass gets another. So the wheels needn't be touched for each operation of a pass whose deadlines rise.
+// A deadline farther ahead than the wheels reach gets a timer as far ahead as they do.
 fn put_timer(wheels: &mut Wheels, pass: u32, deadline: u64)
     requires { pass < ids_of wheels.old }
     ensures moment { wheels.new.moment ≡ wheels.old.moment }
@@ -63,6 +64,12 @@ fn put_timer(wheels: &mut Wheels, pass: u32, deadline: u64)
     ensures timer { HasTimer wheels.old.moment deadline (deadline_of wheels.new pass) }
     ensures others { (other : ℕ) → other ≢ pass → deadline_of wheels.new other ≡ deadline_of wheels.old other }
 {
+    wheels.entries_wait();
+    if let Some(timer) = wheels.deadline(pass) {
+        if timer <= deadline {
+            return;
+        }
+    }
     let reach = wheels.now().saturating_add(FARTHEST);
     wheels.insert(pass, deadline.min(reach));
 }
@@ -134,7 +141,7 @@ impl ClockListing {
         heard
     }
 
-    // Meets a pass. If that isn't open at its entry's generation, the entry goes, and its timer too.
+    // Meets a pass. If that isn't open at its entry's generation, the entry goes. Its timer stays until it comes out.
     fn meet(&mut self, table: &RoomTable, pass: u32) -> Session
         requires table { self.old.seat.table ≡ table.now }
         requires pass { IsPass table.now.shape pass }
@@ -146,7 +153,6 @@ impl ClockListing {
             return found;
         }
         self.entries[pass as usize] = None;
-        self.wheels.remove(pass);
         found
     }
 
@@ -177,7 +183,8 @@ impl ClockListing {
         unreachable!()
     }
 
-    /// Looks at an operation whose timer has come out. It is checked if its deadline has come, and else gets another timer.
+    /// Looks at a pass whose timer has come out. If it has an operation that is listed, that is checked if its deadline has come, and else
+    /// gets another timer.
     pub(crate) fn check(&mut self, rt: &impl Wait, table: &RoomTable, pass: u32)
         requires table { self.old.seat.table ≡ table.now }
         requires pass { IsPass table.now.shape pass }

@@ -1,12 +1,10 @@
 use Rattle.std.proofs.Common.{◌≡◌, ◌∙◌, ◌<◌, true, false, None, ap, arith, get_or, subst, sym}
 use Rattle.std.proofs.lemmas.List.{get_or_read}
 use Rattle.room_table.specs.Seats.{TableView}
-use Rattle.timing_wheel.specs.Timers.{ids_of}
 use Rattle.purgatory.specs.scans.Coming.{WasMet, is_stale}
 use Rattle.purgatory.specs.scans.Desks.{ClockView}
 use Rattle.purgatory.specs.scans.Shelf.{open_generation}
 use Rattle.purgatory.proofs.scans.ClockEntries.{listing_dropped, listing_met, met_dropped, met_stays}
-use Rattle.purgatory.proofs.scans.Timers.{out_else, out_here, out_ids, out_moment}
 use Rattle.purgatory.proofs.scans.clock_listing.ClockListing.meet.Goals as goal
 
 pub invariant_of-self : goal.invariant_of-self
@@ -47,10 +45,7 @@ invariant_of-self-2 c =
     let kept : c.index.result.now ≡ get_or i.entries.items pass None = get_or_read i.entries.items pass c.index.result.now (omega (arith, passes, there, size)) c.index.ensures None in
     let stale : is_stale (get_or i.entries.items pass None) (open_generation found) ≡ true =
     ap (λ o. is_stale o (open_generation found)) (sym kept) ∙ ap (is_stale c.index.result.now) (sym c.open_generation.ensures) ∙ sym c.if-not-is_stale.ensures in
-    let ids : pass < ids_of i.wheels = let all = c.self.invariant.passes in omega (arith, passes, there, all) in
-    let out = c.remove.ensures.none in
-    listing_dropped i.entries.items i.scanner c.meet-found.new.self i.wheels c.self.invariant pass found c.meet-found.ensures stale c.remove.new.self (omega (arith, passes, there, size))
-    (out_moment i.wheels c.remove.new.self pass out) (out_ids i.wheels c.remove.new.self pass out) (out_here i.wheels c.remove.new.self pass out ids) (out_else i.wheels c.remove.new.self pass out)
+    listing_dropped i.entries.items i.scanner c.meet-found.new.self i.wheels c.self.invariant pass found c.meet-found.ensures stale (omega (arith, passes, there, size))
 
 pub returns-clause-met : goal.returns-clause-met
 returns-clause-met c =
@@ -63,8 +58,5 @@ returns-clause-met c =
     let kept : c.index.result.now ≡ get_or i.entries.items pass None = get_or_read i.entries.items pass c.index.result.now (omega (arith, passes, there, size)) c.index.ensures None in
     let stale : is_stale (get_or i.entries.items pass None) (open_generation found) ≡ true =
     ap (λ o. is_stale o (open_generation found)) (sym kept) ∙ ap (is_stale c.index.result.now) (sym c.open_generation.ensures) ∙ sym c.if-not-is_stale.ensures in
-    let ids : pass < ids_of i.wheels = let all = c.self.invariant.passes in omega (arith, passes, there, all) in
-    let out = c.remove.ensures.none in
-    subst (λ (v : ClockView). WasMet pass found v (record { seat = c.meet-found.new.self; timers = c.remove.new.self })) c.self.view_is
-    (met_dropped i.entries.items i.scanner c.meet-found.new.self i.wheels c.self.invariant pass found c.meet-found.ensures stale c.remove.new.self (omega (arith, passes, there, size))
-    (out_moment i.wheels c.remove.new.self pass out) (out_ids i.wheels c.remove.new.self pass out) (out_here i.wheels c.remove.new.self pass out ids) (out_else i.wheels c.remove.new.self pass out))
+    subst (λ (v : ClockView). WasMet pass found v (record { seat = c.meet-found.new.self; timers = i.wheels })) c.self.view_is
+    (met_dropped i.entries.items i.scanner c.meet-found.new.self i.wheels c.self.invariant pass found c.meet-found.ensures stale (omega (arith, passes, there, size)))
