@@ -1,7 +1,7 @@
 -- The rows of a shard, one changed.
-use Rattle.std.proofs.Common.{⊎_elim, ◌≡◌, ◌≢◌, ℕ, ◌+◌, ◌*◌, ◌^◌, ◌<◌, ◌≤◌, ◌↔◌, List, [], ◌∷◌, ◌++◌, Vec, Global, Any, Contains, All, filter, length, get_or, set, take, drop, map, replicate, sum_by, vec_capacity, suc, sym, ap, ◌∙◌, refl, subst, arith, length-set, get_or-set_same, get_or-set_other}
+use Rattle.std.proofs.Common.{⊎_elim, ◌≡◌, ◌≢◌, ℕ, ◌+◌, ◌-◌, ◌*◌, ◌^◌, ◌<◌, ◌≤◌, ◌↔◌, List, [], ◌∷◌, ◌++◌, Vec, Global, Any, Contains, All, filter, length, get_or, set, take, drop, map, replicate, sum_by, vec_capacity, suc, sym, ap, ◌∙◌, refl, subst, arith, length-set, get_or-set_same, get_or-set_other}
 use Rattle.std.proofs.lemmas.List.{append-nil, take_all, drop_all, get_or-map, get_or_default, length-map, map-set}
-use Rattle.std.proofs.lemmas.List.Sums.{sum_by-le, sum_by-set, sum_by-cons}
+use Rattle.std.proofs.lemmas.List.Sums.{sum_by-le, sum_by-set, sum_by-cons, sum_by_more_le}
 use Rattle.std.proofs.lemmas.List.Edits.{map_over_more}
 use Rattle.std.proofs.lemmas.Bool.{cases_eq}
 use Rattle.watch_lists.specs.declared.watch.Watch.{Watch}
@@ -108,7 +108,39 @@ sizes-set rows key row new removed l is e =
     let b : length row.items ≡ length (get_or rows key row).items = ap size is in
     omega arith
 
+-- how the count changes where a row goes from one length to another
+pub row_counts : (rows : List (Vec Watch Global)) (key : ℕ) (row : Vec Watch Global) → key < length rows → row ≡ get_or rows key row → length row.items ≤ sum_by (λ row. length row.items) rows
+row_counts rows key row l is =
+    let size = λ (v : Vec Watch Global). length v.items in
+    let a = sum_by_more_le size rows key row l in
+    let b : length row.items ≡ length (get_or rows key row).items = ap size is in
+    omega arith
+
+pub recounts : (rows : List (Vec Watch Global)) (key : ℕ) (row new : Vec Watch Global) (count : ℕ) → key < length rows → row ≡ get_or rows key row → count ≡ sum_by (λ row. length row.items) rows
+    → count - length row.items + length new.items ≡ sum_by (λ row. length row.items) (set rows key new)
+recounts rows key row new count l is e =
+    let size = λ (v : Vec Watch Global). length v.items in
+    let least = row_counts rows key row l is in
+    let a : sum_by (λ row. length row.items) (set rows key new) + length (get_or rows key row).items ≡ sum_by (λ row. length row.items) rows + length new.items = sum_by-set size rows key new row l in
+    let b : length row.items ≡ length (get_or rows key row).items = ap size is in
+    omega arith
+
+pub recounts_small : (ids : ℕ) (rows : List (Vec Watch Global)) (key : ℕ) (row new : Vec Watch Global) (count : ℕ) → key < length rows → row ≡ get_or rows key row → count ≡ sum_by (λ row. length row.items) rows
+    → AreRows ids (set rows key new) → count - length row.items + length new.items ≤ 2 ^ 20
+recounts_small ids rows key row new count l is e are =
+    let now = recounts rows key row new count l is e in
+    let small = size_small ids (set rows key new) are in
+    omega (arith, now, small)
+
 -- rows with nothing in them
+pub sum_none : (rows : List (Vec Watch Global)) → ((k : ℕ) (d : Vec Watch Global) → k < length rows → (get_or rows k d).items ≡ []) → 0 ≡ sum_by (λ row. length row.items) rows
+sum_none [] h = refl
+sum_none (row ∷ rows) h =
+    let here = ap (λ (xs : List Watch). length xs) (h 0 row (omega arith)) in
+    let rest = sum_none rows (λ k d l. h (suc k) d (omega arith)) in
+    let cons = sum_by-cons (λ (v : Vec Watch Global). length v.items) row rows in
+    omega (arith, here, rest, cons)
+
 pub lists_none : (rows : List (Vec Watch Global)) → ((k : ℕ) (d : Vec Watch Global) → k < length rows → (get_or rows k d).items ≡ []) → lists_of rows ≡ replicate (length rows) []
 lists_none [] h = refl
 lists_none (row ∷ rows) h = rw (h 0 row (omega arith)) (ap (λ (xs : List (List Watch)). [] ∷ xs) (lists_none rows (λ k d l. h (suc k) d (omega arith))))

@@ -16,10 +16,12 @@ pub const MOST_WATCHERS: u32 = 1 << 20;
 pub struct Shard {
     ids: u32,
     rows: Vec<Vec<Watch>>,
+    // how many watchers there are, of all keys
+    count: u32,
 }
 
 impl Model for Shard {
-    ghost use Rattle.std.specs.Prelude.{map};
+    ghost use Rattle.std.specs.Prelude.{◌≡◌, length, map, sum_by};
     ghost use Rattle.watch_lists.specs.Watches.{Watches};
     ghost use Rattle.watch_lists.specs.Rows.{AreRows};
 
@@ -27,7 +29,7 @@ impl Model for Shard {
 
     ghost view = { λ s. record { ids = s.ids; rows = map (λ row. row.items) s.rows.items } };
 
-    ghost invariant = { λ s. AreRows s.ids s.rows.items };
+    ghost invariant = { λ s. AreRows s.ids s.rows.items × (s.count ≡ sum_by (λ row. length row.items) s.rows.items) };
 }
 
 impl Shard {
@@ -44,7 +46,11 @@ impl Shard {
             let row = Vec::with_capacity(alloc, ids as usize)?;
             rows.push(row)?;
         }
-        Ok(Shard { ids, rows })
+        Ok(Shard {
+            ids,
+            rows,
+            count: 0,
+        })
     }
 
     /// Lists an id under a key with a generation, in place of an older one. Generations are 1 or
@@ -65,7 +71,11 @@ impl Shard {
             generation,
         };
         let ids = self.ids;
-        put(&mut self.rows[key as usize], watch, ids);
+        let row = &mut self.rows[key as usize];
+        let before = row.len() as u32;
+        put(row, watch, ids);
+        let after = row.len() as u32;
+        self.count = self.count - before + after;
     }
 
     /// The watcher at a place of a key, in rising order of id. `None` exactly where there are no
@@ -84,6 +94,14 @@ impl Shard {
         self.rows[key as usize].get(at as usize).copied()
     }
 
+    /// How many watchers a key has.
+    pub fn watchers(&self, key: u32) -> u32
+        requires { key < keys_of self.now }
+        ensures { result ≡ length (row_of self.now key) }
+    {
+        self.rows[key as usize].len() as u32
+    }
+
     /// Takes a watcher out. False where it isn't listed with this generation.
     pub fn drop_stale(&mut self, key: u32, id: u32, generation: u32) -> bool
         requires key { key < keys_of self.old }
@@ -96,7 +114,12 @@ impl Shard {
         ensures others { (k : ℕ) (i : ℕ) (g : ℕ) → IsListed self.new k i g
             ↔ (IsListed self.old k i g × (k ≡ key → i ≡ id → g ≢ generation)) }
     {
-        take(&mut self.rows[key as usize], id, generation)
+        let row = &mut self.rows[key as usize];
+        let before = row.len() as u32;
+        let was = take(row, id, generation);
+        let after = row.len() as u32;
+        self.count = self.count - before + after;
+        was
     }
 
     /// Takes out every watcher whose generation isn't the live one of its id, and answers how many.
@@ -113,18 +136,16 @@ impl Shard {
         for key in 0..self.rows.len() {
             removed += keep_live(&mut self.rows[key], live);
         }
-        removed as u32
+        let removed = removed as u32;
+        self.count -= removed;
+        removed
     }
 
     /// How many watchers are listed, of all keys.
     pub fn len(&self) -> u32
         ensures { result ≡ size_of self.now }
     {
-        let mut count = 0;
-        for row in &self.rows {
-            count += row.len();
-        }
-        count as u32
+        self.count
     }
 
     /// Law: the watchers of a key are in rising order of id, each with the key, an id below the

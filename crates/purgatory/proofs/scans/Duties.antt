@@ -1,5 +1,5 @@
 -- The duties of a scan, one after another.
-use Rattle.std.proofs.Common.{⊎_elim, ◌≡◌, ◌≢◌, ◌∙◌, ℕ, zero, suc, ◌+◌, ◌/◌, ◌<◌, ◌≤◌, List, Option, Some, None, Contains, cond, get_or, ap, refl, subst, sym, arith}
+use Rattle.std.proofs.Common.{⊎_elim, ◌≡◌, ◌≢◌, ◌∙◌, ℕ, zero, suc, ◌+◌, ◌/◌, ◌<◌, ◌≤◌, List, Option, Some, None, Contains, cond, get_or, length, ap, refl, subst, sym, arith}
 use Rattle.std.specs.Prelude.{max, not, ◌||◌, ◌&&◌, nat_le, nat_lt}
 use Rattle.std.specs.List.{slice_get}
 use Rattle.std.proofs.lemmas.Bool.{cases_eq, ne_eqb}
@@ -63,20 +63,11 @@ row_pass key ids row r place w at = (
 place_there : (row : List Watch) (place other : ℕ) (w : Watch) → slice_get row other ≡ Some w → place < other → (v : Watch) × (slice_get row place ≡ Some v)
 place_there row place other w at less = (get_or row place w, slice_get-get_or row place w (let l = slice_get_within row other w at in omega (arith, l, less)))
 
--- an id is no lower than its place
-place_low : (key ids : ℕ) (row : List Watch) → IsRow key ids row → (place : ℕ) (w : Watch) → slice_get row place ≡ Some w → place ≤ w.id
-place_low key ids row r zero w at = omega arith
-place_low key ids row r (suc place) w at =
-    let there = place_there row place (suc place) w at (omega arith) in
-    let low = place_low key ids row r place there.0 there.1 in
-    let less = earlier key ids row r place (suc place) there.0 w (omega arith) there.1 at in
-    omega (arith, low, less)
-
-pub row_short : (key ids : ℕ) (row : List Watch) → IsRow key ids row → (place : ℕ) (w : Watch) → slice_get row place ≡ Some w → place < ids
-row_short key ids row r place w at =
-    let low = place_low key ids row r place w at in
-    let below = (row_pass key ids row r place w at).1 in
-    omega (arith, low, below)
+-- the watchers of a key, counted
+pub all_below : (w : Watches) (key count : ℕ) → count ≡ length (row_of w key) → AreAllBelow key count w
+all_below w key count is place watch at =
+    let there : place < length (row_of w key) = slice_get_within (row_of w key) place watch at in
+    omega (arith, there, is)
 
 -- all watchers of the gauge are duties as a scan begins
 pub begins_duties : (seat new : ScanView) (w : Watches) (gauge heard count : ℕ) → seat.table.shape.scanners ≡ 17 → seat.scanner < clock_scanner → IsGaugeOf seat.table.shape seat.scanner gauge

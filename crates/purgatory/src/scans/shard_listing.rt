@@ -69,6 +69,9 @@ fn drop_pass(shard: &mut Shard, pass: u32, generation: u32)
     ensures listed { (k i g : ℕ) → IsListed shard.new k i g ↔ (IsListed shard.old k i g × (i ≡ pass → g ≢ generation)) }
     ensures lower { KeepsLower pass shard.old shard.new }
 {
+    if shard.len() == 0 {
+        return;
+    }
     for key in 0..SHARD_GAUGES {
         drop_from(shard, key, pass, generation);
     }
@@ -139,14 +142,7 @@ impl ShardListing {
         requires { key < shard_gauges }
         ensures { AreAllBelow key result self.now.watches }
     {
-        self.shard.watchers_rise();
-        let passes = self.scanner.shape().passes;
-        for count in 0..passes {
-            if self.shard.each(key, count).is_none() {
-                return count;
-            }
-        }
-        passes
+        self.shard.watchers(key)
     }
 
     /// The watcher at this place in the row of a key.

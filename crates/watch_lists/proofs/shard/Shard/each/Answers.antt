@@ -23,7 +23,7 @@ row_read : (c : After-copied) → c.index.result.now.items ≡ row_of c.args.sel
 row_read c =
     let s = c.self.inside in
     let l = key_within s.ids s.rows.items c.args.self.now c.args.key c.self.view_is c.requires in
-    row_is s.ids s.rows.items c.self.invariant c.args.key l c.index.result.now c.index.ensures
+    row_is s.ids s.rows.items c.self.invariant.0 c.args.key l c.index.result.now c.index.ensures
     ∙ ap (λ (w : Watches). row_of w c.args.key) c.self.view_is
 
 place : (c : After-copied) → c.copied.result ≡ slice_get (row_of c.args.self.now c.args.key) c.args.at
@@ -36,7 +36,7 @@ pub returns-clause-listed : goal.returns-clause-listed
 returns-clause-listed c =
     let s = c.self.inside in
     let l = key_within s.ids s.rows.items c.args.self.now c.args.key c.self.view_is c.requires in
-    let row = row_ok s.ids s.rows.items c.self.invariant c.args.key l c.index.result.now c.index.ensures in
+    let row = row_ok s.ids s.rows.items c.self.invariant.0 c.args.key l c.index.result.now c.index.ensures in
     each_listed c.args.key s.ids (row_of c.args.self.now c.args.key) (rw (row_read c) at row) c.args.at c.copied.result (place c)
 
 pub returns-clause-row : goal.returns-clause-row
@@ -44,7 +44,7 @@ returns-clause-row c =
     let s = c.self.inside in
     let key = c.args.key in
     let l = key_within s.ids s.rows.items c.args.self.now key c.self.view_is c.requires in
-    subst (λ (w : Watches). IsRow key w.ids (row_of w key)) c.self.view_is (rows_rise s.ids s.rows.items c.self.invariant key l)
+    subst (λ (w : Watches). IsRow key w.ids (row_of w key)) c.self.view_is (rows_rise s.ids s.rows.items c.self.invariant.0 key l)
 
 pub returns-clause-within : goal.returns-clause-within
 returns-clause-within c = each_within c.args.key c.args.self.now.ids (row_of c.args.self.now c.args.key) (returns-clause-row c) c.args.at c.copied.result (place c)

@@ -14,7 +14,7 @@ overflow_add-removed c =
     let end = c.len-key-end.ensures in
     let count = i.count in
     let sizes = sizes-set c.loop-key.self-inside.rows.items c.loop-key.key c.index_mut.result.now c.keep_live-removed.new.row c.keep_live-removed.result (omega arith) c.index_mut.ensures.value c.keep_live-removed.ensures.count in
-    let small = size_small c.self.inside.ids c.self.inside.rows.items c.self.invariant in
+    let small = size_small c.self.inside.ids c.self.inside.rows.items c.self.invariant.0 in
     omega arith
 
 pub loop-key-preserved : goal.loop-key-preserved
@@ -35,12 +35,13 @@ loop-key-preserved c =
       long = length-set _ _ _ ∙ i.long;
       live = filtered_so_far c.args.live.now s.rows.items c.self.inside.rows.items c.loop-key.key c.index_mut.result.now c.keep_live-removed.new.row (omega arith) i.live c.index_mut.ensures.value i.long c.keep_live-removed.ensures.items;
       count = omega arith;
+      kept = i.kept;
     }
 
-pub overflow_cast-result : goal.overflow_cast-result
-overflow_cast-result c =
+pub overflow_cast-removed : goal.overflow_cast-removed
+overflow_cast-removed c =
     let count = c.loop-key.invariant.count in
-    let small = size_small c.self.inside.ids c.self.inside.rows.items c.self.invariant in
+    let small = size_small c.self.inside.ids c.self.inside.rows.items c.self.invariant.0 in
     omega arith
 
 pub returns-clause-live : goal.returns-clause-live

@@ -11,4 +11,5 @@ invariant-loop-key l = record {
   long : length l.self-inside.rows.items ≡ length l.initial.self-inside.rows.items;
   live : lists_of l.self-inside.rows.items ≡ map (filter (is_live l.live)) (take l.key (lists_of l.initial.self-inside.rows.items)) ++ drop l.key (lists_of l.initial.self-inside.rows.items);
   count : l.removed + sum_by (λ row. length row.items) l.self-inside.rows.items ≡ sum_by (λ row. length row.items) l.initial.self-inside.rows.items;
+  kept : l.self-inside.count ≡ l.initial.self-inside.count;
 }

@@ -9,7 +9,7 @@ pub returns-clause-rows : goal.returns-clause-rows
 returns-clause-rows c = λ key l.
     let s = c.self.inside in
     let m = key_within s.ids s.rows.items c.args.self.now key c.self.view_is l in
-    subst (λ (w : Watches). IsRow key w.ids (row_of w key)) c.self.view_is (rows_rise s.ids s.rows.items c.self.invariant key m)
+    subst (λ (w : Watches). IsRow key w.ids (row_of w key)) c.self.view_is (rows_rise s.ids s.rows.items c.self.invariant.0 key m)
 
 pub returns-clause-within : goal.returns-clause-within
 returns-clause-within c = listed_within c.args.self.now (returns-clause-rows c)
