@@ -30,7 +30,7 @@ pub mod LogReadings
 pub mod BytesRead
 -- ==== the words of private functions
 
--- what is told of each named partition, from what was read
+-- what is told of each named partition, from what was read, and the fields of that
 pub mod ToldParts
 -- how far the needs of a request are reached, from numbers of its partitions
 pub mod Reached

@@ -1,6 +1,8 @@
 -- What is told of the named partitions, from what became of each and what was read of it.
-use Rattle.std.specs.Prelude.{ℕ, ◌+◌, ℤ, pos, negsuc, List, [], ◌∷◌, length, take, drop, nat_lt, if◌then◌else◌}
+use Rattle.std.specs.Prelude.{ℕ, ◌+◌, ℤ, pos, negsuc, Some, List, [], ◌∷◌, length, take, drop, nat_lt, if◌then◌else◌}
+use Rattle.std.specs.List.{flat_map}
 use Rattle.std.specs.Ordering.{int_eq}
+use Rattle.kbytes.specs.Field.{Field, String, Array}
 use Rattle.kwire.specs.declared.codes.TheConstants.{NONE, REQUEST_TIMED_OUT, NOT_ENOUGH_REPLICAS_AFTER_APPEND}
 use Rattle.kwire.specs.Configuration.{Configuration, min_insync_at}
 use Rattle.partlog.specs.declared.numbers.Numbers.{Numbers}
@@ -71,3 +73,13 @@ produced_of config acks topics results readings =
 
 abbrev pub fetched_of : List FetchTopic → List Accepted → List Reading → List FetchedTopic
 fetched_of topics results readings = topics_by (λ topic. length topic.parts) fetched_topic topics results readings
+
+-- the fields of one topic: its name, the count, and those of what is told of its partitions
+abbrev pub topic_fields : {A P B : Type 0} → (A → List ℕ) → (A → List P) → (P → Accepted → Reading → B) → (B → List Field) → A → List Accepted → List Reading → List Field
+topic_fields name parts tells kind topic results readings =
+    let told = parts_by tells (parts topic) results readings in
+    String (name topic) ∷ Array (Some (length told)) ∷ flat_map kind told
+
+abbrev pub topics_fields : {A P B : Type 0} → (A → List ℕ) → (A → List P) → (P → Accepted → Reading → B) → (B → List Field) → List A → List Accepted → List Reading → List Field
+topics_fields name parts tells kind topics results readings =
+    flat_map (λ fields. fields) (topics_by (λ topic. length (parts topic)) (topic_fields name parts tells kind) topics results readings)

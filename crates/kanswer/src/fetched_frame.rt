@@ -1,17 +1,18 @@
 //! The frame of a reply to a fetch, for `reply`. The topics are written from the request and the readings, so that neither
 //! names nor records are copied before.
-ghost use Rattle.std.specs.Prelude.{◌≡◌, ◌++◌, length, sum_by, All, IfOk, OnOk};
-ghost use Rattle.std.specs.List.{flat_map};
+ghost use Rattle.std.specs.Prelude.{◌≡◌, ◌++◌, ⊤, length, sum_by, All, IfOk, OnOk};
 ghost use Rattle.kbytes.specs.Field.{fields};
+ghost use Rattle.kwire.specs.declared.reply.FetchedPart.{FetchedPart as ToldPart};
 ghost use Rattle.kwire.specs.declared.reply.Told.TheVariants.{Fetched};
 ghost use Rattle.kwire.specs.IsSpellable.{AreInRange, IsSpellable};
-ghost use Rattle.kwire.specs.Spelling.{fetched_part_fields, fetched_topic_fields, told_fields, spelling};
+ghost use Rattle.kwire.specs.Spelling.{fetched_part_fields, told_fields, spelling};
 ghost use Rattle.kanswer.specs.LogReadings.{HasCarriable};
-ghost use Rattle.kanswer.specs.ToldParts.{parts_by, fetched_part, fetched_topic, fetched_of};
+ghost use Rattle.kanswer.specs.ToldParts.{fetched_part, fetched_of};
 
 use crate::accepted::{Accepted, Reading};
 use crate::fetched::fetched_view;
-use kbytes::{Bytes, NoMemory, put_array, put_i32, put_string};
+use crate::told_topics::{Answered, put_topics};
+use kbytes::{Bytes, NoMemory, put_array, put_i32};
 use kwire::{
     FETCHED_PART_BYTES, FetchPart, FetchTopicView, REPLY_HEAD_BYTES, TOLD_TOPIC_BYTES, begin_reply,
     end_reply, put_fetched_part,
@@ -27,75 +28,43 @@ pub struct AnsweredFetch<'a> {
     pub topics: &'a [FetchTopicView<'a>],
 }
 
-fn put_parts(
-    out: &mut Bytes,
-    answered: &AnsweredFetch<'_>,
-    parts: &[FetchPart],
-    accepted: &[Accepted],
-    readings: &[Reading],
-) -> Result<(), NoMemory>
-    requires accepted { length accepted.now ≡ length parts.now }
-    requires readings { length readings.now ≡ length parts.now }
-    requires carriable { All HasCarriable readings.now }
-    requires in_range { AreInRange (flat_map (fetched_part_fields answered.now.version answered.now.isolation)
-        (parts_by fetched_part parts.now accepted.now readings.now)) }
-    ensures { OnOk result (out.new ≡ out.old ++ fields (flat_map (fetched_part_fields answered.now.version answered.now.isolation)
-        (parts_by fetched_part parts.now accepted.now readings.now))) }
-{
-    for at in 0..parts.len() {
-        let told = fetched_view(&parts[at], &accepted[at], &readings[at]);
-        put_fetched_part(out, answered.version, answered.isolation, &told)?;
-    }
-    Ok(())
-}
+impl<'a> Answered for AnsweredFetch<'a> {
+    type Topic = FetchTopicView<'a>;
 
-fn put_topic(
-    out: &mut Bytes,
-    answered: &AnsweredFetch<'_>,
-    topic: &FetchTopicView<'_>,
-    accepted: &[Accepted],
-    readings: &[Reading],
-) -> Result<(), NoMemory>
-    requires accepted { length accepted.now ≡ length topic.now.parts }
-    requires readings { length readings.now ≡ length topic.now.parts }
-    requires carriable { All HasCarriable readings.now }
-    requires in_range { AreInRange (fetched_topic_fields answered.now.version answered.now.isolation
-        (fetched_topic topic.now accepted.now readings.now)) }
-    ensures { OnOk result (out.new ≡ out.old ++ fields (fetched_topic_fields answered.now.version answered.now.isolation
-        (fetched_topic topic.now accepted.now readings.now))) }
-{
-    put_string(out, topic.name)?;
-    put_array(out, Some(topic.parts.len() as u32))?;
-    put_parts(out, answered, topic.parts.as_slice(), accepted, readings)
-}
+    type Part = FetchPart;
 
-fn put_topics(
-    out: &mut Bytes,
-    answered: &AnsweredFetch<'_>,
-    accepted: &[Accepted],
-    readings: &[Reading],
-) -> Result<(), NoMemory>
-    requires accepted { length accepted.now ≡ sum_by (λ topic. length topic.parts) answered.now.topics.now }
-    requires readings { length readings.now ≡ sum_by (λ topic. length topic.parts) answered.now.topics.now }
-    requires carriable { All HasCarriable readings.now }
-    requires in_range { AreInRange (flat_map (fetched_topic_fields answered.now.version answered.now.isolation)
-        (fetched_of answered.now.topics.now accepted.now readings.now)) }
-    ensures { OnOk result (out.new ≡ out.old ++ fields (flat_map (fetched_topic_fields answered.now.version answered.now.isolation)
-        (fetched_of answered.now.topics.now accepted.now readings.now))) }
-{
-    let mut from = 0;
-    for topic in answered.topics {
-        let upto = from + topic.parts.len();
-        put_topic(
-            out,
-            answered,
-            topic,
-            &accepted[from..upto],
-            &readings[from..upto],
-        )?;
-        from = upto;
+    ghost name = { λ topic. topic.name };
+
+    ghost parts = { λ topic. topic.parts };
+
+    ghost Told = { ToldPart };
+
+    ghost told = { λ _. fetched_part };
+
+    ghost told_fields = { λ answered. fetched_part_fields answered.version answered.isolation };
+
+    ghost HasResult = { λ _. ⊤ };
+
+    ghost HasReading = { HasCarriable };
+
+    fn name<'t>(topic: &'t FetchTopicView<'a>) -> &'t [u8] {
+        topic.name
     }
-    Ok(())
+
+    fn parts<'t>(topic: &'t FetchTopicView<'a>) -> &'t [FetchPart] {
+        topic.parts.as_slice()
+    }
+
+    fn put_part(
+        &self,
+        out: &mut Bytes,
+        part: &FetchPart,
+        became: &Accepted,
+        reading: &Reading,
+    ) -> Result<(), NoMemory> {
+        let told = fetched_view(part, became, reading);
+        put_fetched_part(out, self.version, self.isolation, &told)
+    }
 }
 
 // The throttle time 0, and after it the topics.
@@ -115,7 +84,7 @@ fn put_told(
 {
     put_i32(out, 0)?;
     put_array(out, Some(answered.topics.len() as u32))?;
-    put_topics(out, answered, accepted, readings)
+    put_topics(out, answered, answered.topics, accepted, readings)
 }
 
 // The bytes of the topics, beside their partitions. Nothing but what is reserved rests on it.

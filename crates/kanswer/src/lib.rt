@@ -26,6 +26,7 @@ mod put;
 mod replies;
 mod reply;
 mod terms;
+mod told_topics;
 mod visitor;
 mod waiting;
 

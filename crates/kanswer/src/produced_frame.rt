@@ -1,17 +1,18 @@
 //! The frame of a reply to a produce, for `reply`. The topics are written from the request and the readings, so that no
 //! names are copied before.
-ghost use Rattle.std.specs.Prelude.{◌≡◌, ◌++◌, length, sum_by, All, IfOk, OnOk};
-ghost use Rattle.std.specs.List.{flat_map};
+ghost use Rattle.std.specs.Prelude.{◌≡◌, ◌++◌, ⊤, length, sum_by, All, IfOk, OnOk};
 ghost use Rattle.kbytes.specs.Field.{fields};
+ghost use Rattle.kwire.specs.declared.reply.ProducedPart.{ProducedPart as ToldPart};
 ghost use Rattle.kwire.specs.declared.reply.Told.TheVariants.{Produced};
 ghost use Rattle.kwire.specs.IsSpellable.{AreInRange, IsSpellable};
-ghost use Rattle.kwire.specs.Spelling.{produced_part_fields, produced_topic_fields, told_fields, spelling};
+ghost use Rattle.kwire.specs.Spelling.{produced_part_fields, told_fields, spelling};
 ghost use Rattle.kanswer.specs.LogReadings.{IsCarriable};
-ghost use Rattle.kanswer.specs.ToldParts.{parts_by, produced_part, produced_topic, produced_of};
+ghost use Rattle.kanswer.specs.ToldParts.{produced_part, produced_of};
 
 use crate::accepted::{Accepted, Reading};
 use crate::produced::{Producing, produced_part};
-use kbytes::{Bytes, NoMemory, put_array, put_i32, put_string};
+use crate::told_topics::{Answered, put_topics};
+use kbytes::{Bytes, NoMemory, put_array, put_i32};
 use kwire::{
     PRODUCED_PART_BYTES, ProducePartView, ProduceTopicView, REPLY_HEAD_BYTES, TOLD_TOPIC_BYTES,
     begin_reply, end_reply, put_produced_part,
@@ -27,73 +28,43 @@ pub struct AnsweredProduce<'a> {
     pub topics: &'a [ProduceTopicView<'a>],
 }
 
-fn put_parts(
-    out: &mut Bytes,
-    answered: &AnsweredProduce<'_>,
-    parts: &[ProducePartView<'_>],
-    accepted: &[Accepted],
-    readings: &[Reading],
-) -> Result<(), NoMemory>
-    requires accepted { length accepted.now ≡ length parts.now }
-    requires readings { length readings.now ≡ length parts.now }
-    requires carriable { All IsCarriable accepted.now }
-    ensures { OnOk result (out.new ≡ out.old ++ fields (flat_map (produced_part_fields answered.now.version)
-        (parts_by (produced_part answered.now.produce.config.now answered.now.produce.acks) parts.now accepted.now readings.now))) }
-{
-    for at in 0..parts.len() {
-        let told = produced_part(&answered.produce, &parts[at], &accepted[at], &readings[at]);
-        put_produced_part(out, answered.version, &told)?;
-    }
-    Ok(())
-}
+impl<'a> Answered for AnsweredProduce<'a> {
+    type Topic = ProduceTopicView<'a>;
 
-fn put_topic(
-    out: &mut Bytes,
-    answered: &AnsweredProduce<'_>,
-    topic: &ProduceTopicView<'_>,
-    accepted: &[Accepted],
-    readings: &[Reading],
-) -> Result<(), NoMemory>
-    requires accepted { length accepted.now ≡ length topic.now.parts }
-    requires readings { length readings.now ≡ length topic.now.parts }
-    requires carriable { All IsCarriable accepted.now }
-    requires in_range { AreInRange (produced_topic_fields answered.now.version
-        (produced_topic answered.now.produce.config.now answered.now.produce.acks topic.now accepted.now readings.now)) }
-    ensures { OnOk result (out.new ≡ out.old ++ fields (produced_topic_fields answered.now.version
-        (produced_topic answered.now.produce.config.now answered.now.produce.acks topic.now accepted.now readings.now))) }
-{
-    put_string(out, topic.name)?;
-    put_array(out, Some(topic.parts.len() as u32))?;
-    put_parts(out, answered, topic.parts.as_slice(), accepted, readings)
-}
+    type Part = ProducePartView<'a>;
 
-fn put_topics(
-    out: &mut Bytes,
-    answered: &AnsweredProduce<'_>,
-    accepted: &[Accepted],
-    readings: &[Reading],
-) -> Result<(), NoMemory>
-    requires accepted { length accepted.now ≡ sum_by (λ topic. length topic.parts) answered.now.topics.now }
-    requires readings { length readings.now ≡ sum_by (λ topic. length topic.parts) answered.now.topics.now }
-    requires carriable { All IsCarriable accepted.now }
-    requires in_range { AreInRange (flat_map (produced_topic_fields answered.now.version)
-        (produced_of answered.now.produce.config.now answered.now.produce.acks answered.now.topics.now accepted.now readings.now)) }
-    ensures { OnOk result (out.new ≡ out.old ++ fields (flat_map (produced_topic_fields answered.now.version)
-        (produced_of answered.now.produce.config.now answered.now.produce.acks answered.now.topics.now accepted.now readings.now))) }
-{
-    let mut from = 0;
-    for topic in answered.topics {
-        let upto = from + topic.parts.len();
-        put_topic(
-            out,
-            answered,
-            topic,
-            &accepted[from..upto],
-            &readings[from..upto],
-        )?;
-        from = upto;
+    ghost name = { λ topic. topic.name };
+
+    ghost parts = { λ topic. topic.parts };
+
+    ghost Told = { ToldPart };
+
+    ghost told = { λ answered. produced_part answered.produce.config.now answered.produce.acks };
+
+    ghost told_fields = { λ answered. produced_part_fields answered.version };
+
+    ghost HasResult = { IsCarriable };
+
+    ghost HasReading = { λ _. ⊤ };
+
+    fn name<'t>(topic: &'t ProduceTopicView<'a>) -> &'t [u8] {
+        topic.name
     }
-    Ok(())
+
+    fn parts<'t>(topic: &'t ProduceTopicView<'a>) -> &'t [ProducePartView<'a>] {
+        topic.parts.as_slice()
+    }
+
+    fn put_part(
+        &self,
+        out: &mut Bytes,
+        part: &ProducePartView<'a>,
+        became: &Accepted,
+        reading: &Reading,
+    ) -> Result<(), NoMemory> {
+        let told = produced_part(&self.produce, part, became, reading);
+        put_produced_part(out, self.version, &told)
+    }
 }
 
 // The topics, and after them the throttle time 0.
@@ -112,7 +83,7 @@ fn put_told(
         (produced_of answered.now.produce.config.now answered.now.produce.acks answered.now.topics.now accepted.now readings.now)))) }
 {
     put_array(out, Some(answered.topics.len() as u32))?;
-    put_topics(out, answered, accepted, readings)?;
+    put_topics(out, answered, answered.topics, accepted, readings)?;
     put_i32(out, 0)
 }
 
