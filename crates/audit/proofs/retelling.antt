@@ -16,8 +16,6 @@ pub mod Reread
 pub mod Answered
 -- the replies of calls and of sessions, one after the other
 pub mod Tellings
--- sessions that are printed in shares
-pub mod Sharing
 -- the account of a run, and the numbers of its sessions
 pub mod Printing
 -- the account of a trace's run can be printed session by session

@@ -10,7 +10,6 @@ mod promises;
 mod reply;
 mod rereading;
 mod retold;
-mod shares;
 mod telling;
 
 pub use accepting::{Scene, retell};
@@ -18,5 +17,4 @@ pub use past::{Past, pasts_of};
 pub use promises::lawful_parts_play_again;
 pub use reply::reply_to;
 pub use retold::Retold;
-pub use shares::workers_text;
 pub use telling::print_workers;

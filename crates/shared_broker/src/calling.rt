@@ -68,7 +68,7 @@ impl Broker {
         self.handle_as(rt, pass, frame, true)
     }
 
-    /// As `handle`, for a session that is sent nothing, since what it would be sent is printed of the account: a `Reply` has no bytes.
+    /// As `handle`, where the reply is neither sent nor kept: a `Reply` has no bytes.
     pub fn handle_unsent(&self, rt: &impl Wait, pass: &mut Pass, frame: &[u8]) -> Handled
         requires made { made_with pass.old ≡ self.now }
         requires begun { IsSome pass.old.going }

@@ -40,7 +40,7 @@ impl Broker {
         self.collect_as(rt, pass, true)
     }
 
-    /// As `collect`, for a session that is sent nothing: a `Reply` has no bytes.
+    /// As `collect`, where the reply is neither sent nor kept: a `Reply` has no bytes.
     pub fn collect_unsent(&self, rt: &impl Wait, pass: &mut Pass) -> Collected
         requires made { made_with pass.old ≡ self.now }
         requires waits { IsSome pass.old.waits }

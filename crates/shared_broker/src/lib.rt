@@ -22,7 +22,7 @@
 //! match broker.close(rt, passes) { BrokerEnd::Closed(account) => .. }
 //! ```
 //!
-//! A session that is sent nothing, since its replies are printed of the account, has `handle_unsent` and `collect_unsent`: they make no frames.
+//! Where the replies are neither sent nor kept, as in a storm, there are `handle_unsent` and `collect_unsent`: they make no frames.
 //!
 //! However the threads interleave, the account of `close` is lawful (`HasClosed`): each pass keeps a book of what it saw and did
 //! (`books` of `audit`), and the books of all passes make one account.

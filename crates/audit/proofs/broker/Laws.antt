@@ -29,7 +29,7 @@ pub use Rattle.audit.proofs.broker.Ledger.{IsKept, put, put_same, put_other, Has
 pub use Rattle.audit.proofs.broker.Accepting.{owners_clock, owners_part, kept_part, kept_look, kept_accepted, accepted_within, look_decisions, look_points, looked, looks_points, looks_parts, looks_fair, looks_states, shown_in, shown_alike, looks_look, looks_shown}
 -- what a pass's entries have to do with the clock: entry by entry, and as histories and the clock go on by others' entries, by those of
 -- its calls at the clock's moment, by a look, a tick, or leaves at a moment that was told
-pub use Rattle.audit.proofs.broker.Timely.{AreSeen, FollowsBelow, IsTimelyEvent, NewEvents, entry_timely, event_on, events_of_part, events_there, follows_below, moment_before, moment_grows, moment_told, none_later, others_timely, owner_there, rows_seen, set_new, tick_stays, tick_told, ticks_append, timely_begun, timely_clock, timely_entered, timely_event, timely_events, timely_more, timely_others, timely_rows, timely_shrunk, told_stays, was_there}
+pub use Rattle.audit.proofs.broker.Timely.{AreSeen, FollowsBelow, IsTimelyEvent, NewEvents, entry_timely, event_on, events_of_part, events_there, follows_below, moment_before, moment_grows, moment_told, none_later, others_timely, owner_there, rows_seen, set_new, tick_stays, tick_told, ticks_append, timely_begun, timely_clock, timely_event, timely_events, timely_more, timely_others, timely_rows, timely_shrunk, told_stays, was_there}
 pub use Rattle.audit.proofs.broker.NewEntries.{IsLeft, LeavesOnly, accepted_new, accepted_timely, looks_timely}
 -- whoever was taken out lagged then, as histories go on
 pub use Rattle.audit.proofs.broker.Late.{AllLate, TakesNobody, entry_takes, late_more}
@@ -60,7 +60,7 @@ pub use Rattle.audit.proofs.broker.Work.{AreSeats, IsOpen, work_of, work_on, sea
 -- ---- plays
 
 -- lines that are played, one more at a time
-pub use Rattle.audit.proofs.broker.LineByLine.{plays_keep, plays_on, lines_left, lines_more}
+pub use Rattle.audit.proofs.broker.LineByLine.{plays_keep, plays_on}
 -- lines play to something, and to one thing at most
 pub use Rattle.audit.proofs.broker.PlaySome.{lines_play, input_bytes, trace_plays}
 pub use Rattle.audit.proofs.broker.PlayOnce.{play_is_one, front_of_play}

@@ -1,6 +1,5 @@
 -- A play goes on line by line, and its lines keep the configuration.
-use Rattle.std.proofs.Common.{◌≡◌, ℕ, zero, suc, ◌+◌, ◌<◌, Bool, true, false, List, [], ◌∷◌, ◌++◌, length, get_or, take, drop, Option, Some, None, MatchBool, refl, sym, ap, subst, ◌∙◌, inl, inr, append-nil, append_assoc}
-use Rattle.std.proofs.lemmas.List.{take_more, drop_more}
+use Rattle.std.proofs.Common.{◌≡◌, ℕ, zero, suc, ◌+◌, Bool, true, false, List, [], ◌∷◌, ◌++◌, Option, Some, None, MatchBool, refl, sym, ap, subst, ◌∙◌, inl, inr, append-nil, append_assoc}
 use Rattle.std.specs.Prelude.{nat_lt, ◌==◌}
 use Rattle.std.specs.List.{find, range_with_len}
 use Rattle.partlog.specs.History.{History}
@@ -49,13 +48,6 @@ plays_on board (l ∷ lines) line last here played next =
       behind,
       ap (λ (xs : List ℕ). record { board = here.board; text = xs }) text,
     )
-
--- the line at hand is the first of those to come, and stands behind those that were played
-pub lines_left : (lines : List Line) (i : ℕ) (line : Line) → i < length lines → line ≡ get_or lines i line → drop i lines ≡ line ∷ drop (i + 1) lines
-lines_left lines i line lt is = drop_more lines i line lt ∙ ap (λ (l : Line). l ∷ drop (i + 1) lines) (sym is)
-
-pub lines_more : (lines : List Line) (i : ℕ) (line : Line) → i < length lines → line ≡ get_or lines i line → take (i + 1) lines ≡ take i lines ++ line ∷ []
-lines_more lines i line lt is = take_more lines i line lt ∙ ap (λ (l : Line). take i lines ++ l ∷ []) (sym is)
 
 -- ---- the configuration stays
 

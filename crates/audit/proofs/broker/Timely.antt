@@ -1,5 +1,5 @@
 -- What the entries of a pass have to do with the clock, as histories and the clock go on.
-use Rattle.std.proofs.Common.{◌≡◌, ℕ, zero, suc, ◌+◌, ◌≤◌, ◌<◌, ◌⊎◌, max, ℤ, List, [], ◌∷◌, ◌++◌, length, map, set, take, drop, Contains, Option, Some, None, unwrap_or, refl, sym, ap, subst, ◌∙◌, arith, inl, inr, append-nil, length-append}
+use Rattle.std.proofs.Common.{◌≡◌, ℕ, ◌+◌, ◌≤◌, ◌<◌, ◌⊎◌, max, ℤ, List, [], ◌∷◌, ◌++◌, length, map, set, take, drop, Contains, Option, Some, None, unwrap_or, refl, sym, ap, subst, ◌∙◌, arith, inl, inr, append-nil, length-append}
 use Rattle.std.proofs.lemmas.Bool.{cases_lt}
 use Rattle.std.proofs.lemmas.List.{length-map, take-append-drop, take-append-le}
 use Rattle.std.proofs.lemmas.List.Elements.{Contains-append_left, Contains-append_right, Contains-push, filter_map-append}
@@ -17,14 +17,14 @@ use Rattle.audit.specs.declared.account.Point.{Point}
 use Rattle.audit.specs.Histories.{AreNotLater, IsToldMoment, Owner, clock_owner_of, clock_part, owner_of, ticks_of}
 use Rattle.audit.specs.IsLawful.{is_point}
 use Rattle.kanswer.specs.Decisions.{Entry, Put, Followed, Looked}
-use Rattle.kbytes.proofs.Laws.{get_set_other, get_set_same, get_there, get_within, same_or_not}
+use Rattle.kbytes.proofs.Laws.{get_set_other, get_set_same, get_within, same_or_not}
 use Rattle.audit.specs.broker.Board.{empty_history, history_at}
-use Rattle.audit.specs.broker.GoesOn.{AllLonger, HaveGrown, Longer, the_owner}
+use Rattle.audit.specs.broker.GoesOn.{AllLonger, HaveGrown, the_owner}
 use Rattle.audit.specs.broker.Kept.{IsKept, owners_at}
 use Rattle.audit.proofs.broker.Growth.{event_of}
 use Rattle.audit.proofs.broker.Entries.{slice_map}
 use Rattle.audit.proofs.broker.Accepting.{owners_part}
-use Rattle.audit.proofs.broker.Going.{grown_parts, set_longer}
+use Rattle.audit.proofs.broker.Going.{grown_parts}
 use Rattle.audit.proofs.broker.Ledger.{push_get, put, put_same, put_other}
 pub use Rattle.audit.specs.broker.Timely.{IsTimely, events_at, pass_of}
 
@@ -307,15 +307,6 @@ set_new parts part left event P within events holds q place e there past =
           let here : slice_get (events_at parts q) place ≡ Some e = sym (ap (λ (es : List PartEvent). slice_get es place) at) ∙ there in
           absurd (omega (arith, slice_get_within (events_at parts q) place e here, past))
     ]
-
--- an entry of the pass's call at the clock's moment, in one partition
-pub timely_entered : (number : ℕ) (parts : List History) (clock : List ClockEvent) (rows : List (List Point)) (part by seq : ℕ) (left : History) (entry : Entry) → part < length parts
-    → Longer (history_at parts part) left → left.events ≡ (history_at parts part).events ++ event_of by seq (moment_of clock) entry ∷ [] → AreSeen clock rows
-    → IsTimely number parts clock rows → IsTimely number (set parts part left) clock rows
-timely_entered number parts clock rows part by seq left entry within longer events seen h =
-    let there : slice_get parts part ≡ Some (history_at parts part) = get_there parts part (empty_history 0) within in
-    timely_more number parts (set parts part left) clock clock rows (grown_parts parts (set parts part left) clock (set_longer parts part (history_at parts part) left there longer)) seen
-    (set_new parts part left (event_of by seq (moment_of clock) entry) (IsTimelyEvent number clock rows) within events (entry_timely number by seq clock rows entry)) h
 
 -- it took followers out, at a moment that the clock was told
 pub timely_shrunk : (number : ℕ) (parts later : List History) (clock : List ClockEvent) (rows : List (List Point)) (t : ℕ) → AllLonger parts later → AreSeen clock rows → Contains (ticks_of clock) t

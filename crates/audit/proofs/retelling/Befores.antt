@@ -29,9 +29,6 @@ use Rattle.audit.proofs.retelling.Entries.{whole_front}
 
 -- ---- the numbers
 
-pub numbers_more : (h : History) (n : ℕ) → numbers_upto h (n + 1) ≡ numbers_upto h n ++ numbers_of (state_before h n) ∷ []
-numbers_more h n = ap (numbers_upto h) (add-one n)
-
 pub numbers_long : (h : History) (n : ℕ) → length (numbers_upto h n) ≡ n
 numbers_long h zero = refl
 numbers_long h (suc n) = omega (arith, length-append (numbers_upto h n) (numbers_of (state_before h n) ∷ []), numbers_long h n)

@@ -1,5 +1,5 @@
 -- What is read again of the partitions of a call is what its reply needs.
-use Rattle.std.proofs.Common.{◌≡◌, ◌<◌, ◌+◌, ◌-◌, ◌||◌, ℕ, zero, suc, ℤ, Bool, true, false, List, [], ◌∷◌, ◌++◌, length, get_or, take, Option, Some, Result, Ok, Err, IfOk, refl, sym, ap, subst, ◌∙◌, arith, sum_by, length-append}
+use Rattle.std.proofs.Common.{◌≡◌, ◌<◌, ◌+◌, ◌-◌, ℕ, zero, suc, ℤ, List, [], ◌∷◌, ◌++◌, length, get_or, take, Option, Some, Result, Ok, Err, IfOk, refl, sym, ap, subst, ◌∙◌, arith, sum_by, length-append}
 use Rattle.std.proofs.lemmas.List.Sums.{sum_by-cons}
 use Rattle.std.specs.Prelude.{unwrap_or, slice_get}
 use Rattle.std.proofs.lemmas.Option.{slice_get-get_or}
@@ -14,7 +14,7 @@ use Rattle.kwire.specs.declared.request.FetchPart.{FetchPart}
 use Rattle.kwire.specs.declared.request.FetchTopic.{FetchTopic}
 use Rattle.audit.specs.broker.Board.{history_at, empty_history}
 use Rattle.kanswer.specs.declared.accepted.Accepted.{Accepted}
-use Rattle.kanswer.specs.declared.accepted.Accepted.TheVariants.{Refused, Appended, Seen}
+use Rattle.kanswer.specs.declared.accepted.Accepted.TheVariants.{Appended, Seen}
 use Rattle.kanswer.specs.declared.accepted.Reading.{Reading}
 use Rattle.kanswer.specs.declared.accepted.Budget.{Budget}
 use Rattle.kanswer.specs.Waiting.{Shown}
@@ -60,29 +60,6 @@ seen_left pasts r replica asked became part start place h b new who is has at_it
     e ∙ ap (λ (z : ℤ). budget_after (read_of z asked start (state_at h place) b) b) who
     ∙ ap (λ (s : PartState). budget_after (read_of replica asked start s b) b) at ∙ ap (λ (a : Accepted). budget_after (batches_as replica asked a state b) b) (sym is)
 
--- nothing is read of a partition that isn't seen
-none_after : (b : Budget) → budget_after [] b ≡ b
-none_after b =
-    let same : (any : Bool) → (any || false) ≡ any = λ any. elim any as (λ y. (y || false) ≡ y) [ true ↦ refl | false ↦ refl ] in
-    let left : b.left - 0 ≡ b.left = omega arith in
-    let made = λ (n : ℕ) (any : Bool). let one : Budget = record { left = n; any = any } in one in
-    ap (λ (n : ℕ). made n (b.any || false)) left ∙ ap (λ (y : Bool). made b.left y) (same b.any)
-
-abbrev pub IsUnseen : Accepted → Type 0
-IsUnseen (Refused code) = Unit {0}
-IsUnseen (Appended part base count) = Unit {0}
-IsUnseen (Seen part start) = ⊥
-
-pub unseen_records : (replica : ℤ) (asked : FetchPart) (became : Accepted) (reading : Reading) (state : PartState) (b : Budget) → IsUnseen became → HasRecords replica asked became reading state b
-unseen_records replica asked (Refused code) reading state b is = tt
-unseen_records replica asked (Appended part base count) reading state b is = tt
-unseen_records replica asked (Seen part start) reading state b is = absurd is
-
-pub unseen_left : (replica : ℤ) (asked : FetchPart) (became : Accepted) (state : PartState) (b : Budget) → IsUnseen became → b ≡ budget_after (batches_as replica asked became state b) b
-unseen_left replica asked (Refused code) state b is = sym (none_after b)
-unseen_left replica asked (Appended part base count) state b is = sym (none_after b)
-unseen_left replica asked (Seen part start) state b is = absurd is
-
 -- the numbers of one that was appended to
 pub appended_numbers : (pasts : List History) (became : Accepted) (part base count place : ℕ) (h : History) (reading : Reading) → became ≡ Appended part base count → HasPast (length pasts) became → h ≡ get_or pasts part h
     → reading.numbers ≡ numbers_of (state_at h place) → (state : PartState) → IsShownAt pasts became place state → HasNumbers became reading state
@@ -90,16 +67,6 @@ appended_numbers pasts became part base count place h reading is has at_it numbe
     let lt : part < length pasts = subst (HasPast (length pasts)) is has in
     let at : state ≡ state_at (history_at pasts part) place = subst (λ (a : Accepted). IsShownAt pasts a place state) is shown in
     subst (λ (a : Accepted). HasNumbers a reading state) (sym is) (numbers ∙ ap numbers_of (sym (at ∙ ap (λ (g : History). state_at g place) (past_at pasts part h lt at_it))))
-
-abbrev pub IsNotAppended : Accepted → Type 0
-IsNotAppended (Refused code) = Unit {0}
-IsNotAppended (Appended part base count) = ⊥
-IsNotAppended (Seen part start) = Unit {0}
-
-pub other_numbers : (became : Accepted) (reading : Reading) (state : PartState) → IsNotAppended became → HasNumbers became reading state
-other_numbers (Refused code) reading state is = tt
-other_numbers (Appended part base count) reading state is = absurd is
-other_numbers (Seen part start) reading state is = tt
 
 -- ---- one partition after the other
 

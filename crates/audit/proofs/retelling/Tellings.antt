@@ -1,5 +1,5 @@
 -- The replies of calls and of sessions, one after the other.
-use Rattle.std.proofs.Common.{◌≡◌, ℕ, ◌+◌, ◌<◌, ◌^◌, true, false, List, [], ◌∷◌, ◌++◌, take, Some, refl, sym, ap, subst, ◌∙◌, append_assoc, append-nil, zero, suc}
+use Rattle.std.proofs.Common.{◌≡◌, ℕ, ◌+◌, ◌<◌, ◌^◌, true, List, [], ◌∷◌, ◌++◌, take, Some, refl, sym, ap, subst, ◌∙◌, append_assoc, append-nil, zero, suc}
 use Rattle.std.specs.Prelude.{slice_get}
 use Rattle.std.specs.List.{AllByRecursion, AllZip, flat_map, zip}
 use Rattle.std.proofs.lemmas.Grind.{flat_map-append}
@@ -23,9 +23,6 @@ use Rattle.audit.proofs.retelling.ByPoints.{all_zip_append}
 -- the replies to some calls, put behind what stands there
 abbrev pub HavePut : Account → ℕ → List Call → List ℕ → List ℕ → Type 0
 HavePut account session calls before after = (replies : List Reply) × HasReplies account calls replies × (after ≡ before ++ flat_map (reply_line session) replies)
-
-pub replies_none : (account : Account) (session : ℕ) (call : Call) (before : List ℕ) → is_answered call.how ≡ false → before ≡ before ++ [] → HavePut account session (call ∷ []) before before
-replies_none account session call before isnt same = ([], rw isnt tt, same)
 
 pub replies_one : (account : Account) (session : ℕ) (call : Call) (reply : Reply) (before after : List ℕ) → is_answered call.how ≡ true → IsReplyOf account call reply → after ≡ before ++ flat_map (reply_line session) (reply ∷ []) → HavePut account session (call ∷ []) before after
 replies_one account session call reply before after answers is same = (reply ∷ [], rw answers (is, tt), same)

@@ -1,7 +1,6 @@
 -- What is printed of some of an account's sessions.
-use Rattle.std.specs.Prelude.{ℕ, ◌≡◌, ◌<◌, ◌≤◌, ◌*◌, List, drop, get_or, length, take, IfOk, Result}
+use Rattle.std.specs.Prelude.{ℕ, ◌≡◌, List}
 use Rattle.std.specs.List.{AllZip, flat_map, zip}
-use Rattle.kbytes.specs.declared.no_memory.NoMemory.{NoMemory}
 use Rattle.kwire.specs.declared.reply.Reply.{Reply}
 use Rattle.audit.specs.declared.account.Account.{Account}
 use Rattle.audit.specs.declared.account.Transcript.{Transcript}
@@ -16,8 +15,3 @@ sessions_in passes = flat_map (λ transcripts. transcripts) passes
 abbrev pub IsTextOf : Account → List Transcript → List ℕ → Type 0
 IsTextOf account transcripts text =
     (all : List (List Reply)) × AllZip (λ transcript sent. HasReplies account transcript.calls sent) transcripts all × (text ≡ flat_map session_text (zip transcripts all))
-
--- the passes are cut into shares of `size`, in order; each text for which there was memory is that of its share's sessions
-pub record AreShares (account : Account) (size : ℕ) (texts : List (Result (List ℕ) NoMemory)) : Type 0 where
-  pub whole : length account.passes ≤ length texts * size
-  pub each : (n : ℕ) (d : Result (List ℕ) NoMemory) → n < length texts → IfOk (get_or texts n d) (IsTextOf account (sessions_in (take size (drop (n * size) account.passes))))

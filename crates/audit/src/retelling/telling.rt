@@ -1,5 +1,4 @@
-//! Prints a run of several threads: session by session what it was sent, and then the summary. `shares.rt` makes the same text in several
-//! threads.
+//! Prints a run of several threads: session by session what it was sent, and then the summary.
 
 ghost use Rattle.std.specs.Prelude.{ℕ, ◌≡◌, ◌<◌, ◌^◌, ◌∷◌, [], ◌++◌, map, List as Items, OnOk, OnErr, IfOk};
 ghost use Rattle.std.specs.List.{AllByRecursion, AllZip, flat_map, zip};
@@ -139,7 +138,7 @@ fn put_passes(
 }
 
 // The lines of each session of these passes.
-pub(crate) fn passes_text(
+fn passes_text(
     alloc: Global,
     account: &Account,
     pasts: &[Past],
@@ -163,7 +162,7 @@ pub(crate) fn passes_text(
 }
 
 // Puts the lines of all sessions at the end of the bytes, and the summary after them.
-pub(crate) fn put_with_summary(
+fn put_with_summary(
     alloc: Global,
     account: &Account,
     mut text: Bytes,

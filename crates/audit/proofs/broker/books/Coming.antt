@@ -57,16 +57,6 @@ not_of number (Shrink by replica t) other s e = absurd cc
 pub events_of_others : (number : ℕ) (events : List PartEvent) → AllByRecursion (λ event. pass_of event ≢ number) events → AllByRecursion (λ event. NotOf number (owner_of event)) events
 events_of_others number events others = all_on (λ (event : PartEvent). pass_of event ≢ number) (λ (event : PartEvent). NotOf number (owner_of event)) (λ event other. not_of number event other) events others
 
--- a tick is nobody's
-not_of_clock : (number : ℕ) (event : ClockEvent) → ((by seq : ℕ) → event ≡ clocks.Look by seq → by ≢ number) → NotOf number (clock_owner_of event)
-not_of_clock number (clocks.Tick t) other s e = absurd cc
-not_of_clock number (clocks.Look by seq) other s e = other by seq refl (same_pass by seq number s e)
-
-pub ticks_of_others : (number : ℕ) (events : List ClockEvent) → AllByRecursion (λ event. (by seq : ℕ) → event ≡ clocks.Look by seq → by ≢ number) events
-    → AllByRecursion (λ event. NotOf number (clock_owner_of event)) events
-ticks_of_others number events others =
-    all_on (λ (event : ClockEvent). (by seq : ℕ) → event ≡ clocks.Look by seq → by ≢ number) (λ (event : ClockEvent). NotOf number (clock_owner_of event)) (λ event other. not_of_clock number event other) events others
-
 -- entries behind those that were seen: where none is the pass's, its entries lie within what it saw
 within_front : (number : ℕ) (seen more : List (Option Owner)) → AllByRecursion (NotOf number) more → (place seq : ℕ) → slice_get (seen ++ more) place ≡ Some (the_owner number seq) → place < length seen
 within_front number seen more others place seq e =

@@ -19,8 +19,7 @@ use Rattle.audit.specs.Histories.{at_point, moment_at, no_state, points_of}
 use Rattle.audit.specs.LawfulCall.{Step, AreLooks, Completes, IsClockLook, IsCutAsExpired, IsCutAsSatisfied, IsLook, by_part, operation_in, operation_parts, part_in, shown_as_completed}
 use Rattle.kanswer.specs.Decisions.{AskLog, Decision, Looked, look}
 use Rattle.kanswer.specs.declared.accepted.Accepted.TheVariants.{Seen}
-use Rattle.kanswer.specs.declared.accepted.Accepted.{Accepted}
-use Rattle.kanswer.specs.Waiting.{Shown, results_of, values_of}
+use Rattle.kanswer.specs.Waiting.{Shown, values_of}
 use Rattle.opcond.specs.Operation.{Operation}
 use Rattle.opcond.specs.Tally.{IsOverdue, IsSatisfied}
 use Rattle.audit.specs.Histories.{part_account}
@@ -258,17 +257,6 @@ shown_completed account (step ∷ steps) (point ∷ points) =
     let seen : Shown = record { result = step.result; state = at_point account point } in
     ap (λ (ss : List Shown). by_part (part_in step.result) (first ∷ ss) (seen ∷ shown_as_completed account steps points)) (shown_completed account steps (point ∷ points))
     ∙ ap (λ (ss : List Shown). by_part (part_in step.result) (first ∷ shown_with steps (at_point account point ∷ map (at_point account) points)) (seen ∷ ss)) (shown_completed account steps points)
-
--- whatever states are shown, the results are those of the acceptance
-pub results_with : (steps : List Step) (states : List State) → results_of (shown_with steps states) ≡ map (λ (step : Step). step.result) steps
-results_with [] states = refl
-results_with (step ∷ steps) [] = ap (λ (results : List Accepted). step.result ∷ results) (results_with steps [])
-results_with (step ∷ steps) (state ∷ states) = by_case (part_in step.result) (results_with steps (state ∷ states)) (results_with steps states)
-  where
-    by_case : (o : Option ℕ) → results_of (shown_with steps (state ∷ states)) ≡ map (λ (s : Step). s.result) steps → results_of (shown_with steps states) ≡ map (λ (s : Step). s.result) steps
-        → results_of (by_part o (record { result = step.result; state = no_state } ∷ shown_with steps (state ∷ states)) (record { result = step.result; state = state } ∷ shown_with steps states)) ≡ step.result ∷ map (λ (s : Step). s.result) steps
-    by_case None skipped shown = ap (λ (results : List Accepted). step.result ∷ results) skipped
-    by_case (Some part) skipped shown = ap (λ (results : List Accepted). step.result ∷ results) shown
 
 module _ (u : Underway) (w : Waiting) (states : List State) where
   -- the states at its looks, as an account shows them

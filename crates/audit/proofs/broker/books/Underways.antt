@@ -1,6 +1,6 @@
 -- A book amid a call: what holds of it holds on as others' entries come and as the call goes on, and it is a book wherever the call is
 -- lawful or waits.
-use Rattle.std.proofs.Common.{◌≡◌, ℕ, ◌+◌, true, false, List, [], ◌∷◌, ◌++◌, length, map, Option, Some, None, refl, sym, ap, subst, ◌∙◌, arith, append-nil, length-append}
+use Rattle.std.proofs.Common.{◌≡◌, ℕ, ◌+◌, true, false, List, [], ◌∷◌, ◌++◌, length, map, Option, Some, None, refl, sym, ap, subst, ◌∙◌, arith, append-nil}
 use Rattle.std.proofs.lemmas.Grind.{flat_map-append}
 use Rattle.std.proofs.lemmas.List.{length-map, map-append}
 use Rattle.std.specs.Prelude.{Contains}
@@ -185,9 +185,6 @@ underway_as u how h = record { histories = h.histories; own = h.own; timely = h.
 -- the call's number is that of its rows
 pub is_seq : (u : Underway) → seq_of u ≡ length (map points_of (earlier_calls u))
 is_seq u = sym (length-map (earlier_calls u) points_of)
-
-pub seq_is : (u : Underway) → IsUnderway u → u.transcript.first + length u.transcript.calls ≡ seq_of u
-seq_is u h = omega (arith, h.first, length-append (calls_in u.front) u.transcript.calls)
 
 -- ---- it is a book
 
