@@ -5,8 +5,7 @@ ghost use Rattle.trace_workers.specs.Received.{HasReceived};
 ghost use Rattle.trace_workers.specs.Sessions.{IsSameSession, desk_of};
 
 use crate::desk::Desk;
-use crate::reply_lines::ReplyLines;
-use kbytes::NoMemory;
+use kbytes::{Bytes, List, NoMemory};
 use kwire::Inbox;
 use shared_broker::{Broker, Pass};
 use std::alloc::Global;
@@ -21,7 +20,7 @@ pub struct TraceSession {
     pub(crate) inbox: Inbox,
     pub(crate) is_shut: bool,
     pub(crate) is_named: bool,
-    pub(crate) kept: Option<ReplyLines>,
+    pub(crate) kept: Option<List<Bytes>>,
 }
 
 impl Model for TraceSession {
@@ -33,8 +32,8 @@ impl Model for TraceSession {
 }
 
 impl TraceSession {
-    /// The session of this number, on a pass that has no transcript. No line has named it. It keeps the lines of its replies if it is given where.
-    pub fn new(alloc: Global, number: u32, pass: Pass, kept: Option<ReplyLines>) -> TraceSession
+    /// The session of this number, on a pass that has no transcript. No line has named it. It keeps the frames of its replies if it is given where.
+    pub fn new(alloc: Global, number: u32, pass: Pass, kept: Option<List<Bytes>>) -> TraceSession
         ensures { result ≡ record { number = number; pass = pass; inbox = []; is_shut = false; is_named = false; kept = kept } }
     {
         TraceSession {
