@@ -66,6 +66,6 @@ returns g c =
     record {
       run = IfOk-weaker c.close.result (CameTo broker lines count drain) _ (λ played is. worker_run broker lines c.args.manner.port count drain played c.requires.traced refl config is) came;
       kept = IfOk-weaker c.close.result (CameTo broker lines count drain) _ (λ played is. all_kept broker lines count drain played is) came;
-      lines = IfOk-weaker c.close.result _ _ (λ played goes. goes keeps still) c.close.ensures.kept;
+      frames = IfOk-weaker c.close.result _ _ (λ played goes. goes keeps still) c.close.ensures.kept;
       desks = IfOk-weaker c.close.result (CameTo broker lines count drain) _ (λ played is. have_desks broker lines count drain played is) came;
     }
