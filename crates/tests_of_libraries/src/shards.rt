@@ -23,6 +23,7 @@ fn watchers_are_listed_replaced_dropped_and_purged(rt: HostRuntime) {
     shard.list(0, 3, 1);
     let row = [shard.each(1, 0), shard.each(1, 1), shard.each(1, 2)];
     assert!(rt; row == [Some(THIRD), Some(SEVENTH), None]);
+    assert!(rt; (shard.watchers(0), shard.watchers(1)) == (1, 2));
     let dropped = (shard.drop_stale(1, 3, 1), shard.drop_stale(1, 3, 2));
     assert!(rt; dropped == (false, true));
     let mut live = [0; 10];

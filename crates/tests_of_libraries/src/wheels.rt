@@ -43,6 +43,7 @@ fn an_entry_is_put_again(rt: HostRuntime) {
     let mut wheels = Wheels::new(rt.alloc(), 8).expect(&rt, "memory");
     let mut due = Due::new(rt.alloc(), 8).expect(&rt, "memory");
     assert!(rt; wheels.insert(3, 25) && is_at(&wheels, 3, 1, 1));
+    assert!(rt; (wheels.deadline(3), wheels.deadline(4)) == (Some(25), None));
     wheels.pop_due(20, &mut due);
     assert!(rt; due.ids().is_empty() && is_at(&wheels, 3, 0, 5));
     let taken = (wheels.insert(3, 20), wheels.where_is(3), wheels.remove(3));

@@ -1,7 +1,7 @@
 //! Workers meet, and the account of a run on one.
 ghost use Rattle.std.specs.Prelude.{◌≤◌};
 
-use crate::pieces::{A, PRODUCE, PRODUCE_TO_1, WAIT_FOR_0, WAIT_FOR_1};
+use crate::pieces::{A, PRODUCE, PRODUCE_TO_1, PRODUCED, WAIT_FOR_0, WAIT_FOR_1};
 use crate::runs::joined;
 use audit::{Account, Call, CallHow};
 use std::alloc::Global;
@@ -12,7 +12,7 @@ use std::thread;
 use std::thread::Threads;
 use std::time::{Clock, Duration};
 use trace_file::read_trace;
-use trace_workers::{Gate, NoGate, run_lines};
+use trace_workers::{Gate, NoGate, print_lines, run_lines};
 
 // Fetches from t/1: from offset 0 without a wait, and of at least 1 byte from offset 1, which waits at most 100 ms.
 const AT_ONCE: &str =
@@ -136,4 +136,21 @@ fn who_wins_on_one_worker(rt: HostRuntime) {
     wins[1] = 1;
     wins[16] = 1;
     assert!(rt; account.wins.as_slice() == wins.as_slice());
+}
+
+#[test]
+fn each_session_has_its_frames(rt: HostRuntime) {
+    let alloc = rt.alloc();
+    let text = joined(alloc, &[TOPIC, "bytes 0 ", PRODUCE, A, "\nend\n"]).expect(&rt, "memory");
+    let lines = read_trace(alloc, text.as_slice(), false).expect(&rt, "a trace");
+    let printed = print_lines(&rt, alloc, lines.as_slice(), 9092, 1);
+    let (account, printout) = printed.expect(&rt, "memory");
+    assert!(rt; account.passes.len() == 2);
+    let sessions = printout.sessions.as_slice();
+    let session = sessions.first().expect(&rt, "the session that was named");
+    let frames = session.frames.as_slice();
+    let frame = frames.first().expect(&rt, "the frame that it was sent");
+    assert!(rt; (sessions.len(), frames.len()) == (1, 1));
+    assert!(rt; session.head.as_slice() == b"reply 0 ".as_slice());
+    assert!(rt; frame.len() == PRODUCED.len() / 2 && session.end.is_empty());
 }
