@@ -43,8 +43,8 @@
 //! ```
 //!
 //! An operation whose deadline had come before it was listed has no timer and is no scan's duty: its own pass reads the clock after
-//! the listing. A timer stays when its operation is over, and also serves the pass's next one if it comes no later than that one's deadline:
-//! when it comes out, the pass gets another, if it has an operation then. So the wheels are seldom touched when deadlines rise.
+//! the listing. A timer stays as the pass's next operation is listed in place of its entry, if it comes no later than that one's deadline: when
+//! it comes out, the pass gets another. So the wheels are seldom touched when deadlines rise.
 //!
 //! # How the proof goes
 //!

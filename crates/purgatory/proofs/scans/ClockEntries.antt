@@ -22,7 +22,6 @@ use Rattle.purgatory.specs.scans.Desks.{ClockView}
 use Rattle.purgatory.specs.scans.Going.{GoesOn}
 use Rattle.purgatory.specs.scans.Scanned.{scan_begun}
 use Rattle.purgatory.specs.scans.Shelf.{open_generation}
-use Rattle.purgatory.specs.scans.Timing.{IsTimed}
 use Rattle.purgatory.proofs.scans.Deadlines.{marked_is}
 use Rattle.purgatory.proofs.scans.Entries.{live_entry_some}
 use Rattle.purgatory.proofs.scans.Goes.{goes_by, one_step, stays}
@@ -219,7 +218,8 @@ module _ (seat : ScanView) (timers : Timers) (n : ℕ) (fresh : seat.steps ≡ [
   pub settled_fresh : (pass : ℕ) → IsSettled pass (desk_of seat timers)
   settled_fresh pass = record {
     no_duty = ap (λ (s : Scanner). s.duties pass) idle;
-    timed = timed_nothing timers.moment (entry_at (desk_of seat timers) pass) (deadline_of timers pass) (ap (λ (s : Scanner). s.listing (clock_of seat.table.shape) pass) idle);
+    timed = timed_nothing timers.moment (entry_at (desk_of seat timers) pass) (deadline_of timers pass) (ap (λ (s : Scanner). s.listing (clock_of seat.table.shape) pass) idle)
+        (ap (λ (t : Timers). deadline_of t pass) none ∙ ap (option_map (λ (t : Timer). t.deadline)) (none_there n pass));
   }
 
 -- a scan that begins

@@ -52,9 +52,9 @@ timed_as : (m n : ℕ) (e f : Option Entry) (o p : Option ℕ) → n ≡ m → f
 timed_as m n e f o p moment entry timer h =
     subst (λ k. IsTimed k f p) (sym moment) (subst (λ x. IsTimed m x p) (sym entry) (subst (IsTimed m e) (sym timer) h))
 
--- without an entry any timer will do
-pub timed_nothing : (m : ℕ) (e : Option Entry) (o : Option ℕ) → e ≡ None → IsTimed m e o
-timed_nothing m e o none = subst (λ x. IsTimed m x o) (sym none) tt
+-- neither an entry nor a timer
+pub timed_nothing : (m : ℕ) (e : Option Entry) (o : Option ℕ) → e ≡ None → o ≡ None → IsTimed m e o
+timed_nothing m e o none out = subst (λ x. IsTimed m x o) (sym none) out
 
 pub settled_else : (pass other : ℕ) (a b : ClockView) → ChangesOnly pass a b → other ≢ pass → IsSettled other a → IsSettled other b
 settled_else pass other a b only n h = record {
@@ -63,11 +63,11 @@ settled_else pass other a b only n h = record {
       only.moment (only.entries other n) (only.timers other n) h.timed;
 }
 
-pub settled_all : (pass : ℕ) (a b : ClockView) → ChangesOnly pass a b → IsSettled pass b → ((other : ℕ) → IsSettled other a) → (other : ℕ) → IsSettled other b
+pub settled_all : (pass : ℕ) (a b : ClockView) → ChangesOnly pass a b → IsSettled pass b → ((other : ℕ) → other ≢ pass → IsSettled other a) → (other : ℕ) → IsSettled other b
 settled_all pass a b only here all other =
     ⊎_elim
     (λ (same : other ≡ pass). subst (λ p. IsSettled p b) (sym same) here)
-    (λ (n : other ≢ pass). settled_else pass other a b only n (all other))
+    (λ (n : other ≢ pass). settled_else pass other a b only n (all other n))
     (cases_eq other pass)
 
 -- the duty on an entry, in a view of the same table
@@ -126,19 +126,22 @@ module _ (pass : ℕ) (found : Session) (a b : ClockView) (met : WasMet pass fou
     timers = λ other n. timer_same other;
   }
 
-  pub met_settled : IsSettled pass a → IsSettled pass b
-  met_settled h = record {
-    no_duty = duties_now pass ∙ put_here duties pass (live_duty found (duties pass)) ∙ no_duty_lives found (duties pass) h.no_duty;
-    timed =
-        ⊎_elim
-        (λ (same : entry_at b pass ≡ entry_at a pass).
-        timed_as a.timers.moment b.timers.moment (entry_at a pass) (entry_at b pass) (timer_at a pass) (timer_at b pass) moment_same same (timer_same pass) h.timed)
-        (λ (gone : entry_at b pass ≡ None). timed_nothing b.timers.moment (entry_at b pass) (timer_at b pass) gone)
-        met.entry;
-  }
+  -- the others are settled still
+  pub met_others : ((other : ℕ) → IsSettled other a) → (other : ℕ) → other ≢ pass → IsSettled other b
+  met_others all other n = settled_else pass other a b met_only n (all other)
 
-  pub met_settles : ((other : ℕ) → IsSettled other a) → (other : ℕ) → IsSettled other b
-  met_settles all = settled_all pass a b met_only (met_settled (all pass)) all
+  -- it has no duty, if it had none
+  pub met_free : IsSettled pass a → duty_at b pass ≡ None
+  met_free h = duties_now pass ∙ put_here duties pass (live_duty found (duties pass)) ∙ no_duty_lives found (duties pass) h.no_duty
+
+  -- and its entry, if it stays, has its timer
+  pub met_timed : IsSettled pass a → (entry : Entry) → entry_at b pass ≡ Some entry → HasTimer b.timers.moment entry.deadline (timer_at b pass)
+  met_timed h entry is =
+      ⊎_elim
+      (λ (same : entry_at b pass ≡ entry_at a pass).
+      timed_as a.timers.moment b.timers.moment (entry_at a pass) (Some entry) (timer_at a pass) (timer_at b pass) moment_same (sym is ∙ same) (timer_same pass) h.timed)
+      (λ (gone : entry_at b pass ≡ None). let no : None ≡ Some entry = sym gone ∙ is in absurd cc)
+      met.entry
 
   -- on whose entry there is a duty
   module _ (entry : Entry) (h : IsOnDuty pass entry a) where
@@ -166,7 +169,7 @@ module _ (pass : ℕ) (found : Session) (a b : ClockView) (met : WasMet pass fou
         let dead = not_live found entry.generation n in
         record {
           no_duty = duty_now ∙ duty_left found clock entry.generation false dead;
-          timed = timed_nothing b.timers.moment (entry_at b pass) (timer_at b pass) (entry_now ∙ live_none found entry dead);
+          timed = timed_nothing b.timers.moment (entry_at b pass) (timer_at b pass) (entry_now ∙ live_none found entry dead) no_timer_now;
         }
 
 -- a duty of the meeting
@@ -270,14 +273,14 @@ module _ (seat new : ScanView) (timers : Timers) (pass : ℕ) (entry : Entry) (h
     pub tried_settled : IsSettled pass (desk_of new timers)
     tried_settled = record {
       no_duty = ap (λ (d : ℕ → Option Duty). d pass) t.duties ∙ put_here s.duties pass None;
-      timed = timed_nothing timers.moment (entry_at (desk_of new timers) pass) (timer_at (desk_of new timers) pass) tried_here;
+      timed = timed_nothing timers.moment (entry_at (desk_of new timers) pass) (timer_at (desk_of new timers) pass) tried_here h.no_timer;
     }
 
 -- whose timer has come out
 
 -- it has no entry any more
 pub come_settled : (pass : ℕ) (a : ClockView) → HasComeOut pass a → entry_at a pass ≡ None → IsSettled pass a
-come_settled pass a h e = record { no_duty = h.no_entry e; timed = timed_nothing a.timers.moment (entry_at a pass) (timer_at a pass) e }
+come_settled pass a h e = record { no_duty = h.no_entry e; timed = timed_nothing a.timers.moment (entry_at a pass) (timer_at a pass) e h.no_timer }
 
 -- its deadline has come
 pub come_on_duty : (pass : ℕ) (a : ClockView) (entry : Entry) → HasComeOut pass a → entry_at a pass ≡ Some entry → entry.deadline ≤ a.timers.moment → IsOnDuty pass entry a
@@ -332,9 +335,9 @@ module _ (seat new : ScanView) (w timers : Timers) (pass deadline : ℕ) (step :
     timers = others;
   }
 
-  pub marked_settles : ((other : ℕ) → IsSettled other (desk_of seat w)) → (other : ℕ) → IsSettled other (desk_of new timers)
-  marked_settles all = settled_all pass (desk_of seat w) (desk_of new timers) marked_only (record {
-    no_duty = ap (λ (v : ScanView). (scanner_now v).duties pass) step ∙ (all pass).no_duty;
+  pub marked_settles : ((other : ℕ) → other ≢ pass → IsSettled other (desk_of seat w)) → duty_at (desk_of seat w) pass ≡ None → (other : ℕ) → IsSettled other (desk_of new timers)
+  marked_settles all free = settled_all pass (desk_of seat w) (desk_of new timers) marked_only (record {
+    no_duty = ap (λ (v : ScanView). (scanner_now v).duties pass) step ∙ free;
     timed = timed_as w.moment timers.moment (Some listed) (entry_at (desk_of new timers) pass) (deadline_of timers pass) (deadline_of timers pass)
         moment (row_after pass ∙ put_here ((scanner_now seat).listing (clock_of seat.table.shape)) pass (Some listed)) refl timer;
   }) all

@@ -115,7 +115,7 @@ module _ (t : ℕ) (old new : Option ℕ) (others : (d : ℕ) → (new ≡ Some 
 
 pub stays_timed : (m t : ℕ) (entry : Option Entry) (old new : Option ℕ) → m ≤ t → ((d : ℕ) → (new ≡ Some d) ↔ ((old ≡ Some d) × (t < d)))
     → IsTimed m entry old → ((d : ℕ) → old ≡ Some d → t < d) → IsTimed t entry new
-stays_timed m t None old new later others timed late = tt
+stays_timed m t None old new later others timed late = none_left t old new others timed
 stays_timed m t (Some entry) None new later others timed late =
     subst (HasTimer t entry.deadline) (sym (none_left t None new others refl)) (omega (arith, timed, later))
 stays_timed m t (Some entry) (Some d) new later others timed late =

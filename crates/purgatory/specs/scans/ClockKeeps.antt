@@ -11,14 +11,14 @@ use Rattle.timing_wheel.specs.Timers.{Timers, deadline_of, ids_of}
 use Rattle.purgatory.specs.scans.Desks.{ClockView}
 use Rattle.purgatory.specs.scans.Timing.{IsTimed}
 
--- each entry under the clock has its timer, by pass, and the scanner has no other entries
+-- the timers are those of the entries under the clock, by pass, and the scanner has no other entries
 pub record AreTimersOf (shape : Shape) (scanner : Scanner) (timers : Timers) : Type 0 where
   pub each : (pass : ℕ) → IsTimed timers.moment (scanner.listing (clock_of shape) pass) (deadline_of timers pass)
   pub own : (gauge pass : ℕ) (entry : Entry) → scanner.listing gauge pass ≡ Some entry → gauge ≡ clock_of shape
 
 -- Its scanner is the clock's in a room with all scanners. The moment of the timers is the one up to which the scanner has begun to
--- scan the clock. Exactly those of the listing's entries whose deadline is past that moment have a timer, which comes no later than the
--- deadline, and the scanner has no duty.
+-- scan the clock. There is a timer for exactly those of the listing's entries whose deadline is past that moment, and it comes no later
+-- than the deadline. The scanner has no duty.
 pub record ClockKeeps (desk : ClockView) : Type 0 where
   pub shape : IsShape desk.seat.table.shape
   pub scanners : desk.seat.table.shape.scanners ≡ scanner_numbers

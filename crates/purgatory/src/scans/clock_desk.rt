@@ -17,8 +17,9 @@ use std::marker::Model;
 use std::sync::Wait;
 use timing_wheel::Due;
 
-/// The clock's scanner and the timers of its entries. Between any two calls each entry whose deadline is past the moment up to which the
-/// scanner has begun to scan the clock has a timer that comes no later, no other entry has one, and the scanner has no duty.
+/// The clock's scanner and the timers of its entries. Between any two calls there is a timer for exactly the entries whose deadline is
+/// past the moment up to which the scanner has begun to scan the clock, which comes no later than the deadline, and the scanner has no
+/// duty.
 #[derive(Drop)]
 pub struct ClockDesk {
     // in boxes, since a turn moves the desk out of its lock and back

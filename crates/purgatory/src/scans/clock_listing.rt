@@ -1,5 +1,5 @@
 //! The clock's scanner beside the timers of its entries: `ClockDesk` calls it, and each call keeps the two alike.
-ghost use Rattle.std.specs.Prelude.{◌≡◌, ◌≢◌, ◌≤◌, ◌<◌, ℕ, List as Items, Option as Maybe, [], IfOk, Some, length, slice_index};
+ghost use Rattle.std.specs.Prelude.{◌≡◌, ◌≢◌, ◌≤◌, ◌<◌, ℕ, List as Items, Option as Maybe, [], IfOk, None, Some, length, slice_index};
 ghost use Rattle.std.specs.List.Sorted.{IsStrictlyIncreasing};
 ghost use Rattle.room_core.specs.declared.parts.Entry.{Entry as Listed};
 ghost use Rattle.room_core.specs.Gauges.{IsPass, IsShape, clock_of};
@@ -10,7 +10,7 @@ ghost use Rattle.timing_wheel.specs.Timers.{deadline_of, ids_of};
 ghost use Rattle.purgatory.specs.scans.Listing.{HasListedDeadline};
 ghost use Rattle.purgatory.specs.scans.Scanned.{HasScanned, scan_begun};
 ghost use Rattle.purgatory.specs.scans.Timing.{HasTimer};
-ghost use Rattle.purgatory.specs.scans.Coming.{AreComingFrom, ChangesOnly, HasComeOut, IsClockListing, IsOnDuty, IsSettled, WasMet, is_stale};
+ghost use Rattle.purgatory.specs.scans.Coming.{AreComingFrom, ChangesOnly, HasComeOut, IsClockListing, IsOnDuty, IsSettled, WasMet, duty_at, entry_at, is_stale, timer_at};
 
 use crate::scans::inspector::Inspector;
 use crate::scans::numbers::FARTHEST;
@@ -54,9 +54,9 @@ fn is_stale(entry: Option<Entry>, generation: u32) -> bool
     }
 }
 
-// Gives a pass a timer for its deadline, if that is past the present moment. A timer that the pass has already stays if it comes no
-// later: when it comes out, the pass gets another. So the wheels needn't be touched for each operation of a pass whose deadlines rise.
-// A deadline farther ahead than the wheels reach gets a timer as far ahead as they do.
+// Gives a pass a timer for its deadline, if that is past the present moment. A timer that the pass has from its last operation stays if
+// it comes no later: when it comes out, the pass gets another. So the wheels needn't be touched for each operation of a pass whose
+// deadlines rise. A deadline farther ahead than the wheels reach gets a timer as far ahead as they do.
 fn put_timer(wheels: &mut Wheels, pass: u32, deadline: u64)
     requires { pass < ids_of wheels.old }
     ensures moment { wheels.new.moment ≡ wheels.old.moment }
@@ -141,7 +141,7 @@ impl ClockListing {
         heard
     }
 
-    // Meets a pass. If that isn't open at its entry's generation, the entry goes. Its timer stays until it comes out.
+    // Meets a pass. If that isn't open at its entry's generation, the entry goes. Its timer stays, for the pass's next operation.
     fn meet(&mut self, table: &RoomTable, pass: u32) -> Session
         requires table { self.old.seat.table ≡ table.now }
         requires pass { IsPass table.now.shape pass }
@@ -221,6 +221,22 @@ impl ClockListing {
         }
     }
 
+    // Takes the timer of a pass out, if the pass has no entry any more.
+    fn drop_timer(&mut self, pass: u32)
+        requires pass { IsPass self.old.seat.table.shape pass }
+        requires others { (other : ℕ) → other ≢ pass → IsSettled other self.old }
+        requires free { duty_at self.old pass ≡ None }
+        requires timed { (entry : Listed) → entry_at self.old pass ≡ Some entry → HasTimer self.old.timers.moment entry.deadline (timer_at self.old pass) }
+        ensures seat { self.new.seat ≡ self.old.seat }
+        ensures settled { (other : ℕ) → IsSettled other self.new }
+        ensures ids { ids_of self.new.timers ≡ ids_of self.old.timers }
+    {
+        let Some(_entry) = self.entries[pass as usize] else {
+            self.wheels.remove(pass);
+            return;
+        };
+    }
+
     /// Lists the operation that the pass has open at this generation under its deadline.
     pub(crate) fn list(&mut self, table: &RoomTable, pass: u32, generation: u32)
         requires table { self.old.seat.table ≡ table.now }
@@ -233,6 +249,7 @@ impl ClockListing {
     {
         let found = self.meet(table, pass);
         if open_generation(found) != generation {
+            self.drop_timer(pass);
             return;
         }
         let deadline = self.scanner.learn(table, pass, DEADLINE_WORD);

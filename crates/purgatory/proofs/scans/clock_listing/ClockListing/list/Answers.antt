@@ -7,16 +7,22 @@ use Rattle.purgatory.specs.scans.Coming.{WasMet}
 use Rattle.purgatory.specs.scans.Desks.{ClockView}
 use Rattle.purgatory.proofs.scans.ClockEntries.{listing_marked}
 use Rattle.purgatory.proofs.scans.Deadlines.{found_else, lists_deadline, marks_clock, marks_generation, meets_open}
-use Rattle.purgatory.proofs.scans.Settling.{marked_settles, met_settles}
+use Rattle.purgatory.proofs.scans.Settling.{marked_settles, met_free, met_others, met_timed}
 use Rattle.purgatory.proofs.scans.Watching.{meeting_is}
 use Rattle.purgatory.proofs.scans.clock_listing.ClockListing.list.Goals as goal
 
 pub returns-then-open_generation-generation-clause-listed : goal.returns-then-open_generation-generation-clause-listed
 returns-then-open_generation-generation-clause-listed c =
-    found_else c.args.self.now.seat c.meet-found.new.self.seat c.args.pass c.args.generation c.meet-found.result c.meet-found.ensures.met.step (λ e. c.if-open_generation-generation.true (c.open_generation.ensures ∙ e))
+    found_else c.args.self.now.seat c.drop_timer.new.self.seat c.args.pass c.args.generation c.meet-found.result (c.drop_timer.ensures.seat ∙ c.meet-found.ensures.met.step) (λ e. c.if-open_generation-generation.true (c.open_generation.ensures ∙ e))
 
-pub returns-then-open_generation-generation-clause-settled : goal.returns-then-open_generation-generation-clause-settled
-returns-then-open_generation-generation-clause-settled c = met_settles c.args.pass c.meet-found.result c.args.self.now c.meet-found.new.self c.meet-found.ensures.met c.requires.settled
+pub drop_timer-requires-clause-others : goal.drop_timer-requires-clause-others
+drop_timer-requires-clause-others c = met_others c.args.pass c.meet-found.result c.args.self.now c.meet-found.new.self c.meet-found.ensures.met c.requires.settled
+
+pub drop_timer-requires-clause-free : goal.drop_timer-requires-clause-free
+drop_timer-requires-clause-free c = met_free c.args.pass c.meet-found.result c.args.self.now c.meet-found.new.self c.meet-found.ensures.met (c.requires.settled c.args.pass)
+
+pub drop_timer-requires-clause-timed : goal.drop_timer-requires-clause-timed
+drop_timer-requires-clause-timed c = met_timed c.args.pass c.meet-found.result c.args.self.now c.meet-found.new.self c.meet-found.ensures.met (c.requires.settled c.args.pass)
 
 pub learn-deadline-requires-clause-met : goal.learn-deadline-requires-clause-met
 learn-deadline-requires-clause-met c =
@@ -77,4 +83,4 @@ returns-clause-settled c =
     marked_settles inside.scanner c.mark.new.self inside.wheels c.put_timer.new.wheels c.args.pass c.learn-deadline.result
     (c.mark.ensures ∙ ap (λ (v : ScanView). scanner_did v (ScannerStep.Listed c.args.pass 64)) c.learn-deadline.ensures)
     c.put_timer.ensures.moment c.put_timer.ensures.timer c.put_timer.ensures.others
-    (met_settles c.args.pass c.meet-found.result c.args.self.now desk was c.requires.settled)
+    (met_others c.args.pass c.meet-found.result c.args.self.now desk was c.requires.settled) (met_free c.args.pass c.meet-found.result c.args.self.now desk was (c.requires.settled c.args.pass))
