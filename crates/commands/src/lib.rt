@@ -9,7 +9,6 @@
 mod command;
 mod exit;
 mod on_workers;
-mod printing;
 mod replay;
 mod runs;
 mod serving;

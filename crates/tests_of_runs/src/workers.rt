@@ -139,18 +139,14 @@ fn who_wins_on_one_worker(rt: HostRuntime) {
 }
 
 #[test]
-fn each_session_has_its_frames(rt: HostRuntime) {
+fn a_run_is_printed_in_parts(rt: HostRuntime) {
     let alloc = rt.alloc();
     let text = joined(alloc, &[TOPIC, "bytes 0 ", PRODUCE, A, "\nend\n"]).expect(&rt, "memory");
     let lines = read_trace(alloc, text.as_slice(), false).expect(&rt, "a trace");
     let printed = print_lines(&rt, alloc, lines.as_slice(), 9092, 1);
-    let (account, printout) = printed.expect(&rt, "memory");
+    let (account, parts) = printed.expect(&rt, "memory");
     assert!(rt; account.passes.len() == 2);
-    let sessions = printout.sessions.as_slice();
-    let session = sessions.first().expect(&rt, "the session that was named");
-    let frames = session.frames.as_slice();
-    let frame = frames.first().expect(&rt, "the frame that it was sent");
-    assert!(rt; (sessions.len(), frames.len()) == (1, 1));
-    assert!(rt; session.head.as_slice() == b"reply 0 ".as_slice());
-    assert!(rt; frame.len() == PRODUCED.len() / 2 && session.end.is_empty());
+    let line = joined(alloc, &["reply 0 ", PRODUCED, "\n"]).expect(&rt, "memory");
+    let first = parts.as_slice().first().expect(&rt, "the session's lines");
+    assert!(rt; first.as_slice() == line.as_slice());
 }

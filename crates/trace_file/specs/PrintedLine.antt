@@ -19,10 +19,6 @@ line_of (word ∷ next ∷ words) = word ++ 32 ∷ line_of (next ∷ words)
 abbrev pub reply_line : ℕ → Reply → List ℕ
 reply_line session reply = line_of (codes "reply" ∷ decimal session ∷ encode_lower (spelling reply) ∷ [])
 
--- its words before the digits
-abbrev pub reply_head : ℕ → List ℕ
-reply_head session = codes "reply" ++ 32 ∷ (decimal session ++ 32 ∷ [])
-
 -- the words of a topic's least number of in-sync replicas, which is written where it is above 1
 abbrev pub least_words : ℕ → List (List ℕ)
 least_words least = if nat_lt 1 least then decimal least ∷ [] else []

@@ -28,5 +28,5 @@ pub use line::{
 pub use line_text::put_line;
 pub use promises::{no_bad_line, one_first_bad_line, read_back};
 pub use reading::{config_of, read_trace};
-pub use reply_line::{put_reply_line, reply_head};
+pub use reply_line::put_reply_line;
 pub use trace_reader::TraceReader;

@@ -1,15 +1,14 @@
 //! Printing a reply that a session is sent, as a line of hex digits.
 
-ghost use Rattle.std.specs.Prelude.{◌≡◌, ◌≤◌, ◌*◌, ◌∷◌, ◌++◌, [], codes, length, take, IfOk, OnOk, OnErr};
+ghost use Rattle.std.specs.Prelude.{◌≡◌, ◌≤◌, ◌*◌, ◌∷◌, ◌++◌, [], codes, length, take, OnOk, OnErr};
 ghost use Rattle.std.specs.Fmt.{decimal};
 ghost use Rattle.hex.specs.Hex.{encode_lower};
-ghost use Rattle.trace_file.specs.PrintedLine.{line_of, reply_head};
+ghost use Rattle.trace_file.specs.PrintedLine.{line_of};
 ghost use Rattle.trace_file.specs.declared.reply_line.TheConstants.{AT_A_TIME};
 
 use crate::digits::Digits;
 use itoa::Buffer;
 use kbytes::{Bytes, NoMemory};
-use std::alloc::Global;
 
 // The number of bytes that are written at a time, as twice that many digits.
 const AT_A_TIME: usize = 128;
@@ -50,27 +49,6 @@ pub fn put_hex(out: &mut Bytes, bytes: &[u8], table: Option<&Digits>) -> Result<
     Ok(())
 }
 
-// Adds the words before the digits at the end. If memory runs out, some of them may be there.
-fn put_head(out: &mut Bytes, session: u32) -> Result<(), NoMemory>
-    ensures ok { OnOk result (out.new ≡ out.old ++ reply_head session) }
-    ensures front { OnErr result (take (length out.old) out.new ≡ out.old) }
-{
-    let mut buffer = Buffer::new();
-    out.extend(b"reply ".as_slice())?;
-    out.extend(buffer.format(session).as_bytes())?;
-    out.push(b' ')?;
-    Ok(())
-}
-
-/// The words `reply S ` of a session, for who writes the digits of its frames and the line feeds by itself.
-pub fn reply_head(alloc: Global, session: u32) -> Result<Bytes, NoMemory>
-    ensures { IfOk result (λ head. head ≡ reply_head session) }
-{
-    let mut head = Bytes::new(alloc);
-    put_head(&mut head, session)?;
-    Ok(head)
-}
-
 // Adds the line at the end. If memory runs out, a part of it may be there.
 fn put_words(
     out: &mut Bytes,
@@ -81,7 +59,10 @@ fn put_words(
     ensures ok { OnOk result (out.new ≡ out.old ++ line_of (codes "reply" ∷ decimal session ∷ encode_lower frame.now ∷ [])) }
     ensures front { OnErr result (take (length out.old) out.new ≡ out.old) }
 {
-    put_head(out, session)?;
+    let mut buffer = Buffer::new();
+    out.extend(b"reply ".as_slice())?;
+    out.extend(buffer.format(session).as_bytes())?;
+    out.push(b' ')?;
     put_hex(out, frame, table)?;
     out.push(b'\n')?;
     Ok(())

@@ -66,10 +66,10 @@ answered_is how old new (inr told) = ap is_answered told.7 ∙ told_answered tol
 
 -- ---- a frame that was handled is that of a call
 
--- a session that had kept these frames keeps those now
-pub record IsCall (kept now : Option (List (List ℕ))) (body : List ℕ) (old new : PassView) : Type 0 where
+-- a session that had kept these lines keeps those now
+pub record IsCall (session : ℕ) (kept now : Option (List ℕ)) (body : List ℕ) (old new : PassView) : Type 0 where
   pub call : HasCalled body old new
-  pub tells : (calls : List Call) → AreKept kept old calls → AreKept now new (calls ++ call.call ∷ [])
+  pub tells : (calls : List Call) → AreKept kept session old calls → AreKept now session new (calls ++ call.call ∷ [])
   pub whole : IsNotCut call.call
   pub waits : MatchBool (is_some new.waits) (call.call.how ≡ Parked) (call.call.how ≢ Parked)
 
@@ -79,33 +79,33 @@ over new how none not = subst (λ (b : Bool). MatchBool b (how ≡ Parked) (how 
 config_is : (body : List ℕ) (old new : PassView) → HasCalled body old new → new.config ≡ old.config
 config_is body old new c = ap (λ (b : BrokerView). b.config) c.made
 
-unanswered : (kept : Option (List (List ℕ))) (body : List ℕ) (old new : PassView) (c : HasCalled body old new) → is_answered c.call.how ≡ false → (calls : List Call)
-    → AreKept kept old calls → AreKept kept new (calls ++ c.call ∷ [])
-unanswered kept body old new c none calls h = kept_same kept new calls c.call none (kept_on kept old new calls (config_is body old new c) c.grown h)
+unanswered : (session : ℕ) (kept : Option (List ℕ)) (body : List ℕ) (old new : PassView) (c : HasCalled body old new) → is_answered c.call.how ≡ false → (calls : List Call)
+    → AreKept kept session old calls → AreKept kept session new (calls ++ c.call ∷ [])
+unanswered session kept body old new c none calls h = kept_same kept session new calls c.call none (kept_on kept session old new calls (config_is body old new c) c.grown h)
 
-pub replied : (kept now : Option (List (List ℕ))) (body bytes : List ℕ) (old new : PassView) → HasHandledAs (is_some kept) body (Handled.Reply bytes) old new → HasPut bytes kept now
-    → IsCall kept now body old new
-replied kept now body bytes old new h put = record {
+pub replied : (session : ℕ) (kept now : Option (List ℕ)) (body bytes : List ℕ) (old new : PassView) → HasHandledAs (is_some kept) body (Handled.Reply bytes) old new → HasPut session bytes kept now
+    → IsCall session kept now body old new
+replied session kept now body bytes old new h put = record {
   call = h.0;
-  tells = λ calls k. kept_more kept now new calls h.0.call bytes (answered_is h.0.call.how old.logs.seat new.logs.seat h.2) h.3 put
-      (kept_on kept old new calls (config_is body old new h.0) h.0.grown k);
+  tells = λ calls k. kept_more kept now session new calls h.0.call bytes (answered_is h.0.call.how old.logs.seat new.logs.seat h.2) h.3 put
+      (kept_on kept session old new calls (config_is body old new h.0) h.0.grown k);
   whole = answered_whole h.0.call.how old.logs.seat new.logs.seat h.2;
   waits = over new h.0.call.how h.5 (answered_over h.0.call.how old.logs.seat new.logs.seat h.2);
 }
 
-hushed : (kept : Option (List (List ℕ))) (is_sent : Bool) (body : List ℕ) (old new : PassView) → HasHandledAs is_sent body Handled.Quiet old new → IsCall kept kept body old new
-hushed kept is_sent body old new h = record {
+hushed : (session : ℕ) (kept : Option (List ℕ)) (is_sent : Bool) (body : List ℕ) (old new : PassView) → HasHandledAs is_sent body Handled.Quiet old new → IsCall session kept kept body old new
+hushed session kept is_sent body old new h = record {
   call = h.0;
-  tells = unanswered kept body old new h.0 (ap is_answered h.2);
+  tells = unanswered session kept body old new h.0 (ap is_answered h.2);
   whole = λ won e. absurd (cc (h.2, e));
   waits = over new h.0.call.how h.4 (λ e. absurd (cc (h.2, e)));
 }
 
-parked : (kept : Option (List (List ℕ))) (is_sent : Bool) (body : List ℕ) (deadline : ℕ) (old new : PassView) → HasHandledAs is_sent body (Handled.Parked deadline) old new
-    → IsCall kept kept body old new
-parked kept is_sent body deadline old new h = record {
+parked : (session : ℕ) (kept : Option (List ℕ)) (is_sent : Bool) (body : List ℕ) (deadline : ℕ) (old new : PassView) → HasHandledAs is_sent body (Handled.Parked deadline) old new
+    → IsCall session kept kept body old new
+parked session kept is_sent body deadline old new h = record {
   call = h.0;
-  tells = unanswered kept body old new h.0 (ap is_answered h.1);
+  tells = unanswered session kept body old new h.0 (ap is_answered h.1);
   whole = λ won e. absurd (cc (h.1, e));
   waits = subst (λ (b : Bool). MatchBool b (h.0.call.how ≡ Parked) (h.0.call.how ≢ Parked)) (sym (ap is_some h.3)) h.1;
 }
@@ -114,10 +114,10 @@ parked kept is_sent body deadline old new h = record {
 abbrev pub WasUnreplied : Handled → Type 0
 WasUnreplied result = (result ≡ Handled.Quiet) ⊎ ((deadline : ℕ) × (result ≡ Handled.Parked deadline))
 
-pub unreplied : (kept : Option (List (List ℕ))) (is_sent : Bool) (body : List ℕ) (result : Handled) (old new : PassView) → WasUnreplied result → HasHandledAs is_sent body result old new
-    → IsCall kept kept body old new
-unreplied kept is_sent body result old new (inl quiet) h = hushed kept is_sent body old new (subst (λ (r : Handled). HasHandledAs is_sent body r old new) quiet h)
-unreplied kept is_sent body result old new (inr waits) h = parked kept is_sent body waits.0 old new (subst (λ (r : Handled). HasHandledAs is_sent body r old new) waits.1 h)
+pub unreplied : (session : ℕ) (kept : Option (List ℕ)) (is_sent : Bool) (body : List ℕ) (result : Handled) (old new : PassView) → WasUnreplied result → HasHandledAs is_sent body result old new
+    → IsCall session kept kept body old new
+unreplied session kept is_sent body result old new (inl quiet) h = hushed session kept is_sent body old new (subst (λ (r : Handled). HasHandledAs is_sent body r old new) quiet h)
+unreplied session kept is_sent body result old new (inr waits) h = parked session kept is_sent body waits.0 old new (subst (λ (r : Handled). HasHandledAs is_sent body r old new) waits.1 h)
 
 -- ---- or no call is made of it
 
@@ -149,20 +149,20 @@ completed_moves old new c how same =
 
 -- ---- a reply is collected
 
-pub collected : (input : List ℕ) (s : SessionView) (new : PassView) (now : Option (List (List ℕ))) (bytes : List ℕ) → (c : HasCompleted s.pass new) → c.how ≡ told_as c.done
-    → IsMadeOfReply (is_some s.kept) new (record c.call { finish = c.finish; how = c.how }) bytes → HasPut bytes s.kept now → HasReceived input s → HasReceived input (record s { pass = new; kept = now })
+pub collected : (input : List ℕ) (s : SessionView) (new : PassView) (now : Option (List ℕ)) (bytes : List ℕ) → (c : HasCompleted s.pass new) → c.how ≡ told_as c.done
+    → IsMadeOfReply (is_some s.kept) new (record c.call { finish = c.finish; how = c.how }) bytes → HasPut s.number bytes s.kept now → HasReceived input s → HasReceived input (record s { pass = new; kept = now })
 collected input s new now bytes c how made put h =
     let named : s.is_named ≡ true = named_of input s (ap is_some c.going) h in
     let call : Call = record c.call { finish = c.finish; how = c.how } in
     received_of input (record s { pass = new; kept = now }) named
     (completed input s new now (handled_of input s named h) c (λ won e. told_whole c.done won (sym how ∙ e)) (λ e. told_over c.done (sym how ∙ e))
-    (λ calls k. kept_more s.kept now new calls call bytes (ap is_answered how ∙ told_answered c.done) made put
-    (kept_on s.kept s.pass new calls (ap (λ (b : BrokerView). b.config) c.made) c.grown (kept_front s.kept s.pass calls c.call c.waited k))))
+    (λ calls k. kept_more s.kept now s.number new calls call bytes (ap is_answered how ∙ told_answered c.done) made put
+    (kept_on s.kept s.number s.pass new calls (ap (λ (b : BrokerView). b.config) c.made) c.grown (kept_front s.kept s.number s.pass calls c.call c.waited k))))
 
 -- ---- a frame is handled
 
-pub handled : (input : List ℕ) (s : SessionView) (body : List ℕ) (end : ℕ) (new : PassView) (now : Option (List (List ℕ))) → IsFrameBody body → s.inbox ≡ framed body ++ drop end s.inbox
-    → IsCall s.kept now body s.pass new → HasReceived input s → HasReceived input (record s { pass = new; inbox = drop end s.inbox; kept = now })
+pub handled : (input : List ℕ) (s : SessionView) (body : List ℕ) (end : ℕ) (new : PassView) (now : Option (List ℕ)) → IsFrameBody body → s.inbox ≡ framed body ++ drop end s.inbox
+    → IsCall s.number s.kept now body s.pass new → HasReceived input s → HasReceived input (record s { pass = new; inbox = drop end s.inbox; kept = now })
 handled input s body end new now small parts call h =
     let named : s.is_named ≡ true = named_of input s (ap is_some call.call.going) h in
     received_of input (record s { pass = new; inbox = drop end s.inbox; kept = now }) named

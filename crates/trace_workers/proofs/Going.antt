@@ -69,7 +69,7 @@ begun input s h =
       each = tt;
       whole = tt;
       stands = (sym h.inbox, subst (λ (b : Bool). MatchBool b ⊥ (⊥ → ⊥)) (sym (ap is_some h.waits)) (λ parked. parked));
-      kept = kept_still s.kept s.pass (with_begun s.pass s.number) [] refl refl refl h.kept;
+      kept = kept_still s.kept s.number s.pass (with_begun s.pass s.number) [] refl refl refl h.kept;
     }
 
 -- ---- one call more
@@ -80,9 +80,9 @@ stand_last true front call h = parked_last front call h
 stand_last false front call h = unparked_last front call h
 
 -- the frame at the front is that of a call, and leaves the inbox
-pub called : (input : List ℕ) (s : SessionView) (body : List ℕ) (end : ℕ) (new : PassView) (now : Option (List (List ℕ))) → HasHandled input s → IsFrameBody body → s.inbox ≡ framed body ++ drop end s.inbox
+pub called : (input : List ℕ) (s : SessionView) (body : List ℕ) (end : ℕ) (new : PassView) (now : Option (List ℕ)) → HasHandled input s → IsFrameBody body → s.inbox ≡ framed body ++ drop end s.inbox
     → (c : HasCalled body s.pass new) → IsNotCut c.call → MatchBool (is_some new.waits) (c.call.how ≡ Parked) (c.call.how ≢ Parked)
-    → ((calls : List Call) → AreKept s.kept s.pass calls → AreKept now new (calls ++ c.call ∷ []))
+    → ((calls : List Call) → AreKept s.kept s.number s.pass calls → AreKept now s.number new (calls ++ c.call ∷ []))
     → HasHandled input (record s { pass = new; inbox = drop end s.inbox; kept = now })
 called input s body end new now h small parts c whole waits tells =
     let t = h.transcript in
@@ -108,8 +108,8 @@ called input s body end new now h small parts c whole waits tells =
 
 -- ---- the last call is completed
 
-pub completed : (input : List ℕ) (s : SessionView) (new : PassView) (now : Option (List (List ℕ))) → HasHandled input s → (c : HasCompleted s.pass new) → ((won : Option ℕ) → c.how ≢ Cut won) → c.how ≢ Parked
-    → ((calls : List Call) → AreKept s.kept s.pass (calls ++ c.call ∷ []) → AreKept now new (calls ++ record c.call { finish = c.finish; how = c.how } ∷ []))
+pub completed : (input : List ℕ) (s : SessionView) (new : PassView) (now : Option (List ℕ)) → HasHandled input s → (c : HasCompleted s.pass new) → ((won : Option ℕ) → c.how ≢ Cut won) → c.how ≢ Parked
+    → ((calls : List Call) → AreKept s.kept s.number s.pass (calls ++ c.call ∷ []) → AreKept now s.number new (calls ++ record c.call { finish = c.finish; how = c.how } ∷ []))
     → HasHandled input (record s { pass = new; kept = now })
 completed input s new now h c whole over tells =
     let t = h.transcript in
@@ -134,7 +134,7 @@ completed input s new now h c whole over tells =
       whole = all_append IsNotCut front (call ∷ []) (all_front IsNotCut front c.call uncut) (whole, tt);
       stands = subst (StandsAt (record s { pass = new; kept = now }) h.rest u) (sym goes)
           (stood.0, subst (λ (b : Bool). MatchBool b (LastIsParked (front ++ call ∷ [])) (LastIsParked (front ++ call ∷ []) → ⊥)) (sym (ap is_some c.waits)) (unparked_last front call over));
-      kept = tells front (subst (λ (x : Transcript). AreKept s.kept s.pass x.calls) same h.kept);
+      kept = tells front (subst (λ (x : Transcript). AreKept s.kept s.number s.pass x.calls) same h.kept);
     }
 
 -- ---- its transcript ends
@@ -159,13 +159,13 @@ ended input s end new h shows e =
       each = h.each;
       whole = h.whole;
       stands = (same_end h.rest s.is_shut t u end refl refl (subst (λ (x : List ℕ). MayEndSo x s.is_shut end t) (sym stood.0) may).0, may.1);
-      kept = kept_still s.kept s.pass new t.calls (ap (λ (p : PassView). p.config) e.new_is) (ap (λ (p : PassView). p.logs.parts) e.new_is) (ap (λ (p : PassView). p.logs.clock) e.new_is) h.kept;
+      kept = kept_still s.kept s.number s.pass new t.calls (ap (λ (p : PassView). p.config) e.new_is) (ap (λ (p : PassView). p.logs.parts) e.new_is) (ap (λ (p : PassView). p.logs.clock) e.new_is) h.kept;
     }
 
 -- ---- the pass has only seen what others did
 
 same_handled : (input : List ℕ) (s : SessionView) (new : PassView) → new.ended ≡ s.pass.ended → new.going ≡ s.pass.going → new.waits ≡ s.pass.waits
-    → ((calls : List Call) → AreKept s.kept s.pass calls → AreKept s.kept new calls) → HasHandled input s → HasHandled input (record s { pass = new })
+    → ((calls : List Call) → AreKept s.kept s.number s.pass calls → AreKept s.kept s.number new calls) → HasHandled input s → HasHandled input (record s { pass = new })
 same_handled input s new over goes waits tells h = record {
   transcript = h.transcript;
   only = subst (λ (ts : List Transcript). IsOnlyOf h.transcript ts new.going) (sym over) (subst (IsOnlyOf h.transcript s.pass.ended) (sym goes) h.only);
@@ -184,7 +184,7 @@ same_handled input s new over goes waits tells h = record {
     by_end (Some end) stood = stood
 
 pub seen : (input : List ℕ) (s : SessionView) (new : PassView) → new.ended ≡ s.pass.ended → new.going ≡ s.pass.going → new.waits ≡ s.pass.waits
-    → ((calls : List Call) → AreKept s.kept s.pass calls → AreKept s.kept new calls) → HasReceived input s → HasReceived input (record s { pass = new })
+    → ((calls : List Call) → AreKept s.kept s.number s.pass calls → AreKept s.kept s.number new calls) → HasReceived input s → HasReceived input (record s { pass = new })
 seen input s new over goes waits tells h = by_name s.is_named h
   where
     by_name : (b : Bool) → MatchBool b (HasHandled input s) (HasReceivedNothing input s) → MatchBool b (HasHandled input (record s { pass = new })) (HasReceivedNothing input (record s { pass = new }))

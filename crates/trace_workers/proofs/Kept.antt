@@ -1,4 +1,4 @@
--- The frames that the sessions of a run kept are those of their replies in its account, and each pass with a transcript has a desk.
+-- The lines that the sessions of a run kept are those of their replies in its account, and each pass with a transcript has a desk.
 use Rattle.std.proofs.Common.{◌≡◌, ◌∙◌, ℕ, ◌<◌, Bool, true, false, List, [], ◌∷◌, ◌++◌, MatchBool, Option, Some, None, get_or, inl, inr, map, sym, ap, arith, subst}
 use Rattle.std.specs.Prelude.{All, Any, IfSome, slice_get}
 use Rattle.std.proofs.lemmas.Bool.{cases_eq}
@@ -22,10 +22,10 @@ use Rattle.trace_workers.proofs.Alone.{told_none, told_of, told_one}
 use Rattle.trace_workers.proofs.Places.{any_map}
 use Rattle.trace_workers.proofs.WorkerRun.{IsListedIn, has_passes, split}
 
-if_kept : (kept : Option (List (List ℕ))) (pass : PassView) (calls : List Call) (P : List (List ℕ) → Type 0) → ((frames : List (List ℕ)) → AreKept (Some frames) pass calls → P frames)
-    → AreKept kept pass calls → IfSome kept P
-if_kept None pass calls P goes h = tt
-if_kept (Some frames) pass calls P goes h = goes frames h
+if_kept : (kept : Option (List ℕ)) (session : ℕ) (pass : PassView) (calls : List Call) (P : List ℕ → Type 0) → ((text : List ℕ) → AreKept (Some text) session pass calls → P text)
+    → AreKept kept session pass calls → IfSome kept P
+if_kept None session pass calls P goes h = tt
+if_kept (Some text) session pass calls P goes h = goes text h
 
 -- one session
 kept_by : (broker : BrokerView) (lines : List Line) (account : Account) (s : SessionView) → HasTaken broker lines s → GoesOn broker.config s.pass.logs.parts s.pass.logs.clock account
@@ -42,10 +42,10 @@ kept_by broker lines account s taken on listed = by_name s.is_named taken.receiv
     goes = subst (λ (c : Configuration). GoesOn c s.pass.logs.parts s.pass.logs.clock account) (sym (ap (λ (b : BrokerView). b.config) taken.made)) on
 
     by_name : (b : Bool) → MatchBool b (HasHandled input s) (HasReceivedNothing input s) → IfSome s.kept (IsToldIn account s.number)
-    by_name true h = if_kept s.kept s.pass h.transcript.calls (IsToldIn account s.number)
-        (λ frames kept. record { transcripts = h.transcript ∷ []; there = there ∙ ap Some (told_one input s h); told = (h.number, (kept.0, kept.1 account goes, kept.2)) }) h.kept
-    by_name false h = if_kept s.kept s.pass [] (IsToldIn account s.number)
-        (λ frames kept. record { transcripts = []; there = there ∙ ap Some (told_none input s h); told = tt }) h.kept
+    by_name true h = if_kept s.kept s.number s.pass h.transcript.calls (IsToldIn account s.number)
+        (λ text kept. record { transcripts = h.transcript ∷ []; there = there ∙ ap Some (told_one input s h); told = (h.number, (kept.0, kept.1 account goes, kept.2)) }) h.kept
+    by_name false h = if_kept s.kept s.number s.pass [] (IsToldIn account s.number)
+        (λ text kept. record { transcripts = []; there = there ∙ ap Some (told_none input s h); told = tt }) h.kept
 
 pub all_kept : (broker : BrokerView) (lines : List Line) (count : ℕ) (drain : Bool) (played : Played) → CameTo broker lines count drain played → All (HasKept played.account) played.desks
 all_kept broker lines count drain played came =

@@ -4,7 +4,7 @@ pub mod Laws
 mod Transcripts
 -- an end that fits what is left of the input fits also what comes behind that
 mod Fronts
--- the frames that a session keeps of its replies, as calls come and its pass sees more
+-- the lines that a session keeps of its replies, as calls come and its pass sees more
 mod Telling
 -- what a session received, as it handles frames, collects replies and ends
 mod Going
@@ -54,7 +54,7 @@ mod Places
 mod Alone
 -- the account of joined sessions that came to rest is that of a run
 mod WorkerRun
--- the frames that its sessions kept
+-- the lines that its sessions kept
 mod Kept
 -- what is printed of them, pass by pass
 mod Parts

@@ -1,7 +1,6 @@
--- What is printed of a run's sessions, pass by pass, from the frames that they kept.
+-- What is printed of a run's sessions, pass by pass, from the lines that they kept.
 use Rattle.std.proofs.Common.{◌≡◌, ◌∙◌, ℕ, ◌+◌, ◌<◌, get_or, length, set, List, [], ◌∷◌, ◌++◌, Option, Some, None, append-nil, append_assoc, refl, sym, ap, subst, take}
-use Rattle.std.specs.Prelude.{IfSome, codes, slice_get}
-use Rattle.std.specs.Fmt.{decimal}
+use Rattle.std.specs.Prelude.{IfSome, slice_get}
 use Rattle.std.specs.List.{flat_map, zip}
 use Rattle.std.proofs.lemmas.List.Concat.{flat_map-append}
 use Rattle.std.proofs.lemmas.List.{take_more}
@@ -11,32 +10,17 @@ use Rattle.audit.specs.declared.account.Transcript.{Transcript}
 use Rattle.audit.specs.Printed.{end_line, session_text}
 use Rattle.audit.specs.retelling.Shares.{IsTextOf, sessions_in}
 use Rattle.audit.proofs.retelling.Laws.{told_on}
-use Rattle.hex.specs.Hex.{encode_lower}
-use Rattle.kwire.specs.declared.reply.Reply.{Reply}
-use Rattle.kwire.specs.Spelling.{spelling}
-use Rattle.trace_file.specs.PrintedLine.{reply_head, reply_line}
-use Rattle.trace_workers.specs.declared.printout.SessionPrint.{SessionPrint}
 use Rattle.trace_workers.specs.Sessions.{DeskView}
-use Rattle.trace_workers.specs.Telling.{HasKept, HasPutPass, HaveDesks, IsToldBy, IsToldIn, frame_line, frames_of, print_of, prints_of}
+use Rattle.trace_workers.specs.Telling.{HasKept, HasPutPass, HaveDesks, IsToldBy, IsToldIn, joined, lines_of}
 use Rattle.trace_workers.proofs.Places.{any_with}
 
--- ---- frames and their lines
+-- ---- parts, one after the other
 
--- the line of a reply's frame
-frame_is : (session : ℕ) (reply : Reply) → frame_line (reply_head session) (spelling reply) ≡ reply_line session reply
-frame_is session reply =
-    ap (λ (t : List ℕ). codes "reply" ++ 32 ∷ t) (append_assoc (decimal session) (32 ∷ []) (encode_lower (spelling reply) ++ 10 ∷ []))
-
--- those of several
-frames_are : (session : ℕ) (replies : List Reply) → flat_map (frame_line (reply_head session)) (frames_of replies) ≡ flat_map (reply_line session) replies
-frames_are session [] = refl
-frames_are session (reply ∷ replies) =
-    ap (λ (t : List ℕ). t ++ flat_map (frame_line (reply_head session)) (frames_of replies)) (frame_is session reply)
-    ∙ ap (λ (t : List ℕ). reply_line session reply ++ t) (frames_are session replies)
-
--- one print more
-pub prints_more : (prints : List SessionPrint) (last : SessionPrint) → prints_of (prints ++ last ∷ []) ≡ prints_of prints ++ print_of last
-prints_more prints last = flat_map-append print_of prints (last ∷ []) ∙ ap (λ (t : List ℕ). prints_of prints ++ t) (append-nil (print_of last))
+pub joined_more : (parts more : List (List ℕ)) (last : List ℕ) → joined ((parts ++ more) ++ last ∷ []) ≡ joined parts ++ (joined more ++ last)
+joined_more parts more last =
+    let each : List ℕ → List ℕ = λ part. part in
+    flat_map-append each (parts ++ more) (last ∷ []) ∙ ap (λ (t : List ℕ). joined (parts ++ more) ++ t) (append-nil last) ∙ ap (λ (t : List ℕ). t ++ last) (flat_map-append each parts more)
+    ∙ append_assoc (joined parts) (joined more) last
 
 -- ---- one pass
 
@@ -54,31 +38,27 @@ first_none (x ∷ xs) none = absurd cc
 pub nothing_put : (account : Account) (number : ℕ) (ts : List Transcript) (before : List ℕ) → slice_get account.passes number ≡ Some ts → ts ≡ [] → HasPutPass account number before before
 nothing_put account number ts before there none = ([], there ∙ ap Some none, [], ([], tt, refl), sym (append-nil before))
 
-of_kept : (account : Account) (desk : DeskView) (frames : List (List ℕ)) → HasKept account desk → desk.kept ≡ Some frames → IsToldIn account desk.number frames
-of_kept account desk frames kept is = subst (λ (o : Option (List (List ℕ))). IfSome o (IsToldIn account desk.number)) is kept
+of_kept : (account : Account) (desk : DeskView) (text : List ℕ) → HasKept account desk → desk.kept ≡ Some text → IsToldIn account desk.number text
+of_kept account desk text kept is = subst (λ (o : Option (List ℕ)). IfSome o (IsToldIn account desk.number)) is kept
 
--- with that of its session, which kept these frames
-pub session_put : (account : Account) (number : ℕ) (ts : List Transcript) (t : Transcript) (desk : DeskView) (frames : List (List ℕ)) (before after : List ℕ) → slice_get account.passes number ≡ Some ts → slice_get ts 0 ≡ Some t
-    → desk.number ≡ number → HasKept account desk → desk.kept ≡ Some frames → after ≡ before ++ (flat_map (frame_line (reply_head desk.number)) frames ++ end_line desk.number t.end) → HasPutPass account number before after
-session_put account number ts t desk frames before after there first is kept has put =
-    let k = of_kept account desk frames kept has in
+-- with that of its session, which kept these lines
+pub session_put : (account : Account) (number : ℕ) (ts : List Transcript) (t : Transcript) (desk : DeskView) (text before after : List ℕ) → slice_get account.passes number ≡ Some ts → slice_get ts 0 ≡ Some t
+    → desk.number ≡ number → HasKept account desk → desk.kept ≡ Some text → after ≡ before ++ (text ++ end_line desk.number t.end) → HasPutPass account number before after
+session_put account number ts t desk text before after there first is kept lines put =
+    let k = of_kept account desk text kept lines in
     let same : k.transcripts ≡ ts = same_Some k.transcripts ts (sym k.there ∙ ap (slice_get account.passes) is ∙ there) in
-    by_case ts there first (subst (λ (us : List Transcript). IsToldBy account desk.number us frames) same k.told)
+    by_case ts there first (subst (λ (us : List Transcript). IsToldBy account desk.number us text) same k.told)
   where
-    text : List ℕ
-    text = flat_map (frame_line (reply_head desk.number)) frames
-
-    by_case : (us : List Transcript) → slice_get account.passes number ≡ Some us → slice_get us 0 ≡ Some t → IsToldBy account desk.number us frames → HasPutPass account number before after
+    by_case : (us : List Transcript) → slice_get account.passes number ≡ Some us → slice_get us 0 ≡ Some t → IsToldBy account desk.number us text → HasPutPass account number before after
     by_case [] at one k = absurd cc
     by_case (u ∷ []) at one k =
         let is_t : u ≡ t = same_Some u t one in
         let replies = k.1.0 in
-        let lines : text ≡ flat_map (reply_line u.number) replies =
-        ap (flat_map (frame_line (reply_head desk.number))) k.1.2 ∙ frames_are desk.number replies ∙ ap (λ (n : ℕ). flat_map (reply_line n) replies) (sym k.0) in
+        let lines : lines_of desk.number replies ≡ lines_of u.number replies = ap (λ (n : ℕ). lines_of n replies) (sym k.0) in
         let ends : end_line desk.number t.end ≡ end_line u.number u.end =
         ap (λ (n : ℕ). end_line n t.end) (sym k.0) ∙ ap (λ (x : Transcript). end_line u.number x.end) (sym is_t) in
         let spelled : text ++ end_line desk.number t.end ≡ flat_map session_text (zip (u ∷ []) (replies ∷ [])) =
-        ap (λ (x : List ℕ). x ++ end_line desk.number t.end) lines ∙ ap (λ (x : List ℕ). flat_map (reply_line u.number) replies ++ x) ends ∙ sym (append-nil (session_text (u, replies))) in
+        ap (λ (x : List ℕ). x ++ end_line desk.number t.end) (k.1.2 ∙ lines) ∙ ap (λ (x : List ℕ). lines_of u.number replies ++ x) ends ∙ sym (append-nil (session_text (u, replies))) in
         (u ∷ [], at, text ++ end_line desk.number t.end, (replies ∷ [], (k.1.1, tt), spelled), put)
     by_case (u ∷ v ∷ us) at one k = absurd k
 

@@ -1,19 +1,18 @@
 -- A worker may go to another thread. A snapshot in its passes has no proof of that by itself, so this puts together what is so of its fields.
 use denote.Param.Send.{IsSend, AllSend, view_send, recorded_send, struct_send, sendable}
 use denote.Struct.Declared as declared
-use Rattle.kbytes.proofs.bytes.Bytes.TheSendSync as bytes
 use Rattle.kbytes.proofs.list.List.TheSendSync as list
-use Rattle.kbytes.specs.contracts.bytes.Bytes as Bytes
 use Rattle.kwire.proofs.inbox.Inbox.TheSendSync as inbox
 use Rattle.shared_broker.proofs.Laws.{pass_is_send}
 use Rattle.std.proofs.Crossing.{crosses}
+use Rattle.trace_workers.proofs.reply_lines.ReplyLines.TheSendSync as lines
 use Rattle.trace_workers.specs.contracts.session.TraceSession as TraceSession
 use Rattle.trace_workers.specs.contracts.session.TraceSession.TheInside as session
 use Rattle.trace_workers.specs.contracts.worker.Worker.{the_row}
 use Rattle.trace_workers.specs.contracts.worker.Worker.TheInside as inside
 
 session_fields : AllSend (declared.shape session.the_type).fields
-session_fields = (search (crosses, sendable), (search sendable, (pass_is_send, (inbox.the_send, (search sendable, (search sendable, (search (list.the_send Bytes.the_row bytes.the_send, crosses, sendable), tt)))))))
+session_fields = (search (crosses, sendable), (search sendable, (pass_is_send, (inbox.the_send, (search sendable, (search sendable, (search (lines.the_send, crosses, sendable), tt)))))))
 
 -- a session may go to another thread
 session_is_send : IsSend TraceSession.the_row

@@ -5,7 +5,7 @@ use Rattle.std.proofs.lemmas.List.{get_or-map, length-map, take_at}
 use Rattle.std.proofs.lemmas.List.Sums.{sum_by-cons}
 use Rattle.shared_broker.specs.Passes.{BrokerView, PassView}
 use Rattle.trace_file.specs.declared.line.Line.{Line}
-use Rattle.trace_workers.specs.Sessions.{KeepsFrames, SessionView}
+use Rattle.trace_workers.specs.Sessions.{KeepsLines, SessionView}
 use Rattle.trace_workers.specs.Workers.{AllKeep, HasAll, HasDone, IsSameClock, IsSameWorker, WorkerView}
 use Rattle.trace_workers.specs.Dealt.{AreDealt, AreWorked, IsDealt, IsWorked}
 
@@ -69,7 +69,7 @@ all_worked broker lines count worker_count olds news size each h = record {
 }
 
 -- sessions that keep lines where others do
-keep_still : (keeps : Bool) (olds news : List SessionView) → map (λ (s : SessionView). is_some s.kept) news ≡ map (λ (s : SessionView). is_some s.kept) olds → All (KeepsFrames keeps) olds → All (KeepsFrames keeps) news
+keep_still : (keeps : Bool) (olds news : List SessionView) → map (λ (s : SessionView). is_some s.kept) news ≡ map (λ (s : SessionView). is_some s.kept) olds → All (KeepsLines keeps) olds → All (KeepsLines keeps) news
 keep_still keeps olds news same all k d less =
     let f : SessionView → Bool = λ s. is_some s.kept in
     let size : length news ≡ length olds = sym (length-map news f) ∙ ap length same ∙ length-map olds f in

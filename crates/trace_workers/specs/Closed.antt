@@ -6,7 +6,7 @@ use Rattle.trace_file.specs.declared.line.Line.{Line}
 use Rattle.trace_workers.specs.declared.joined.Closing.{Closing}
 use Rattle.trace_workers.specs.declared.played.Played.{Played}
 use Rattle.trace_workers.specs.Joined.{JoinedView, HasCome, HasRun, passes_in}
-use Rattle.trace_workers.specs.Sessions.{HasFrames, KeepsFrames, desk_of}
+use Rattle.trace_workers.specs.Sessions.{HasLines, KeepsLines, desk_of}
 
 -- the account of its passes and the rest of its sessions, or all is as it was
 abbrev pub HasClosed : BrokerView → JoinedView → Closing → Type 0
@@ -30,7 +30,7 @@ abbrev pub HasGoneOn : BrokerView → List Line → ℕ → Bool → Closing →
 HasGoneOn broker lines count drain (Closing.Closed played) = CameTo broker lines count drain played
 HasGoneOn broker lines count drain (Closing.Again again back) = (again ≡ broker) × HasRun broker lines count drain back
 
--- all sessions keep the frames of their replies, or none does, as this says: at their desks, or as they are handed back
+-- all sessions keep the lines of their replies, or none does, as this says: at their desks, or as they are handed back
 abbrev pub StillKeep : Bool → Closing → Type 0
-StillKeep keeps (Closing.Closed played) = All (HasFrames keeps) played.desks
-StillKeep keeps (Closing.Again again back) = All (KeepsFrames keeps) back.sessions
+StillKeep keeps (Closing.Closed played) = All (HasLines keeps) played.desks
+StillKeep keeps (Closing.Again again back) = All (KeepsLines keeps) back.sessions

@@ -5,7 +5,7 @@ use Rattle.shared_broker.specs.Passes.{BrokerView, PassView}
 use Rattle.trace_file.specs.declared.line.Line.{Line}
 use Rattle.trace_file.specs.declared.line.Line.TheVariants.{Clock}
 use Rattle.trace_workers.specs.Resting.{Rests}
-use Rattle.trace_workers.specs.Sessions.{KeepsFrames, SessionView}
+use Rattle.trace_workers.specs.Sessions.{KeepsLines, SessionView}
 use Rattle.trace_workers.specs.Workers.{HasTaken, HasToldAll}
 use Rattle.trace_workers.specs.WorkerRun.{AreSeconds, last_moment}
 
@@ -31,9 +31,9 @@ pub record HasRun (broker : BrokerView) (lines : List Line) (count : ℕ) (drain
   pub whole : HasJoined broker (lines ++ map Clock added) count joined
   pub told : MatchBool drain (ticks_of joined.clock.logs.clock ≡ joined.clock.logs.ticked → AreSeconds (last_moment lines) added) (added ≡ [])
 
--- all sessions keep the frames of their replies, or none does, as it was before
+-- all sessions keep the lines of their replies, or none does, as it was before
 abbrev pub KeepAsBefore : JoinedView → JoinedView → Type 0
-KeepAsBefore old new = (keeps : Bool) → All (KeepsFrames keeps) old.sessions → All (KeepsFrames keeps) new.sessions
+KeepAsBefore old new = (keeps : Bool) → All (KeepsLines keeps) old.sessions → All (KeepsLines keeps) new.sessions
 
 abbrev pub NoneWait : JoinedView → Type 0
 NoneWait joined = All (λ (s : SessionView). s.pass.waits ≡ None) joined.sessions

@@ -2,7 +2,7 @@
 
 -- what a clause sees of a session
 pub mod Sessions
--- the frames of a session's replies, where they are kept
+-- the lines of a session's replies, where they are kept
 pub mod Telling
 -- what a session has received, and what it did with it
 pub mod Received

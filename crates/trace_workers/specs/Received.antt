@@ -24,7 +24,7 @@ abbrev pub StandsAt : SessionView → List ℕ → Transcript → Option Session
 StandsAt s rest transcript None = (rest ≡ s.inbox) × MatchBool (is_some s.pass.waits) (LastIsParked transcript.calls) (LastIsParked transcript.calls → ⊥)
 StandsAt s rest transcript (Some end) = EndFits rest s.is_shut transcript (Some end) × IsTraceEnd (Some end)
 
--- the frames of the calls stand at the front of this input, one after the other, and none of them was cut off; frames that are kept are those of the replies
+-- the frames of the calls stand at the front of this input, one after the other, and none of them was cut off; lines that are kept are those of the replies
 pub record HasHandled (input : List ℕ) (s : SessionView) : Type 0 where
   pub transcript : Transcript
   pub only : IsOnly transcript s.pass
@@ -35,7 +35,7 @@ pub record HasHandled (input : List ℕ) (s : SessionView) : Type 0 where
   pub each : AllByRecursion (λ call. IsFrameBody call.frame) transcript.calls
   pub whole : AllByRecursion IsNotCut transcript.calls
   pub stands : StandsAt s rest transcript transcript.end
-  pub kept : AreKept s.kept s.pass transcript.calls
+  pub kept : AreKept s.kept s.number s.pass transcript.calls
 
 pub record HasReceivedNothing (input : List ℕ) (s : SessionView) : Type 0 where
   pub none : input ≡ []
@@ -44,7 +44,7 @@ pub record HasReceivedNothing (input : List ℕ) (s : SessionView) : Type 0 wher
   pub ended : s.pass.ended ≡ []
   pub going : s.pass.going ≡ None
   pub waits : s.pass.waits ≡ None
-  pub kept : AreKept s.kept s.pass []
+  pub kept : AreKept s.kept s.number s.pass []
 
 -- this is all that it has received so far
 abbrev pub HasReceived : List ℕ → SessionView → Type 0

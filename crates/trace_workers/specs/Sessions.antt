@@ -2,7 +2,7 @@
 use Rattle.std.specs.Prelude.{◌≡◌, ℕ, Bool, List, Option, is_some}
 use Rattle.shared_broker.specs.Passes.{PassView, made_with}
 
--- the session's number and its pass; what it received and nobody has handled yet, whether its input ended, and whether a line named it; and the frames
+-- the session's number and its pass; what it received and nobody has handled yet, whether its input ended, and whether a line named it; and the lines
 -- of its replies, where they are kept
 pub record SessionView : Type 0 where
   pub number : ℕ
@@ -10,7 +10,7 @@ pub record SessionView : Type 0 where
   pub inbox : List ℕ
   pub is_shut : Bool
   pub is_named : Bool
-  pub kept : Option (List (List ℕ))
+  pub kept : Option (List ℕ)
 
 -- the session without its pass
 pub record DeskView : Type 0 where
@@ -18,7 +18,7 @@ pub record DeskView : Type 0 where
   pub inbox : List ℕ
   pub is_shut : Bool
   pub is_named : Bool
-  pub kept : Option (List (List ℕ))
+  pub kept : Option (List ℕ)
 
 abbrev pub desk_of : SessionView → DeskView
 desk_of s = record { number = s.number; inbox = s.inbox; is_shut = s.is_shut; is_named = s.is_named; kept = s.kept }
@@ -27,15 +27,15 @@ desk_of s = record { number = s.number; inbox = s.inbox; is_shut = s.is_shut; is
 abbrev pub session_at : DeskView → PassView → SessionView
 session_at desk pass = record { number = desk.number; pass = pass; inbox = desk.inbox; is_shut = desk.is_shut; is_named = desk.is_named; kept = desk.kept }
 
--- the session keeps the frames of its replies, or none, as this says
-abbrev pub KeepsFrames : Bool → SessionView → Type 0
-KeepsFrames keeps s = is_some s.kept ≡ keeps
+-- the session keeps the lines of its replies, or none, as this says
+abbrev pub KeepsLines : Bool → SessionView → Type 0
+KeepsLines keeps s = is_some s.kept ≡ keeps
 
 -- and so at its desk
-abbrev pub HasFrames : Bool → DeskView → Type 0
-HasFrames keeps desk = is_some desk.kept ≡ keeps
+abbrev pub HasLines : Bool → DeskView → Type 0
+HasLines keeps desk = is_some desk.kept ≡ keeps
 
--- the same session, of the same broker, which has not moved the clock; it keeps frames if it did before, and else none
+-- the same session, of the same broker, which has not moved the clock; it keeps lines if it did before, and else none
 pub record IsSameSession (old new : SessionView) : Type 0 where
   pub number : new.number ≡ old.number
   pub pass : new.pass.logs.number ≡ old.pass.logs.number

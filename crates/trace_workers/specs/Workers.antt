@@ -6,7 +6,7 @@ use Rattle.trace_file.specs.Contents.{input_of, is_named, is_shut, rising_from}
 use Rattle.trace_file.specs.declared.line.Line.{Line}
 use Rattle.trace_workers.specs.Received.{HasReceived}
 use Rattle.trace_workers.specs.Resting.{Rests}
-use Rattle.trace_workers.specs.Sessions.{KeepsFrames, SessionView}
+use Rattle.trace_workers.specs.Sessions.{KeepsLines, SessionView}
 
 -- its number and how many workers there are, its sessions by their numbers, the pass of the clock if it has that, and whether it stopped because memory ran out
 pub record WorkerView : Type 0 where
@@ -52,16 +52,16 @@ pub record HasDone (broker : BrokerView) (lines : List Line) (worker : WorkerVie
 abbrev pub AllRest : WorkerView → Type 0
 AllRest worker = All Rests worker.sessions
 
--- all its sessions keep the frames of their replies, or none does, as this says
+-- all its sessions keep the lines of their replies, or none does, as this says
 abbrev pub AllKeep : Bool → WorkerView → Type 0
-AllKeep keeps worker = All (KeepsFrames keeps) worker.sessions
+AllKeep keeps worker = All (KeepsLines keeps) worker.sessions
 
 -- there is a pass of the clock, or none, and it is the same
 abbrev pub IsSameClock : Option PassView → Option PassView → Type 0
 IsSameClock None now = now ≡ None
 IsSameClock (Some pass) now = (later : PassView) × (now ≡ Some later) × (later.logs.number ≡ pass.logs.number)
 
--- the same worker, with the same sessions and clock; each session keeps frames if it did before, and else none
+-- the same worker, with the same sessions and clock; each session keeps lines if it did before, and else none
 pub record IsSameWorker (old new : WorkerView) : Type 0 where
   pub number : new.number ≡ old.number
   pub worker_count : new.worker_count ≡ old.worker_count

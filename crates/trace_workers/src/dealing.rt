@@ -10,11 +10,11 @@ ghost use Rattle.trace_workers.specs.Dealing.{AreDealing, empty_worker, empty_wo
 ghost use Rattle.trace_workers.specs.Dealt.{AreDealt, AreWorked};
 ghost use Rattle.trace_workers.specs.Gathered.{IsRunning, first_clock, sessions_in};
 ghost use Rattle.trace_workers.specs.Joined.{HasJoined};
-ghost use Rattle.trace_workers.specs.Sessions.{KeepsFrames};
+ghost use Rattle.trace_workers.specs.Sessions.{KeepsLines};
 ghost use Rattle.trace_workers.specs.Workers.{AllKeep};
 
 use crate::joined::JoinedSessions;
-use crate::kept_frames::frames_if;
+use crate::reply_lines::lines_if;
 use crate::{TraceSession, Worker};
 use kbytes::{List, NoMemory};
 use shared_broker::Pass;
@@ -65,15 +65,15 @@ fn deal_session(
     workers: &mut [Worker],
     number: u32,
     pass: Pass,
-    keeps_frames: bool,
+    keeps_lines: bool,
 ) -> Result<(), NoMemory>
     requires some { 1 ≤ length workers.old }
     ensures dealt { OnOk result ((broker : BrokerView) → pass ≡ fresh_pass broker number
         → AreDealing broker number (length workers.old) workers.old → AreDealing broker (number + 1) (length workers.old) workers.new) }
-    ensures kept { OnOk result (All (AllKeep keeps_frames) workers.old → All (AllKeep keeps_frames) workers.new) }
+    ensures kept { OnOk result (All (AllKeep keeps_lines) workers.old → All (AllKeep keeps_lines) workers.new) }
 {
     let at = number as usize % workers.len();
-    let kept = frames_if(alloc, keeps_frames);
+    let kept = lines_if(alloc, keeps_lines)?;
     add_session(
         &mut workers[at],
         TraceSession::new(alloc, number, pass, kept),
@@ -85,17 +85,17 @@ fn deal_sessions(
     alloc: Global,
     workers: &mut [Worker],
     passes: List<Pass>,
-    keeps_frames: bool,
+    keeps_lines: bool,
 ) -> Result<(), NoMemory>
     requires some { 1 ≤ length workers.old }
     requires few { length passes ≤ 64 }
     ensures dealt { OnOk result ((broker : BrokerView) (count : ℕ) → passes ≡ fresh_passes broker count
         → AreDealing broker 0 (length workers.old) workers.old → AreDealing broker count (length workers.old) workers.new) }
-    ensures kept { OnOk result (All (AllKeep keeps_frames) workers.old → All (AllKeep keeps_frames) workers.new) }
+    ensures kept { OnOk result (All (AllKeep keeps_lines) workers.old → All (AllKeep keeps_lines) workers.new) }
 {
     let mut number = 0;
     for pass in passes.into_vec() {
-        deal_session(alloc, workers, number, pass, keeps_frames)?;
+        deal_session(alloc, workers, number, pass, keeps_lines)?;
         number += 1;
     }
     Ok(())
@@ -111,25 +111,25 @@ fn deal_clock(workers: &mut [Worker], clock: Pass)
     set_clock(&mut workers[0], clock);
 }
 
-/// Deals the passes to that many workers: the last pass is the clock's, and each other one is a session's, which keeps the frames of its
-/// replies if `keeps_frames` is true.
+/// Deals the passes to that many workers: the last pass is the clock's, and each other one is a session's, which keeps the lines of its
+/// replies if `keeps_lines` is true.
 pub fn deal(
     alloc: Global,
     passes: List<Pass>,
     worker_count: u32,
-    keeps_frames: bool,
+    keeps_lines: bool,
 ) -> Result<List<Worker>, NoMemory>
     requires worker_count { (1 ≤ worker_count) × (worker_count ≤ 16) }
     requires fresh { (broker : BrokerView) × (count : ℕ) × (passes ≡ fresh_passes broker (count + 1)) × (count ≤ 64) }
     ensures dealt { IfOk result (λ workers. (broker : BrokerView) (count : ℕ) → passes ≡ fresh_passes broker (count + 1) → AreDealt broker count worker_count workers) }
-    ensures kept { IfOk result (All (AllKeep keeps_frames)) }
+    ensures kept { IfOk result (All (AllKeep keeps_lines)) }
 {
     let mut workers = empty_workers(alloc, worker_count)?;
     let mut passes = passes;
     let Some(clock) = passes.pop() else {
         unreachable!()
     };
-    deal_sessions(alloc, workers.as_mut_slice(), passes, keeps_frames)?;
+    deal_sessions(alloc, workers.as_mut_slice(), passes, keeps_lines)?;
     deal_clock(workers.as_mut_slice(), clock);
     Ok(workers)
 }
@@ -208,7 +208,7 @@ pub fn gather(alloc: Global, workers: List<Worker>) -> Result<JoinedSessions, No
     requires { (broker : BrokerView) × (lines : Items TheLine) × (count : ℕ) × (worker_count : ℕ) × (1 ≤ worker_count) × AreWorked broker lines count worker_count workers }
     ensures joined { IfOk result (λ joined. (broker : BrokerView) (lines : Items TheLine) (count worker_count : ℕ) → 1 ≤ worker_count → AreWorked broker lines count worker_count workers
         → HasJoined broker lines count joined) }
-    ensures kept { IfOk result (λ joined. (keeps : Bool) → All (AllKeep keeps) workers → All (KeepsFrames keeps) joined.sessions) }
+    ensures kept { IfOk result (λ joined. (keeps : Bool) → All (AllKeep keeps) workers → All (KeepsLines keeps) joined.sessions) }
 {
     let Gathered { sessions, clock } = gather_all(alloc, workers)?;
     let Some(clock) = clock else { unreachable!() };

@@ -1,8 +1,8 @@
 ghost use Rattle.std.specs.Prelude.{◌≡◌, None};
 ghost use Rattle.trace_workers.specs.Sessions.{session_at};
 
+use crate::reply_lines::ReplyLines;
 use crate::session::TraceSession;
-use kbytes::{Bytes, List};
 use kwire::Inbox;
 use shared_broker::Pass;
 use std::alloc::Global;
@@ -16,7 +16,7 @@ pub struct Desk {
     pub(crate) inbox: Inbox,
     pub(crate) is_shut: bool,
     pub(crate) is_named: bool,
-    pub(crate) kept: Option<List<Bytes>>,
+    pub(crate) kept: Option<ReplyLines>,
 }
 
 impl Model for Desk {
@@ -35,9 +35,9 @@ impl Desk {
         self.number
     }
 
-    /// The frames that the session kept of its replies, if it kept any. They are taken from it.
-    pub(crate) fn take_frames(&mut self) -> Option<List<Bytes>>
-        ensures frames { result ≡ self.old.kept }
+    /// The lines that the session kept of its replies, if it kept any. They are taken from it.
+    pub(crate) fn take_lines(&mut self) -> Option<ReplyLines>
+        ensures lines { result ≡ self.old.kept }
         ensures left { self.new ≡ record self.old { kept = None } }
     {
         self.kept.take()

@@ -6,7 +6,7 @@ ghost use Rattle.trace_file.specs.declared.line.Line.{Line as TheLine};
 ghost use Rattle.shared_broker.specs.Closing.{HasClosed as HasEnded};
 ghost use Rattle.shared_broker.specs.Passes.{BrokerView};
 ghost use Rattle.trace_workers.specs.Resting.{Rests};
-ghost use Rattle.trace_workers.specs.Sessions.{HasFrames, KeepsFrames, SessionView, desk_of};
+ghost use Rattle.trace_workers.specs.Sessions.{HasLines, KeepsLines, SessionView, desk_of};
 ghost use Rattle.trace_workers.specs.Closed.{CameTo, HasClosed, HasGoneOn, IsWhole, StillKeep};
 ghost use Rattle.trace_workers.specs.Joined.{JoinedView, HasCome, HasJoined, HasRun, KeepAsBefore, passes_in};
 
@@ -151,7 +151,7 @@ impl Unclosed {
     fn finish(self, rt: &impl Wait, alloc: Global, drain: bool) -> Result<Closing, NoMemory>
         requires { (lines : Items TheLine) × (count : ℕ) × HasRun self.broker lines count drain self.joined × IsWhole self.broker count }
         ensures gone { IfOk result (λ closing. (lines : Items TheLine) (count : ℕ) → HasRun self.broker lines count drain self.joined → HasGoneOn self.broker lines count drain closing) }
-        ensures kept { IfOk result (λ closing. (keeps : Bool) → All (KeepsFrames keeps) self.joined.sessions → StillKeep keeps closing) }
+        ensures kept { IfOk result (λ closing. (keeps : Bool) → All (KeepsLines keeps) self.joined.sessions → StillKeep keeps closing) }
     {
         let Unclosed { broker, mut joined } = self;
         joined.finish(rt, &broker, drain)?;
@@ -293,7 +293,7 @@ impl JoinedSessions {
     ) -> Result<Played, NoMemory>
         requires { (lines : Items TheLine) × (count : ℕ) × HasRun broker lines count drain self × IsWhole broker count }
         ensures come { IfOk result (λ played. (lines : Items TheLine) (count : ℕ) → HasRun broker lines count drain self → CameTo broker lines count drain played) }
-        ensures kept { IfOk result (λ played. (keeps : Bool) → All (KeepsFrames keeps) self.sessions → All (HasFrames keeps) played.desks) }
+        ensures kept { IfOk result (λ played. (keeps : Bool) → All (KeepsLines keeps) self.sessions → All (HasLines keeps) played.desks) }
     {
         let mut left = Unclosed {
             broker,

@@ -3,18 +3,18 @@
 ghost use Rattle.std.specs.Prelude.{◌≡◌, ◌≤◌, ◌∷◌, [], Bool, false, All, IfOk, length};
 ghost use Rattle.audit.specs.Printed.{IsPrintOf};
 ghost use Rattle.trace_file.specs.Contents.{sessions_of};
-ghost use Rattle.trace_workers.specs.Sessions.{HasFrames};
+ghost use Rattle.trace_workers.specs.Sessions.{HasLines};
 ghost use Rattle.trace_workers.specs.Workers.{AllKeep, HasAll, HasDone, IsSameWorker};
 ghost use Rattle.trace_workers.specs.Playable.{AreTraced};
 ghost use Rattle.trace_workers.specs.Dealt.{AreDealt, AreWorked};
-ghost use Rattle.trace_workers.specs.Telling.{HasKept, HaveDesks, text_of};
+ghost use Rattle.trace_workers.specs.Telling.{HasKept, HaveDesks, joined};
 ghost use Rattle.trace_workers.specs.WorkerRun.{IsWorkerRun};
 
 use crate::dealing::{deal, gather};
-use crate::played::{Played, printout};
-use crate::{Gate, NoGate, Printout, Worker};
+use crate::played::{Played, print_parts};
+use crate::{Gate, NoGate, Worker};
 use audit::Account;
-use kbytes::NoMemory;
+use kbytes::{Bytes, List, NoMemory};
 use shared_broker::Broker;
 use std::alloc::Global;
 use std::sync::Wait;
@@ -72,13 +72,13 @@ fn work_all<R: Threads + Wait + Sync, G: Gate + Sync>(
 }
 
 // How lines are played: with which port in the replies to Metadata, on how many workers, whether the clock goes on after them, and whether each
-// session keeps the frames of its replies.
+// session keeps the lines of its replies.
 #[derive(Clone, Copy)]
 struct Manner {
     port: u16,
     worker_count: u32,
     drain: bool,
-    keeps_frames: bool,
+    keeps_lines: bool,
 }
 
 // Plays the lines in this manner.
@@ -93,13 +93,13 @@ fn play<R: Threads + Wait + Sync, G: Gate + Sync>(
     requires worker_count { (1 ≤ manner.worker_count) × (manner.worker_count ≤ 16) }
     ensures run { IfOk result (λ played. IsWorkerRun lines.now manner.port manner.drain played.account) }
     ensures kept { IfOk result (λ played. All (HasKept played.account) played.desks) }
-    ensures frames { IfOk result (λ played. All (HasFrames manner.keeps_frames) played.desks) }
+    ensures lines { IfOk result (λ played. All (HasLines manner.keeps_lines) played.desks) }
     ensures desks { IfOk result (λ played. HaveDesks played.account played.desks) }
 {
     let config = config_of(alloc, lines, manner.port)?;
     let count = sessions_of(lines);
     let (broker, passes) = Broker::make(alloc, config, count + 1)?;
-    let mut workers = deal(alloc, passes, manner.worker_count, manner.keeps_frames)?;
+    let mut workers = deal(alloc, passes, manner.worker_count, manner.keeps_lines)?;
     work_all(rt, &broker, gate, lines, workers.as_mut_slice());
     let joined = gather(alloc, workers)?;
     joined.close(rt, alloc, broker, manner.drain)
@@ -125,33 +125,33 @@ pub fn run_lines<R: Threads + Wait + Sync, G: Gate + Sync>(
         port,
         worker_count,
         drain,
-        keeps_frames: false,
+        keeps_lines: false,
     };
     let Played { account, .. } = play(rt, alloc, lines, manner, gate)?;
     Ok(account)
 }
 
-/// Plays the lines as `run_lines` does, without a drain or a gate, and answers the account together with what is printed of it: session by session the
-/// frames that it was sent and how it ended, and then the summary. A frame is made once, as its session is answered, in its worker's thread.
+/// Plays the lines as `run_lines` does, without a drain or a gate, and answers the account together with what is printed of it, in parts: session
+/// by session what it was sent and how it ended, and then the summary. The line of a reply is made as its session is answered, in its worker's thread.
 pub fn print_lines<R: Threads + Wait + Sync>(
     rt: &R,
     alloc: Global,
     lines: &[Line],
     port: u16,
     worker_count: u32,
-) -> Result<(Account, Printout), NoMemory>
+) -> Result<(Account, List<Bytes>), NoMemory>
     requires traced { AreTraced lines.now }
     requires worker_count { (1 ≤ worker_count) × (worker_count ≤ 16) }
     ensures run { IfOk result (λ printed. IsWorkerRun lines.now port false printed.0) }
-    ensures text { IfOk result (λ printed. IsPrintOf printed.0 (text_of printed.1)) }
+    ensures text { IfOk result (λ printed. IsPrintOf printed.0 (joined printed.1)) }
 {
     let manner = Manner {
         port,
         worker_count,
         drain: false,
-        keeps_frames: true,
+        keeps_lines: true,
     };
     let Played { account, mut desks } = play(rt, alloc, lines, manner, &NoGate)?;
-    let printout = printout(alloc, &account, desks.as_mut_slice())?;
-    Ok((account, printout))
+    let parts = print_parts(alloc, &account, desks.as_mut_slice())?;
+    Ok((account, parts))
 }

@@ -5,7 +5,8 @@ ghost use Rattle.trace_workers.specs.Received.{HasReceived};
 ghost use Rattle.trace_workers.specs.Sessions.{IsSameSession, desk_of};
 
 use crate::desk::Desk;
-use kbytes::{Bytes, List, NoMemory};
+use crate::reply_lines::ReplyLines;
+use kbytes::NoMemory;
 use kwire::Inbox;
 use shared_broker::{Broker, Pass};
 use std::alloc::Global;
@@ -20,7 +21,7 @@ pub struct TraceSession {
     pub(crate) inbox: Inbox,
     pub(crate) is_shut: bool,
     pub(crate) is_named: bool,
-    pub(crate) kept: Option<List<Bytes>>,
+    pub(crate) kept: Option<ReplyLines>,
 }
 
 impl Model for TraceSession {
@@ -32,8 +33,8 @@ impl Model for TraceSession {
 }
 
 impl TraceSession {
-    /// The session of this number, on a pass that has no transcript. No line has named it. It keeps the frames of its replies if it is given where.
-    pub fn new(alloc: Global, number: u32, pass: Pass, kept: Option<List<Bytes>>) -> TraceSession
+    /// The session of this number, on a pass that has no transcript. No line has named it. It keeps the lines of its replies if it is given where.
+    pub fn new(alloc: Global, number: u32, pass: Pass, kept: Option<ReplyLines>) -> TraceSession
         ensures { result ≡ record { number = number; pass = pass; inbox = []; is_shut = false; is_named = false; kept = kept } }
     {
         TraceSession {

@@ -13,7 +13,7 @@ ghost use Rattle.trace_workers.specs.Received.{HasReceived};
 ghost use Rattle.trace_workers.specs.Resting.{Rests};
 ghost use Rattle.trace_workers.specs.Sessions.{IsSameSession};
 
-use crate::kept_frames::put_frame;
+use crate::reply_lines::put_line;
 use crate::session::TraceSession;
 use audit::{SessionEnd, end_of_input};
 use kbytes::NoMemory;
@@ -30,28 +30,28 @@ fn front_body(bytes: &[u8], end: usize) -> &[u8]
     &bytes[4..end]
 }
 
-// Hands the broker a frame. If the reply isn't kept, it has no bytes.
-fn ask(rt: &impl Wait, broker: &Broker, pass: &mut Pass, body: &[u8], keeps_frames: bool) -> Handled
+// Hands the broker a frame. If no line is kept of the reply, it has no bytes.
+fn ask(rt: &impl Wait, broker: &Broker, pass: &mut Pass, body: &[u8], keeps_lines: bool) -> Handled
     requires made { made_with pass.old ≡ broker.now }
     requires begun { IsSome pass.old.going }
     requires none { pass.old.waits ≡ None }
     requires whole { is_cut_off pass.old.going ≡ false }
-    ensures { HasHandledAs keeps_frames body.now result pass.old pass.new }
+    ensures { HasHandledAs keeps_lines body.now result pass.old pass.new }
 {
-    if keeps_frames {
+    if keeps_lines {
         broker.handle(rt, pass, body)
     } else {
         broker.handle_unsent(rt, pass, body)
     }
 }
 
-// Asks the broker for the reply that its session waits for. If it isn't kept, it has no bytes.
-fn ask_again(rt: &impl Wait, broker: &Broker, pass: &mut Pass, keeps_frames: bool) -> Collected
+// Asks the broker for the reply that its session waits for. If no line is kept of it, it has no bytes.
+fn ask_again(rt: &impl Wait, broker: &Broker, pass: &mut Pass, keeps_lines: bool) -> Collected
     requires made { made_with pass.old ≡ broker.now }
     requires waits { IsSome pass.old.waits }
-    ensures { HasCollectedAs keeps_frames result pass.old pass.new }
+    ensures { HasCollectedAs keeps_lines result pass.old pass.new }
 {
-    if keeps_frames {
+    if keeps_lines {
         broker.collect(rt, pass)
     } else {
         broker.collect_unsent(rt, pass)
@@ -150,7 +150,7 @@ impl TraceSession {
     {
         match ask_again(rt, broker, &mut self.pass, self.kept.is_some()) {
             Collected::Reply(frame) => {
-                put_frame(&mut self.kept, frame)?;
+                put_line(&mut self.kept, self.number, frame.as_slice())?;
                 Ok(true)
             }
             Collected::NotYet => Ok(false),
@@ -175,7 +175,7 @@ impl TraceSession {
         let body = front_body(self.inbox.bytes(), end);
         match ask(rt, broker, &mut self.pass, body, self.kept.is_some()) {
             Handled::Reply(frame) => {
-                put_frame(&mut self.kept, frame)?;
+                put_line(&mut self.kept, self.number, frame.as_slice())?;
                 self.inbox.drop_front(end);
                 Ok(true)
             }

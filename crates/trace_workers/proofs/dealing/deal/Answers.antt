@@ -31,7 +31,7 @@ deal_clock-requires c =
 pub returns : goal.returns
 returns c =
     let worker_count = c.args.worker_count in
-    let keeps = c.args.keeps_frames in
+    let keeps = c.args.keeps_lines in
     let workers = c.in_ok-workers.workers in
     let lent = c.as_mut_slice.result.now in
     let dealt = c.deal_sessions.new.workers in

@@ -20,8 +20,8 @@ returns-clause-dealt c =
     let worker = c.add_session.new.worker in
     on_ok_weaker c.add_session.result
     (λ (added : worker ≡ with_more (get_or workers at d) c.new.result) (broker : BrokerView) (fresh : c.args.pass ≡ fresh_pass broker number).
-    let session = c.new.ensures ∙ ap (λ (p : PassView). record (fresh_session broker number c.frames_if-kept.result) { pass = p }) fresh in
-    session_dealt broker number worker_count at workers worker d c.frames_if-kept.result c.frames_if-kept.ensures.fresh c.requires.some refl (added ∙ ap (with_more (get_or workers at d)) session))
+    let session = c.new.ensures ∙ ap (λ (p : PassView). record (fresh_session broker number c.in_ok-kept.kept) { pass = p }) fresh in
+    session_dealt broker number worker_count at workers worker d c.in_ok-kept.kept c.in_ok-kept.ensures.fresh c.requires.some refl (added ∙ ap (with_more (get_or workers at d)) session))
     c.add_session.ensures
 
 pub returns-clause-kept : goal.returns-clause-kept
@@ -31,8 +31,8 @@ returns-clause-kept c =
     let at = number % length workers in
     let d = c.index-workers-at.result in
     let worker = c.add_session.new.worker in
-    let keeps = c.args.keeps_frames in
+    let keeps = c.args.keeps_lines in
     on_ok_weaker c.add_session.result
     (λ (added : worker ≡ with_more (get_or workers at d) c.new.result) (all : All (AllKeep keeps) workers).
-    session_keeps keeps workers at worker d c.new.result (mod_below number (length workers) c.requires.some) added (ap (λ (s : SessionView). is_some s.kept) c.new.ensures ∙ c.frames_if-kept.ensures.kept) all)
+    session_keeps keeps workers at worker d c.new.result (mod_below number (length workers) c.requires.some) added (ap (λ (s : SessionView). is_some s.kept) c.new.ensures ∙ c.in_ok-kept.ensures.kept) all)
     c.add_session.ensures

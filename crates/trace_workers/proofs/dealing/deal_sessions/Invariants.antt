@@ -13,5 +13,5 @@ invariant-loop-pass l = record {
   len : into_iter_len l.pass-iterator ≡ length (into_iter_items l.pass-iterator);
   whole : l.yielded ++ into_iter_items l.pass-iterator ≡ l.fn.passes;
   dealt : (broker : BrokerView) (count : ℕ) → l.fn.passes ≡ fresh_passes broker count → AreDealing broker 0 (length l.fn.workers) l.fn.workers → AreDealing broker l.number (length l.fn.workers) l.workers;
-  kept : All (AllKeep l.keeps_frames) l.fn.workers → All (AllKeep l.keeps_frames) l.workers;
+  kept : All (AllKeep l.keeps_lines) l.fn.workers → All (AllKeep l.keeps_lines) l.workers;
 }

@@ -2,7 +2,7 @@ use Rattle.std.proofs.Common.{◌≡◌, ◌∙◌, List, subst, sym}
 use Rattle.std.specs.Prelude.{All, Some}
 use Rattle.trace_workers.specs.Gathered.{first_clock}
 use Rattle.trace_workers.specs.Joined.{HasJoined}
-use Rattle.trace_workers.specs.Sessions.{KeepsFrames, SessionView}
+use Rattle.trace_workers.specs.Sessions.{KeepsLines, SessionView}
 use Rattle.trace_workers.proofs.Gathering.{all_sessions, clock_there, gathered}
 use Rattle.trace_workers.proofs.dealing.gather.Goals as goal
 
@@ -21,4 +21,4 @@ returns-clause-joined c broker lines count worker_count some h =
     (gathered broker lines count worker_count c.args.workers some h clock all.running is)
 
 pub returns-clause-kept : goal.returns-clause-kept
-returns-clause-kept c keeps all = subst (All (KeepsFrames keeps)) (sym c.in_ok-sessions.ensures.sessions) (all_sessions (KeepsFrames keeps) c.args.workers all)
+returns-clause-kept c keeps all = subst (All (KeepsLines keeps)) (sym c.in_ok-sessions.ensures.sessions) (all_sessions (KeepsLines keeps) c.args.workers all)

@@ -3,7 +3,7 @@ use Rattle.std.proofs.lemmas.Result.{IfOk-weaker}
 use Rattle.std.specs.Prelude.{All, IfOk}
 use Rattle.trace_file.specs.Contents.{sessions_of}
 use Rattle.trace_workers.specs.Closed.{CameTo}
-use Rattle.trace_workers.specs.Sessions.{KeepsFrames}
+use Rattle.trace_workers.specs.Sessions.{KeepsLines}
 use Rattle.trace_workers.specs.Workers.{AllKeep}
 use Rattle.trace_workers.proofs.Begun.{begun}
 use Rattle.trace_workers.proofs.Counting.{few_counted}
@@ -50,7 +50,7 @@ returns g c =
     let lines = c.args.lines.now in
     let count = sessions_of lines in
     let drain = c.args.manner.drain in
-    let keeps = c.args.manner.keeps_frames in
+    let keeps = c.args.manner.keeps_lines in
     let joined = c.in_ok-joined.joined in
     let workers = c.in_ok-workers.workers in
     let worked = c.work_all.new.workers in
@@ -61,11 +61,11 @@ returns g c =
     let config = c.in_ok-broker.ensures.config ∙ c.in_ok-config.ensures in
     let all = c.work_all.ensures.kept keeps (subst (All (AllKeep keeps)) (sym lent_is) c.in_ok-workers.ensures.kept) in
     let again = subst (All (AllKeep keeps)) (sym (written workers worked (c.work_all.auto.workers ∙ ap length lent_is))) all in
-    let still : All (KeepsFrames keeps) joined.sessions = c.in_ok-joined.ensures.kept keeps again in
+    let still : All (KeepsLines keeps) joined.sessions = c.in_ok-joined.ensures.kept keeps again in
     let came : IfOk c.close.result (CameTo broker lines count drain) = IfOk-weaker c.close.result _ (CameTo broker lines count drain) (λ played goes. goes lines count run) c.close.ensures.come in
     record {
       run = IfOk-weaker c.close.result (CameTo broker lines count drain) _ (λ played is. worker_run broker lines c.args.manner.port count drain played c.requires.traced refl config is) came;
       kept = IfOk-weaker c.close.result (CameTo broker lines count drain) _ (λ played is. all_kept broker lines count drain played is) came;
-      frames = IfOk-weaker c.close.result _ _ (λ played goes. goes keeps still) c.close.ensures.kept;
+      lines = IfOk-weaker c.close.result _ _ (λ played goes. goes keeps still) c.close.ensures.kept;
       desks = IfOk-weaker c.close.result (CameTo broker lines count drain) _ (λ played is. have_desks broker lines count drain played is) came;
     }

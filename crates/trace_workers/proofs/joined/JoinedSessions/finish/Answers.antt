@@ -2,7 +2,7 @@ use Rattle.std.proofs.Common.{◌++◌, Bool, map, sym, subst}
 use Rattle.std.specs.Prelude.{All}
 use Rattle.trace_file.specs.declared.line.Line.TheVariants.{Clock}
 use Rattle.trace_workers.specs.Joined.{HasRun}
-use Rattle.trace_workers.specs.Sessions.{KeepsFrames}
+use Rattle.trace_workers.specs.Sessions.{KeepsLines}
 use Rattle.trace_workers.proofs.JoinedOn.{run_on}
 use Rattle.trace_workers.proofs.joined.JoinedSessions.finish.Goals as goal
 
@@ -30,7 +30,7 @@ tick-requires g c =
     (r.0, r.1, subst (λ (b : Bool). HasRun broker r.0 r.1 b c.go_on.new.self) on (run_on broker r.0 r.1 c.args.drain c.loop.self c.go_on.new.self c.go_on.ensures.clock c.in_ok-go_on.ensures.whole (c.loop.invariant.run r.0 r.1 r.2)))
 
 pub returns-in_err-tick-clause-kept : goal.returns-in_err-tick-clause-kept
-returns-in_err-tick-clause-kept g c keeps all = subst (All (KeepsFrames keeps)) (sym c.tick.ensures.sessions) (c.go_on.ensures.kept keeps (c.loop.invariant.kept keeps all))
+returns-in_err-tick-clause-kept g c keeps all = subst (All (KeepsLines keeps)) (sym c.tick.ensures.sessions) (c.go_on.ensures.kept keeps (c.loop.invariant.kept keeps all))
 
 pub loop-preserved : goal.loop-preserved
 loop-preserved g c =
@@ -42,5 +42,5 @@ loop-preserved g c =
           (c.in_ok-tick.ensures.run lines count
           (subst (λ (b : Bool). HasRun broker lines count b c.go_on.new.self) on
           (run_on broker lines count c.args.drain c.loop.self c.go_on.new.self c.go_on.ensures.clock c.in_ok-go_on.ensures.whole (c.loop.invariant.run lines count h))));
-      kept = λ keeps all. subst (All (KeepsFrames keeps)) (sym c.tick.ensures.sessions) (c.go_on.ensures.kept keeps (c.loop.invariant.kept keeps all));
+      kept = λ keeps all. subst (All (KeepsLines keeps)) (sym c.tick.ensures.sessions) (c.go_on.ensures.kept keeps (c.loop.invariant.kept keeps all));
     }

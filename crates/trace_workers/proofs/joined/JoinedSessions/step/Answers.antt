@@ -6,7 +6,7 @@ use Rattle.std.proofs.lemmas.Result.{IfOk-weaker, on_ok_weaker}
 use Rattle.trace_file.specs.declared.line.Line.{Line}
 use Rattle.trace_workers.specs.Received.{HasReceived}
 use Rattle.trace_workers.specs.Resting.{Rests}
-use Rattle.trace_workers.specs.Sessions.{IsSameSession, KeepsFrames, SessionView}
+use Rattle.trace_workers.specs.Sessions.{IsSameSession, KeepsLines, SessionView}
 use Rattle.trace_workers.specs.Joined.{JoinedView, HasJoined}
 use Rattle.trace_workers.proofs.JoinedOn.{lent_on, one_written, step_joined}
 use Rattle.trace_workers.proofs.Moving.{moved_at}
@@ -49,8 +49,8 @@ returns-clause-kept g c keeps =
     let value = c.as_mut_slice.ensures.value in
     let there = subst (λ (l : JoinedView). at < length l.sessions) (sym c.self.view_is) c.requires.there in
     let same = subst (λ (xs : List SessionView). IsSameSession (get_or xs at d) s) value c.step.ensures.same in
-    lent_on (λ (old new : JoinedView). All (KeepsFrames keeps) old.sessions → All (KeepsFrames keeps) new.sessions) joined c.args.self.now c.as_mut_slice.result.now at s c.self.view_is value
-    (λ all. All-set (KeepsFrames keeps) i.sessions at s (same.kept ∙ all at d there) all)
+    lent_on (λ (old new : JoinedView). All (KeepsLines keeps) old.sessions → All (KeepsLines keeps) new.sessions) joined c.args.self.now c.as_mut_slice.result.now at s c.self.view_is value
+    (λ all. All-set (KeepsLines keeps) i.sessions at s (same.kept ∙ all at d there) all)
 
 pub returns-clause-rests : goal.returns-clause-rests
 returns-clause-rests g c =

@@ -7,7 +7,7 @@ use Rattle.trace_file.specs.declared.line.Line.{Line}
 use Rattle.trace_file.specs.declared.line.Line.TheVariants.{Clock}
 use Rattle.trace_workers.specs.Closed.{HasClosed, HasGoneOn, StillKeep}
 use Rattle.trace_workers.specs.Joined.{HasCome, HasRun, JoinedView}
-use Rattle.trace_workers.specs.Sessions.{HasFrames, KeepsFrames, desk_of}
+use Rattle.trace_workers.specs.Sessions.{HasLines, KeepsLines, desk_of}
 use Rattle.trace_workers.specs.declared.joined.Closing.{Closing}
 use Rattle.trace_workers.proofs.joined.Unclosed.finish.Goals as goal
 
@@ -22,9 +22,9 @@ gone_on : (broker : BrokerView) (lines : List Line) (count : ℕ) (drain : Bool)
 gone_on broker lines count drain joined (Closing.Closed played) run come is = record { joined = joined; run = run; come = come; account_is = is.0; desks_are = is.1 }
 gone_on broker lines count drain joined (Closing.Again again back) run come is = (is.0, subst (HasRun broker lines count drain) (sym is.1) run)
 
-still_keep : (keeps : Bool) (broker : BrokerView) (joined : JoinedView) (closing : Closing) → HasClosed broker joined closing → All (KeepsFrames keeps) joined.sessions → StillKeep keeps closing
-still_keep keeps broker joined (Closing.Closed played) is all = subst (All (HasFrames keeps)) (sym is.1) (All-map (HasFrames keeps) desk_of joined.sessions all)
-still_keep keeps broker joined (Closing.Again again back) is all = subst (λ (j : JoinedView). All (KeepsFrames keeps) j.sessions) (sym is.1) all
+still_keep : (keeps : Bool) (broker : BrokerView) (joined : JoinedView) (closing : Closing) → HasClosed broker joined closing → All (KeepsLines keeps) joined.sessions → StillKeep keeps closing
+still_keep keeps broker joined (Closing.Closed played) is all = subst (All (HasLines keeps)) (sym is.1) (All-map (HasLines keeps) desk_of joined.sessions all)
+still_keep keeps broker joined (Closing.Again again back) is all = subst (λ (j : JoinedView). All (KeepsLines keeps) j.sessions) (sym is.1) all
 
 pub returns-clause-gone : goal.returns-clause-gone
 returns-clause-gone g c =

@@ -10,6 +10,7 @@ use Rattle.shared_broker.specs.Sessions.{is_cut_off}
 use Rattle.trace_workers.specs.Ending.{EndsSo}
 use Rattle.trace_workers.specs.Received.{HasReceived}
 use Rattle.trace_workers.specs.Sessions.{SessionView}
+use Rattle.trace_workers.specs.Telling.{HasPut}
 use Rattle.trace_workers.proofs.Frames.{ends_so, handled, replied, unreplied}
 use Rattle.trace_workers.proofs.Going.{uncut}
 use Rattle.trace_workers.proofs.session.TraceSession.handle.Goals as goal
@@ -33,15 +34,16 @@ end-requires-clause-shown g c =
     let shows : EndsSo c.in-Ended.why s = ends_so r.0 s c.args.end body c.in-Ended.why goes (subst (HasReceived r.0) back r.1) whole c.front_body-body.ensures.small parts e.1 in
     subst (λ (p : PassView). EndsSo c.in-Ended.why (record s { pass = p })) (sym e.0) shows
 
-pub returns-in_ok-put_frame-in-Reply-clause-received : goal.returns-in_ok-put_frame-in-Reply-clause-received
-returns-in_ok-put_frame-in-Reply-clause-received g c input h =
+pub returns-in_ok-put_line-in-Reply-clause-received : goal.returns-in_ok-put_line-in-Reply-clause-received
+returns-in_ok-put_line-in-Reply-clause-received g c input h =
     let i = c.self.inside in
     let s : SessionView = record { number = i.number; pass = i.pass; inbox = i.inbox; is_shut = i.is_shut; is_named = i.is_named; kept = i.kept } in
     let body = c.front_body-body.result.now in
     let new = c.ask.new.pass in
-    let kept = c.put_frame.new.kept in
+    let kept = c.put_line.new.kept in
     let parts : s.inbox ≡ framed body ++ drop c.args.end s.inbox = subst (λ (x : List ℕ). x ≡ framed body ++ drop c.args.end x) c.bytes.ensures c.front_body-body.ensures.parts in
-    let call = replied s.kept kept body c.in-Reply.frame s.pass new (subst (λ (b : Bool). HasHandledAs b body (Handled.Reply c.in-Reply.frame) s.pass new) c.is_some.ensures c.in-Reply.ensures) c.in_ok-put_frame-in-Reply.ensures.frame in
+    let put = subst (λ (bytes : List ℕ). HasPut s.number bytes s.kept kept) c.as_slice.ensures c.in_ok-put_line-in-Reply.ensures.line in
+    let call = replied s.number s.kept kept body c.in-Reply.frame s.pass new (subst (λ (b : Bool). HasHandledAs b body (Handled.Reply c.in-Reply.frame) s.pass new) c.is_some.ensures c.in-Reply.ensures) put in
     subst (λ (inbox : List ℕ). HasReceived input (record s { pass = new; inbox = inbox; kept = kept })) (sym c.drop_front.ensures)
     (handled input s body c.args.end new kept c.front_body-body.ensures.small parts call (subst (HasReceived input) (sym c.self.view_is) h))
 
@@ -52,7 +54,7 @@ returns-in-Quiet-clause-received g c input h =
     let body = c.front_body-body.result.now in
     let new = c.ask.new.pass in
     let parts : s.inbox ≡ framed body ++ drop c.args.end s.inbox = subst (λ (x : List ℕ). x ≡ framed body ++ drop c.args.end x) c.bytes.ensures c.front_body-body.ensures.parts in
-    let call = unreplied s.kept c.is_some.result body c.ask.result s.pass new c.in-Quiet.is c.ask.ensures in
+    let call = unreplied s.number s.kept c.is_some.result body c.ask.result s.pass new c.in-Quiet.is c.ask.ensures in
     subst (λ (inbox : List ℕ). HasReceived input (record s { pass = new; inbox = inbox })) (sym c.drop_front-in-Quiet.ensures)
     (handled input s body c.args.end new s.kept c.front_body-body.ensures.small parts call (subst (HasReceived input) (sym c.self.view_is) h))
 
