@@ -7,11 +7,7 @@ use Rattle.std.proofs.lemmas.List.{get_or-replicate, get_or-set_other, get_or-se
 use Rattle.room_core.specs.declared.parts.Entry.{Entry}
 use Rattle.timing_wheel.specs.declared.timer.Timer.{Timer}
 use Rattle.timing_wheel.specs.Timers.{Timers, deadline_of, ids_of, with_entry}
-use Rattle.purgatory.specs.scans.Timing.{HasTimer, IsTimed}
-
--- how far ahead a timer may be, in milliseconds
-abbrev farthest : ℕ
-farthest = 2147483647
+use Rattle.purgatory.specs.scans.Timing.{HasTimer, IsTimed, farthest}
 
 abbrev deadline_in : Option Timer → Option ℕ
 deadline_in o = option_map (λ (t : Timer). t.deadline) o

@@ -9,7 +9,7 @@ ghost use Rattle.room_table.specs.Seats.{scanner_now};
 ghost use Rattle.timing_wheel.specs.Timers.{deadline_of, ids_of};
 ghost use Rattle.purgatory.specs.scans.Listing.{HasListedDeadline};
 ghost use Rattle.purgatory.specs.scans.Scanned.{HasScanned, scan_begun};
-ghost use Rattle.purgatory.specs.scans.Timing.{HasTimer};
+ghost use Rattle.purgatory.specs.scans.Timing.{HasTimer, StaysOrIsPut};
 ghost use Rattle.purgatory.specs.scans.Coming.{AreComingFrom, ChangesOnly, HasComeOut, IsClockListing, IsOnDuty, IsSettled, WasMet, duty_at, entry_at, is_stale, timer_at};
 
 use crate::scans::inspector::Inspector;
@@ -62,6 +62,7 @@ fn put_timer(wheels: &mut Wheels, pass: u32, deadline: u64)
     ensures moment { wheels.new.moment ≡ wheels.old.moment }
     ensures ids { ids_of wheels.new ≡ ids_of wheels.old }
     ensures timer { HasTimer wheels.old.moment deadline (deadline_of wheels.new pass) }
+    ensures put { StaysOrIsPut wheels.old.moment deadline (deadline_of wheels.old pass) (deadline_of wheels.new pass) }
     ensures others { (other : ℕ) → other ≢ pass → deadline_of wheels.new other ≡ deadline_of wheels.old other }
 {
     wheels.entries_wait();
