@@ -6,3 +6,5 @@ pub use Rattle.trace_file.proofs.Lines.{words_say}
 pub use Rattle.trace_file.proofs.FewBytes.{few_bytes, few_sessions}
 -- a trace has no first bad line
 pub use Rattle.trace_file.proofs.OneFault.{trace_has_none}
+-- the digits of bytes are those of the first ones and then of the rest
+pub use Rattle.trace_file.proofs.HexParts.{encode_with-append}

@@ -50,8 +50,8 @@ impl Digits {
         })
     }
 
-    /// Writes the digits of the bytes.
-    pub(crate) fn write(&self, bytes: &[u8], out: &mut [u8])
+    /// Writes the digits of the bytes, two for each, for who writes the line of a reply by itself.
+    pub fn write(&self, bytes: &[u8], out: &mut [u8])
         requires { length out.old ≡ 2 * length bytes.now }
         ensures { out.new ≡ encode_lower bytes.now }
     {
