@@ -9,6 +9,7 @@
 mod command;
 mod exit;
 mod on_workers;
+mod printing;
 mod replay;
 mod runs;
 mod serving;

@@ -10,14 +10,14 @@ ghost use Rattle.commands.specs.Worked.{IsWorked};
 
 use crate::command::MOST_WORKERS;
 use crate::exit::{Stop, Unfinished};
-use crate::streams::write_parts;
+use crate::printing::write_parts;
 use crate::trace::read_lines;
 use audit::Account;
 use outside::{Sink, Source};
 use std::alloc::Global;
 use std::sync::Wait;
 use std::thread::Threads;
-use trace_file::REPLAY_PORT;
+use trace_file::{Digits, REPLAY_PORT};
 use trace_workers::print_lines;
 
 /// Replays the source's trace on `workers` threads. It never stops with `Usage`.
@@ -46,7 +46,8 @@ pub fn replay_on_workers<R: Threads + Wait + Sync, S: Source, K: Sink>(
 {
     let lines = read_lines(rt, alloc, source, false, workers)?;
     let (account, parts) = print_lines(rt, alloc, lines.as_slice(), REPLAY_PORT, workers)?;
-    match write_parts(sink, parts.as_slice()) {
+    let digits = Digits::make(alloc)?;
+    match write_parts(sink, &digits, parts.as_slice()) {
         Ok(()) => Ok(account),
         Err(_) => Err(Unfinished::Unwritten(account)),
     }

@@ -1,11 +1,10 @@
-//! Reads a part of a source, for `read_lines`, and writes a part to a sink whole, for both replays.
+//! Reads a part of a source, for `read_lines`, and writes a part to a sink whole.
 
-ghost use Rattle.std.specs.Prelude.{◌≡◌, ◌<◌, ◌≤◌, ◌++◌, ℕ, length, take, IfOk, IfErr, OnOk, OnErr};
-ghost use Rattle.std.specs.List.{flat_map};
+ghost use Rattle.std.specs.Prelude.{◌≡◌, ◌<◌, ◌≤◌, ℕ, length, take, IfOk, IfErr, OnOk, OnErr};
 ghost use Rattle.std.specs.Io.KnownBytes.{Appends, Consumes, IsAtEnd};
 ghost use Rattle.outside.specs.Causes.{Rose};
+ghost use Rattle.commands.specs.Streams.{HasWrittenFront};
 
-use kbytes::Bytes;
 use outside::{Failed, Sink, Source};
 
 /// Reads into the room until it is full or the source ends. The answer is what came, at the front of the room.
@@ -30,8 +29,7 @@ pub fn fill<'a, S: Source>(source: &mut S, room: &'a mut [u8]) -> Result<&'a [u8
 /// Writes the whole part. If a write fails, a prefix of the part was written.
 pub fn write_all<K: Sink>(sink: &mut K, part: &[u8]) -> Result<(), Failed>
     ensures written { OnOk result (Appends (K.written sink.old) (K.written sink.new) part.now) }
-    ensures front { OnErr result ((n : ℕ) × (n ≤ length part.now)
-        × Appends (K.written sink.old) (K.written sink.new) (take n part.now)) }
+    ensures front { OnErr result (HasWrittenFront (K.written sink.old) (K.written sink.new) part.now) }
     ensures later { K.faults sink.old ≤ K.faults sink.new }
     ensures failed { OnErr result (Rose (K.faults sink.old) (K.faults sink.new)) }
 {
@@ -39,19 +37,6 @@ pub fn write_all<K: Sink>(sink: &mut K, part: &[u8]) -> Result<(), Failed>
     while done < part.len() {
         let count = sink.write(&part[done..])?;
         done += count;
-    }
-    Ok(())
-}
-
-/// Writes these parts whole, one after the other. If a write fails, a prefix of them was written.
-pub fn write_parts<K: Sink>(sink: &mut K, parts: &[Bytes]) -> Result<(), Failed>
-    ensures written { OnOk result (Appends (K.written sink.old) (K.written sink.new) (flat_map (λ part. part) parts.now)) }
-    ensures front { OnErr result ((n : ℕ) × Appends (K.written sink.old) (K.written sink.new) (take n (flat_map (λ part. part) parts.now))) }
-    ensures later { K.faults sink.old ≤ K.faults sink.new }
-    ensures failed { OnErr result (Rose (K.faults sink.old) (K.faults sink.new)) }
-{
-    for part in parts {
-        write_all(sink, part.as_slice())?;
     }
     Ok(())
 }

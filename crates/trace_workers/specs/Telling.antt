@@ -1,6 +1,8 @@
 -- The lines of a session's replies, which are kept as it is answered.
-use Rattle.std.specs.Prelude.{ℕ, ◌≡◌, ◌≢◌, ◌≤◌, All, Any, true, List, [], ◌∷◌, ◌++◌, Option, Some, None, IfSome, slice_get, ⊤}
+use Rattle.std.specs.Prelude.{ℕ, ◌≡◌, ◌≢◌, ◌≤◌, All, Any, true, List, [], ◌∷◌, ◌++◌, Option, Some, None, IfSome, codes, slice_get, ⊤}
+use Rattle.std.specs.Fmt.{decimal}
 use Rattle.std.specs.List.{flat_map}
+use Rattle.hex.specs.Hex.{encode_lower}
 use Rattle.audit.specs.declared.account.Account.{Account}
 use Rattle.audit.specs.declared.account.Call.{Call}
 use Rattle.audit.specs.declared.account.Transcript.{Transcript}
@@ -10,12 +12,22 @@ use Rattle.audit.specs.retelling.Shares.{IsTextOf}
 use Rattle.kwire.specs.declared.reply.Reply.{Reply}
 use Rattle.kwire.specs.Spelling.{spelling}
 use Rattle.shared_broker.specs.Passes.{PassView}
-use Rattle.trace_file.specs.PrintedLine.{reply_line}
+use Rattle.trace_file.specs.PrintedLine.{line_of, reply_line}
+use Rattle.trace_workers.specs.declared.print_part.PrintPart.{PrintPart}
 use Rattle.trace_workers.specs.Sessions.{DeskView, HasLines}
 
+-- the line of a frame that a session was sent
+abbrev pub frame_line : ℕ → List ℕ → List ℕ
+frame_line session frame = line_of (codes "reply" ∷ decimal session ∷ encode_lower frame ∷ [])
+
+-- what is printed of a part
+abbrev pub part_text : PrintPart → List ℕ
+part_text (PrintPart.Text text) = text
+part_text (PrintPart.Reply session frame) = frame_line session frame
+
 -- parts, one after the other
-abbrev pub joined : List (List ℕ) → List ℕ
-joined parts = flat_map (λ part. part) parts
+abbrev pub joined : List PrintPart → List ℕ
+joined parts = flat_map part_text parts
 
 -- the lines of these replies
 abbrev pub lines_of : ℕ → List Reply → List ℕ

@@ -22,6 +22,7 @@ mod desk;
 mod gate;
 mod joined;
 mod played;
+mod print_part;
 mod promises;
 mod reply_lines;
 mod runs;
@@ -32,6 +33,7 @@ mod worker;
 
 pub use desk::Desk;
 pub use gate::{Gate, NoGate};
+pub use print_part::PrintPart;
 pub use promises::{joined_accounts_are_runs, traces_have_runs};
 pub use runs::{print_lines, run_lines};
 pub use session::TraceSession;

@@ -6,7 +6,7 @@ ghost use Rattle.audit.specs.retelling.Shares.{IsTextOf};
 ghost use Rattle.trace_workers.specs.Sessions.{DeskView, HasLines};
 ghost use Rattle.trace_workers.specs.Telling.{HasKept, HasPutPass, HaveDesks, HaveLinesFrom, joined};
 
-use crate::Desk;
+use crate::{Desk, PrintPart};
 use audit::{Account, SessionEnd, print_replay, put_end_line};
 use kbytes::{Bytes, List, NoMemory};
 use std::alloc::Global;
@@ -33,7 +33,7 @@ fn place_of(desks: &[Desk], number: usize) -> Option<usize>
 }
 
 // Puts these parts after the others.
-fn put_all(parts: &mut List<Bytes>, more: List<Bytes>) -> Result<(), NoMemory>
+fn put_all(parts: &mut List<PrintPart>, more: List<PrintPart>) -> Result<(), NoMemory>
     ensures { OnOk result (parts.new ≡ parts.old ++ more) }
 {
     for part in more.into_vec() {
@@ -59,7 +59,7 @@ fn put_pass(
     account: &Account,
     desks: &mut [Desk],
     number: usize,
-    parts: &mut List<Bytes>,
+    parts: &mut List<PrintPart>,
 ) -> Result<(), NoMemory>
     requires kept { All (HasKept account.now) desks.old }
     requires desks { HaveDesks account.now desks.old }
@@ -82,11 +82,16 @@ fn put_pass(
         unreachable!()
     };
     put_all(parts, lines.into_parts()?)?;
-    parts.push(end_text(alloc, session, &transcript.end)?)
+    let end = end_text(alloc, session, &transcript.end)?;
+    parts.push(PrintPart::Text(end))
 }
 
 // What is printed of all sessions, in parts.
-fn kept_parts(alloc: Global, account: &Account, desks: &mut [Desk]) -> Result<List<Bytes>, NoMemory>
+fn kept_parts(
+    alloc: Global,
+    account: &Account,
+    desks: &mut [Desk],
+) -> Result<List<PrintPart>, NoMemory>
     requires kept { All (HasKept account.now) desks.old }
     requires desks { HaveDesks account.now desks.old }
     requires lines { All (HasLines true) desks.old }
@@ -104,7 +109,7 @@ pub fn print_parts(
     alloc: Global,
     account: &Account,
     desks: &mut [Desk],
-) -> Result<List<Bytes>, NoMemory>
+) -> Result<List<PrintPart>, NoMemory>
     requires kept { All (HasKept account.now) desks.old }
     requires desks { HaveDesks account.now desks.old }
     requires lines { All (HasLines true) desks.old }
@@ -114,6 +119,6 @@ pub fn print_parts(
     let mut parts = kept_parts(alloc, account, desks)?;
     let mut summary = Bytes::new(alloc);
     print_replay(alloc, account, &mut summary)?;
-    parts.push(summary)?;
+    parts.push(PrintPart::Text(summary))?;
     Ok(parts)
 }

@@ -1,29 +1,36 @@
-//! The printed lines of a session's replies, made as it is answered. A session of a trace has them if its run is printed session by session.
+//! The printed lines of a session's replies, kept as it is answered. A session of a trace has them if its run is printed session by session.
 ghost use Rattle.std.specs.Prelude.{◌≡◌, ◌++◌, [], OnOk, IfOk, is_some};
-ghost use Rattle.kwire.specs.Spelling.{spelling};
-ghost use Rattle.kwire.specs.declared.reply.Reply.{Reply};
-ghost use Rattle.trace_file.specs.PrintedLine.{reply_line};
-ghost use Rattle.trace_workers.specs.Telling.{HasPut, IsFresh, joined};
+ghost use Rattle.trace_workers.specs.Telling.{HasPut, IsFresh, frame_line, joined};
 
+use crate::print_part::PrintPart;
 use kbytes::{Bytes, List, NoMemory};
 use std::alloc::Global;
 use std::marker::Model;
 use std::mem;
 use trace_file::Digits;
 
-/// The bytes of a block of lines, where no line is longer.
+/// The most bytes of a block of lines, where no line is longer.
 const BLOCK: usize = 65_536;
+
+/// The bytes of the first block of lines, and of the first one after a frame that is kept as it is.
+const FIRST_BLOCK: usize = 256;
 
 /// More bytes than the line of a reply has beside the digits of its frame.
 const BESIDE_DIGITS: usize = 32;
 
-/// The lines of the replies so far, one after the other. They are in blocks, so that none is moved as more come.
+/// A frame of more bytes is kept as it is.
+const LONG_FRAME: usize = 512;
+
+/// The lines of the replies so far, one after the other. Those of short frames are in blocks, so that none is moved as more come; a long frame is
+/// kept as it is, in its own memory.
 #[derive(Drop)]
 pub struct ReplyLines {
     alloc: Global,
     digits: Digits,
-    full: List<Bytes>,
+    parts: List<PrintPart>,
+    // the block of lines after these parts, and for how many bytes it was made
     last: Bytes,
+    room: usize,
 }
 
 impl Model for ReplyLines {
@@ -32,7 +39,17 @@ impl Model for ReplyLines {
 
     ghost Value = { List ℕ };
 
-    ghost view = { λ l. joined l.full ++ l.last };
+    ghost view = { λ l. joined l.parts ++ l.last };
+}
+
+// Puts a block of lines after the parts, if it has any.
+fn end_block(parts: &mut List<PrintPart>, block: Bytes) -> Result<(), NoMemory>
+    ensures { OnOk result (joined parts.new ≡ joined parts.old ++ block) }
+{
+    if block.is_empty() {
+        return Ok(());
+    }
+    parts.push(PrintPart::Text(block))
 }
 
 impl ReplyLines {
@@ -44,40 +61,65 @@ impl ReplyLines {
         Ok(ReplyLines {
             alloc,
             digits,
-            full: List::new(alloc),
+            parts: List::new(alloc),
             last: Bytes::new(alloc),
+            room: 0,
         })
     }
 
-    // Begins another block, with room for a line of this length.
+    // Begins another block, twice as long as the last one, with room for a line of this length.
     fn begin_block(&mut self, line: usize) -> Result<(), NoMemory>
         ensures { OnOk result (self.new ≡ self.old) }
     {
+        let twice = self.room.saturating_add(self.room);
+        self.room = twice.max(FIRST_BLOCK).min(BLOCK).max(line);
         let mut block = Bytes::new(self.alloc);
-        block.reserve(line.max(BLOCK))?;
+        block.reserve(self.room)?;
         let full = mem::replace(&mut self.last, block);
-        self.full.push(full)
+        end_block(&mut self.parts, full)
     }
 
-    /// Adds the line of a session's reply, whose frame this is. If memory runs out, it may only be dropped.
-    pub fn put(&mut self, session: u32, frame: &[u8]) -> Result<(), NoMemory>
-        ensures { OnOk result ((reply : Reply) → frame.now ≡ spelling reply → self.new ≡ self.old ++ reply_line session reply) }
+    // Adds the line of a frame.
+    fn put_short(&mut self, session: u32, frame: &[u8]) -> Result<(), NoMemory>
+        ensures { OnOk result (self.new ≡ self.old ++ frame_line session frame.now) }
     {
         let digits = frame.len().saturating_add(frame.len());
         let line = digits.saturating_add(BESIDE_DIGITS);
-        if self.last.len().saturating_add(line) > BLOCK {
+        if self.last.len().saturating_add(line) > self.room {
             self.begin_block(line)?;
         }
         self.digits.put_reply_line(&mut self.last, session, frame)
     }
 
+    // Keeps a frame as it is.
+    fn put_long(&mut self, session: u32, frame: Bytes) -> Result<(), NoMemory>
+        ensures { OnOk result (self.new ≡ self.old ++ frame_line session frame) }
+    {
+        let full = mem::replace(&mut self.last, Bytes::new(self.alloc));
+        end_block(&mut self.parts, full)?;
+        self.room = 0;
+        self.parts.push(PrintPart::Reply { session, frame })
+    }
+
+    /// Adds the line of a session's reply, whose frame this is. If memory runs out, it may only be dropped.
+    #[inline(never)]
+    pub fn put(&mut self, session: u32, frame: Bytes) -> Result<(), NoMemory>
+        ensures { OnOk result (self.new ≡ self.old ++ frame_line session frame) }
+    {
+        if frame.len() > LONG_FRAME {
+            self.put_long(session, frame)
+        } else {
+            self.put_short(session, frame.as_slice())
+        }
+    }
+
     /// The lines, in parts.
-    pub fn into_parts(self) -> Result<List<Bytes>, NoMemory>
+    pub fn into_parts(self) -> Result<List<PrintPart>, NoMemory>
         ensures { IfOk result (λ parts. joined parts ≡ self) }
     {
-        let ReplyLines { mut full, last, .. } = self;
-        full.push(last)?;
-        Ok(full)
+        let ReplyLines { mut parts, last, .. } = self;
+        parts.push(PrintPart::Text(last))?;
+        Ok(parts)
     }
 }
 
@@ -93,8 +135,8 @@ pub fn lines_if(alloc: Global, keeps_lines: bool) -> Result<Option<ReplyLines>, 
 }
 
 /// Adds the line of a reply, if lines are kept.
-pub fn put_line(kept: &mut Option<ReplyLines>, session: u32, frame: &[u8]) -> Result<(), NoMemory>
-    ensures line { OnOk result (HasPut session frame.now kept.old kept.new) }
+pub fn put_line(kept: &mut Option<ReplyLines>, session: u32, frame: Bytes) -> Result<(), NoMemory>
+    ensures line { OnOk result (HasPut session frame kept.old kept.new) }
     ensures still { is_some kept.new ≡ is_some kept.old }
 {
     match kept {

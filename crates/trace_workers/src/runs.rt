@@ -12,9 +12,9 @@ ghost use Rattle.trace_workers.specs.WorkerRun.{IsWorkerRun};
 
 use crate::dealing::{deal, gather};
 use crate::played::{Played, print_parts};
-use crate::{Gate, NoGate, Worker};
+use crate::{Gate, NoGate, PrintPart, Worker};
 use audit::Account;
-use kbytes::{Bytes, List, NoMemory};
+use kbytes::{List, NoMemory};
 use shared_broker::Broker;
 use std::alloc::Global;
 use std::sync::Wait;
@@ -139,7 +139,7 @@ pub fn print_lines<R: Threads + Wait + Sync>(
     lines: &[Line],
     port: u16,
     worker_count: u32,
-) -> Result<(Account, List<Bytes>), NoMemory>
+) -> Result<(Account, List<PrintPart>), NoMemory>
     requires traced { AreTraced lines.now }
     requires worker_count { (1 ≤ worker_count) × (worker_count ≤ 16) }
     ensures run { IfOk result (λ printed. IsWorkerRun lines.now port false printed.0) }

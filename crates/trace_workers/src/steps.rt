@@ -150,7 +150,7 @@ impl TraceSession {
     {
         match ask_again(rt, broker, &mut self.pass, self.kept.is_some()) {
             Collected::Reply(frame) => {
-                put_line(&mut self.kept, self.number, frame.as_slice())?;
+                put_line(&mut self.kept, self.number, frame)?;
                 Ok(true)
             }
             Collected::NotYet => Ok(false),
@@ -175,7 +175,7 @@ impl TraceSession {
         let body = front_body(self.inbox.bytes(), end);
         match ask(rt, broker, &mut self.pass, body, self.kept.is_some()) {
             Handled::Reply(frame) => {
-                put_line(&mut self.kept, self.number, frame.as_slice())?;
+                put_line(&mut self.kept, self.number, frame)?;
                 self.inbox.drop_front(end);
                 Ok(true)
             }
