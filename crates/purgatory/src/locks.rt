@@ -194,6 +194,7 @@ fn scan_shard(
 }
 
 // A turn of the clock's lock, in which the clock is scanned.
+#[inline(never)]
 fn scan_clock(
     rt: &impl Wait,
     lock: &TurnLock<ClockDesk>,
@@ -298,6 +299,7 @@ impl Locks {
 
     /// Lists an operation under a need's gauge, in a turn of that gauge's lock, and in the same turn under those of its later needs that
     /// are behind this lock too.
+    #[inline(always)]
     pub(crate) fn list_needs(
         &self,
         rt: &impl Wait,

@@ -183,6 +183,7 @@ impl Room {
     }
 
     // Takes the end of the operation, which was won.
+    #[inline(never)]
     fn take_end(&self, rt: &impl Wait, owner: &mut Owner) -> Done
         requires table { owner.old.table ≡ self.now.table }
         requires busy { (caller_now owner.old).stage ≢ Idle }

@@ -11,16 +11,20 @@ use Rattle.audit.specs.Printed.{end_line, session_text}
 use Rattle.audit.specs.retelling.Shares.{IsTextOf, sessions_in}
 use Rattle.audit.proofs.retelling.Laws.{told_on}
 use Rattle.trace_workers.specs.Sessions.{DeskView}
-use Rattle.trace_workers.specs.Telling.{HasKept, HasPutPass, HaveDesks, IsToldBy, IsToldIn, joined, lines_of}
+use Rattle.trace_workers.specs.declared.print_part.PrintPart.{PrintPart}
+use Rattle.trace_workers.specs.Telling.{HasKept, HasPutPass, HaveDesks, IsToldBy, IsToldIn, joined, lines_of, part_text}
 use Rattle.trace_workers.proofs.Places.{any_with}
 
 -- ---- parts, one after the other
 
-pub joined_more : (parts more : List (List ℕ)) (last : List ℕ) → joined ((parts ++ more) ++ last ∷ []) ≡ joined parts ++ (joined more ++ last)
+pub joined_more : (parts more : List PrintPart) (last : List ℕ) → joined ((parts ++ more) ++ PrintPart.Text last ∷ []) ≡ joined parts ++ (joined more ++ last)
 joined_more parts more last =
-    let each : List ℕ → List ℕ = λ part. part in
-    flat_map-append each (parts ++ more) (last ∷ []) ∙ ap (λ (t : List ℕ). joined (parts ++ more) ++ t) (append-nil last) ∙ ap (λ (t : List ℕ). t ++ last) (flat_map-append each parts more)
-    ∙ append_assoc (joined parts) (joined more) last
+    flat_map-append part_text (parts ++ more) (PrintPart.Text last ∷ []) ∙ ap (λ (t : List ℕ). joined (parts ++ more) ++ t) (append-nil last)
+    ∙ ap (λ (t : List ℕ). t ++ last) (flat_map-append part_text parts more) ∙ append_assoc (joined parts) (joined more) last
+
+-- one part more
+pub joined_one : (parts : List PrintPart) (part : PrintPart) → joined (parts ++ part ∷ []) ≡ joined parts ++ part_text part
+joined_one parts part = flat_map-append part_text parts (part ∷ []) ∙ ap (λ (t : List ℕ). joined parts ++ t) (append-nil (part_text part))
 
 -- ---- one pass
 

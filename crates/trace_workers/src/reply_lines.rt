@@ -101,7 +101,8 @@ impl ReplyLines {
         self.parts.push(PrintPart::Reply { session, frame })
     }
 
-    /// Adds the line of a session's reply, whose frame this is. If memory runs out, it may only be dropped.
+    /// Adds the line of a session's reply, whose frame this is. If memory runs out, it may only be dropped. Apart from the session's step, which
+    /// most sessions leave at once.
     #[inline(never)]
     pub fn put(&mut self, session: u32, frame: Bytes) -> Result<(), NoMemory>
         ensures { OnOk result (self.new ≡ self.old ++ frame_line session frame) }

@@ -61,6 +61,7 @@ fn ask_again(rt: &impl Wait, broker: &Broker, pass: &mut Pass, keeps_lines: bool
 impl TraceSession {
     /// Does one thing more, if it can: takes the reply to a request that was won, handles the first whole frame, or ends. Answers whether it did. If not,
     /// the session rests, and if its request still waits, this call found that. If memory runs out, the session may only be dropped.
+    #[inline(always)]
     pub fn step(&mut self, rt: &impl Wait, broker: &Broker) -> Result<bool, NoMemory>
         requires made { made_with self.old.pass ≡ broker.now }
         requires received { (input : Items ℕ) × HasReceived input self.old }
@@ -108,7 +109,8 @@ impl TraceSession {
         self.pass.is_begun() && (self.is_shut || !self.inbox.bytes().is_empty())
     }
 
-    // Handles the first whole frame, or ends, if it can.
+    // Handles the first whole frame, or ends, if it can. Apart from `step`, which most sessions leave at once.
+    #[inline(never)]
     fn take_next(&mut self, rt: &impl Wait, broker: &Broker) -> Result<bool, NoMemory>
         requires made { made_with self.old.pass ≡ broker.now }
         requires received { (input : Items ℕ) × HasReceived input self.old }

@@ -96,6 +96,7 @@ impl<T: Kept> TurnLock<T> {
     }
 
     // Waits a little for the turn of the ticket, while this one is served.
+    #[inline(never)]
     fn pause<R: Wait>(&self, rt: &R, patience: &mut Patience, ticket: u64, serving: u64) {
         if patience.rest(ticket.saturating_sub(serving)) {
             return;
@@ -131,6 +132,7 @@ impl<T: Kept> TurnLock<T> {
 
     /// Waits for the pass's turn. The history found begins with all that the pass had seen, and has of the pass
     /// just those entries that it added.
+    #[inline(always)]
     pub fn turn(&self, rt: &impl Wait, pass: &mut TurnPass<T>) -> Turn<T>
         requires pass { IsPassOf T.name self.now pass.old × IsReady pass.old }
         ensures name { (T.name result.value ≡ lock_name T.name self.now) }

@@ -213,6 +213,7 @@ impl Benches {
     }
 
     /// Sleeps so long, where the ticket isn't served yet. Whether somebody woke its bench meanwhile.
+    #[inline(never)]
     pub(crate) fn sleep<T: Kept>(
         &self,
         rt: &impl Wait,
@@ -238,6 +239,16 @@ impl Benches {
     pub(crate) fn come<T: Kept>(&self, rt: &impl Wait, top: &Top<T>)
         requires { 1 < top.now.table_id.words }
     {
+        if !Awaited::FreeLock.has_come::<T>(top) {
+            self.come_late::<T>(rt, top);
+        }
+    }
+
+    // The same, where somebody has a ticket. Apart from `come`, which is over at once where the lock is free.
+    #[inline(never)]
+    fn come_late<T: Kept>(&self, rt: &impl Wait, top: &Top<T>)
+        requires { 1 < top.now.table_id.words }
+    {
         for _ in 0..CALLS {
             if self.stay::<T>(rt, top) {
                 return;
@@ -258,6 +269,7 @@ impl Benches {
 }
 
 /// Waits a while, where the ticket is never served.
+#[inline(never)]
 pub(crate) fn sleep_on<T: Kept>(rt: &impl Wait, top: &Top<T>)
     requires { 1 < top.now.table_id.words }
 {

@@ -57,6 +57,7 @@ fn is_stale(entry: Option<Entry>, generation: u32) -> bool
 // Gives a pass a timer for its deadline, if that is past the present moment. A timer that the pass has from its last operation stays if
 // it comes no later: when it comes out, the pass gets another. So the wheels needn't be touched for each operation of a pass whose
 // deadlines rise. A deadline farther ahead than the wheels reach gets a timer as far ahead as they do.
+#[inline(always)]
 fn put_timer(wheels: &mut Wheels, pass: u32, deadline: u64)
     requires { pass < ids_of wheels.old }
     ensures moment { wheels.new.moment ≡ wheels.old.moment }
@@ -158,6 +159,7 @@ impl ClockListing {
     }
 
     // Checks an operation whose deadline has come, until it is no duty any more.
+    #[inline(never)]
     fn check_duty(&mut self, rt: &impl Wait, table: &RoomTable, pass: u32, entry: Entry)
         requires table { self.old.seat.table ≡ table.now }
         requires pass { IsPass table.now.shape pass }

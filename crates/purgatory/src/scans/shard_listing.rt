@@ -156,6 +156,7 @@ impl ShardListing {
     }
 
     // Meets a pass. If that isn't open at the generation of its watchers, they go.
+    #[inline(always)]
     fn meet(&mut self, table: &RoomTable, pass: u32) -> Session
         requires table { self.old.seat.table ≡ table.now }
         requires pass { IsPass table.now.shape pass }
@@ -223,6 +224,7 @@ impl ShardListing {
     }
 
     // Meets every pass, and takes out all watchers whose operation isn't open any more.
+    #[inline(never)]
     fn purge(&mut self, table: &RoomTable)
         requires table { self.old.seat.table ≡ table.now }
         ensures went { GoesOn self.old.seat self.new.seat }

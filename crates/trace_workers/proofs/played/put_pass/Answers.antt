@@ -1,6 +1,7 @@
 use Rattle.std.proofs.Common.{◌≡◌, ◌∙◌, ℕ, List, ◌∷◌, ◌++◌, [], sym, ap, subst}
 use Rattle.std.proofs.lemmas.Result.{on_ok_weaker}
 use Rattle.audit.specs.Printed.{end_line}
+use Rattle.trace_workers.specs.declared.print_part.PrintPart.{PrintPart}
 use Rattle.trace_workers.specs.Sessions.{DeskView}
 use Rattle.trace_workers.specs.Telling.{HasKept, joined}
 use Rattle.trace_workers.proofs.Parts.{desks_with, first_none, joined_more, nothing_put, pass_at, session_put}
@@ -39,10 +40,10 @@ returns-clause-put c =
     let lines = c.in-Some-take_lines.lines in
     let new = c.push.new.self in
     let end_is : end ≡ end_line desk.number t.end = c.in_ok-end_text.ensures ∙ ap (λ (n : ℕ). end_line n t.end) (c.number-session.ensures ∙ same) in
-    let put : c.put_all.new.parts ++ end ∷ [] ≡ (old ++ more) ++ end ∷ [] = ap (λ (ps : List (List ℕ)). ps ++ end ∷ []) c.in_ok-put_all.ensures in
+    let put : c.put_all.new.parts ++ PrintPart.Text end ∷ [] ≡ (old ++ more) ++ PrintPart.Text end ∷ [] = ap (λ (ps : List PrintPart). ps ++ PrintPart.Text end ∷ []) c.in_ok-put_all.ensures in
     let text = joined_more old more end ∙ ap (λ (x : List ℕ). joined old ++ (x ++ end)) c.in_ok-into_parts.ensures ∙ ap (λ (x : List ℕ). joined old ++ (lines ++ x)) end_is in
     on_ok_weaker c.push.result
-    (λ (pushed : new ≡ c.put_all.new.parts ++ end ∷ []).
+    (λ (pushed : new ≡ c.put_all.new.parts ++ PrintPart.Text end ∷ []).
     session_put account number ts t desk lines (joined old) (joined new) there (sym c.in-Some.ensures.value) (ap (λ (d : DeskView). d.number) c.index-desks-at-2.is ∙ found.ensures.number desk) kept
     (ap (λ (d : DeskView). d.kept) c.index-desks-at-2.is ∙ sym c.in-Some-take_lines.ensures.lines) (ap joined (pushed ∙ put) ∙ text))
     c.push.ensures.ok

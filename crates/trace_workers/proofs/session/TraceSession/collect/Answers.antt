@@ -1,10 +1,9 @@
-use Rattle.std.proofs.Common.{Bool, List, ℕ, sym, subst, ap, ◌∙◌}
+use Rattle.std.proofs.Common.{Bool, sym, subst, ap, ◌∙◌}
 use Rattle.audit.specs.declared.account.Call.{Call}
 use Rattle.shared_broker.specs.Calling.{IsMadeOfReply}
 use Rattle.shared_broker.specs.Passes.{PassView}
 use Rattle.trace_workers.specs.Received.{HasReceived}
 use Rattle.trace_workers.specs.Sessions.{SessionView}
-use Rattle.trace_workers.specs.Telling.{HasPut}
 use Rattle.trace_workers.proofs.Frames.{collected, completed_moves}
 use Rattle.trace_workers.proofs.Going.{seen}
 use Rattle.trace_workers.proofs.Telling.{kept_still}
@@ -17,7 +16,7 @@ returns-in_ok-put_line-in-Reply-clause-received g c input h =
     let e = c.in-Reply.ensures in
     let new = c.ask_again.new.pass in
     let call : Call = record e.0.call { finish = e.0.finish; how = e.0.how } in
-    let put = subst (λ (bytes : List ℕ). HasPut s.number bytes s.kept c.put_line.new.kept) c.as_slice.ensures c.in_ok-put_line-in-Reply.ensures.line in
+    let put = c.in_ok-put_line-in-Reply.ensures.line in
     let made = subst (λ (b : Bool). IsMadeOfReply b new call c.in-Reply.frame) c.is_some.ensures e.2 in
     collected input s new c.put_line.new.kept c.in-Reply.frame e.0 e.1 made put (subst (HasReceived input) (sym c.self.view_is) h)
 

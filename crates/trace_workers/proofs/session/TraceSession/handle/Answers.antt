@@ -10,7 +10,6 @@ use Rattle.shared_broker.specs.Sessions.{is_cut_off}
 use Rattle.trace_workers.specs.Ending.{EndsSo}
 use Rattle.trace_workers.specs.Received.{HasReceived}
 use Rattle.trace_workers.specs.Sessions.{SessionView}
-use Rattle.trace_workers.specs.Telling.{HasPut}
 use Rattle.trace_workers.proofs.Frames.{ends_so, handled, replied, unreplied}
 use Rattle.trace_workers.proofs.Going.{uncut}
 use Rattle.trace_workers.proofs.session.TraceSession.handle.Goals as goal
@@ -42,7 +41,7 @@ returns-in_ok-put_line-in-Reply-clause-received g c input h =
     let new = c.ask.new.pass in
     let kept = c.put_line.new.kept in
     let parts : s.inbox ≡ framed body ++ drop c.args.end s.inbox = subst (λ (x : List ℕ). x ≡ framed body ++ drop c.args.end x) c.bytes.ensures c.front_body-body.ensures.parts in
-    let put = subst (λ (bytes : List ℕ). HasPut s.number bytes s.kept kept) c.as_slice.ensures c.in_ok-put_line-in-Reply.ensures.line in
+    let put = c.in_ok-put_line-in-Reply.ensures.line in
     let call = replied s.number s.kept kept body c.in-Reply.frame s.pass new (subst (λ (b : Bool). HasHandledAs b body (Handled.Reply c.in-Reply.frame) s.pass new) c.is_some.ensures c.in-Reply.ensures) put in
     subst (λ (inbox : List ℕ). HasReceived input (record s { pass = new; inbox = inbox; kept = kept })) (sym c.drop_front.ensures)
     (handled input s body c.args.end new kept c.front_body-body.ensures.small parts call (subst (HasReceived input) (sym c.self.view_is) h))
