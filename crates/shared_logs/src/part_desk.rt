@@ -34,9 +34,10 @@ use std::sync::Wait;
 /// call leaves the desk's name as it was.
 #[derive(Drop)]
 pub struct PartDesk {
-    log: PartLog,
+    // in boxes, since a turn moves the desk out of its lock and back
+    log: Box<PartLog>,
     part: u32,
-    sources: PartSources,
+    sources: Box<PartSources>,
 }
 
 impl Model for PartDesk {
@@ -46,9 +47,9 @@ impl Model for PartDesk {
 
     ghost use Rattle.shared_logs.specs.Keeps.{PartKeeps};
 
-    ghost view = { λ d. record { history = d.log; part = d.part; sources = d.sources } };
+    ghost view = { λ d. record { history = d.log.value; part = d.part; sources = d.sources.value } };
 
-    ghost invariant = { λ d. PartKeeps (record { history = d.log; part = d.part; sources = d.sources }) };
+    ghost invariant = { λ d. PartKeeps (record { history = d.log.value; part = d.part; sources = d.sources.value }) };
 }
 
 impl PartDesk {
@@ -72,7 +73,11 @@ impl PartDesk {
         sources.visible.stays_quiet();
         sources.end.stays_quiet();
         let log = PartLog::new(alloc, followers)?;
-        Ok(PartDesk { log, part, sources })
+        Ok(PartDesk {
+            log: Box::new(alloc, log)?,
+            part,
+            sources: Box::new(alloc, sources)?,
+        })
     }
 
     /// Puts a batch at the end of the log for the call that visits, where enough replicas are in sync and there is room, and raises the
@@ -211,6 +216,6 @@ impl PartDesk {
         ensures late { LeftLate self.history.followers self.history.events }
     {
         self.log.numbers();
-        (self.log, self.sources)
+        (Box::into_inner(self.log), Box::into_inner(self.sources))
     }
 }

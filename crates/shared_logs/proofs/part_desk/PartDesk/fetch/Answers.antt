@@ -1,7 +1,9 @@
-use Rattle.std.proofs.Common.{sym, subst}
+use Rattle.std.proofs.Common.{sym, ap, subst, ◌∙◌}
 use Rattle.partlog.specs.declared.numbers.Numbers.{Numbers}
 use Rattle.partlog.specs.Fallen.{NoneFell}
 use Rattle.partlog.specs.Gauges.{numbers_of}
+use Rattle.partlog.specs.History.{History}
+use Rattle.partlog.specs.Kept.{IsKept}
 use Rattle.partlog.specs.State.{state_of}
 use Rattle.turn_lock.specs.AddedBy.{AddedBy}
 use Rattle.shared_logs.specs.Desks.{PartView}
@@ -11,12 +13,21 @@ use Rattle.shared_logs.proofs.part_desk.PartDesk.fetch.Goals as goal
 
 pub tell-requires-clause-rises : goal.tell-requires-clause-rises
 tell-requires-clause-rises g c =
-    let log = c.self.inside.log in
-    let numbers = numbers_of (state_of log) in
-    let rises = entered_rises c.numbers_never_fall.ensures.grown c.args.visit.now.visitor.who.by c.args.visit.now.visitor.who.seq c.args.visit.now.visitor.moment _ log c.enter_fetch.new.log c.in_ok-entered.entered c.numbers-before.ensures.kept c.in_ok-entered.ensures.entered in
-    subst (λ (n : Numbers). NoneFell n c.numbers-after.result) (sym c.numbers-before.ensures.numbers) (subst (NoneFell numbers) (sym c.numbers-after.ensures.numbers) rises)
+    let log = c.deref_mut.result.now in
+    let new = c.enter_fetch.new.log in
+    let who = c.args.visit.now.visitor.who in
+    let same = c.deref.ensures ∙ sym c.deref_mut.ensures.value in
+    let kept = subst (λ (h : History). IsKept h.log h.events) same c.numbers-before.ensures.kept in
+    let rises = entered_rises c.numbers_never_fall.ensures.grown who.by who.seq c.args.visit.now.visitor.moment _ log new c.in_ok-entered.entered kept c.in_ok-entered.ensures.entered in
+    let before = c.numbers-before.ensures.numbers ∙ ap (λ (h : History). numbers_of (state_of h)) same in
+    let after = c.numbers-after.ensures.numbers ∙ ap (λ (h : History). numbers_of (state_of h)) c.deref-2.ensures in
+    subst (λ (n : Numbers). NoneFell n c.numbers-after.result) (sym before) (subst (NoneFell (numbers_of (state_of log))) (sym after) rises)
 
 pub returns-clause-added : goal.returns-clause-added
 returns-clause-added g c =
-    subst (λ (d : PartView). AddedBy entry_by c.args.visit.now.visitor.who.by (log_entries d.history) (log_entries c.enter_fetch.new.log)) c.self.view_is
-    (had_added c.args.visit.now.visitor.who.by c.args.visit.now.visitor.who.seq c.args.visit.now.visitor.moment _ c.self.inside.log c.enter_fetch.new.log c.in_ok-entered.entered c.numbers-before.ensures.kept.whole c.in_ok-entered.ensures.entered)
+    let log = c.deref_mut.result.now in
+    let new = c.enter_fetch.new.log in
+    let who = c.args.visit.now.visitor.who in
+    let kept = subst (λ (h : History). IsKept h.log h.events) (c.deref.ensures ∙ sym c.deref_mut.ensures.value) c.numbers-before.ensures.kept in
+    subst (λ (h : History). AddedBy entry_by who.by (log_entries h) (log_entries new)) (c.deref_mut.ensures.value ∙ ap (λ (d : PartView). d.history) c.self.view_is)
+    (had_added who.by who.seq c.args.visit.now.visitor.moment _ log new c.in_ok-entered.entered kept.whole c.in_ok-entered.ensures.entered)
