@@ -16,7 +16,7 @@ pub mod Served
 
 -- what is written of lines that weren't played to the last
 pub mod LinesFront
--- what was read of a source
+-- what was read of a source, and what was written to a sink
 pub mod Streams
 -- how a run ends whose lanes are done
 pub mod Finish

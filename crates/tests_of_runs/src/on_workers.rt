@@ -12,6 +12,7 @@ fn on_one_worker_the_summary_is_a_write_of_its_own_and_the_account_stays_where_o
     rt: HostRuntime,
 ) {
     let printed = printed_before(rt.alloc(), 4).expect(&rt, "memory");
+    let block = printed_before(rt.alloc(), 2).expect(&rt, "memory");
     let replies = printed_before(rt.alloc(), 3).expect(&rt, "memory");
     for (writes, room, code, count) in [
         ([].as_slice(), 0, 4, 0),
@@ -19,8 +20,9 @@ fn on_one_worker_the_summary_is_a_write_of_its_own_and_the_account_stays_where_o
         (&[], 60, 4, 60),
         (&[], 600, 4, 600),
         (&[0], 4096, 4, 0),
-        (&[1], 4096, 4, replies.len()),
-        (&[2], 4096, 0, 4096),
+        (&[1], 4096, 4, block.len()),
+        (&[2], 4096, 4, replies.len()),
+        (&[3], 4096, 0, 4096),
     ] {
         let faults = Faults {
             reads: &[],

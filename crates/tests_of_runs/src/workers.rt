@@ -4,6 +4,7 @@ ghost use Rattle.std.specs.Prelude.{◌≤◌};
 use crate::pieces::{A, PRODUCE, PRODUCE_TO_1, PRODUCED, WAIT_FOR_0, WAIT_FOR_1};
 use crate::runs::joined;
 use audit::{Account, Call, CallHow};
+use kbytes::{Bytes, NoMemory};
 use std::alloc::Global;
 use std::sync::Wait;
 use std::sync::atomic::{AtomicBool, AtomicU64, Ordering};
@@ -11,8 +12,8 @@ use std::test::*;
 use std::thread;
 use std::thread::Threads;
 use std::time::{Clock, Duration};
-use trace_file::read_trace;
-use trace_workers::{Gate, NoGate, print_lines, run_lines};
+use trace_file::{put_reply_line, read_trace};
+use trace_workers::{Gate, NoGate, PrintPart, print_lines, run_lines};
 
 // Fetches from t/1: from offset 0 without a wait, and of at least 1 byte from offset 1, which waits at most 100 ms.
 const AT_ONCE: &str =
@@ -148,5 +149,63 @@ fn a_run_is_printed_in_parts(rt: HostRuntime) {
     assert!(rt; account.passes.len() == 2);
     let line = joined(alloc, &["reply 0 ", PRODUCED, "\n"]).expect(&rt, "memory");
     let first = parts.as_slice().first().expect(&rt, "the session's lines");
-    assert!(rt; first.as_slice() == line.as_slice());
+    assert!(rt; matches!(first, PrintPart::Text(text) if text.as_slice() == line.as_slice()));
+}
+
+// The lines of the frames that are parts of their own.
+fn lines_of_frames(alloc: Global, parts: &[PrintPart]) -> Result<Bytes, NoMemory> {
+    let mut lines = Bytes::new(alloc);
+    for part in parts {
+        if let PrintPart::Reply { session, frame } = part {
+            put_reply_line(&mut lines, *session, frame.as_slice())?;
+        }
+    }
+    Ok(lines)
+}
+
+// A session produces the batch eight times, and then another one fetches all that is stored.
+fn long_fetch(alloc: Global) -> Result<Bytes, NoMemory> {
+    let mut text = joined(alloc, &[TOPIC, "bytes 0 "])?;
+    for _ in 0..8 {
+        text.extend(PRODUCE.as_bytes())?;
+        text.extend(A.as_bytes())?;
+    }
+    text.extend(b"\nbytes 1 ")?;
+    text.extend(WAIT_FOR_0.as_bytes())?;
+    text.extend(b"\nend\n")?;
+    Ok(text)
+}
+
+// The reply to that fetch, as far as the batches: they have 552 bytes, and the high watermark is 8.
+const FETCHED_552: &str = "\
+000002590000000100000000000000010001740000000100000000000000000000000000080000000000000008ff\
+ffffff00000228";
+
+// The batch behind its base offset.
+const BEHIND_OFFSET: &str = "\
+000000390000000002dbe9c87600000000000000000000000000000000000000000000ffffffffffffffffffffff\
+ffffff000000010e00000001026100";
+
+// The line of the reply to that fetch.
+fn long_line(alloc: Global) -> Result<Bytes, NoMemory> {
+    let mut line = joined(alloc, &["reply 1 ", FETCHED_552])?;
+    for offset in b"01234567" {
+        line.extend(b"000000000000000")?;
+        line.push(*offset)?;
+        line.extend(BEHIND_OFFSET.as_bytes())?;
+    }
+    line.push(b'\n')?;
+    Ok(line)
+}
+
+#[test]
+fn a_long_frame_is_a_part_of_its_own(rt: HostRuntime) {
+    let alloc = rt.alloc();
+    let text = long_fetch(alloc).expect(&rt, "memory");
+    let lines = read_trace(alloc, text.as_slice(), false).expect(&rt, "a trace");
+    let printed = print_lines(&rt, alloc, lines.as_slice(), 9092, 1);
+    let (_account, parts) = printed.expect(&rt, "memory");
+    let told = lines_of_frames(alloc, parts.as_slice()).expect(&rt, "memory");
+    let line = long_line(alloc).expect(&rt, "memory");
+    assert!(rt; told.as_slice() == line.as_slice());
 }

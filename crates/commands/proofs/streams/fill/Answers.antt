@@ -1,4 +1,4 @@
-use Rattle.std.proofs.Common.{◌≡◌, ◌+◌, ◌-◌, length, arith, rules}
+use Rattle.std.proofs.Common.{arith, rules}
 use Rattle.commands.proofs.Writes.{filled}
 use Rattle.commands.proofs.streams.fill.Goals as goal
 
