@@ -31,7 +31,7 @@ use Rattle.shared_broker.specs.declared.collecting.Collected.{Collected}
 use Rattle.shared_broker.specs.declared.parked.Parked.{Parked}
 use Rattle.shared_broker.specs.Collecting.{HasCollectedAs, HasCompleted}
 use Rattle.shared_broker.specs.Passes.{BrokerView, PassView, book_of, calls_made}
-use Rattle.shared_broker.specs.Serving.{HasEndedCall, HasFinished, IsLastKept, with_last}
+use Rattle.shared_broker.specs.Serving.{HasEndedCall, HasFinished, IsLastKept, WasFoundWon, completed_as, with_last}
 use Rattle.shared_broker.specs.Standing.{HoldsBook, IsGoing, IsKeptOf, IsOfGoing, Sits, Stands}
 use Rattle.shared_logs.specs.Coming.{HasStepped}
 use Rattle.shared_logs.specs.Seen.{HasSeen}
@@ -42,7 +42,7 @@ use Rattle.shared_broker.proofs.LastCalls.{calls_are, lent_last, set_back, set_l
 -- ---- a call that waits
 
 -- it is the last call of the open transcript, after that many calls of the transcripts before
-pub record WaitsAsLast (config : Configuration) (first : ℕ) (parked : Parked) (pass : LogPassView) (going : Option Transcript)
+record WaitsAsLast (config : Configuration) (first : ℕ) (parked : Parked) (pass : LogPassView) (going : Option Transcript)
     (front : List Transcript) (transcript : Transcript) (call : Call) : Type 0 where
   pub last : going ≡ Some (with_last transcript call)
   pub first_is : first ≡ length (calls_in front)
@@ -102,16 +102,16 @@ some_of (Some t) is = (t, refl)
 some_of None is = absurd cc
 
 module _ (pass : PassView) (stood : Stands pass) (parked : Parked) (waits : pass.waits ≡ Some parked) where
-  abbrev pub kept : IsKeptOf (book_of pass) parked
+  abbrev kept : IsKeptOf (book_of pass) parked
   kept = subst (HoldsBook (book_of pass)) waits stood.book
 
-  abbrev pub the_transcript : Transcript
+  abbrev the_transcript : Transcript
   the_transcript = kept.book_is.calls.transcript
 
-  abbrev pub the_call : Call
+  abbrev the_call : Call
   the_call = kept.book_is.calls.call
 
-  pub going_is : pass.going ≡ Some (with_last the_transcript the_call)
+  going_is : pass.going ≡ Some (with_last the_transcript the_call)
   going_is =
       let some = some_of pass.going (subst (λ (o : Option Parked). IsOfGoing o pass.going) waits stood.begun) in
       let all : pass.ended ++ some.0 ∷ [] ≡ kept.book_is.calls.front ++ with_last the_transcript the_call ∷ [] =
@@ -133,7 +133,7 @@ module _ (pass : PassView) (stood : Stands pass) (parked : Parked) (waits : pass
     kept_there =
         subst (λ (b : Book). IsKeptOf b parked) (book_stepped pass.logs polled step pass.config (pass.ended ++ option_to_list pass.going) (with_call pass.ended the_transcript the_call) transcripts_is) kept
 
-    pub waits_as_last : (config : Configuration) → pass.config ≡ config → (first : ℕ) → first ≡ length (calls_in pass.ended) → WaitsAsLast config first parked polled pass.going pass.ended the_transcript the_call
+    waits_as_last : (config : Configuration) → pass.config ≡ config → (first : ℕ) → first ≡ length (calls_in pass.ended) → WaitsAsLast config first parked polled pass.going pass.ended the_transcript the_call
     waits_as_last config same first first_is = record {
       last = going_is;
       first_is = first_is;
@@ -145,7 +145,7 @@ module _ (pass : PassView) (stood : Stands pass) (parked : Parked) (waits : pass
     module _ (done : Done) (t : HasTaken (caller_now pass.logs.seat).generation done (caller_now pass.logs.seat) (caller_now polled.seat)) (new : LogPassView) (after : Call)
         (e : HasEndedCall pass.config (IsLastKept pass.config (length (calls_in pass.ended ++ the_transcript.calls)) parked polled the_call) polled new the_call after)
         (names : (winner : ℕ) → is_won_as winner after.how ≡ eqb done.by winner) where
-      pub completed_stands : HasSeen new → Stands (record pass { logs = new; going = Some (with_last the_transcript after); waits = None })
+      completed_stands : HasSeen new → Stands (record pass { logs = new; going = Some (with_last the_transcript after); waits = None })
       completed_stands seen =
           let more : length (calls_in (with_call pass.ended the_transcript after)) ≡ length (calls_in pass.ended ++ the_transcript.calls) + 1 =
           ap (λ (cs : List Call). length cs) (calls_with pass.ended the_transcript after) ∙ length-append (calls_in pass.ended ++ the_transcript.calls) (after ∷ []) in
@@ -200,7 +200,7 @@ module _ (pass : PassView) (stood : Stands pass) (parked : Parked) (waits : pass
     module _ (is_sent : Bool) (config : Configuration) (same : pass.config ≡ config) (first : ℕ) (first_is : first ≡ length (calls_in pass.ended)) (done : Done)
         (t : HasTaken (caller_now pass.logs.seat).generation done (caller_now pass.logs.seat) (caller_now polled.seat)) (polls : HasPolled (Some done) pass.logs.seat polled.seat)
         (new : LogPassView) (going : Option Transcript) (now : Option Parked) (none : now ≡ None) where
-      abbrev pub IsEnded : Result (List ℕ) NoMemory → Type 0
+      abbrev IsEnded : Result (List ℕ) NoMemory → Type 0
       IsEnded r = (front : List Transcript) (transcript : Transcript) (call : Call) → WaitsAsLast config first parked polled pass.going front transcript call
           → (after : Call) × (going ≡ Some (with_last transcript after)) × HasFinished {E = NoMemory} is_sent config (first + length transcript.calls) done (IsLastKept config (first + length transcript.calls) parked polled call) r polled new call after
 
@@ -231,10 +231,10 @@ module _ (pass : PassView) (stood : Stands pass) (parked : Parked) (waits : pass
         names : (winner : ℕ) → is_won_as winner told.0.how ≡ eqb done.by winner
         names winner = ap (is_won_as winner) told.2.1 ∙ won_as done.how done.by winner
 
-        pub told_stands : HasSeen new → Stands (record pass { logs = new; going = going; waits = now })
+        told_stands : HasSeen new → Stands (record pass { logs = new; going = going; waits = now })
         told_stands seen = subst Stands (final_is told.0 told.1) (completed_stands done t new told.0 told.2.0 names seen)
 
-        pub told_collected : HasCollectedAs is_sent (Collected.Reply bytes) pass (record pass { logs = new; going = going; waits = now })
+        told_collected : HasCollectedAs is_sent (Collected.Reply bytes) pass (record pass { logs = new; going = going; waits = now })
         told_collected =
             let reply = told.2.3 pass.ended the_transcript (refl, kept_there) in
             let made : calls_made pass ≡ suc seq = omega (arith, made_is) in
@@ -251,15 +251,15 @@ module _ (pass : PassView) (stood : Stands pass) (parked : Parked) (waits : pass
             let s = ended pass.ended the_transcript the_call (waits_as_last config same first first_is) in
             (s.0, s.1, counted (Err e) s.0 s.2)
 
-        pub cut_stands : HasSeen new → Stands (record pass { logs = new; going = going; waits = now })
+        cut_stands : HasSeen new → Stands (record pass { logs = new; going = going; waits = now })
         cut_stands seen = subst Stands (final_is cut.0 cut.1) (completed_stands done t new cut.0 cut.2.0 (λ winner. ap (is_won_as winner) cut.2.1) seen)
 
-        pub cut_collected : HasCollectedAs is_sent Collected.NoMemory pass (record pass { logs = new; going = going; waits = now })
+        cut_collected : HasCollectedAs is_sent Collected.NoMemory pass (record pass { logs = new; going = going; waits = now })
         cut_collected =
             subst (HasCollectedAs is_sent Collected.NoMemory pass) (final_is cut.0 cut.1)
             (completed done t new cut.0 cut.2.0 (λ winner. ap (is_won_as winner) cut.2.1) polls, cut.2.1)
 
-      pub finished_stands : (r : Result (List ℕ) NoMemory) → IsEnded r → HasSeen new → Stands (record pass { logs = new; going = going; waits = now })
+      finished_stands : (r : Result (List ℕ) NoMemory) → IsEnded r → HasSeen new → Stands (record pass { logs = new; going = going; waits = now })
       finished_stands (Ok bytes) ended seen = told_stands bytes ended seen
       finished_stands (Err e) ended seen = cut_stands e ended seen
 
@@ -273,14 +273,14 @@ module _ (config : Configuration) (first : ℕ) (parked : Parked) (polled : LogP
       ap (λ (cs : List Call). length cs) (calls_are open_one going is transcript call w.last) ∙ length-append transcript.calls (call ∷ []) in
       omega (arith, size, n_is)
 
-  pub kept_last : (front : List Transcript) (transcript : Transcript) (call : Call) → WaitsAsLast config first parked polled open_one front transcript call
+  kept_last : (front : List Transcript) (transcript : Transcript) (call : Call) → WaitsAsLast config first parked polled open_one front transcript call
       → IsLastKept config (first + (n - 1)) parked polled one front transcript
   kept_last front transcript call w =
       let before : length (calls_in front ++ transcript.calls) ≡ first + (n - 1) =
       length-append (calls_in front) transcript.calls ∙ ap (λ (m : ℕ). m + length transcript.calls) (sym w.first_is) ∙ sym (seq_last front transcript call w) in
       subst (λ (k : Call). IsLastKept config (first + (n - 1)) parked polled k front transcript) (sym (lent_last open_one going is transcript call w.last lent lent_is one at)) (before, w.kept)
 
-  pub ended_last : (is_sent : Bool) (new : LogPassView) (done : Done) (r : Result (List ℕ) NoMemory) (after : Call)
+  ended_last : (is_sent : Bool) (new : LogPassView) (done : Done) (r : Result (List ℕ) NoMemory) (after : Call)
       → HasFinished {E = NoMemory} is_sent config (first + (n - 1)) done (IsLastKept config (first + (n - 1)) parked polled one) r polled new one after
       → (front : List Transcript) (transcript : Transcript) (call : Call) → WaitsAsLast config first parked polled open_one front transcript call
       → (last : Call) × ((let o : Option Transcript = Some (set_back going lent after) in o) ≡ Some (with_last transcript last))
@@ -291,3 +291,40 @@ module _ (config : Configuration) (first : ℕ) (parked : Parked) (polled : LogP
     subst (λ (k : Call). HasFinished {E = NoMemory} is_sent config (first + length transcript.calls) done (IsLastKept config (first + length transcript.calls) parked polled k) r polled new k after) (lent_last open_one going is transcript call w.last lent lent_is one at)
         (subst (λ (m : ℕ). HasFinished {E = NoMemory} is_sent config m done (IsLastKept config m parked polled one) r polled new one after) (seq_last front transcript call w) h),
   )
+
+-- ---- the pass whose word was found won
+
+module _ (config : Configuration) (first : ℕ) (parked : Parked) (done : Done) (before : PassView) (polled : LogPassView) (open_one : Option Transcript) (w : WasFoundWon config first parked done before polled open_one)
+    (going : Transcript) (is : open_one ≡ Some going) (lent : List Call) (lent_is : lent ≡ going.calls)
+    (n : ℕ) (n_is : n ≡ length going.calls) (one : Call) (at : one ≡ get_or lent (length lent - 1) one) where
+  is_there : before.going ≡ Some going
+  is_there = sym w.going_is ∙ is
+
+  pub won_last : (front : List Transcript) × (transcript : Transcript) × IsLastKept config (first + (n - 1)) parked polled one front transcript
+  won_last =
+      let transcript = the_transcript before w.stood parked w.waited in (
+        before.ended,
+        transcript,
+        kept_last config first parked polled before.going going is_there lent lent_is n n_is one at before.ended transcript (the_call before w.stood parked w.waited)
+            (waits_as_last before w.stood parked w.waited polled w.stepped config w.config_is first w.first_is),
+      )
+
+  module _ (is_sent : Bool) (new : LogPassView) (after : Call) where
+    abbrev HasFinishedSo : Result (List ℕ) NoMemory → Type 0
+    HasFinishedSo r = HasFinished {E = NoMemory} is_sent config (first + (n - 1)) done (IsLastKept config (first + (n - 1)) parked polled one) r polled new one after
+
+    ended : (r : Result (List ℕ) NoMemory) → HasFinishedSo r
+        → IsEnded before w.stood parked w.waited polled w.stepped is_sent config w.config_is first w.first_is done w.taken w.polled new (Some (set_back going lent after)) None refl r
+    ended r h = ended_last config first parked polled before.going going is_there lent lent_is n n_is one at is_sent new done r after h
+
+    pub won_told : (bytes : List ℕ) → HasFinishedSo (Ok bytes) → HasCollectedAs is_sent (Collected.Reply bytes) before (completed_as before new (Some (set_back going lent after)))
+    won_told bytes h =
+        told_collected before w.stood parked w.waited polled w.stepped is_sent config w.config_is first w.first_is done w.taken w.polled new (Some (set_back going lent after)) None refl bytes (ended (Ok bytes) h)
+
+    pub won_cut : (e : NoMemory) → HasFinishedSo (Err e) → HasCollectedAs is_sent Collected.NoMemory before (completed_as before new (Some (set_back going lent after)))
+    won_cut e h =
+        cut_collected before w.stood parked w.waited polled w.stepped is_sent config w.config_is first w.first_is done w.taken w.polled new (Some (set_back going lent after)) None refl e (ended (Err e) h)
+
+    pub won_stands : (r : Result (List ℕ) NoMemory) → HasFinishedSo r → HasSeen new → Stands (completed_as before new (Some (set_back going lent after)))
+    won_stands r h seen =
+        finished_stands before w.stood parked w.waited polled w.stepped is_sent config w.config_is first w.first_is done w.taken w.polled new (Some (set_back going lent after)) None refl r (ended r h) seen

@@ -7,6 +7,7 @@ use Rattle.audit.specs.declared.account.Point.{Point}
 use Rattle.audit.specs.declared.account.TheConstants.{MOST_CALLS}
 use Rattle.audit.specs.declared.account.Transcript.{Transcript}
 use Rattle.audit.specs.Fits.{IsReplyOf}
+use Rattle.audit.specs.Histories.{calls_in}
 use Rattle.audit.specs.IsLawful.{is_won_as}
 use Rattle.shared_logs.specs.Amid.{amid}
 use Rattle.shared_logs.specs.Left.{AreLeft}
@@ -28,6 +29,7 @@ use Rattle.audit.specs.broker.Entering.{Noted, shown_of}
 use Rattle.audit.specs.broker.GoesOn.{Carried, HaveGrown}
 use Rattle.purgatory.specs.declared.outcome.Done.{Done}
 use Rattle.purgatory.specs.Going.{GoesOn, OwesNothing}
+use Rattle.purgatory.specs.Polled.{HasPolled, HasTaken}
 use Rattle.room_core.specs.declared.parts.Stage.{Stage}
 use Rattle.room_table.specs.Seats.{CallerView, caller_now}
 use Rattle.shared_calls.specs.Came.{CameView}
@@ -38,7 +40,7 @@ use Rattle.shared_broker.specs.Passes.{PassView, calls_made}
 use Rattle.shared_broker.specs.Standing.{HoldsBook, IsKeptOf, Sits, Stands}
 use Rattle.shared_calls.specs.Finished.{WasDelayed}
 use Rattle.shared_logs.specs.Closing.{taken_from}
-use Rattle.shared_logs.specs.Coming.{IsSamePass}
+use Rattle.shared_logs.specs.Coming.{HasStepped, IsSamePass}
 use Rattle.shared_logs.specs.Shared.{LogPassView}
 
 -- ---- a call that is written down
@@ -156,6 +158,22 @@ module _ {E : Type 0} where
   HasServed is_sent config seq request Was (Err e) old new before after = HasCome config Was None old new before after × IsCutOff after.how
 
 -- ---- a call that was won
+
+-- The pass stood and waited with this, and then its word was found won so: its seat alone went on. Before its open transcript it has made so many
+-- calls.
+pub record WasFoundWon (config : Configuration) (first : ℕ) (parked : Parked) (done : Done) (before : PassView) (logs : LogPassView) (going : Option Transcript) : Type 0 where
+  pub config_is : before.config ≡ config
+  pub stood : Stands before
+  pub first_is : first ≡ length (calls_in before.ended)
+  pub waited : before.waits ≡ Some parked
+  pub going_is : going ≡ before.going
+  pub stepped : HasStepped before.logs logs
+  pub polled : HasPolled (Some done) before.logs.seat logs.seat
+  pub taken : HasTaken (caller_now before.logs.seat).generation done (caller_now before.logs.seat) (caller_now logs.seat)
+
+-- it waits no longer
+abbrev pub completed_as : PassView → LogPassView → Option Transcript → PassView
+completed_as before logs going = record before { logs = logs; going = going; waits = None }
 
 -- with these looks, and come to its end so
 abbrev pub finished_as : Call → List Point → CallHow → Call

@@ -5,14 +5,15 @@ ghost use Rattle.audit.specs.declared.account.Transcript.{Transcript as TheTrans
 ghost use Rattle.purgatory.specs.Going.{OwesNothing};
 ghost use Rattle.room_table.specs.Seats.{caller_now};
 ghost use Rattle.shared_broker.specs.Collecting.{HasCollected, HasCollectedAs};
-ghost use Rattle.shared_broker.specs.Passes.{made_with};
-ghost use Rattle.shared_broker.specs.Serving.{HasFinished, IsLastKept};
+ghost use Rattle.shared_broker.specs.Passes.{PassView, made_with};
+ghost use Rattle.shared_broker.specs.Serving.{HasFinished, IsLastKept, WasFoundWon, completed_as};
+ghost use Rattle.shared_broker.specs.Standing.{Stands};
 ghost use Rattle.shared_logs.specs.Seen.{HasSeen};
 
 use crate::broker::Broker;
 use crate::current::{CurrentCall, Won};
 use crate::pass::Pass;
-use audit::{Call, CallHow};
+use audit::{Call, CallHow, Transcript};
 use kbytes::{Bytes, NoMemory};
 use kwire::view_request;
 use shared_logs::LogPass;
@@ -58,19 +59,45 @@ impl Broker {
         let Some(done) = self.logs.poll(&mut pass.logs) else {
             return Collected::NotYet;
         };
-        let Some(parked) = pass.waits.take() else {
+        let Some(parked) = &pass.waits else {
             unreachable!()
         };
         let won = Won {
-            parked: &parked,
+            parked,
             done,
             is_sent,
         };
-        let completed = match &mut pass.going {
+        let collected = self.complete_won(rt, &mut pass.logs, &mut pass.going, pass.first, &won);
+        pass.waits = None;
+        collected
+    }
+
+    // Completes the last call of a pass whose request was found won; `first` is how many calls the ended transcripts have. Apart from `collect_as`,
+    // since most sessions that ask still wait, and this one's frame on the stack is large.
+    #[inline(never)]
+    fn complete_won(
+        &self,
+        rt: &impl Wait,
+        logs: &mut LogPass,
+        going: &mut Option<Transcript>,
+        first: u32,
+        won: &Won<'_>,
+    ) -> Collected
+        requires made { logs.old.made ≡ self.now.logs }
+        requires size { length logs.old.parts ≡ length self.now.logs.parts }
+        requires paid { OwesNothing (caller_now logs.old.seat) }
+        requires seen { HasSeen logs.old }
+        requires won { (before : PassView) × WasFoundWon self.now.config first won.now.parked.now won.now.done before logs.old going.old }
+        ensures collected { (before : PassView) → WasFoundWon self.now.config first won.now.parked.now won.now.done before logs.old going.old
+            → HasCollectedAs won.now.is_sent result before (completed_as before logs.new going.new) }
+        ensures stands { (before : PassView) → WasFoundWon self.now.config first won.now.parked.now won.now.done before logs.old going.old
+            → Stands (completed_as before logs.new going.new) }
+    {
+        let completed = match going {
             Some(going) => {
-                let seq = pass.first + (going.calls.len() as u32 - 1);
+                let seq = first + (going.calls.len() as u32 - 1);
                 match going.calls.as_mut_slice().last_mut() {
-                    Some(call) => self.complete_call(rt, &mut pass.logs, call, seq, &won),
+                    Some(call) => self.complete_call(rt, logs, call, seq, won),
                     None => unreachable!(),
                 }
             }
