@@ -118,7 +118,11 @@ impl ReplyLines {
     pub fn into_parts(self) -> Result<List<PrintPart>, NoMemory>
         ensures { IfOk result (λ parts. joined parts ≡ self) }
     {
-        let ReplyLines { mut parts, last, .. } = self;
+        let ReplyLines {
+            mut parts,
+            last,
+            ..
+        } = self;
         parts.push(PrintPart::Text(last))?;
         Ok(parts)
     }
