@@ -22,10 +22,6 @@ joined_more parts more last =
     flat_map-append part_text (parts ++ more) (PrintPart.Text last ∷ []) ∙ ap (λ (t : List ℕ). joined (parts ++ more) ++ t) (append-nil last)
     ∙ ap (λ (t : List ℕ). t ++ last) (flat_map-append part_text parts more) ∙ append_assoc (joined parts) (joined more) last
 
--- one part more
-pub joined_one : (parts : List PrintPart) (part : PrintPart) → joined (parts ++ part ∷ []) ≡ joined parts ++ part_text part
-joined_one parts part = flat_map-append part_text parts (part ∷ []) ∙ ap (λ (t : List ℕ). joined parts ++ t) (append-nil (part_text part))
-
 -- ---- one pass
 
 -- the transcripts of a pass, as they are read

@@ -36,10 +36,10 @@ returns-clause-put c =
     let kept = subst (HasKept account) (sym c.index-desks-at-2.is) (c.requires.kept found.at desk found.ensures.there) in
     let old = c.args.parts.now in
     let more = c.in_ok-into_parts.field-0 in
-    let end = c.in_ok-end_text.field-0 in
+    let end = c.in_ok-end.end in
     let lines = c.in-Some-take_lines.lines in
     let new = c.push.new.self in
-    let end_is : end ≡ end_line desk.number t.end = c.in_ok-end_text.ensures ∙ ap (λ (n : ℕ). end_line n t.end) (c.number-session.ensures ∙ same) in
+    let end_is : end ≡ end_line desk.number t.end = c.in_ok-end.ensures ∙ ap (λ (n : ℕ). end_line n t.end) (c.number-session.ensures ∙ same) in
     let put : c.put_all.new.parts ++ PrintPart.Text end ∷ [] ≡ (old ++ more) ++ PrintPart.Text end ∷ [] = ap (λ (ps : List PrintPart). ps ++ PrintPart.Text end ∷ []) c.in_ok-put_all.ensures in
     let text = joined_more old more end ∙ ap (λ (x : List ℕ). joined old ++ (x ++ end)) c.in_ok-into_parts.ensures ∙ ap (λ (x : List ℕ). joined old ++ (lines ++ x)) end_is in
     on_ok_weaker c.push.result
