@@ -108,6 +108,7 @@ impl<T: Kept> TurnLock<T> {
     }
 
     // Waits for the turn of the ticket.
+    #[inline(always)]
     fn wait<R: Wait>(&self, rt: &R, seat: &mut Place<T>, ticket: u64)
         requires { (seat.old.table_id ≡ lock_id self.now)
             × (seat.old.me ≡ (at_stage (stage_of ticket) (known_of seat.old.me.0) ∷ [], [])) }
