@@ -1,10 +1,10 @@
 -- Writing a part piece by piece.
-use Rattle.std.proofs.Common.{◌≡◌, ℕ, ◌+◌, ◌<◌, ◌≤◌, List, [], ◌∷◌, ◌++◌, length, get_or, take, drop, Option, Result, Ok, Err, refl, sym, ap, ◌∙◌, subst, append-nil, append_assoc, arith, length-append, length-drop}
+use Rattle.std.proofs.Common.{◌≡◌, ℕ, ◌+◌, ◌<◌, ◌≤◌, List, [], ◌∷◌, ◌++◌, length, get_or, take, drop, Option, Result, Ok, Err, refl, sym, ap, ◌∙◌, subst, append_assoc, arith, length-append, length-drop}
 use Rattle.std.specs.Prelude.{OnErr, codes}
 use Rattle.std.specs.Fmt.{decimal}
 use Rattle.std.specs.List.{flat_map}
 use Rattle.std.proofs.Math.Seq.{take-add}
-use Rattle.std.proofs.lemmas.List.{drop_at, drop_more, length-take-le, take-append-drop, take-append-le, take-take, take_at, take_more}
+use Rattle.std.proofs.lemmas.List.{drop_at, drop_more, length-take-le, take-append-drop, take-append-le, take-take, take_at}
 use Rattle.std.proofs.lemmas.List.Concat.{flat_map-append}
 use Rattle.std.proofs.KnownBytes.{Appends-trans, Consumes-trans}
 use Rattle.std.specs.Io.KnownBytes.{Appends, Consumes}
@@ -70,14 +70,6 @@ front_of_items f a b c items i item less at whole h =
     ap (λ x. take i items ++ x ∷ drop (i + 1) items) at ∙ ap (λ xs. take i items ++ xs) (sym (drop_more items i item less)) ∙ take-append-drop i items in
     let all : flat_map f items ≡ before ++ (f item ++ after) = ap (flat_map f) (sym split) ∙ flat_map-append f (take i items) (item ∷ drop (i + 1) items) in
     subst (HasWrittenFront a c) (sym all) (front_then a b c before (f item ++ after) whole (front_first b c (f item) after h))
-
--- what one item gives stands behind all that those before it give
-pub items_on : {X : Type 0} (f : X → List ℕ) (a b c : Option (List ℕ)) (items : List X) (i : ℕ) (item : X) → i < length items → item ≡ get_or items i item
-    → Appends a b (flat_map f (take i items)) → Appends b c (f item) → Appends a c (flat_map f (take (i + 1) items))
-items_on f a b c items i item less at whole more =
-    let each : flat_map f (take (i + 1) items) ≡ flat_map f (take i items) ++ f item =
-    ap (flat_map f) (take_more items i item less ∙ ap (λ x. take i items ++ x ∷ []) (sym at)) ∙ flat_map-append f (take i items) (item ∷ []) ∙ ap (λ (t : List ℕ). flat_map f (take i items) ++ t) (append-nil (f item)) in
-    subst (λ (bytes : List ℕ). Appends a c bytes) (sym each) (Appends-trans a b c (flat_map f (take i items)) (f item) whole more)
 
 -- what was put at the front of a room
 pub room_front : (room into : List ℕ) (n : ℕ) → length into ≡ length (take n room) → n ≤ length room → take n (into ++ drop n room) ≡ into

@@ -33,6 +33,7 @@ pub enum Collected {
 impl Broker {
     /// Asks whether the pass's request that waits was won, and if so completes it. The answer is `NotYet` exactly if the pass's session word, as
     /// this call loads it, is open.
+    #[inline(always)]
     pub fn collect(&self, rt: &impl Wait, pass: &mut Pass) -> Collected
         requires made { made_with pass.old ≡ self.now }
         requires waits { IsSome pass.old.waits }
@@ -50,7 +51,8 @@ impl Broker {
         self.collect_as(rt, pass, false)
     }
 
-    // Asks for a request that waits, whose reply's frame is made if it is to be sent.
+    // Asks for a request that waits, whose reply's frame is made if it is to be sent. Sessions that wait ask often, so this goes into what asks.
+    #[inline(always)]
     fn collect_as(&self, rt: &impl Wait, pass: &mut Pass, is_sent: bool) -> Collected
         requires made { made_with pass.old ≡ self.now }
         requires waits { IsSome pass.old.waits }

@@ -46,6 +46,7 @@ fn ask(rt: &impl Wait, broker: &Broker, pass: &mut Pass, body: &[u8], keeps_line
 }
 
 // Asks the broker for the reply that its session waits for. If no line is kept of it, it has no bytes.
+#[inline(always)]
 fn ask_again(rt: &impl Wait, broker: &Broker, pass: &mut Pass, keeps_lines: bool) -> Collected
     requires made { made_with pass.old ≡ broker.now }
     requires waits { IsSome pass.old.waits }
@@ -138,6 +139,7 @@ impl TraceSession {
     }
 
     // Takes the reply to its request that waits, if that was won.
+    #[inline(always)]
     fn collect(&mut self, rt: &impl Wait, broker: &Broker) -> Result<bool, NoMemory>
         requires made { made_with self.old.pass ≡ broker.now }
         requires received { (input : Items ℕ) × HasReceived input self.old }
