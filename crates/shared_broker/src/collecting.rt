@@ -51,7 +51,7 @@ impl Broker {
         self.collect_as(rt, pass, false)
     }
 
-    // Asks for a request that waits, whose reply's frame is made if it is to be sent. Sessions that wait ask often, so this goes into what asks.
+    // Asks for a request that waits, whose reply's frame is made if it is to be sent. Sessions that wait ask often, so this is put into its callers.
     #[inline(always)]
     fn collect_as(&self, rt: &impl Wait, pass: &mut Pass, is_sent: bool) -> Collected
         requires made { made_with pass.old ≡ self.now }

@@ -95,7 +95,7 @@ impl<T: Kept> TurnLock<T> {
         self.board.shared.fetch_add::<Draw>(seat, TICKET, 1)
     }
 
-    // Waits a little for the turn of the ticket, while this one is served.
+    // Waits a little for the turn of the ticket, while this one is served. Apart from `wait`, which seldom needs it.
     #[inline(never)]
     fn pause<R: Wait>(&self, rt: &R, patience: &mut Patience, ticket: u64, serving: u64) {
         if patience.rest(ticket.saturating_sub(serving)) {
@@ -107,7 +107,7 @@ impl<T: Kept> TurnLock<T> {
         }
     }
 
-    // Waits for the turn of the ticket.
+    // Waits for the turn of the ticket. It is over at once where nobody else wants the lock, so it is put into what calls it.
     #[inline(always)]
     fn wait<R: Wait>(&self, rt: &R, seat: &mut Place<T>, ticket: u64)
         requires { (seat.old.table_id ≡ lock_id self.now)
@@ -155,6 +155,7 @@ impl<T: Kept> TurnLock<T> {
     }
 
     /// Puts the value back and passes the turn on. The pass has seen the value's history.
+    #[inline(always)]
     pub fn end(&self, pass: &mut TurnPass<T>, turn: Turn<T>)
         requires pass { IsPassOf T.name self.now pass.old × HasTurn pass.old turn }
         requires name { T.name turn.value ≡ lock_name T.name self.now }

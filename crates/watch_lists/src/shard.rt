@@ -55,6 +55,7 @@ impl Shard {
 
     /// Lists an id under a key with a generation, in place of an older one. Generations are 1 or
     /// more.
+    #[inline(always)]
     pub fn list(&mut self, key: u32, id: u32, generation: u32)
         requires key { key < keys_of self.old }
         requires id { id < self.old.ids }
