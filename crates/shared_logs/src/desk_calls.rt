@@ -1,5 +1,5 @@
 //! What a turn does at a partition's desk, for `part_turns`: it leaves an entry, and hands on what the call gets of that.
-ghost use Rattle.std.specs.Prelude.{◌≡◌, ◌≤◌, ◌/◌, IfOk, OnErr, OnOk, length};
+ghost use Rattle.std.specs.Prelude.{◌≡◌, ◌≤◌, ◌/◌, IfOk, OnErr, OnOk, length, IfSome, take, drop};
 ghost use Rattle.kanswer.specs.declared.accepted.Accepted.TheVariants.{Seen};
 ghost use Rattle.kanswer.specs.Decisions.{fetch_outcome};
 ghost use Rattle.kanswer.specs.Sent.{sent_outcome};
@@ -166,4 +166,16 @@ pub(crate) fn read_at(
     };
     let records = records_of(alloc, rest.replica, rest.asked, &became, desk.log(), budget);
     Ok(Read { looked, records })
+}
+
+/// Where these bytes stand in the log, if they do from the batch on that has this offset.
+pub(crate) fn place_in(log: &PartLog, offset: u64, bytes: &[u8]) -> Option<u64>
+    ensures { IfSome result (λ start. take (length bytes.now) (drop start log.now.log) ≡ bytes.now) }
+{
+    let start = log.locate(offset);
+    let rest = &log.log()[start as usize..];
+    if !rest.starts_with(bytes) {
+        return None;
+    }
+    Some(start)
 }

@@ -1,5 +1,5 @@
 //! One turn of a partition's lock, for `turns`: by the lock and a pass's key of it, it says what the pass knew before and knows after.
-ghost use Rattle.std.specs.Prelude.{◌≡◌, ◌/◌, ◌≤◌, ℕ, IfOk, OnErr, OnOk, slice_index};
+ghost use Rattle.std.specs.Prelude.{◌≡◌, ◌/◌, ◌≤◌, ℕ, IfOk, OnErr, OnOk, slice_index, IfSome, length, take, drop};
 ghost use Rattle.kanswer.specs.declared.accepted.Accepted.TheVariants.{Seen};
 ghost use Rattle.kanswer.specs.Decisions.{fetch_outcome};
 ghost use Rattle.kanswer.specs.Sent.{sent_outcome};
@@ -21,7 +21,7 @@ ghost use Rattle.shared_logs.specs.Locked.{seen_part};
 ghost use Rattle.shared_logs.specs.Turned.{AskedPart, HasFound, LookedAtPart, OpensPart, SawPart, ShrunkPart, part_entries};
 
 use crate::PartDesk;
-use crate::desk_calls::{fetch_at, look_at, put_at, read_at};
+use crate::desk_calls::{fetch_at, look_at, place_in, put_at, read_at};
 use crate::turns::{Fetched, Looked, Put, Read};
 use crate::visit::Visit;
 use crate::wanted::{AtLeast, Rest, Wanted};
@@ -200,4 +200,23 @@ pub(crate) fn read_from(
     );
     lock.end(key, turn);
     read
+}
+
+/// Where these bytes stand in the partition's log, if they do from the batch on that has this offset. The turn leaves nothing.
+pub(crate) fn find_in(
+    rt: &impl Wait,
+    lock: &TurnLock<PartDesk>,
+    key: &mut TurnPass<PartDesk>,
+    offset: u64,
+    bytes: &[u8],
+) -> Option<u64>
+    requires key { IsPassOf part_name lock.now key.old × IsReady key.old }
+    ensures key { IsPassOf part_name lock.now key.new × IsReady key.new }
+    ensures saw { SawPart (known key.old) (known key.new) }
+    ensures found { IfSome result (λ start. take (length bytes.now) (drop start (seen_part key.new).log) ≡ bytes.now) }
+{
+    let turn = part_turn(rt, lock, key);
+    let found = place_in(turn.value().log(), offset, bytes);
+    lock.end(key, turn);
+    found
 }

@@ -1,6 +1,6 @@
 //! `SharedLogs`' calls on one partition, by its number. Each finds the lock and the pass's key; `part_turns` takes the turn, and
 //! `desk_calls` acts in it.
-ghost use Rattle.std.specs.Prelude.{◌≡◌, ◌<◌, ◌≤◌, ◌/◌, IfOk, OnErr, OnOk, length, slice_index};
+ghost use Rattle.std.specs.Prelude.{◌≡◌, ◌<◌, ◌≤◌, ◌/◌, IfOk, OnErr, OnOk, length, slice_index, IfSome, take, drop};
 ghost use Rattle.kanswer.specs.declared.accepted.Accepted.TheVariants.{Seen};
 ghost use Rattle.kanswer.specs.Decisions.{fetch_outcome};
 ghost use Rattle.kanswer.specs.Sent.{sent_outcome};
@@ -15,7 +15,7 @@ ghost use Rattle.shared_logs.specs.Shared.{followers_in};
 ghost use Rattle.shared_logs.specs.Shrinking.{HasShrunkOne};
 
 use crate::logs::SharedLogs;
-use crate::part_turns::{fetch_from, look_into, put_into, read_from, shrink_in};
+use crate::part_turns::{fetch_from, find_in, look_into, put_into, read_from, shrink_in};
 use crate::pass::LogPass;
 use crate::visit::Visit;
 use crate::wanted::{AtLeast, Rest, Wanted};
@@ -193,6 +193,29 @@ impl SharedLogs {
         };
         read_from(&visit, &self.parts[at], &mut pass.parts[at], rest, budget)
     }
+
+    /// Where these bytes stand in a partition's log, if they do from the batch on that has this offset, by a turn of its lock that leaves
+    /// nothing.
+    pub fn find(
+        &self,
+        rt: &impl Wait,
+        pass: &mut LogPass,
+        part: u32,
+        offset: u64,
+        bytes: &[u8],
+    ) -> Option<u64>
+        requires made { pass.old.made ≡ self.now }
+        requires there { part < length self.now.parts }
+        ensures made { pass.new.made ≡ self.now }
+        ensures seen { HasSeen pass.old × HasSeen pass.new }
+        ensures seat { pass.new.seat ≡ pass.old.seat }
+        ensures others { HasCaughtUp pass.old pass.new }
+        ensures found { IfSome result (λ start. take (length bytes.now) (drop start (history_at pass.new.parts part).log) ≡ bytes.now) }
+    {
+        let at = part as usize;
+        find_in(rt, &self.parts[at], &mut pass.parts[at], offset, bytes)
+    }
+
     /// Takes out of a partition's in-sync set every follower that lags at this moment, in a turn of its lock. The pass may then owe scans. If
     /// memory runs out, some of them may have left.
     pub(crate) fn shrink(
