@@ -38,5 +38,7 @@ mod ServedPass
 mod KeptPass
 -- a pass may go to another thread
 mod SentPass
+-- a range of a log that a pass has seen
+mod Ranges
 -- what the crates above may cite
 pub mod Laws

@@ -12,6 +12,8 @@ pub mod Sessions
 pub mod Calling
 -- what `collect` answers, and why
 pub mod Collecting
+-- what `find` answers
+pub mod Finding
 -- how a broker is closed
 pub mod Closing
 -- ==== the words of private functions

@@ -22,7 +22,8 @@
 //! match broker.close(rt, passes) { BrokerEnd::Closed(account) => .. }
 //! ```
 //!
-//! Where the replies are neither sent nor kept, as in a storm, there are `handle_unsent` and `collect_unsent`: they make no frames.
+//! Where the replies are neither sent nor kept, as in a storm, there are `handle_unsent` and `collect_unsent`: they make no frames. Where a reply is
+//! kept until the broker is closed, `find` tells in which log its records stand, so that they needn't be kept.
 //!
 //! However the threads interleave, the account of `close` is lawful (`HasClosed`): each pass keeps a book of what it saw and did
 //! (`books` of `audit`), and the books of all passes make one account.
@@ -35,6 +36,7 @@ mod collecting;
 mod completing;
 mod crossing;
 mod current;
+mod finding;
 mod parked;
 mod pass;
 mod sessions;
@@ -43,5 +45,6 @@ pub use broker::Broker;
 pub use calling::Handled;
 pub use closing::BrokerEnd;
 pub use collecting::Collected;
+pub use finding::{LogRange, TopicPart};
 pub use parked::Parked;
 pub use pass::Pass;
