@@ -20,6 +20,8 @@ pub mod Seen
 pub mod Coming
 -- a turn in which a call left its entry
 pub mod Asked
+-- where bytes stand that are sought in a log
+pub mod Sought
 -- the clock was told a moment, and who lagged then was taken out
 pub mod Shrinking
 -- the passes of new logs

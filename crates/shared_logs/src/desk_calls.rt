@@ -1,5 +1,5 @@
 //! What a turn does at a partition's desk, for `part_turns`: it leaves an entry, and hands on what the call gets of that.
-ghost use Rattle.std.specs.Prelude.{◌≡◌, ◌≤◌, ◌/◌, IfOk, OnErr, OnOk, length, IfSome, take, drop};
+ghost use Rattle.std.specs.Prelude.{◌≡◌, ◌≤◌, ◌/◌, IfOk, OnErr, OnOk, length};
 ghost use Rattle.kanswer.specs.declared.accepted.Accepted.TheVariants.{Seen};
 ghost use Rattle.kanswer.specs.Decisions.{fetch_outcome};
 ghost use Rattle.kanswer.specs.Sent.{sent_outcome};
@@ -16,6 +16,7 @@ ghost use Rattle.purgatory.specs.Rooms.{IsOfRoom, IsSourceOf};
 ghost use Rattle.shared_logs.specs.Desks.{part_name};
 ghost use Rattle.shared_logs.specs.Entries.{entry_by, log_entries};
 ghost use Rattle.shared_logs.specs.Asked.{HasRead};
+ghost use Rattle.shared_logs.specs.Sought.{HasSought};
 
 use crate::PartDesk;
 use crate::turns::{Fetched, Looked, Put, Read};
@@ -170,7 +171,7 @@ pub(crate) fn read_at(
 
 /// Where these bytes stand in the log, if they do from the batch on that has this offset.
 pub(crate) fn place_in(log: &PartLog, offset: u64, bytes: &[u8]) -> Option<u64>
-    ensures { IfSome result (λ start. take (length bytes.now) (drop start log.now.log) ≡ bytes.now) }
+    ensures { HasSought offset bytes.now log.now result }
 {
     let start = log.locate(offset);
     let rest = &log.log()[start as usize..];

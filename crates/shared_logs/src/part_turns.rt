@@ -1,5 +1,5 @@
 //! One turn of a partition's lock, for `turns`: by the lock and a pass's key of it, it says what the pass knew before and knows after.
-ghost use Rattle.std.specs.Prelude.{◌≡◌, ◌/◌, ◌≤◌, ℕ, IfOk, OnErr, OnOk, slice_index, IfSome, length, take, drop};
+ghost use Rattle.std.specs.Prelude.{◌≡◌, ◌/◌, ◌≤◌, ℕ, IfOk, OnErr, OnOk, slice_index};
 ghost use Rattle.kanswer.specs.declared.accepted.Accepted.TheVariants.{Seen};
 ghost use Rattle.kanswer.specs.Decisions.{fetch_outcome};
 ghost use Rattle.kanswer.specs.Sent.{sent_outcome};
@@ -17,6 +17,7 @@ ghost use Rattle.shared_logs.specs.Desks.{part_name};
 ghost use Rattle.shared_logs.specs.Entries.{entry_by};
 ghost use Rattle.shared_logs.specs.Keeps.{PartKeeps};
 ghost use Rattle.shared_logs.specs.Asked.{HasRead};
+ghost use Rattle.shared_logs.specs.Sought.{HasSought};
 ghost use Rattle.shared_logs.specs.Locked.{seen_part};
 ghost use Rattle.shared_logs.specs.Turned.{AskedPart, HasFound, LookedAtPart, OpensPart, SawPart, ShrunkPart, part_entries};
 
@@ -213,7 +214,7 @@ pub(crate) fn find_in(
     requires key { IsPassOf part_name lock.now key.old × IsReady key.old }
     ensures key { IsPassOf part_name lock.now key.new × IsReady key.new }
     ensures saw { SawPart (known key.old) (known key.new) }
-    ensures found { IfSome result (λ start. take (length bytes.now) (drop start (seen_part key.new).log) ≡ bytes.now) }
+    ensures sought { HasSought offset bytes.now (seen_part key.new) result }
 {
     let turn = part_turn(rt, lock, key);
     let found = place_in(turn.value().log(), offset, bytes);

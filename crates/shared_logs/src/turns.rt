@@ -1,6 +1,6 @@
 //! `SharedLogs`' calls on one partition, by its number. Each finds the lock and the pass's key; `part_turns` takes the turn, and
 //! `desk_calls` acts in it.
-ghost use Rattle.std.specs.Prelude.{◌≡◌, ◌<◌, ◌≤◌, ◌/◌, IfOk, OnErr, OnOk, length, slice_index, IfSome, take, drop};
+ghost use Rattle.std.specs.Prelude.{◌≡◌, ◌<◌, ◌≤◌, ◌/◌, IfOk, OnErr, OnOk, length, slice_index};
 ghost use Rattle.kanswer.specs.declared.accepted.Accepted.TheVariants.{Seen};
 ghost use Rattle.kanswer.specs.Decisions.{fetch_outcome};
 ghost use Rattle.kanswer.specs.Sent.{sent_outcome};
@@ -13,6 +13,7 @@ ghost use Rattle.shared_logs.specs.Coming.{HasCaughtUp};
 ghost use Rattle.shared_logs.specs.Seen.{HasSeen};
 ghost use Rattle.shared_logs.specs.Shared.{followers_in};
 ghost use Rattle.shared_logs.specs.Shrinking.{HasShrunkOne};
+ghost use Rattle.shared_logs.specs.Sought.{HasSought};
 
 use crate::logs::SharedLogs;
 use crate::part_turns::{fetch_from, find_in, look_into, put_into, read_from, shrink_in};
@@ -210,7 +211,7 @@ impl SharedLogs {
         ensures seen { HasSeen pass.old × HasSeen pass.new }
         ensures seat { pass.new.seat ≡ pass.old.seat }
         ensures others { HasCaughtUp pass.old pass.new }
-        ensures found { IfSome result (λ start. take (length bytes.now) (drop start (history_at pass.new.parts part).log) ≡ bytes.now) }
+        ensures sought { HasSought offset bytes.now (history_at pass.new.parts part) result }
     {
         let at = part as usize;
         find_in(rt, &self.parts[at], &mut pass.parts[at], offset, bytes)

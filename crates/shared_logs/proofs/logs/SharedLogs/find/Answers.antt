@@ -1,5 +1,4 @@
-use Rattle.std.proofs.Common.{◌≡◌, ap, drop, length, set, subst, sym, take, ◌∙◌}
-use Rattle.std.specs.Prelude.{IfSome}
+use Rattle.std.proofs.Common.{ap, set, subst, sym, ◌∙◌}
 use Rattle.partlog.specs.History.{History}
 use Rattle.room_table.specs.Seats.{caller_now}
 use Rattle.purgatory.proofs.Laws.{kept_same, stays}
@@ -7,6 +6,7 @@ use Rattle.shared_logs.specs.Coming.{HasCaughtUp}
 use Rattle.shared_logs.specs.Locked.{pass_view}
 use Rattle.shared_logs.specs.Seen.{HasSeen}
 use Rattle.shared_logs.specs.Shared.{LogPassView}
+use Rattle.shared_logs.specs.Sought.{HasSought}
 use Rattle.shared_logs.proofs.Passes.{of_room, opens, part_caught_up, part_pass, part_same, part_step, seen_at, within}
 use Rattle.shared_logs.proofs.logs.SharedLogs.find.Goals as goal
 
@@ -80,8 +80,8 @@ returns-clause-others g c =
     let after = pass_view p.number p.room (set p.parts.items part new) p.clock in
     subst (λ (v : LogPassView). HasCaughtUp v after) c.pass.view_is (part_caught_up p.number p.room p.room p.parts.items p.clock p.moment p.ticked part old new step e.saw)
 
-pub returns-clause-found : goal.returns-clause-found
-returns-clause-found g c =
+pub returns-clause-sought : goal.returns-clause-sought
+returns-clause-sought g c =
     let p = c.pass.inside in
     let s = c.self.inside in
     let part = c.args.part in
@@ -93,4 +93,4 @@ returns-clause-found g c =
     let room = of_room p.number p.room p.parts.items p.clock p.moment p.ticked c.pass.invariant s.room s.parts.items s.clock made in
     let step = part_step p.number p.room p.parts.items p.clock p.moment p.ticked c.pass.invariant s.room s.parts.items s.clock made part c.index.result.now old less c.index.ensures c.index_mut.ensures.value
     p.room new room (stays p.room.seat) (kept_same (caller_now p.room.seat)) e.key.0 e.key.1 in
-    subst (λ (h : History). IfSome c.find_in.result (λ start. take (length c.args.bytes.now) (drop start h.log) ≡ c.args.bytes.now)) (sym (seen_at p.parts.items part new step.less)) e.found
+    subst (λ (h : History). HasSought c.args.offset c.args.bytes.now h c.find_in.result) (sym (seen_at p.parts.items part new step.less)) e.sought
