@@ -275,7 +275,8 @@ impl Locks {
         scan_shard(rt, &self.shards[k], &mut keys.shards[k], table, gauge);
     }
 
-    // Lists an operation in a turn of this shard's lock.
+    // Lists an operation in a turn of this shard's lock. Each registering does this, so it is put into what calls it.
+    #[inline(always)]
     fn list_behind(
         &self,
         rt: &impl Wait,

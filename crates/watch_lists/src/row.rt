@@ -48,6 +48,9 @@ pub(crate) fn put(row: &mut Vec<Watch>, watch: Watch, ids: u32)
     let place = place_in(row, watch.id);
     if has_id(row, place, watch.id) {
         row[place] = watch;
+    } else if place == row.len() {
+        // Mostly so, and then no watcher has to be moved.
+        let _ = row.push(watch);
     } else {
         let _ = row.insert(place, watch);
     }

@@ -61,7 +61,22 @@ fn drop_from(shard: &mut Shard, key: u32, pass: u32, generation: u32)
     shard.drop_stale(key, pass, generation);
 }
 
-// Takes out the watchers of a pass at this generation, under every key.
+// Takes out the watchers of a pass at this generation, under every key. Apart from `drop_pass`, which mostly has nothing to do.
+#[inline(never)]
+fn drop_watchers(shard: &mut Shard, pass: u32, generation: u32)
+    requires keys { keys_of shard.old ≡ shard_gauges }
+    requires pass { pass < shard.old.ids }
+    ensures same { (shard.new.ids ≡ shard.old.ids) × (keys_of shard.new ≡ shard_gauges) }
+    ensures listed { (k i g : ℕ) → IsListed shard.new k i g ↔ (IsListed shard.old k i g × (i ≡ pass → g ≢ generation)) }
+    ensures lower { KeepsLower pass shard.old shard.new }
+{
+    for key in 0..SHARD_GAUGES {
+        drop_from(shard, key, pass, generation);
+    }
+}
+
+// The same, where there may be no watchers at all.
+#[inline(always)]
 fn drop_pass(shard: &mut Shard, pass: u32, generation: u32)
     requires keys { keys_of shard.old ≡ shard_gauges }
     requires pass { pass < shard.old.ids }
@@ -72,9 +87,7 @@ fn drop_pass(shard: &mut Shard, pass: u32, generation: u32)
     if shard.len() == 0 {
         return;
     }
-    for key in 0..SHARD_GAUGES {
-        drop_from(shard, key, pass, generation);
-    }
+    drop_watchers(shard, pass, generation);
 }
 
 impl ShardListing {

@@ -2,7 +2,7 @@ use Rattle.std.proofs.Common.{⊎_elim, ◌∙◌, ◌<◌, ◌≤◌, arith, re
 use Rattle.std.proofs.lemmas.Bool.{cases_lt}
 use Rattle.purgatory.proofs.scans.Rows.{lower_far, lower_same}
 use Rattle.purgatory.proofs.scans.Shelves.{listed_within}
-use Rattle.purgatory.proofs.scans.shard_listing.drop_pass.Goals as goal
+use Rattle.purgatory.proofs.scans.shard_listing.drop_watchers.Goals as goal
 
 pub loop-key-init : goal.loop-key-init
 loop-key-init c = record {

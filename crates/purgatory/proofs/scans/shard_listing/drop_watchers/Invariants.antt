@@ -1,7 +1,7 @@
 use Rattle.std.proofs.Common.{◌≡◌, ◌≢◌, ◌↔◌, ℕ, ◌<◌}
 use Rattle.watch_lists.specs.Watches.{IsListed, keys_of}
 use Rattle.purgatory.specs.scans.Shelf.{KeepsLower}
-use Rattle.purgatory.proofs.scans.shard_listing.drop_pass.Given as goal
+use Rattle.purgatory.proofs.scans.shard_listing.drop_watchers.Given as goal
 
 abbrev pub invariant-loop-key : goal.invariant-loop-key
 invariant-loop-key l = record {
