@@ -1,13 +1,11 @@
 //! Where bytes of a reply stand, so that whoever keeps the reply needn't keep them: `Broker::find`.
-ghost use Rattle.std.specs.Prelude.{◌≡◌, IfSome};
-ghost use Rattle.audit.specs.broker.GoesOn.{Carried};
-ghost use Rattle.shared_broker.specs.Finding.{HasCaughtUp, bytes_at};
+ghost use Rattle.std.specs.Prelude.{◌≡◌};
+ghost use Rattle.shared_broker.specs.Finding.{HasCaughtUp, HasSought, bytes_at};
 ghost use Rattle.shared_broker.specs.Passes.{made_with};
 
 use crate::broker::Broker;
 use crate::pass::Pass;
 use audit::Account;
-use kbytes::Reader;
 use std::sync::Wait;
 
 /// A range of a partition's log: the partition's number over all topics, the place of the first byte, and the number of bytes.
@@ -33,40 +31,36 @@ impl LogRange {
     }
 }
 
-/// A partition of a topic.
+/// Records that are sought in a partition's log, from the batch on that has this offset.
 #[derive(Clone, Copy)]
-pub struct TopicPart<'a> {
+pub struct Sought<'a> {
     pub topic: &'a [u8],
     pub index: i32,
-}
-
-// The first offset of a batch.
-fn first_offset(records: &[u8]) -> Option<u64> {
-    let offset = Reader::new(records).i64().ok()?;
-    u64::try_from(offset).ok()
+    pub offset: u64,
+    pub records: &'a [u8],
 }
 
 impl Broker {
-    /// Where these records stand in the log of this partition, if they do. They then stand there in every account that goes on from what the pass
-    /// has seen. It takes a turn of the log's lock, which leaves nothing.
-    pub fn find(
-        &self,
-        rt: &impl Wait,
-        pass: &mut Pass,
-        whose: TopicPart<'_>,
-        records: &[u8],
-    ) -> Option<LogRange>
+    /// Where the records stand in the log, if they do. They then stand there in every account that goes on from what the pass has seen. It takes a
+    /// turn of the log's lock, which leaves nothing.
+    pub fn find(&self, rt: &impl Wait, pass: &mut Pass, sought: &Sought<'_>) -> Option<LogRange>
         requires made { made_with pass.old ≡ self.now }
         ensures others { HasCaughtUp pass.old pass.new }
-        ensures found { IfSome result (λ range. Carried pass.new.config pass.new.logs.parts pass.new.logs.clock (λ account. bytes_at account range ≡ records.now)) }
+        ensures sought { HasSought sought.now result pass.new }
     {
-        let part = self.config.part_of(whose.topic, whose.index)?;
-        let offset = first_offset(records)?;
-        let start = self.logs.find(rt, &mut pass.logs, part, offset, records)?;
+        let Some(part) = self.config.part_of(sought.topic, sought.index) else {
+            return None;
+        };
+        let found = self
+            .logs
+            .find(rt, &mut pass.logs, part, sought.offset, sought.records);
+        let Some(start) = found else {
+            return None;
+        };
         Some(LogRange {
             part,
             start,
-            size: records.len() as u64,
+            size: sought.records.len() as u64,
         })
     }
 }

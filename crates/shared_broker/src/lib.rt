@@ -45,6 +45,6 @@ pub use broker::Broker;
 pub use calling::Handled;
 pub use closing::BrokerEnd;
 pub use collecting::Collected;
-pub use finding::{LogRange, TopicPart};
+pub use finding::{LogRange, Sought};
 pub use parked::Parked;
 pub use pass::Pass;

@@ -5,8 +5,6 @@ use Rattle.std.proofs.lemmas.Grind.{common_steps}
 use Rattle.std.proofs.lemmas.Slice.Eq.{slice_eq-Decides}
 use Rattle.std.specs.Bool.{nat_eq}
 use Rattle.std.specs.Cmp.Lexicographic.{pointwise}
-use Rattle.partlog.specs.Start.{start_of}
-use Rattle.partlog.specs.State.{state_of}
 use Rattle.shared_logs.specs.Sought.{StandAt}
 use Rattle.shared_logs.proofs.desk_calls.place_in.Goals as goal
 
