@@ -11,6 +11,7 @@ use Rattle.std.proofs.Math.Nat.{mul-le-mul_right}
 use Rattle.std.proofs.lemmas.Nat.{div-add-mod', mod-mul-add, mod_below}
 use Rattle.shared_broker.specs.Making.{fresh_pass}
 use Rattle.shared_broker.specs.Passes.{BrokerView, PassView}
+use Rattle.trace_workers.specs.declared.print_part.PrintPart.{PrintPart}
 use Rattle.trace_workers.specs.Sessions.{KeepsLines, SessionView}
 use Rattle.trace_workers.specs.Workers.{AllKeep, AreNumbered, HasAll, HasTaken, HasToldAll, IfClock, WorkerView}
 use Rattle.trace_workers.specs.Dealing.{AreDealing, IsDealing, empty_worker, empty_workers, fresh_session}
@@ -18,7 +19,7 @@ use Rattle.trace_workers.specs.Dealt.{AreDealt, HasClockOf, IsDealt, sessions_de
 use Rattle.trace_workers.specs.Telling.{IsFresh}
 use Rattle.trace_workers.proofs.Telling.{kept_none}
 
-fresh_taken : (broker : BrokerView) (number : ℕ) (kept : Option (List ℕ)) → IsFresh kept → HasTaken broker [] (fresh_session broker number kept)
+fresh_taken : (broker : BrokerView) (number : ℕ) (kept : Option (List PrintPart)) → IsFresh kept → HasTaken broker [] (fresh_session broker number kept)
 fresh_taken broker number kept fresh = record {
   made = refl;
   pass = refl;
@@ -82,7 +83,7 @@ next_number dealt worker_count k size some is above below =
       ]
     ]
 
-numbered_more : (broker : BrokerView) (worker : WorkerView) (number : ℕ) (kept : Option (List ℕ)) → worker.number + length worker.sessions * worker.worker_count ≡ number → AreNumbered worker → AreNumbered (with_more worker (fresh_session broker number kept))
+numbered_more : (broker : BrokerView) (worker : WorkerView) (number : ℕ) (kept : Option (List PrintPart)) → worker.number + length worker.sessions * worker.worker_count ≡ number → AreNumbered worker → AreNumbered (with_more worker (fresh_session broker number kept))
 numbered_more broker worker number kept next numbered k d less =
     let s = fresh_session broker number kept in
     elim (cases_eq k (length worker.sessions)) [
@@ -102,7 +103,7 @@ all_more P xs s all here k d less =
           subst P (sym (get_or_append_left xs (s ∷ []) d k before)) (all k d before)
     ]
 
-one_dealt : (broker : BrokerView) (dealt worker_count k : ℕ) (worker : WorkerView) (kept : Option (List ℕ)) → IsFresh kept → 1 ≤ worker_count → k ≡ dealt % worker_count → IsDealing broker dealt worker_count k worker → IsDealing broker (dealt + 1) worker_count k (with_more worker (fresh_session broker dealt kept))
+one_dealt : (broker : BrokerView) (dealt worker_count k : ℕ) (worker : WorkerView) (kept : Option (List PrintPart)) → IsFresh kept → 1 ≤ worker_count → k ≡ dealt % worker_count → IsDealing broker dealt worker_count k worker → IsDealing broker (dealt + 1) worker_count k (with_more worker (fresh_session broker dealt kept))
 one_dealt broker dealt worker_count k worker kept fresh some is h =
     let next : k + length worker.sessions * worker_count ≡ dealt = next_number dealt worker_count k (length worker.sessions) some is h.above h.below in
     let own : worker.number + length worker.sessions * worker.worker_count ≡ dealt = ap (λ (n : ℕ). n + length worker.sessions * worker.worker_count) h.number ∙ ap (λ (w : ℕ). k + length worker.sessions * w) h.among ∙ next in
@@ -137,7 +138,7 @@ other_dealt broker dealt worker_count k worker some less other h =
       clock = h.clock;
     }
 
-pub session_dealt : (broker : BrokerView) (dealt worker_count at : ℕ) (workers : List WorkerView) (worker d : WorkerView) (kept : Option (List ℕ)) → IsFresh kept → 1 ≤ worker_count → at ≡ dealt % worker_count → worker ≡ with_more (get_or workers at d) (fresh_session broker dealt kept)
+pub session_dealt : (broker : BrokerView) (dealt worker_count at : ℕ) (workers : List WorkerView) (worker d : WorkerView) (kept : Option (List PrintPart)) → IsFresh kept → 1 ≤ worker_count → at ≡ dealt % worker_count → worker ≡ with_more (get_or workers at d) (fresh_session broker dealt kept)
     → AreDealing broker dealt worker_count workers → AreDealing broker (dealt + 1) worker_count (set workers at worker)
 session_dealt broker dealt worker_count at workers worker d kept fresh some is worker_is h =
     let within : at < worker_count = omega (arith, is, mod_below dealt worker_count some) in

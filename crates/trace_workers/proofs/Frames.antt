@@ -20,6 +20,7 @@ use Rattle.shared_broker.specs.declared.calling.Handled.{Handled}
 use Rattle.shared_broker.specs.Calling.{HasCalled, HasHandledAs, IsAnsweredAs, IsEndFor, IsMadeOfReply, how_by, told_as}
 use Rattle.shared_broker.specs.Collecting.{HasCompleted}
 use Rattle.shared_broker.specs.Passes.{BrokerView, PassView, calls_made}
+use Rattle.trace_workers.specs.declared.print_part.PrintPart.{PrintPart}
 use Rattle.trace_workers.specs.Ending.{EndsSo, MayEndSo}
 use Rattle.trace_workers.specs.Received.{HasReceived}
 use Rattle.trace_workers.specs.Sessions.{SessionView}
@@ -67,7 +68,7 @@ answered_is how old new (inr told) = ap is_answered told.7 ∙ told_answered tol
 -- ---- a frame that was handled is that of a call
 
 -- a session that had kept these lines keeps those now
-pub record IsCall (session : ℕ) (kept now : Option (List ℕ)) (body : List ℕ) (old new : PassView) : Type 0 where
+pub record IsCall (session : ℕ) (kept now : Option (List PrintPart)) (body : List ℕ) (old new : PassView) : Type 0 where
   pub call : HasCalled body old new
   pub tells : (calls : List Call) → AreKept kept session old calls → AreKept now session new (calls ++ call.call ∷ [])
   pub whole : IsNotCut call.call
@@ -79,11 +80,11 @@ over new how none not = subst (λ (b : Bool). MatchBool b (how ≡ Parked) (how 
 config_is : (body : List ℕ) (old new : PassView) → HasCalled body old new → new.config ≡ old.config
 config_is body old new c = ap (λ (b : BrokerView). b.config) c.made
 
-unanswered : (session : ℕ) (kept : Option (List ℕ)) (body : List ℕ) (old new : PassView) (c : HasCalled body old new) → is_answered c.call.how ≡ false → (calls : List Call)
+unanswered : (session : ℕ) (kept : Option (List PrintPart)) (body : List ℕ) (old new : PassView) (c : HasCalled body old new) → is_answered c.call.how ≡ false → (calls : List Call)
     → AreKept kept session old calls → AreKept kept session new (calls ++ c.call ∷ [])
 unanswered session kept body old new c none calls h = kept_same kept session new calls c.call none (kept_on kept session old new calls (config_is body old new c) c.grown h)
 
-pub replied : (session : ℕ) (kept now : Option (List ℕ)) (body bytes : List ℕ) (old new : PassView) → HasHandledAs (is_some kept) body (Handled.Reply bytes) old new → HasPut session bytes kept now
+pub replied : (session : ℕ) (kept now : Option (List PrintPart)) (body bytes : List ℕ) (old new : PassView) → HasHandledAs (is_some kept) body (Handled.Reply bytes) old new → HasPut session bytes kept now
     → IsCall session kept now body old new
 replied session kept now body bytes old new h put = record {
   call = h.0;
@@ -93,7 +94,7 @@ replied session kept now body bytes old new h put = record {
   waits = over new h.0.call.how h.5 (answered_over h.0.call.how old.logs.seat new.logs.seat h.2);
 }
 
-hushed : (session : ℕ) (kept : Option (List ℕ)) (is_sent : Bool) (body : List ℕ) (old new : PassView) → HasHandledAs is_sent body Handled.Quiet old new → IsCall session kept kept body old new
+hushed : (session : ℕ) (kept : Option (List PrintPart)) (is_sent : Bool) (body : List ℕ) (old new : PassView) → HasHandledAs is_sent body Handled.Quiet old new → IsCall session kept kept body old new
 hushed session kept is_sent body old new h = record {
   call = h.0;
   tells = unanswered session kept body old new h.0 (ap is_answered h.2);
@@ -101,7 +102,7 @@ hushed session kept is_sent body old new h = record {
   waits = over new h.0.call.how h.4 (λ e. absurd (cc (h.2, e)));
 }
 
-parked : (session : ℕ) (kept : Option (List ℕ)) (is_sent : Bool) (body : List ℕ) (deadline : ℕ) (old new : PassView) → HasHandledAs is_sent body (Handled.Parked deadline) old new
+parked : (session : ℕ) (kept : Option (List PrintPart)) (is_sent : Bool) (body : List ℕ) (deadline : ℕ) (old new : PassView) → HasHandledAs is_sent body (Handled.Parked deadline) old new
     → IsCall session kept kept body old new
 parked session kept is_sent body deadline old new h = record {
   call = h.0;
@@ -114,7 +115,7 @@ parked session kept is_sent body deadline old new h = record {
 abbrev pub WasUnreplied : Handled → Type 0
 WasUnreplied result = (result ≡ Handled.Quiet) ⊎ ((deadline : ℕ) × (result ≡ Handled.Parked deadline))
 
-pub unreplied : (session : ℕ) (kept : Option (List ℕ)) (is_sent : Bool) (body : List ℕ) (result : Handled) (old new : PassView) → WasUnreplied result → HasHandledAs is_sent body result old new
+pub unreplied : (session : ℕ) (kept : Option (List PrintPart)) (is_sent : Bool) (body : List ℕ) (result : Handled) (old new : PassView) → WasUnreplied result → HasHandledAs is_sent body result old new
     → IsCall session kept kept body old new
 unreplied session kept is_sent body result old new (inl quiet) h = hushed session kept is_sent body old new (subst (λ (r : Handled). HasHandledAs is_sent body r old new) quiet h)
 unreplied session kept is_sent body result old new (inr waits) h = parked session kept is_sent body waits.0 old new (subst (λ (r : Handled). HasHandledAs is_sent body r old new) waits.1 h)
@@ -149,7 +150,7 @@ completed_moves old new c how same =
 
 -- ---- a reply is collected
 
-pub collected : (input : List ℕ) (s : SessionView) (new : PassView) (now : Option (List ℕ)) (bytes : List ℕ) → (c : HasCompleted s.pass new) → c.how ≡ told_as c.done
+pub collected : (input : List ℕ) (s : SessionView) (new : PassView) (now : Option (List PrintPart)) (bytes : List ℕ) → (c : HasCompleted s.pass new) → c.how ≡ told_as c.done
     → IsMadeOfReply (is_some s.kept) new (record c.call { finish = c.finish; how = c.how }) bytes → HasPut s.number bytes s.kept now → HasReceived input s → HasReceived input (record s { pass = new; kept = now })
 collected input s new now bytes c how made put h =
     let named : s.is_named ≡ true = named_of input s (ap is_some c.going) h in
@@ -161,7 +162,7 @@ collected input s new now bytes c how made put h =
 
 -- ---- a frame is handled
 
-pub handled : (input : List ℕ) (s : SessionView) (body : List ℕ) (end : ℕ) (new : PassView) (now : Option (List ℕ)) → IsFrameBody body → s.inbox ≡ framed body ++ drop end s.inbox
+pub handled : (input : List ℕ) (s : SessionView) (body : List ℕ) (end : ℕ) (new : PassView) (now : Option (List PrintPart)) → IsFrameBody body → s.inbox ≡ framed body ++ drop end s.inbox
     → IsCall s.number s.kept now body s.pass new → HasReceived input s → HasReceived input (record s { pass = new; inbox = drop end s.inbox; kept = now })
 handled input s body end new now small parts call h =
     let named : s.is_named ≡ true = named_of input s (ap is_some call.call.going) h in

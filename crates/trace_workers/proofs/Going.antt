@@ -14,14 +14,16 @@ use Rattle.kbytes.proofs.Laws.{all_append}
 use Rattle.kwire.specs.Frames.{IsFrameBody, framed}
 use Rattle.shared_broker.specs.Calling.{HasCalled}
 use Rattle.shared_broker.specs.Collecting.{HasCompleted}
+use Rattle.shared_broker.specs.Finding.{HasCaughtUp}
 use Rattle.shared_broker.specs.Passes.{PassView}
 use Rattle.shared_broker.specs.Sessions.{HasEnded, is_cut_off, with_begun}
+use Rattle.trace_workers.specs.declared.print_part.PrintPart.{PrintPart}
 use Rattle.trace_workers.specs.Ending.{EndsSo, MayEndSo}
 use Rattle.trace_workers.specs.Received.{HasHandled, HasReceived, HasReceivedNothing, IsOnlyOf, StandsAt}
 use Rattle.trace_workers.specs.Sessions.{SessionView}
-use Rattle.trace_workers.specs.Telling.{AreKept}
+use Rattle.trace_workers.specs.Telling.{AreKept, AreSame}
 use Rattle.trace_workers.proofs.Fronts.{end_more, end_shut, same_end}
-use Rattle.trace_workers.proofs.Telling.{kept_still}
+use Rattle.trace_workers.proofs.Telling.{kept_alike, kept_on, kept_still}
 use Rattle.trace_workers.proofs.Transcripts.{all_front, all_last, frames_more, framed_calls, goes_on, is_over, last_whole, only_ended, only_going, parked_last, unparked_last}
 
 -- ---- a session that was named
@@ -80,7 +82,7 @@ stand_last true front call h = parked_last front call h
 stand_last false front call h = unparked_last front call h
 
 -- the frame at the front is that of a call, and leaves the inbox
-pub called : (input : List ℕ) (s : SessionView) (body : List ℕ) (end : ℕ) (new : PassView) (now : Option (List ℕ)) → HasHandled input s → IsFrameBody body → s.inbox ≡ framed body ++ drop end s.inbox
+pub called : (input : List ℕ) (s : SessionView) (body : List ℕ) (end : ℕ) (new : PassView) (now : Option (List PrintPart)) → HasHandled input s → IsFrameBody body → s.inbox ≡ framed body ++ drop end s.inbox
     → (c : HasCalled body s.pass new) → IsNotCut c.call → MatchBool (is_some new.waits) (c.call.how ≡ Parked) (c.call.how ≢ Parked)
     → ((calls : List Call) → AreKept s.kept s.number s.pass calls → AreKept now s.number new (calls ++ c.call ∷ []))
     → HasHandled input (record s { pass = new; inbox = drop end s.inbox; kept = now })
@@ -108,7 +110,7 @@ called input s body end new now h small parts c whole waits tells =
 
 -- ---- the last call is completed
 
-pub completed : (input : List ℕ) (s : SessionView) (new : PassView) (now : Option (List ℕ)) → HasHandled input s → (c : HasCompleted s.pass new) → ((won : Option ℕ) → c.how ≢ Cut won) → c.how ≢ Parked
+pub completed : (input : List ℕ) (s : SessionView) (new : PassView) (now : Option (List PrintPart)) → HasHandled input s → (c : HasCompleted s.pass new) → ((won : Option ℕ) → c.how ≢ Cut won) → c.how ≢ Parked
     → ((calls : List Call) → AreKept s.kept s.number s.pass (calls ++ c.call ∷ []) → AreKept now s.number new (calls ++ record c.call { finish = c.finish; how = c.how } ∷ []))
     → HasHandled input (record s { pass = new; kept = now })
 completed input s new now h c whole over tells =
@@ -162,11 +164,11 @@ ended input s end new h shows e =
       kept = kept_still s.kept s.number s.pass new t.calls (ap (λ (p : PassView). p.config) e.new_is) (ap (λ (p : PassView). p.logs.parts) e.new_is) (ap (λ (p : PassView). p.logs.clock) e.new_is) h.kept;
     }
 
--- ---- the pass has only seen what others did
+-- ---- the pass has only seen what others did, and perhaps what is kept is told in another form
 
-same_handled : (input : List ℕ) (s : SessionView) (new : PassView) → new.ended ≡ s.pass.ended → new.going ≡ s.pass.going → new.waits ≡ s.pass.waits
-    → ((calls : List Call) → AreKept s.kept s.number s.pass calls → AreKept s.kept s.number new calls) → HasHandled input s → HasHandled input (record s { pass = new })
-same_handled input s new over goes waits tells h = record {
+same_handled : (input : List ℕ) (s : SessionView) (new : PassView) (now : Option (List PrintPart)) → new.ended ≡ s.pass.ended → new.going ≡ s.pass.going → new.waits ≡ s.pass.waits
+    → ((calls : List Call) → AreKept s.kept s.number s.pass calls → AreKept now s.number new calls) → HasHandled input s → HasHandled input (record s { pass = new; kept = now })
+same_handled input s new now over goes waits tells h = record {
   transcript = h.transcript;
   only = subst (λ (ts : List Transcript). IsOnlyOf h.transcript ts new.going) (sym over) (subst (IsOnlyOf h.transcript s.pass.ended) (sym goes) h.only);
   number = h.number;
@@ -179,17 +181,26 @@ same_handled input s new over goes waits tells h = record {
   kept = tells h.transcript.calls h.kept;
 }
   where
-    by_end : (end : Option SessionEnd) → StandsAt s h.rest h.transcript end → StandsAt (record s { pass = new }) h.rest h.transcript end
+    by_end : (end : Option SessionEnd) → StandsAt s h.rest h.transcript end → StandsAt (record s { pass = new; kept = now }) h.rest h.transcript end
     by_end None stood = (stood.0, subst (λ (b : Bool). MatchBool b (LastIsParked h.transcript.calls) (LastIsParked h.transcript.calls → ⊥)) (sym (ap is_some waits)) stood.1)
     by_end (Some end) stood = stood
 
-pub seen : (input : List ℕ) (s : SessionView) (new : PassView) → new.ended ≡ s.pass.ended → new.going ≡ s.pass.going → new.waits ≡ s.pass.waits
-    → ((calls : List Call) → AreKept s.kept s.number s.pass calls → AreKept s.kept s.number new calls) → HasReceived input s → HasReceived input (record s { pass = new })
-seen input s new over goes waits tells h = by_name s.is_named h
+pub seen : (input : List ℕ) (s : SessionView) (new : PassView) (now : Option (List PrintPart)) → new.ended ≡ s.pass.ended → new.going ≡ s.pass.going → new.waits ≡ s.pass.waits
+    → ((calls : List Call) → AreKept s.kept s.number s.pass calls → AreKept now s.number new calls) → HasReceived input s → HasReceived input (record s { pass = new; kept = now })
+seen input s new now over goes waits tells h = by_name s.is_named h
   where
-    by_name : (b : Bool) → MatchBool b (HasHandled input s) (HasReceivedNothing input s) → MatchBool b (HasHandled input (record s { pass = new })) (HasReceivedNothing input (record s { pass = new }))
-    by_name true here = same_handled input s new over goes waits tells here
+    by_name : (b : Bool) → MatchBool b (HasHandled input s) (HasReceivedNothing input s)
+        → MatchBool b (HasHandled input (record s { pass = new; kept = now })) (HasReceivedNothing input (record s { pass = new; kept = now }))
+    by_name true here = same_handled input s new now over goes waits tells here
     by_name false here = record { none = here.none; inbox = here.inbox; unshut = here.unshut; ended = over ∙ here.ended; going = goes ∙ here.going; waits = waits ∙ here.waits; kept = tells [] here.kept }
+
+-- it looked where the records of its last reply stand
+pub shortened : (input : List ℕ) (s : SessionView) (new : PassView) (now : Option (List PrintPart)) → HasCaughtUp s.pass new → AreSame new s.kept now → HasReceived input s
+    → HasReceived input (record s { pass = new; kept = now })
+shortened input s new now caught same h =
+    let p = caught.rest in
+    seen input s new now (ap (λ (x : PassView). x.ended) p) (ap (λ (x : PassView). x.going) p) (ap (λ (x : PassView). x.waits) p)
+    (λ calls k. kept_alike s.kept now s.number new calls same (kept_on s.kept s.number s.pass new calls (ap (λ (x : PassView). x.config) p) caught.logs.others.grown k)) h
 
 -- ---- a line brings it bytes, or ends its input
 

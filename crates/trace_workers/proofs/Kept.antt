@@ -13,19 +13,20 @@ use Rattle.trace_file.specs.Contents.{input_of}
 use Rattle.trace_file.specs.declared.line.Line.{Line}
 use Rattle.trace_file.specs.declared.line.Line.TheVariants.{Clock}
 use Rattle.trace_workers.specs.declared.played.Played.{Played}
+use Rattle.trace_workers.specs.declared.print_part.PrintPart.{PrintPart}
 use Rattle.trace_workers.specs.Closed.{CameTo}
 use Rattle.trace_workers.specs.Received.{HasHandled, HasReceivedNothing}
 use Rattle.trace_workers.specs.Sessions.{DeskView, SessionView, desk_of}
-use Rattle.trace_workers.specs.Telling.{AreKept, HasKept, HaveDesks, IsToldIn}
+use Rattle.trace_workers.specs.Telling.{AreKept, HasKept, HaveDesks, IsToldIn, joined}
 use Rattle.trace_workers.specs.Workers.{HasTaken}
 use Rattle.trace_workers.proofs.Alone.{told_none, told_of, told_one}
 use Rattle.trace_workers.proofs.Places.{any_map}
 use Rattle.trace_workers.proofs.WorkerRun.{IsListedIn, has_passes, split}
 
-if_kept : (kept : Option (List ℕ)) (session : ℕ) (pass : PassView) (calls : List Call) (P : List ℕ → Type 0) → ((text : List ℕ) → AreKept (Some text) session pass calls → P text)
+if_kept : (kept : Option (List PrintPart)) (session : ℕ) (pass : PassView) (calls : List Call) (P : List PrintPart → Type 0) → ((parts : List PrintPart) → AreKept (Some parts) session pass calls → P parts)
     → AreKept kept session pass calls → IfSome kept P
 if_kept None session pass calls P goes h = tt
-if_kept (Some text) session pass calls P goes h = goes text h
+if_kept (Some parts) session pass calls P goes h = goes parts h
 
 -- one session
 kept_by : (broker : BrokerView) (lines : List Line) (account : Account) (s : SessionView) → HasTaken broker lines s → GoesOn broker.config s.pass.logs.parts s.pass.logs.clock account
@@ -41,11 +42,14 @@ kept_by broker lines account s taken on listed = by_name s.is_named taken.receiv
     goes : GoesOn s.pass.config s.pass.logs.parts s.pass.logs.clock account
     goes = subst (λ (c : Configuration). GoesOn c s.pass.logs.parts s.pass.logs.clock account) (sym (ap (λ (b : BrokerView). b.config) taken.made)) on
 
-    by_name : (b : Bool) → MatchBool b (HasHandled input s) (HasReceivedNothing input s) → IfSome s.kept (IsToldIn account s.number)
-    by_name true h = if_kept s.kept s.number s.pass h.transcript.calls (IsToldIn account s.number)
-        (λ text kept. record { transcripts = h.transcript ∷ []; there = there ∙ ap Some (told_one input s h); told = (h.number, (kept.0, kept.1 account goes, kept.2)) }) h.kept
-    by_name false h = if_kept s.kept s.number s.pass [] (IsToldIn account s.number)
-        (λ text kept. record { transcripts = []; there = there ∙ ap Some (told_none input s h); told = tt }) h.kept
+    Told : List PrintPart → Type 0
+    Told parts = IsToldIn account s.number (joined account parts)
+
+    by_name : (b : Bool) → MatchBool b (HasHandled input s) (HasReceivedNothing input s) → IfSome s.kept Told
+    by_name true h = if_kept s.kept s.number s.pass h.transcript.calls Told
+        (λ parts kept. record { transcripts = h.transcript ∷ []; there = there ∙ ap Some (told_one input s h); told = (h.number, (kept.0, kept.1 account goes)) }) h.kept
+    by_name false h = if_kept s.kept s.number s.pass [] Told
+        (λ parts kept. record { transcripts = []; there = there ∙ ap Some (told_none input s h); told = tt }) h.kept
 
 pub all_kept : (broker : BrokerView) (lines : List Line) (count : ℕ) (drain : Bool) (played : Played) → CameTo broker lines count drain played → All (HasKept played.account) played.desks
 all_kept broker lines count drain played came =

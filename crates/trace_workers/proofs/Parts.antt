@@ -17,10 +17,19 @@ use Rattle.trace_workers.proofs.Places.{any_with}
 
 -- ---- parts, one after the other
 
-pub joined_more : (parts more : List PrintPart) (last : List ℕ) → joined ((parts ++ more) ++ PrintPart.Text last ∷ []) ≡ joined parts ++ (joined more ++ last)
-joined_more parts more last =
-    flat_map-append part_text (parts ++ more) (PrintPart.Text last ∷ []) ∙ ap (λ (t : List ℕ). joined (parts ++ more) ++ t) (append-nil last)
-    ∙ ap (λ (t : List ℕ). t ++ last) (flat_map-append part_text parts more) ∙ append_assoc (joined parts) (joined more) last
+pub one_more_part : (account : Account) (parts : List PrintPart) (part : PrintPart) → joined account (parts ++ part ∷ []) ≡ joined account parts ++ part_text account part
+one_more_part account parts part = flat_map-append (part_text account) parts (part ∷ []) ∙ ap (λ (t : List ℕ). joined account parts ++ t) (append-nil (part_text account part))
+
+-- behind some parts comes another one, and then this text
+pub part_then_text : (account : Account) (parts : List PrintPart) (part : PrintPart) (text : List ℕ)
+    → joined account ((parts ++ part ∷ []) ++ PrintPart.Text text ∷ []) ≡ (joined account parts ++ part_text account part) ++ text
+part_then_text account parts part text = one_more_part account (parts ++ part ∷ []) (PrintPart.Text text) ∙ ap (λ (t : List ℕ). t ++ text) (one_more_part account parts part)
+
+pub joined_more : (account : Account) (parts more : List PrintPart) (last : List ℕ)
+    → joined account ((parts ++ more) ++ PrintPart.Text last ∷ []) ≡ joined account parts ++ (joined account more ++ last)
+joined_more account parts more last =
+    flat_map-append (part_text account) (parts ++ more) (PrintPart.Text last ∷ []) ∙ ap (λ (t : List ℕ). joined account (parts ++ more) ++ t) (append-nil last)
+    ∙ ap (λ (t : List ℕ). t ++ last) (flat_map-append (part_text account) parts more) ∙ append_assoc (joined account parts) (joined account more) last
 
 -- ---- one pass
 
@@ -38,18 +47,18 @@ first_none (x ∷ xs) none = absurd cc
 pub nothing_put : (account : Account) (number : ℕ) (ts : List Transcript) (before : List ℕ) → slice_get account.passes number ≡ Some ts → ts ≡ [] → HasPutPass account number before before
 nothing_put account number ts before there none = ([], there ∙ ap Some none, [], ([], tt, refl), sym (append-nil before))
 
-of_kept : (account : Account) (desk : DeskView) (text : List ℕ) → HasKept account desk → desk.kept ≡ Some text → IsToldIn account desk.number text
-of_kept account desk text kept is = subst (λ (o : Option (List ℕ)). IfSome o (IsToldIn account desk.number)) is kept
+of_kept : (account : Account) (desk : DeskView) (parts : List PrintPart) → HasKept account desk → desk.kept ≡ Some parts → IsToldIn account desk.number (joined account parts)
+of_kept account desk parts kept is = subst (λ (o : Option (List PrintPart)). IfSome o (λ ps. IsToldIn account desk.number (joined account ps))) is kept
 
 -- with that of its session, which kept these lines
-pub session_put : (account : Account) (number : ℕ) (ts : List Transcript) (t : Transcript) (desk : DeskView) (text before after : List ℕ) → slice_get account.passes number ≡ Some ts → slice_get ts 0 ≡ Some t
-    → desk.number ≡ number → HasKept account desk → desk.kept ≡ Some text → after ≡ before ++ (text ++ end_line desk.number t.end) → HasPutPass account number before after
-session_put account number ts t desk text before after there first is kept lines put =
-    let k = of_kept account desk text kept lines in
+pub session_put : (account : Account) (number : ℕ) (ts : List Transcript) (t : Transcript) (desk : DeskView) (parts : List PrintPart) (before after : List ℕ) → slice_get account.passes number ≡ Some ts → slice_get ts 0 ≡ Some t
+    → desk.number ≡ number → HasKept account desk → desk.kept ≡ Some parts → after ≡ before ++ (joined account parts ++ end_line desk.number t.end) → HasPutPass account number before after
+session_put account number ts t desk parts before after there first is kept lines put =
+    let k = of_kept account desk parts kept lines in
     let same : k.transcripts ≡ ts = same_Some k.transcripts ts (sym k.there ∙ ap (slice_get account.passes) is ∙ there) in
-    by_case ts there first (subst (λ (us : List Transcript). IsToldBy account desk.number us text) same k.told)
+    by_case ts there first (subst (λ (us : List Transcript). IsToldBy account desk.number us (joined account parts)) same k.told)
   where
-    by_case : (us : List Transcript) → slice_get account.passes number ≡ Some us → slice_get us 0 ≡ Some t → IsToldBy account desk.number us text → HasPutPass account number before after
+    by_case : (us : List Transcript) → slice_get account.passes number ≡ Some us → slice_get us 0 ≡ Some t → IsToldBy account desk.number us (joined account parts) → HasPutPass account number before after
     by_case [] at one k = absurd cc
     by_case (u ∷ []) at one k =
         let is_t : u ≡ t = same_Some u t one in
@@ -57,9 +66,9 @@ session_put account number ts t desk text before after there first is kept lines
         let lines : lines_of desk.number replies ≡ lines_of u.number replies = ap (λ (n : ℕ). lines_of n replies) (sym k.0) in
         let ends : end_line desk.number t.end ≡ end_line u.number u.end =
         ap (λ (n : ℕ). end_line n t.end) (sym k.0) ∙ ap (λ (x : Transcript). end_line u.number x.end) (sym is_t) in
-        let spelled : text ++ end_line desk.number t.end ≡ flat_map session_text (zip (u ∷ []) (replies ∷ [])) =
-        ap (λ (x : List ℕ). x ++ end_line desk.number t.end) (k.1.2 ∙ lines) ∙ ap (λ (x : List ℕ). lines_of u.number replies ++ x) ends ∙ sym (append-nil (session_text (u, replies))) in
-        (u ∷ [], at, text ++ end_line desk.number t.end, (replies ∷ [], (k.1.1, tt), spelled), put)
+        let spelled : joined account parts ++ end_line desk.number t.end ≡ flat_map session_text (zip (u ∷ []) (replies ∷ [])) =
+        ap (λ (x : List ℕ). x ++ end_line desk.number t.end) (k.1.1.1 ∙ lines) ∙ ap (λ (x : List ℕ). lines_of u.number replies ++ x) ends ∙ sym (append-nil (session_text (u, replies))) in
+        (u ∷ [], at, joined account parts ++ end_line desk.number t.end, (replies ∷ [], (k.1.1.0, tt), spelled), put)
     by_case (u ∷ v ∷ us) at one k = absurd k
 
 -- its desk stays, without them

@@ -1,5 +1,6 @@
 -- A worker may do each line of a trace that is its own.
-use Rattle.std.proofs.Common.{◌≡◌, ℕ, ◌<◌, ◌≤◌, true, false, List, get_or, length, take, refl, eqb, arith}
+use Rattle.std.proofs.Common.{◌≡◌, ◌∙◌, ℕ, ◌<◌, ◌≤◌, true, false, List, ◌∷◌, ◌++◌, get_or, length, length-append, take, refl, sym, ap, subst, eqb, arith}
+use Rattle.std.proofs.lemmas.List.{get_or_at, take_at}
 use Rattle.std.specs.Prelude.{IfSome}
 use Rattle.std.proofs.lemmas.Bool.{eq-eqb, eqb-true}
 use Rattle.partlog.specs.declared.clock_event.TheConstants.{MOST_MOMENT}
@@ -32,6 +33,18 @@ may_take lines worker i d traced all less own =
     (λ session named. open_before lines i d session trace.order.pairs less named)
     (λ t is. within_limit (pieces_of traced.0) lines i d t trace.spelled less is)
     own
+
+-- the same as the lines are taken one after the other
+pub may_take_next : (lines front rest : List Line) (line : Line) (worker : WorkerView) → AreTraced lines → HasAll (sessions_of lines) worker → front ++ line ∷ rest ≡ lines → is_own worker line ≡ true → MayTake front line worker
+may_take_next lines front rest line worker traced all whole own =
+    let i = length front in
+    let is : get_or lines i line ≡ line = ap (λ (ls : List Line). get_or ls i line) (sym whole) ∙ get_or_at front line rest line i refl in
+    let before : take i lines ≡ front = ap (take i) (sym whole) ∙ take_at front (line ∷ rest) i refl in
+    let size = ap length whole in
+    let long = length-append front (line ∷ rest) in
+    subst (λ (b : List Line). MayTake b line worker) before
+    (subst (λ (l : Line). MayTake (take i lines) l worker) is
+    (may_take lines worker i line traced all (omega (arith, size, long)) (subst (λ (l : Line). is_own worker l ≡ true) (sym is) own)))
 
 -- the session that such a line names is at its place, and stays there
 pub place_there : (before : List Line) (line : Line) (worker new : WorkerView) → MayTake before line worker → length new.sessions ≡ length worker.sessions → IfSome (named_place worker line) (λ (at : ℕ). at < length new.sessions)

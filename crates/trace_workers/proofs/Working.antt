@@ -76,6 +76,10 @@ keep_still keeps olds news same all k d less =
     let within : k < length olds = omega (arith, less, size) in
     sym (get_or-map f news k d (f d) less) ∙ ap (λ (bs : List Bool). get_or bs k (f d)) same ∙ get_or-map f olds k d (f d) within ∙ all k d within
 
+-- and so does a worker
+pub worker_keeps : (keeps : Bool) (old new : WorkerView) → IsSameWorker old new → AllKeep keeps old → AllKeep keeps new
+worker_keeps keeps old new same all = keep_still keeps old.sessions new.sessions same.kept all
+
 pub all_keep : (broker : BrokerView) (lines : List Line) (keeps : Bool) (olds news : List WorkerView) → length news ≡ length olds
     → ((k : ℕ) (d : WorkerView) → k < length olds → IsPlayed broker lines (get_or olds k d) (get_or news k d)) → All (AllKeep keeps) olds → All (AllKeep keeps) news
 all_keep broker lines keeps olds news size each all k d less =

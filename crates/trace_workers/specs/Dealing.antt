@@ -3,6 +3,7 @@ use Rattle.std.specs.Prelude.{ℕ, ◌≡◌, ◌+◌, ◌*◌, ◌<◌, ◌≤�
 use Rattle.std.specs.List.{range_with_len}
 use Rattle.shared_broker.specs.Making.{fresh_pass}
 use Rattle.shared_broker.specs.Passes.{BrokerView}
+use Rattle.trace_workers.specs.declared.print_part.PrintPart.{PrintPart}
 use Rattle.trace_workers.specs.Sessions.{SessionView}
 use Rattle.trace_workers.specs.Workers.{HasDone, WorkerView}
 use Rattle.trace_workers.specs.Dealt.{sessions_dealt}
@@ -15,7 +16,7 @@ abbrev pub empty_workers : ℕ → List WorkerView
 empty_workers worker_count = map (empty_worker worker_count) (range_with_len 0 worker_count)
 
 -- a session that no line has named, on the new pass of its own number
-abbrev pub fresh_session : BrokerView → ℕ → Option (List ℕ) → SessionView
+abbrev pub fresh_session : BrokerView → ℕ → Option (List PrintPart) → SessionView
 fresh_session broker number kept = record { number = number; pass = fresh_pass broker number; inbox = []; is_shut = false; is_named = false; kept = kept }
 
 -- Worker k of these has its own of that many sessions, and no clock: the first of its own that it doesn't have is the first that isn't below that many.

@@ -16,6 +16,8 @@ pub mod Workers
 pub mod WorkerRun
 -- ==== the words of private functions
 
+-- the lines that are played
+pub mod ToPlay
 -- how a session may end
 pub mod Ending
 -- the lines that are a worker's own

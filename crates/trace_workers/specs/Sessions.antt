@@ -1,16 +1,17 @@
 -- What a clause sees of a session of a trace, and what stays as it goes on.
 use Rattle.std.specs.Prelude.{◌≡◌, ℕ, Bool, List, Option, is_some}
 use Rattle.shared_broker.specs.Passes.{PassView, made_with}
+use Rattle.trace_workers.specs.declared.print_part.PrintPart.{PrintPart}
 
--- the session's number and its pass; what it received and nobody has handled yet, whether its input ended, and whether a line named it; and the lines
--- of its replies, where they are kept
+-- the session's number and its pass; what it received and nobody has handled yet, whether its input ended, and whether a line named it; and the parts
+-- that are the lines of its replies in the account of the run, where they are kept
 pub record SessionView : Type 0 where
   pub number : ℕ
   pub pass : PassView
   pub inbox : List ℕ
   pub is_shut : Bool
   pub is_named : Bool
-  pub kept : Option (List ℕ)
+  pub kept : Option (List PrintPart)
 
 -- the session without its pass
 pub record DeskView : Type 0 where
@@ -18,7 +19,7 @@ pub record DeskView : Type 0 where
   pub inbox : List ℕ
   pub is_shut : Bool
   pub is_named : Bool
-  pub kept : Option (List ℕ)
+  pub kept : Option (List PrintPart)
 
 abbrev pub desk_of : SessionView → DeskView
 desk_of s = record { number = s.number; inbox = s.inbox; is_shut = s.is_shut; is_named = s.is_named; kept = s.kept }

@@ -29,6 +29,7 @@ mod runs;
 mod session;
 mod session_promises;
 mod steps;
+mod stored;
 mod worker;
 
 pub use desk::Desk;

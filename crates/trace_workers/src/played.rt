@@ -68,7 +68,7 @@ fn put_pass(
     ensures kept { All (HasKept account.now) desks.new }
     ensures desks { OnOk result (HaveDesks account.now desks.new) }
     ensures lines { OnOk result (HaveLinesFrom (number + 1) desks.new) }
-    ensures put { OnOk result (HasPutPass account.now number (joined parts.old) (joined parts.new)) }
+    ensures put { OnOk result (HasPutPass account.now number (joined account.now parts.old) (joined account.now parts.new)) }
 {
     let transcripts = account.passes.as_slice()[number].as_slice();
     let Some(transcript) = transcripts.first() else {
@@ -95,7 +95,7 @@ fn kept_parts(
     requires kept { All (HasKept account.now) desks.old }
     requires desks { HaveDesks account.now desks.old }
     requires lines { All (HasLines true) desks.old }
-    ensures { IfOk result (λ parts. IsTextOf account.now (transcripts_of account.now) (joined parts)) }
+    ensures { IfOk result (λ parts. IsTextOf account.now (transcripts_of account.now) (joined account.now parts)) }
 {
     let mut parts = List::new(alloc);
     for number in 0..account.passes.len() {
@@ -114,7 +114,7 @@ pub fn print_parts(
     requires desks { HaveDesks account.now desks.old }
     requires lines { All (HasLines true) desks.old }
     requires printable { IsPrintable account.now }
-    ensures { IfOk result (λ parts. IsPrintOf account.now (joined parts)) }
+    ensures { IfOk result (λ parts. IsPrintOf account.now (joined account.now parts)) }
 {
     let mut parts = kept_parts(alloc, account, desks)?;
     let mut summary = Bytes::new(alloc);

@@ -1,12 +1,19 @@
 //! The printed lines of a session's replies, kept as it is answered. A session of a trace has them if its run is printed session by session.
 ghost use Rattle.std.specs.Prelude.{◌≡◌, ◌++◌, [], OnOk, IfOk, is_some};
-ghost use Rattle.trace_workers.specs.Telling.{HasPut, IsFresh, frame_line, joined};
+ghost use Rattle.audit.specs.declared.account.Account.{Account};
+ghost use Rattle.audit.specs.broker.GoesOn.{Carried};
+ghost use Rattle.shared_broker.specs.Finding.{HasCaughtUp};
+ghost use Rattle.shared_broker.specs.Passes.{made_with};
+ghost use Rattle.trace_workers.specs.Telling.{HasPut, IsFresh, frame_line, joined, part_text};
 
 use crate::print_part::PrintPart;
+use crate::stored::find_stored;
 use kbytes::{Bytes, List, NoMemory};
+use shared_broker::{Broker, Pass};
 use std::alloc::Global;
 use std::marker::Model;
 use std::mem;
+use std::sync::Wait;
 use trace_file::Digits;
 
 /// The most bytes of a block of lines, where no line is longer.
@@ -18,7 +25,7 @@ const FIRST_BLOCK: usize = 256;
 /// More bytes than the line of a reply has beside the digits of its frame.
 const BESIDE_DIGITS: usize = 32;
 
-/// A frame of more bytes is kept as it is.
+/// A frame of more bytes is kept as it is, or without the records that stand in a log.
 const LONG_FRAME: usize = 512;
 
 /// The lines of the replies so far, one after the other. Those of short frames are in blocks, so that none is moved as more come; a long frame is
@@ -34,17 +41,17 @@ pub struct ReplyLines {
 }
 
 impl Model for ReplyLines {
-    ghost use Rattle.std.specs.Prelude.{◌++◌, List, ℕ};
-    ghost use Rattle.trace_workers.specs.Telling.{joined};
+    ghost use Rattle.std.specs.Prelude.{[], ◌∷◌, ◌++◌, List};
+    ghost use Rattle.trace_workers.specs.declared.print_part.PrintPart.{PrintPart};
 
-    ghost Value = { List ℕ };
+    ghost Value = { List PrintPart };
 
-    ghost view = { λ l. joined l.parts ++ l.last };
+    ghost view = { λ l. l.parts ++ PrintPart.Text l.last ∷ [] };
 }
 
 // Puts a block of lines after the parts, if it has any.
 fn end_block(parts: &mut List<PrintPart>, block: Bytes) -> Result<(), NoMemory>
-    ensures { OnOk result (joined parts.new ≡ joined parts.old ++ block) }
+    ensures { OnOk result ((account : Account) → joined account parts.new ≡ joined account parts.old ++ block) }
 {
     if block.is_empty() {
         return Ok(());
@@ -52,10 +59,37 @@ fn end_block(parts: &mut List<PrintPart>, block: Bytes) -> Result<(), NoMemory>
     parts.push(PrintPart::Text(block))
 }
 
+// A part without the records that stand in a log, if it is a reply's with such records.
+fn shorter(
+    rt: &impl Wait,
+    alloc: Global,
+    broker: &Broker,
+    pass: &mut Pass,
+    part: PrintPart,
+) -> Result<PrintPart, NoMemory>
+    requires made { made_with pass.old ≡ broker.now }
+    ensures others { HasCaughtUp pass.old pass.new }
+    ensures same { IfOk result (λ now. Carried pass.new.config pass.new.logs.parts pass.new.logs.clock (λ account. part_text account now ≡ part_text account part)) }
+{
+    let PrintPart::Reply { session, frame } = part else {
+        return Ok(part);
+    };
+    let Some(stored) = find_stored(rt, broker, pass, frame.as_slice()) else {
+        return Ok(PrintPart::Reply { session, frame });
+    };
+    let mut head = Bytes::new(alloc);
+    head.extend(&frame.as_slice()[..stored.head])?;
+    Ok(PrintPart::Stored {
+        session,
+        head,
+        range: stored.range,
+    })
+}
+
 impl ReplyLines {
     /// No lines yet.
     pub fn make(alloc: Global) -> Result<ReplyLines, NoMemory>
-        ensures { IfOk result (λ lines. lines ≡ []) }
+        ensures { IfOk result (λ lines. (account : Account) → joined account lines ≡ []) }
     {
         let digits = Digits::make(alloc)?;
         Ok(ReplyLines {
@@ -69,7 +103,7 @@ impl ReplyLines {
 
     // Begins another block, twice as long as the last one, with room for a line of this length.
     fn begin_block(&mut self, line: usize) -> Result<(), NoMemory>
-        ensures { OnOk result (self.new ≡ self.old) }
+        ensures { OnOk result ((account : Account) → joined account self.new ≡ joined account self.old) }
     {
         let twice = self.room.saturating_add(self.room);
         self.room = twice.max(FIRST_BLOCK).min(BLOCK).max(line);
@@ -79,21 +113,29 @@ impl ReplyLines {
         end_block(&mut self.parts, full)
     }
 
+    // Begins another block if this one has no room for a line of this length.
+    fn make_room(&mut self, line: usize) -> Result<(), NoMemory>
+        ensures { OnOk result ((account : Account) → joined account self.new ≡ joined account self.old) }
+    {
+        if self.last.len().saturating_add(line) > self.room {
+            self.begin_block(line)
+        } else {
+            Ok(())
+        }
+    }
+
     // Adds the line of a frame.
     fn put_short(&mut self, session: u32, frame: &[u8]) -> Result<(), NoMemory>
-        ensures { OnOk result (self.new ≡ self.old ++ frame_line session frame.now) }
+        ensures { OnOk result ((account : Account) → joined account self.new ≡ joined account self.old ++ frame_line session frame.now) }
     {
         let digits = frame.len().saturating_add(frame.len());
-        let line = digits.saturating_add(BESIDE_DIGITS);
-        if self.last.len().saturating_add(line) > self.room {
-            self.begin_block(line)?;
-        }
+        self.make_room(digits.saturating_add(BESIDE_DIGITS))?;
         self.digits.put_reply_line(&mut self.last, session, frame)
     }
 
     // Keeps a frame as it is.
     fn put_long(&mut self, session: u32, frame: Bytes) -> Result<(), NoMemory>
-        ensures { OnOk result (self.new ≡ self.old ++ frame_line session frame) }
+        ensures { OnOk result ((account : Account) → joined account self.new ≡ joined account self.old ++ frame_line session frame) }
     {
         let full = mem::replace(&mut self.last, Bytes::new(self.alloc));
         end_block(&mut self.parts, full)?;
@@ -105,7 +147,7 @@ impl ReplyLines {
     /// most sessions leave at once.
     #[inline(never)]
     pub fn put(&mut self, session: u32, frame: Bytes) -> Result<(), NoMemory>
-        ensures { OnOk result (self.new ≡ self.old ++ frame_line session frame) }
+        ensures { OnOk result ((account : Account) → joined account self.new ≡ joined account self.old ++ frame_line session frame) }
     {
         if frame.len() > LONG_FRAME {
             self.put_long(session, frame)
@@ -114,9 +156,31 @@ impl ReplyLines {
         }
     }
 
+    /// Gives back the records of the last reply if it is long and they stand in a log: they are then read there, in the account of the run. If memory
+    /// runs out, it may only be dropped.
+    pub fn shorten(
+        &mut self,
+        rt: &impl Wait,
+        broker: &Broker,
+        pass: &mut Pass,
+    ) -> Result<(), NoMemory>
+        requires made { made_with pass.old ≡ broker.now }
+        ensures others { HasCaughtUp pass.old pass.new }
+        ensures same { OnOk result (Carried pass.new.config pass.new.logs.parts pass.new.logs.clock (λ account. joined account self.new ≡ joined account self.old)) }
+    {
+        if !self.last.is_empty() {
+            return Ok(());
+        }
+        let Some(part) = self.parts.pop() else {
+            return Ok(());
+        };
+        let part = shorter(rt, self.alloc, broker, pass, part)?;
+        self.parts.push(part)
+    }
+
     /// The lines, in parts.
     pub fn into_parts(self) -> Result<List<PrintPart>, NoMemory>
-        ensures { IfOk result (λ parts. joined parts ≡ self) }
+        ensures { IfOk result (λ parts. (account : Account) → joined account parts ≡ joined account self) }
     {
         let ReplyLines {
             mut parts,

@@ -6,6 +6,7 @@ ghost use Rattle.trace_file.specs.Contents.{sessions_of};
 ghost use Rattle.trace_workers.specs.Sessions.{HasLines};
 ghost use Rattle.trace_workers.specs.Workers.{AllKeep, HasAll, HasDone, IsSameWorker};
 ghost use Rattle.trace_workers.specs.Playable.{AreTraced};
+ghost use Rattle.trace_workers.specs.ToPlay.{lines_in};
 ghost use Rattle.trace_workers.specs.Dealt.{AreDealt, AreWorked};
 ghost use Rattle.trace_workers.specs.Telling.{HasKept, HaveDesks, joined};
 ghost use Rattle.trace_workers.specs.WorkerRun.{IsWorkerRun};
@@ -71,6 +72,65 @@ fn work_all<R: Threads + Wait + Sync, G: Gate + Sync>(
     thread::for_each_mut(rt, workers, threads, &work);
 }
 
+// The same, of lines that may be given back: a worker that plays alone does so as it goes on.
+fn work_given<R: Threads + Wait + Sync, G: Gate + Sync>(
+    rt: &R,
+    broker: &Broker,
+    gate: &G,
+    lines: List<Line>,
+    workers: &mut [Worker],
+)
+    requires traced { AreTraced lines }
+    requires some { 1 ≤ length workers.old }
+    requires dealt { AreDealt broker.now (sessions_of lines) (length workers.old) workers.old }
+    ensures worked { AreWorked broker.now lines (sessions_of lines) (length workers.old) workers.new }
+    ensures kept { (keeps : Bool) → All (AllKeep keeps) workers.old → All (AllKeep keeps) workers.new }
+{
+    if workers.len() == 1 {
+        workers[0].work_given(rt, broker, gate, lines);
+    } else {
+        work_all(rt, broker, gate, lines.as_slice(), workers);
+    }
+}
+
+// The lines that are played: lent, or given away. A worker that plays alone gives the latter back line by line.
+#[derive(Drop)]
+enum LinesToPlay<'a> {
+    Lent(&'a [Line]),
+    Given(List<Line>),
+}
+
+impl<'a> LinesToPlay<'a> {
+    fn lines(&self) -> &[Line]
+        ensures { result.now ≡ lines_in self.now }
+    {
+        match self {
+            LinesToPlay::Lent(lines) => lines,
+            LinesToPlay::Given(lines) => lines.as_slice(),
+        }
+    }
+
+    // The workers play them.
+    fn play_by<R: Threads + Wait + Sync, G: Gate + Sync>(
+        self,
+        rt: &R,
+        broker: &Broker,
+        gate: &G,
+        workers: &mut [Worker],
+    )
+        requires traced { AreTraced (lines_in self) }
+        requires some { 1 ≤ length workers.old }
+        requires dealt { AreDealt broker.now (sessions_of (lines_in self)) (length workers.old) workers.old }
+        ensures worked { AreWorked broker.now (lines_in self.entry) (sessions_of (lines_in self.entry)) (length workers.old) workers.new }
+        ensures kept { (keeps : Bool) → All (AllKeep keeps) workers.old → All (AllKeep keeps) workers.new }
+    {
+        match self {
+            LinesToPlay::Lent(lines) => work_all(rt, broker, gate, lines, workers),
+            LinesToPlay::Given(lines) => work_given(rt, broker, gate, lines, workers),
+        }
+    }
+}
+
 // How lines are played: with which port in the replies to Metadata, on how many workers, whether the clock goes on after them, and whether each
 // session keeps the lines of its replies.
 #[derive(Clone, Copy)]
@@ -85,22 +145,23 @@ struct Manner {
 fn play<R: Threads + Wait + Sync, G: Gate + Sync>(
     rt: &R,
     alloc: Global,
-    lines: &[Line],
+    to_play: LinesToPlay<'_>,
     manner: Manner,
     gate: &G,
 ) -> Result<Played, NoMemory>
-    requires traced { AreTraced lines.now }
+    requires traced { AreTraced (lines_in to_play) }
     requires worker_count { (1 ≤ manner.worker_count) × (manner.worker_count ≤ 16) }
-    ensures run { IfOk result (λ played. IsWorkerRun lines.now manner.port manner.drain played.account) }
+    ensures run { IfOk result (λ played. IsWorkerRun (lines_in to_play.entry) manner.port manner.drain played.account) }
     ensures kept { IfOk result (λ played. All (HasKept played.account) played.desks) }
     ensures lines { IfOk result (λ played. All (HasLines manner.keeps_lines) played.desks) }
     ensures desks { IfOk result (λ played. HaveDesks played.account played.desks) }
 {
+    let lines = to_play.lines();
     let config = config_of(alloc, lines, manner.port)?;
     let count = sessions_of(lines);
     let (broker, passes) = Broker::make(alloc, config, count + 1)?;
     let mut workers = deal(alloc, passes, manner.worker_count, manner.keeps_lines)?;
-    work_all(rt, &broker, gate, lines, workers.as_mut_slice());
+    to_play.play_by(rt, &broker, gate, workers.as_mut_slice());
     let joined = gather(alloc, workers)?;
     joined.close(rt, alloc, broker, manner.drain)
 }
@@ -127,23 +188,25 @@ pub fn run_lines<R: Threads + Wait + Sync, G: Gate + Sync>(
         drain,
         keeps_lines: false,
     };
-    let Played { account, .. } = play(rt, alloc, lines, manner, gate)?;
+    let to_play = LinesToPlay::Lent(lines);
+    let Played { account, .. } = play(rt, alloc, to_play, manner, gate)?;
     Ok(account)
 }
 
 /// Plays the lines as `run_lines` does, without a drain or a gate, and answers the account together with what is printed of it, in parts: session
 /// by session what it was sent and how it ended, and then the summary. The line of a reply is made as its session is answered, in its worker's thread.
+/// One worker gives each line back as soon as it has played it.
 pub fn print_lines<R: Threads + Wait + Sync>(
     rt: &R,
     alloc: Global,
-    lines: &[Line],
+    lines: List<Line>,
     port: u16,
     worker_count: u32,
 ) -> Result<(Account, List<PrintPart>), NoMemory>
-    requires traced { AreTraced lines.now }
+    requires traced { AreTraced lines }
     requires worker_count { (1 ≤ worker_count) × (worker_count ≤ 16) }
-    ensures run { IfOk result (λ printed. IsWorkerRun lines.now port false printed.0) }
-    ensures text { IfOk result (λ printed. IsPrintOf printed.0 (joined printed.1)) }
+    ensures run { IfOk result (λ printed. IsWorkerRun lines port false printed.0) }
+    ensures text { IfOk result (λ printed. IsPrintOf printed.0 (joined printed.0 printed.1)) }
 {
     let manner = Manner {
         port,
@@ -151,7 +214,13 @@ pub fn print_lines<R: Threads + Wait + Sync>(
         drain: false,
         keeps_lines: true,
     };
-    let Played { account, mut desks } = play(rt, alloc, lines, manner, &NoGate)?;
+    let Played { account, mut desks } = play(
+        rt,
+        alloc,
+        LinesToPlay::Given(lines),
+        manner,
+        &NoGate,
+    )?;
     let parts = print_parts(alloc, &account, desks.as_mut_slice())?;
     Ok((account, parts))
 }

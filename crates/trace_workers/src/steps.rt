@@ -138,6 +138,24 @@ impl TraceSession {
         }
     }
 
+    // Keeps of the last reply, if it is long, only what doesn't stand in a log. Apart from `step`, which most sessions leave at once.
+    #[inline(never)]
+    fn shorten(&mut self, rt: &impl Wait, broker: &Broker) -> Result<(), NoMemory>
+        requires made { made_with self.old.pass ≡ broker.now }
+        requires received { (input : Items ℕ) × HasReceived input self.old }
+        ensures same { IsSameSession self.old self.new }
+        ensures named { self.new.is_named ≡ self.old.is_named }
+        ensures shut { self.new.is_shut ≡ self.old.is_shut }
+        ensures inbox { self.new.inbox ≡ self.old.inbox }
+        ensures going { self.new.pass.going ≡ self.old.pass.going }
+        ensures received { OnOk result ((input : Items ℕ) → HasReceived input self.old → HasReceived input self.new) }
+    {
+        match &mut self.kept {
+            Some(lines) => lines.shorten(rt, broker, &mut self.pass),
+            None => Ok(()),
+        }
+    }
+
     // Takes the reply to its request that waits, if that was won.
     #[inline(always)]
     fn collect(&mut self, rt: &impl Wait, broker: &Broker) -> Result<bool, NoMemory>
@@ -155,6 +173,7 @@ impl TraceSession {
         match ask_again(rt, broker, &mut self.pass, self.kept.is_some()) {
             Collected::Reply(frame) => {
                 put_line(&mut self.kept, self.number, frame)?;
+                self.shorten(rt, broker)?;
                 Ok(true)
             }
             Collected::NotYet => Ok(false),
@@ -181,6 +200,7 @@ impl TraceSession {
             Handled::Reply(frame) => {
                 put_line(&mut self.kept, self.number, frame)?;
                 self.inbox.drop_front(end);
+                self.shorten(rt, broker)?;
                 Ok(true)
             }
             Handled::Quiet | Handled::Parked { .. } => {

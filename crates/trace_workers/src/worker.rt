@@ -269,6 +269,48 @@ impl Worker {
         Ok(())
     }
 
+    // As `line`, and gives the line back.
+    fn given_line<G: Gate>(
+        &mut self,
+        rt: &impl Wait,
+        broker: &Broker,
+        gate: &G,
+        at: u32,
+        line: Line,
+    ) -> Result<(), NoMemory>
+        requires may { (before : Items TheLine) × HasDone broker.now before self.old × (is_own self.old line ≡ true → MayTake before line self.old) }
+        ensures same { IsSameWorker self.old self.new }
+        ensures running { self.new.is_stopped ≡ self.old.is_stopped }
+        ensures done { OnOk result ((before : Items TheLine) → HasDone broker.now before self.old → HasDone broker.now (before ++ line ∷ []) self.new) }
+        ensures rests { OnOk result (AllRest self.old → AllRest self.new) }
+    {
+        self.line(rt, broker, gate, at, &line)
+    }
+
+    // Plays all lines that are its own, and gives each line back as soon as it has passed it.
+    fn given_lines<G: Gate>(
+        &mut self,
+        rt: &impl Wait,
+        broker: &Broker,
+        gate: &G,
+        lines: List<Line>,
+    ) -> Result<(), NoMemory>
+        requires traced { AreTraced lines }
+        requires begun { HasDone broker.now [] self.old }
+        requires all { HasAll (sessions_of lines) self.old }
+        ensures same { IsSameWorker self.old self.new }
+        ensures running { self.new.is_stopped ≡ self.old.is_stopped }
+        ensures done { OnOk result (HasDone broker.now lines self.new) }
+        ensures rests { OnOk result (AllRest self.new) }
+    {
+        let mut at = 0;
+        for line in lines.into_vec() {
+            self.given_line(rt, broker, gate, at, line)?;
+            at += 1;
+        }
+        Ok(())
+    }
+
     /// Plays all lines that are its own, in their order, and after each lets its sessions go on until none can. It stops if memory runs out.
     pub fn work<G: Gate>(&mut self, rt: &impl Wait, broker: &Broker, gate: &G, lines: &[Line])
         requires traced { AreTraced lines.now }
@@ -280,6 +322,27 @@ impl Worker {
         ensures rests { self.new.is_stopped ≡ false → AllRest self.new }
     {
         if self.lines(rt, broker, gate, lines).is_err() {
+            self.is_stopped = true;
+        }
+    }
+
+    /// As `work`, of lines that are its to give back: each is, as soon as the worker has passed it, so that its memory serves what comes next.
+    pub fn work_given<G: Gate>(
+        &mut self,
+        rt: &impl Wait,
+        broker: &Broker,
+        gate: &G,
+        lines: List<Line>,
+    )
+        requires traced { AreTraced lines }
+        requires begun { HasDone broker.now [] self.old }
+        requires all { HasAll (sessions_of lines) self.old }
+        requires running { self.old.is_stopped ≡ false }
+        ensures same { IsSameWorker self.old self.new }
+        ensures done { self.new.is_stopped ≡ false → HasDone broker.now lines self.new }
+        ensures rests { self.new.is_stopped ≡ false → AllRest self.new }
+    {
+        if self.given_lines(rt, broker, gate, lines).is_err() {
             self.is_stopped = true;
         }
     }

@@ -7,5 +7,5 @@ loop-number-preserved c = record {
   kept = c.in_ok-put_pass.ensures.kept;
   desks = c.in_ok-put_pass.ensures.desks;
   lines = c.in_ok-put_pass.ensures.lines;
-  text = pass_put c.args.account.now c.loop-number.number (joined c.loop-number.parts) (joined c.put_pass.new.parts) c.loop-number.invariant.text c.in_ok-put_pass.ensures.put;
+  text = pass_put c.args.account.now c.loop-number.number (joined c.args.account.now c.loop-number.parts) (joined c.args.account.now c.put_pass.new.parts) c.loop-number.invariant.text c.in_ok-put_pass.ensures.put;
 }

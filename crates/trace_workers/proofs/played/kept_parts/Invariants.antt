@@ -9,5 +9,5 @@ invariant-loop-number l = record {
   kept : All (HasKept l.account) l.desks;
   desks : HaveDesks l.account l.desks;
   lines : HaveLinesFrom l.number l.desks;
-  text : IsTextOf l.account (sessions_in (take l.number l.account.passes)) (joined l.parts);
+  text : IsTextOf l.account (sessions_in (take l.number l.account.passes)) (joined l.account l.parts);
 }

@@ -12,7 +12,7 @@ returns-in_default-clause-put c =
     let account = c.args.account.now in
     let ts = c.as_slice-transcripts.result.now in
     let there = pass_at account c.args.number c.as_slice.result.now ts c.index-as_slice-number.result c.as_slice.ensures c.as_slice-transcripts.ensures c.requires.there c.index-as_slice-number.is in
-    nothing_put account c.args.number ts (joined c.args.parts.now) there (first_none ts c.in_default.ensures.value)
+    nothing_put account c.args.number ts (joined account c.args.parts.now) there (first_none ts c.in_default.ensures.value)
 
 pub returns-clause-desks : goal.returns-clause-desks
 returns-clause-desks c =
@@ -41,9 +41,10 @@ returns-clause-put c =
     let new = c.push.new.self in
     let end_is : end ≡ end_line desk.number t.end = c.in_ok-end.ensures ∙ ap (λ (n : ℕ). end_line n t.end) (c.number-session.ensures ∙ same) in
     let put : c.put_all.new.parts ++ PrintPart.Text end ∷ [] ≡ (old ++ more) ++ PrintPart.Text end ∷ [] = ap (λ (ps : List PrintPart). ps ++ PrintPart.Text end ∷ []) c.in_ok-put_all.ensures in
-    let text = joined_more old more end ∙ ap (λ (x : List ℕ). joined old ++ (x ++ end)) c.in_ok-into_parts.ensures ∙ ap (λ (x : List ℕ). joined old ++ (lines ++ x)) end_is in
+    let text = joined_more account old more end ∙ ap (λ (x : List ℕ). joined account old ++ (x ++ end)) (c.in_ok-into_parts.ensures account)
+    ∙ ap (λ (x : List ℕ). joined account old ++ (joined account lines ++ x)) end_is in
     on_ok_weaker c.push.result
     (λ (pushed : new ≡ c.put_all.new.parts ++ PrintPart.Text end ∷ []).
-    session_put account number ts t desk lines (joined old) (joined new) there (sym c.in-Some.ensures.value) (ap (λ (d : DeskView). d.number) c.index-desks-at-2.is ∙ found.ensures.number desk) kept
-    (ap (λ (d : DeskView). d.kept) c.index-desks-at-2.is ∙ sym c.in-Some-take_lines.ensures.lines) (ap joined (pushed ∙ put) ∙ text))
+    session_put account number ts t desk lines (joined account old) (joined account new) there (sym c.in-Some.ensures.value) (ap (λ (d : DeskView). d.number) c.index-desks-at-2.is ∙ found.ensures.number desk) kept
+    (ap (λ (d : DeskView). d.kept) c.index-desks-at-2.is ∙ sym c.in-Some-take_lines.ensures.lines) (ap (joined account) (pushed ∙ put) ∙ text))
     c.push.ensures.ok

@@ -33,8 +33,8 @@ end-requires-clause-shown g c =
     let shows : EndsSo c.in-Ended.why s = ends_so r.0 s c.args.end body c.in-Ended.why goes (subst (HasReceived r.0) back r.1) whole c.front_body-body.ensures.small parts e.1 in
     subst (λ (p : PassView). EndsSo c.in-Ended.why (record s { pass = p })) (sym e.0) shows
 
-pub returns-in_ok-put_line-in-Reply-clause-received : goal.returns-in_ok-put_line-in-Reply-clause-received
-returns-in_ok-put_line-in-Reply-clause-received g c input h =
+pub shorten-requires-clause-received : goal.shorten-requires-clause-received
+shorten-requires-clause-received g c =
     let i = c.self.inside in
     let s : SessionView = record { number = i.number; pass = i.pass; inbox = i.inbox; is_shut = i.is_shut; is_named = i.is_named; kept = i.kept } in
     let body = c.front_body-body.result.now in
@@ -43,8 +43,26 @@ returns-in_ok-put_line-in-Reply-clause-received g c input h =
     let parts : s.inbox ≡ framed body ++ drop c.args.end s.inbox = subst (λ (x : List ℕ). x ≡ framed body ++ drop c.args.end x) c.bytes.ensures c.front_body-body.ensures.parts in
     let put = c.in_ok-put_line-in-Reply.ensures.line in
     let call = replied s.number s.kept kept body c.in-Reply.frame s.pass new (subst (λ (b : Bool). HasHandledAs b body (Handled.Reply c.in-Reply.frame) s.pass new) c.is_some.ensures c.in-Reply.ensures) put in
-    subst (λ (inbox : List ℕ). HasReceived input (record s { pass = new; inbox = inbox; kept = kept })) (sym c.drop_front.ensures)
-    (handled input s body c.args.end new kept c.front_body-body.ensures.small parts call (subst (HasReceived input) (sym c.self.view_is) h))
+    let r = c.requires.received in
+    let input : List ℕ = r.0 in (
+      input,
+      subst (λ (inbox : List ℕ). HasReceived input (record s { pass = new; inbox = inbox; kept = kept })) (sym c.drop_front.ensures)
+          (handled input s body c.args.end new kept c.front_body-body.ensures.small parts call (subst (HasReceived input) (sym c.self.view_is) r.1)),
+    )
+
+pub returns-in_ok-shorten-in-Reply-clause-received : goal.returns-in_ok-shorten-in-Reply-clause-received
+returns-in_ok-shorten-in-Reply-clause-received g c input h =
+    let i = c.self.inside in
+    let s : SessionView = record { number = i.number; pass = i.pass; inbox = i.inbox; is_shut = i.is_shut; is_named = i.is_named; kept = i.kept } in
+    let body = c.front_body-body.result.now in
+    let new = c.ask.new.pass in
+    let kept = c.put_line.new.kept in
+    let parts : s.inbox ≡ framed body ++ drop c.args.end s.inbox = subst (λ (x : List ℕ). x ≡ framed body ++ drop c.args.end x) c.bytes.ensures c.front_body-body.ensures.parts in
+    let put = c.in_ok-put_line-in-Reply.ensures.line in
+    let call = replied s.number s.kept kept body c.in-Reply.frame s.pass new (subst (λ (b : Bool). HasHandledAs b body (Handled.Reply c.in-Reply.frame) s.pass new) c.is_some.ensures c.in-Reply.ensures) put in
+    c.in_ok-shorten-in-Reply.ensures.received input
+    (subst (λ (inbox : List ℕ). HasReceived input (record s { pass = new; inbox = inbox; kept = kept })) (sym c.drop_front.ensures)
+    (handled input s body c.args.end new kept c.front_body-body.ensures.small parts call (subst (HasReceived input) (sym c.self.view_is) h)))
 
 pub returns-in-Quiet-clause-received : goal.returns-in-Quiet-clause-received
 returns-in-Quiet-clause-received g c input h =
