@@ -9,7 +9,7 @@ use Rattle.audit.specs.declared.account.SessionEnd.{SessionEnd}
 use Rattle.audit.specs.declared.account.SessionEnd.TheVariants.{CallsFull, Refused}
 use Rattle.audit.specs.declared.account.TheConstants.{MOST_CALLS}
 use Rattle.audit.specs.declared.account.Transcript.{Transcript}
-use Rattle.audit.specs.Fits.{LastIsParked, is_answered}
+use Rattle.audit.specs.Fits.{is_answered}
 use Rattle.audit.specs.RunOf.{IsNotCut}
 use Rattle.kwire.specs.declared.frame.Frame.TheVariants.{Whole}
 use Rattle.kwire.specs.Frames.{IsFrameBody, framed, next_frame_of}
@@ -28,7 +28,7 @@ use Rattle.trace_workers.specs.Telling.{AreKept, HasPut}
 use Rattle.trace_workers.proofs.Fronts.{trace_end}
 use Rattle.trace_workers.proofs.Going.{called, completed, handled_of, named_of, received_of}
 use Rattle.trace_workers.proofs.Telling.{kept_front, kept_more, kept_on, kept_same}
-use Rattle.trace_workers.proofs.Transcripts.{goes_on, made_all, parked_last, unparked_last}
+use Rattle.trace_workers.proofs.Transcripts.{goes_on, made_all}
 
 -- ---- how a call is told that was answered
 
@@ -137,16 +137,6 @@ ends_so input s end body why goes received whole small parts because t going =
     by_cause (inr refused) first count =
         subst (λ (e : SessionEnd). MayEndSo s.inbox s.is_shut e t) (sym refused.1)
         ((body, drop end s.inbox, parts, small, refused.3), trace_end (Refused refused.0) (λ e. absurd cc) (λ e. absurd cc) (λ e. absurd cc))
-
--- ---- its transcript went on
-
-pub completed_moves : (old new : PassView) (c : HasCompleted old new) → c.how ≡ told_as c.done → new.going ≢ old.going
-completed_moves old new c how same =
-    let t = c.transcript in
-    let call : Call = record c.call { finish = c.finish; how = c.how } in
-    let again : record t { calls = t.calls ++ c.call ∷ [] } ≡ record t { calls = t.calls ++ call ∷ [] } =
-    same_Some (record t { calls = t.calls ++ c.call ∷ [] }) (record t { calls = t.calls ++ call ∷ [] }) (sym c.going ∙ sym same ∙ c.completed) in
-    unparked_last t.calls call (λ e. told_over c.done (sym how ∙ e)) (subst (λ (x : Transcript). LastIsParked x.calls) again (parked_last t.calls c.call c.waited))
 
 -- ---- a reply is collected
 

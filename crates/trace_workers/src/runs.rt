@@ -214,13 +214,8 @@ pub fn print_lines<R: Threads + Wait + Sync>(
         drain: false,
         keeps_lines: true,
     };
-    let Played { account, mut desks } = play(
-        rt,
-        alloc,
-        LinesToPlay::Given(lines),
-        manner,
-        &NoGate,
-    )?;
+    let to_play = LinesToPlay::Given(lines);
+    let Played { account, mut desks } = play(rt, alloc, to_play, manner, &NoGate)?;
     let parts = print_parts(alloc, &account, desks.as_mut_slice())?;
     Ok((account, parts))
 }

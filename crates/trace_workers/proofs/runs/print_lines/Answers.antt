@@ -6,4 +6,4 @@ pub print_parts-requires-clause-printable : goal.print_parts-requires-clause-pri
 print_parts-requires-clause-printable g c =
     let traced = c.requires.traced in
     let run = c.in_ok-account.ensures.run in
-    (run_tellable traced.0 c.args.lines.now c.args.port ([] ∷ []) run.added c.in_ok-account.field-0.account traced.1 run.lawful run.run (refl, tt)).printable
+    (run_tellable traced.0 c.args.lines c.args.port ([] ∷ []) run.added c.in_ok-account.field-0.account traced.1 run.lawful run.run (refl, tt)).printable

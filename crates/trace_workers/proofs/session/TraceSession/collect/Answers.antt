@@ -1,10 +1,10 @@
-use Rattle.std.proofs.Common.{Bool, sym, subst, ap, ◌∙◌}
+use Rattle.std.proofs.Common.{Bool, sym, subst, ap}
 use Rattle.audit.specs.declared.account.Call.{Call}
 use Rattle.shared_broker.specs.Calling.{IsMadeOfReply}
 use Rattle.shared_broker.specs.Passes.{PassView}
 use Rattle.trace_workers.specs.Received.{HasReceived}
 use Rattle.trace_workers.specs.Sessions.{SessionView}
-use Rattle.trace_workers.proofs.Frames.{collected, completed_moves}
+use Rattle.trace_workers.proofs.Frames.{collected}
 use Rattle.trace_workers.proofs.Going.{seen}
 use Rattle.trace_workers.proofs.Telling.{kept_still}
 use Rattle.trace_workers.proofs.session.TraceSession.collect.Goals as goal

@@ -1,7 +1,6 @@
 use Rattle.std.proofs.Common.{◌≡◌, ◌∙◌, ◌++◌, [], ◌∷◌, List, append_assoc, length, length-append, refl, sym, ap, subst, rules, arith}
 use Rattle.std.proofs.lemmas.List.{append-nil, nil_from_length}
 use Rattle.std.specs.Vec.Iter.{into_iter_items}
-use Rattle.std.specs.Prelude.{OnOk}
 use Rattle.trace_file.specs.Contents.{sessions_of}
 use Rattle.trace_file.specs.declared.line.Line.{Line}
 use Rattle.trace_workers.specs.Workers.{HasDone}
