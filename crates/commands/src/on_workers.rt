@@ -45,9 +45,9 @@ pub fn replay_on_workers<R: Threads + Wait + Sync, S: Source, K: Sink>(
     ensures bad_line { IfErr result (λ why. IfSome (bad_line_of (stop_in why)) (IsFirstBadOf (S.left source.old) false)) }
 {
     let lines = read_lines(rt, alloc, source, false, workers)?;
-    let (account, parts) = print_lines(rt, alloc, lines.as_slice(), REPLAY_PORT, workers)?;
+    let (account, parts) = print_lines(rt, alloc, lines, REPLAY_PORT, workers)?;
     let digits = Digits::make(alloc)?;
-    match write_parts(sink, &digits, parts.as_slice()) {
+    match write_parts(sink, &digits, &account, parts.as_slice()) {
         Ok(()) => Ok(account),
         Err(_) => Err(Unfinished::Unwritten(account)),
     }

@@ -1,7 +1,7 @@
 //! Writes what is printed of a run on workers. It takes no memory, as nothing may be missing once something was written: the digits of the
 //! frames are made in a room that is there already.
 
-ghost use Rattle.std.specs.Prelude.{◌≡◌, ◌≤◌, OnOk, OnErr};
+ghost use Rattle.std.specs.Prelude.{◌≡◌, ◌≤◌, ◌++◌, OnOk, OnErr};
 ghost use Rattle.std.specs.Io.KnownBytes.{Appends};
 ghost use Rattle.hex.specs.Hex.{encode_lower};
 ghost use Rattle.outside.specs.Causes.{Rose};
@@ -9,6 +9,7 @@ ghost use Rattle.trace_workers.specs.Telling.{frame_line, joined, part_text};
 ghost use Rattle.commands.specs.Streams.{HasWrittenFront, line_head};
 
 use crate::streams::write_all;
+use audit::Account;
 use itoa::Buffer;
 use outside::{Failed, Sink};
 use trace_file::Digits;
@@ -35,6 +36,22 @@ fn write_digits<K: Sink>(sink: &mut K, digits: &Digits, bytes: &[u8]) -> Result<
     Ok(())
 }
 
+// Writes the digits of these bytes and of those behind them. If a write fails, a front of them was written.
+fn write_both<K: Sink>(
+    sink: &mut K,
+    digits: &Digits,
+    head: &[u8],
+    tail: &[u8],
+) -> Result<(), Failed>
+    ensures written { OnOk result (Appends (K.written sink.old) (K.written sink.new) (encode_lower (head.now ++ tail.now))) }
+    ensures front { OnErr result (HasWrittenFront (K.written sink.old) (K.written sink.new) (encode_lower (head.now ++ tail.now))) }
+    ensures later { K.faults sink.old ≤ K.faults sink.new }
+    ensures failed { OnErr result (Rose (K.faults sink.old) (K.faults sink.new)) }
+{
+    write_digits(sink, digits, head)?;
+    write_digits(sink, digits, tail)
+}
+
 // Writes the words of a reply's line before its digits. If a write fails, a front of them was written.
 fn write_head<K: Sink>(sink: &mut K, session: u32) -> Result<(), Failed>
     ensures written { OnOk result (Appends (K.written sink.old) (K.written sink.new) (line_head session)) }
@@ -48,51 +65,66 @@ fn write_head<K: Sink>(sink: &mut K, session: u32) -> Result<(), Failed>
     write_all(sink, b" ".as_slice())
 }
 
-// Writes the line of a frame that a session was sent. If a write fails, a front of it was written.
+// Writes the line of a frame that a session was sent, whose bytes are these and those behind them. If a write fails, a front of it was written.
 fn write_reply<K: Sink>(
     sink: &mut K,
     digits: &Digits,
     session: u32,
-    frame: &[u8],
+    head: &[u8],
+    tail: &[u8],
 ) -> Result<(), Failed>
-    ensures written { OnOk result (Appends (K.written sink.old) (K.written sink.new) (frame_line session frame.now)) }
-    ensures front { OnErr result (HasWrittenFront (K.written sink.old) (K.written sink.new) (frame_line session frame.now)) }
+    ensures written { OnOk result (Appends (K.written sink.old) (K.written sink.new) (frame_line session (head.now ++ tail.now))) }
+    ensures front { OnErr result (HasWrittenFront (K.written sink.old) (K.written sink.new) (frame_line session (head.now ++ tail.now))) }
     ensures later { K.faults sink.old ≤ K.faults sink.new }
     ensures failed { OnErr result (Rose (K.faults sink.old) (K.faults sink.new)) }
 {
     write_head(sink, session)?;
-    write_digits(sink, digits, frame)?;
+    write_both(sink, digits, head, tail)?;
     write_all(sink, b"\n".as_slice())
 }
 
-// Writes a part. If a write fails, a front of it was written.
-fn write_part<K: Sink>(sink: &mut K, digits: &Digits, part: &PrintPart) -> Result<(), Failed>
-    ensures written { OnOk result (Appends (K.written sink.old) (K.written sink.new) (part_text part.now)) }
-    ensures front { OnErr result (HasWrittenFront (K.written sink.old) (K.written sink.new) (part_text part.now)) }
+// Writes a part, of a run that has this account. If a write fails, a front of it was written.
+fn write_part<K: Sink>(
+    sink: &mut K,
+    digits: &Digits,
+    account: &Account,
+    part: &PrintPart,
+) -> Result<(), Failed>
+    ensures written { OnOk result (Appends (K.written sink.old) (K.written sink.new) (part_text account.now part.now)) }
+    ensures front { OnErr result (HasWrittenFront (K.written sink.old) (K.written sink.new) (part_text account.now part.now)) }
     ensures later { K.faults sink.old ≤ K.faults sink.new }
     ensures failed { OnErr result (Rose (K.faults sink.old) (K.faults sink.new)) }
 {
     match part {
         PrintPart::Text(text) => write_all(sink, text.as_slice()),
         PrintPart::Reply { session, frame } => {
-            write_reply(sink, digits, *session, frame.as_slice())
+            write_reply(sink, digits, *session, frame.as_slice(), &[])
+        }
+        PrintPart::Stored {
+            session,
+            head,
+            range,
+        } => {
+            let records = range.bytes_in(account);
+            write_reply(sink, digits, *session, head.as_slice(), records)
         }
     }
 }
 
-/// Writes these parts whole, one after the other. If a write fails, a front of what they print was written.
+/// Writes these parts whole, one after the other, of a run that has this account. If a write fails, a front of what they print was written.
 pub fn write_parts<K: Sink>(
     sink: &mut K,
     digits: &Digits,
+    account: &Account,
     parts: &[PrintPart],
 ) -> Result<(), Failed>
-    ensures written { OnOk result (Appends (K.written sink.old) (K.written sink.new) (joined parts.now)) }
-    ensures front { OnErr result (HasWrittenFront (K.written sink.old) (K.written sink.new) (joined parts.now)) }
+    ensures written { OnOk result (Appends (K.written sink.old) (K.written sink.new) (joined account.now parts.now)) }
+    ensures front { OnErr result (HasWrittenFront (K.written sink.old) (K.written sink.new) (joined account.now parts.now)) }
     ensures later { K.faults sink.old ≤ K.faults sink.new }
     ensures failed { OnErr result (Rose (K.faults sink.old) (K.faults sink.new)) }
 {
     for part in parts {
-        write_part(sink, digits, part)?;
+        write_part(sink, digits, account, part)?;
     }
     Ok(())
 }

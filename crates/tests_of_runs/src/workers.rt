@@ -144,7 +144,7 @@ fn a_run_is_printed_in_parts(rt: HostRuntime) {
     let alloc = rt.alloc();
     let text = joined(alloc, &[TOPIC, "bytes 0 ", PRODUCE, A, "\nend\n"]).expect(&rt, "memory");
     let lines = read_trace(alloc, text.as_slice(), false).expect(&rt, "a trace");
-    let printed = print_lines(&rt, alloc, lines.as_slice(), 9092, 1);
+    let printed = print_lines(&rt, alloc, lines, 9092, 1);
     let (account, parts) = printed.expect(&rt, "memory");
     assert!(rt; account.passes.len() == 2);
     let line = joined(alloc, &["reply 0 ", PRODUCED, "\n"]).expect(&rt, "memory");
@@ -152,11 +152,19 @@ fn a_run_is_printed_in_parts(rt: HostRuntime) {
     assert!(rt; matches!(first, PrintPart::Text(text) if text.as_slice() == line.as_slice()));
 }
 
-// The lines of the frames that are parts of their own.
-fn lines_of_frames(alloc: Global, parts: &[PrintPart]) -> Result<Bytes, NoMemory> {
+// The lines of the frames whose records are read in the account.
+fn lines_in_logs(alloc: Global, account: &Account, parts: &[PrintPart]) -> Result<Bytes, NoMemory> {
     let mut lines = Bytes::new(alloc);
     for part in parts {
-        if let PrintPart::Reply { session, frame } = part {
+        if let PrintPart::Stored {
+            session,
+            head,
+            range,
+        } = part
+        {
+            let mut frame = Bytes::new(alloc);
+            frame.extend(head.as_slice())?;
+            frame.extend(range.bytes_in(account))?;
             put_reply_line(&mut lines, *session, frame.as_slice())?;
         }
     }
@@ -199,13 +207,13 @@ fn long_line(alloc: Global) -> Result<Bytes, NoMemory> {
 }
 
 #[test]
-fn a_long_frame_is_a_part_of_its_own(rt: HostRuntime) {
+fn the_records_of_a_long_frame_are_read_in_the_log(rt: HostRuntime) {
     let alloc = rt.alloc();
     let text = long_fetch(alloc).expect(&rt, "memory");
     let lines = read_trace(alloc, text.as_slice(), false).expect(&rt, "a trace");
-    let printed = print_lines(&rt, alloc, lines.as_slice(), 9092, 1);
-    let (_account, parts) = printed.expect(&rt, "memory");
-    let told = lines_of_frames(alloc, parts.as_slice()).expect(&rt, "memory");
+    let printed = print_lines(&rt, alloc, lines, 9092, 1);
+    let (account, parts) = printed.expect(&rt, "memory");
+    let told = lines_in_logs(alloc, &account, parts.as_slice()).expect(&rt, "memory");
     let line = long_line(alloc).expect(&rt, "memory");
     assert!(rt; told.as_slice() == line.as_slice());
 }

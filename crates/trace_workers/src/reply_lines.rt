@@ -29,7 +29,7 @@ const BESIDE_DIGITS: usize = 32;
 const LONG_FRAME: usize = 512;
 
 /// The lines of the replies so far, one after the other. Those of short frames are in blocks, so that none is moved as more come; a long frame is
-/// kept as it is, in its own memory.
+/// kept as it is, in its own memory, or without the records that stand in a log (`shorten`).
 #[derive(Drop)]
 pub struct ReplyLines {
     alloc: Global,

@@ -9,31 +9,31 @@ pub returns-in_err-write_head-clause-front : goal.returns-in_err-write_head-clau
 returns-in_err-write_head-clause-front g c =
     let old = g.K.Sink.written c.args.sink.now in
     let new = g.K.Sink.written c.write_head.new.sink in
-    let frame = c.args.frame.now in
+    let frame = (c.args.head.now ++ c.args.tail.now) in
     on_any_err c.from_residual.result _
     (subst (HasWrittenFront old new) (sym (line_cut c.args.session frame)) (front_first old new (line_head c.args.session) (encode_lower frame ++ 10 ∷ []) c.in_err-write_head.ensures.front))
 
-pub returns-in_err-write_digits-clause-front : goal.returns-in_err-write_digits-clause-front
-returns-in_err-write_digits-clause-front g c =
+pub returns-in_err-write_both-clause-front : goal.returns-in_err-write_both-clause-front
+returns-in_err-write_both-clause-front g c =
     let old = g.K.Sink.written c.args.sink.now in
     let headed = g.K.Sink.written c.write_head.new.sink in
-    let new = g.K.Sink.written c.write_digits.new.sink in
-    let frame = c.args.frame.now in
+    let new = g.K.Sink.written c.write_both.new.sink in
+    let frame = (c.args.head.now ++ c.args.tail.now) in
     let digits = encode_lower frame in
-    on_any_err c.from_residual-in_err-write_digits.result _
+    on_any_err c.from_residual-in_err-write_both.result _
     (subst (HasWrittenFront old new) (sym (line_cut c.args.session frame))
-    (front_then old headed new (line_head c.args.session) (digits ++ 10 ∷ []) c.in_ok-write_head.ensures.written (front_first headed new digits (10 ∷ []) c.in_err-write_digits.ensures.front)))
+    (front_then old headed new (line_head c.args.session) (digits ++ 10 ∷ []) c.in_ok-write_head.ensures.written (front_first headed new digits (10 ∷ []) c.in_err-write_both.ensures.front)))
 
 pub returns-clause-front : goal.returns-clause-front
 returns-clause-front g c =
     let old = g.K.Sink.written c.args.sink.now in
     let headed = g.K.Sink.written c.write_head.new.sink in
-    let told = g.K.Sink.written c.write_digits.new.sink in
+    let told = g.K.Sink.written c.write_both.new.sink in
     let new = g.K.Sink.written c.write_all.new.sink in
-    let frame = c.args.frame.now in
+    let frame = (c.args.head.now ++ c.args.tail.now) in
     let digits = encode_lower frame in
     on_err_weaker c.write_all.result
     (λ front. subst (HasWrittenFront old new) (sym (line_cut c.args.session frame))
     (front_then old headed new (line_head c.args.session) (digits ++ 10 ∷ []) c.in_ok-write_head.ensures.written
-    (front_then headed told new digits (10 ∷ []) c.in_ok-write_digits.ensures.written (subst (HasWrittenFront told new) c.as_slice.ensures front))))
+    (front_then headed told new digits (10 ∷ []) c.in_ok-write_both.ensures.written (subst (HasWrittenFront told new) c.as_slice.ensures front))))
     c.write_all.ensures.front
