@@ -18,7 +18,7 @@ use std::alloc::Global;
 use std::sync::Wait;
 use std::thread::Threads;
 use trace_file::{Digits, REPLAY_PORT};
-use trace_workers::print_lines;
+use trace_workers::{give_back, print_lines};
 
 /// Replays the source's trace on `workers` threads. It never stops with `Usage`.
 pub fn replay_on_workers<R: Threads + Wait + Sync, S: Source, K: Sink>(
@@ -47,7 +47,9 @@ pub fn replay_on_workers<R: Threads + Wait + Sync, S: Source, K: Sink>(
     let lines = read_lines(rt, alloc, source, false, workers)?;
     let (account, parts) = print_lines(rt, alloc, lines, REPLAY_PORT, workers)?;
     let digits = Digits::make(alloc)?;
-    match write_parts(sink, &digits, &account, parts.as_slice()) {
+    let wrote = write_parts(sink, &digits, &account, parts.as_slice());
+    give_back(rt, parts);
+    match wrote {
         Ok(()) => Ok(account),
         Err(_) => Err(Unfinished::Unwritten(account)),
     }

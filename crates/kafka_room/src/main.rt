@@ -168,8 +168,9 @@ struct Outcome {
     was_refused: bool,
 }
 
-// How many bytes of the output are held back at most: a replay writes after each line, and would else call the system for each.
-const MOST_HELD: usize = 65_536;
+// How many bytes of the output are held back at most: a replay writes after each line, and would else call the system for each. What is longer, as
+// most blocks of lines of a replay on workers, goes to the system as it is, and isn't copied before.
+const MOST_HELD: usize = 32_768;
 
 // Writes what is held back of the output of a run that answered this code, and answers the code to end with.
 fn flush_held<W: Write + Drop>(output: &mut BufWriter<W>, code: u8) -> u8

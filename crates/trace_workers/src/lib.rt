@@ -20,6 +20,7 @@ mod crossing;
 mod dealing;
 mod desk;
 mod gate;
+mod giving_back;
 mod joined;
 mod played;
 mod print_part;
@@ -34,6 +35,7 @@ mod worker;
 
 pub use desk::Desk;
 pub use gate::{Gate, NoGate};
+pub use giving_back::give_back;
 pub use print_part::PrintPart;
 pub use promises::{joined_accounts_are_runs, traces_have_runs};
 pub use runs::{print_lines, run_lines};

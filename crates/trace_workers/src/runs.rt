@@ -12,6 +12,7 @@ ghost use Rattle.trace_workers.specs.Telling.{HasKept, HaveDesks, joined};
 ghost use Rattle.trace_workers.specs.WorkerRun.{IsWorkerRun};
 
 use crate::dealing::{deal, gather};
+use crate::giving_back::give_back;
 use crate::played::{Played, print_parts};
 use crate::{Gate, NoGate, PrintPart, Worker};
 use audit::Account;
@@ -72,7 +73,7 @@ fn work_all<R: Threads + Wait + Sync, G: Gate + Sync>(
     thread::for_each_mut(rt, workers, threads, &work);
 }
 
-// The same, of lines that may be given back: a worker that plays alone does so as it goes on.
+// The same, of lines that are given back: by a worker that plays alone as it goes on, and else once all are played.
 fn work_given<R: Threads + Wait + Sync, G: Gate + Sync>(
     rt: &R,
     broker: &Broker,
@@ -90,6 +91,7 @@ fn work_given<R: Threads + Wait + Sync, G: Gate + Sync>(
         workers[0].work_given(rt, broker, gate, lines);
     } else {
         work_all(rt, broker, gate, lines.as_slice(), workers);
+        give_back(rt, lines);
     }
 }
 
@@ -195,7 +197,7 @@ pub fn run_lines<R: Threads + Wait + Sync, G: Gate + Sync>(
 
 /// Plays the lines as `run_lines` does, without a drain or a gate, and answers the account together with what is printed of it, in parts: session
 /// by session what it was sent and how it ended, and then the summary. The line of a reply is made as its session is answered, in its worker's thread.
-/// One worker gives each line back as soon as it has played it.
+/// One worker gives each line back as soon as it has played it; more leave that to a thread for which nobody waits.
 pub fn print_lines<R: Threads + Wait + Sync>(
     rt: &R,
     alloc: Global,
