@@ -1,5 +1,5 @@
 -- A text that is cut after line feeds, and read in shares.
-use Rattle.std.proofs.Common.{◌≡◌, ℕ, suc, ◌+◌, ◌-◌, ◌*◌, ◌<◌, ◌≤◌, Bool, true, false, cond, eqb, List, [], ◌∷◌, ◌++◌, length, get_or, take, drop, refl, sym, ap, subst, ◌∙◌, arith, append-nil, length-drop, Bor}
+use Rattle.std.proofs.Common.{◌≡◌, ℕ, ◌+◌, ◌-◌, ◌*◌, ◌<◌, ◌≤◌, Bool, true, false, cond, eqb, List, [], ◌∷◌, ◌++◌, length, get_or, take, drop, refl, sym, ap, subst, ◌∙◌, arith, append-nil, length-drop, Bor}
 use Rattle.std.specs.Prelude.{Result, Ok}
 use Rattle.std.proofs.lemmas.List.{flat_map_more, take-append-drop, drop_more, take_more, take_all, get_or-drop}
 use Rattle.std.proofs.lemmas.List.Splits.{slice_split-cons_yes}
@@ -76,13 +76,13 @@ one_more shares size after rest text few shorter = omega (arith, next shares (si
 
 -- ---- all shares
 
-pub each_read : (shares : List (Bor (List ℕ))) (reads : List (Result PartLines NoMemory)) → length reads ≡ length shares
-    → ((i : ℕ) (d : Result PartLines NoMemory) (e : Bor (List ℕ)) → i < length shares → IsShareRead (get_or shares i e) (get_or reads i d)) → AllZip IsShareRead shares reads
-each_read [] [] long each = tt
-each_read [] (read ∷ reads) long each = absurd (omega (arith, long))
-each_read (share ∷ shares) [] long each = absurd (omega (arith, long))
-each_read (share ∷ shares) (read ∷ reads) long each =
-    (each 0 read share (omega arith), each_read shares reads (omega (arith, long)) (λ i d e lt. each (suc i) d e (omega (arith, lt))))
+-- one share more was read
+pub one_more_read : (shares : List (Bor (List ℕ))) (reads : List (Result PartLines NoMemory)) (share : Bor (List ℕ)) (read : Result PartLines NoMemory) → AllZip IsShareRead shares reads
+    → IsShareRead share read → AllZip IsShareRead (shares ++ share ∷ []) (reads ++ read ∷ [])
+one_more_read [] [] share read before more = (more, tt)
+one_more_read [] (r ∷ reads) share read before more = absurd before
+one_more_read (s ∷ shares) [] share read before more = absurd before
+one_more_read (s ∷ shares) (r ∷ reads) share read before more = (before.0, one_more_read shares reads share read before.1 more)
 
 -- the first share that is left, and its lines
 pub next_share : (shares : List (Bor (List ℕ))) (part : PartLines) (rest : List (Result PartLines NoMemory)) → AllZip IsShareRead shares (Ok part ∷ rest)

@@ -1,6 +1,7 @@
 //! Reading the lines of a part in shares, each share in a thread of its own.
 
 ghost use Rattle.std.specs.Prelude.{Bool, ◌≡◌, ◌<◌, ◌≤◌, ◌++◌, ◌+◌, ℕ, length, vec_len, List as Items, IfOk, OnOk};
+ghost use denote.Param.Send.{IsSync};
 ghost use denote.Ref.{Bor};
 ghost use Rattle.std.specs.List.{AllZip};
 ghost use Rattle.trace_file.specs.Sees.{AreRead};
@@ -49,19 +50,36 @@ fn shares_of(alloc: Global, text: &[u8], threads: u32) -> Result<Vec<&[u8]>, NoM
     Ok(shares)
 }
 
-// The lines of each share, each read in a thread of its own if one can be started.
+// The lines of each share, each but the first read in a thread of its own if one can be started. The caller's thread starts them all, so that none
+// waits until another one runs and starts it, and reads the first share itself.
+#[cycle(reading)]
 fn read_shares<R: Threads + Sync>(
     rt: &R,
     alloc: Global,
     values: &DigitValues,
-    shares: Vec<&[u8]>,
+    mut shares: Vec<&[u8]>,
 ) -> Result<Vec<Result<PartLines, NoMemory>>, NoMemory>
     ensures { IfOk result (λ reads. AllZip IsShareRead shares.entry.items reads.items) }
 {
-    let read = |share: &[u8]| -> Result<PartLines, NoMemory>
-        ensures { IfOk result (AreLinesOf (pieces_of share.entry.now)) }
-    { part_lines(alloc, values, share) };
-    Ok(thread::map_vec(rt, shares, &read)?)
+    let Some(last) = shares.pop() else {
+        return Ok(Vec::new(alloc));
+    };
+    if shares.is_empty() {
+        let mut reads = Vec::new(alloc);
+        reads.push(part_lines(alloc, values, last))?;
+        return Ok(reads);
+    }
+    let theirs = move || -> Result<PartLines, NoMemory>
+        ensures { IfOk result (AreLinesOf (pieces_of last.entry.now)) }
+    { part_lines(alloc, values, last) };
+    let ours = move || -> Result<Vec<Result<PartLines, NoMemory>>, NoMemory>
+        requires { IsSync R.row }
+        ensures { IfOk result (λ reads. AllZip IsShareRead shares.entry.items reads.items) }
+    { read_shares(rt, alloc, values, shares) };
+    let (read, reads) = thread::join(rt, theirs, ours);
+    let mut reads = reads?;
+    reads.push(read)?;
+    Ok(reads)
 }
 
 // Takes the lines of one share after the other.
