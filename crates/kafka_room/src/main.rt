@@ -169,7 +169,7 @@ struct Outcome {
 }
 
 // How many bytes of the output are held back at most: a replay writes after each line, and would else call the system for each. What is longer, as
-// most blocks of lines of a replay on workers, goes to the system as it is, and isn't copied before.
+// the longest blocks of lines of a replay on workers, goes to the system as it is, and isn't copied before.
 const MOST_HELD: usize = 32_768;
 
 // Writes what is held back of the output of a run that answered this code, and answers the code to end with.
