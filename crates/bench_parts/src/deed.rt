@@ -8,13 +8,17 @@ use crate::waiter::Waiter;
 use purgatory::{Room, RoomParts};
 use std::alloc::Global;
 use std::sync::Wait;
+use std::sync::atomic::{AtomicUsize, Ordering};
 use std::thread::{Threads, join, map_vec};
 use std::time::{Clock, Duration, Instant};
-use std::{io, thread};
+use std::{hint, io, thread};
 
 /// How far apart the gauges of two threads are: they have different scanners, and their words lie in different lines of the
 /// cache.
 const APART: usize = 17;
+
+/// How often a thread looks whether all others have started: some 100 ms.
+const LOOKS: u32 = 2_000_000;
 
 /// No gauge gets this far.
 const FAR: u64 = 1_000_000_000;
@@ -57,7 +61,35 @@ pub const DEEDS: [Deed; 9] = [
     },
 ];
 
-fn operate<R: Wait, S: Waiter>(rt: &R, mut seat: S, rounds: u32) -> bool {
+/// Where threads wait for one another before they operate, so that they do it at the same time.
+#[derive(Drop)]
+struct Start {
+    come: AtomicUsize,
+    all: usize,
+}
+
+impl Start {
+    fn of(all: usize) -> Start {
+        Start {
+            come: AtomicUsize::new(0),
+            all,
+        }
+    }
+
+    // Waits for the others, but not for one that never comes.
+    fn wait(&self) {
+        self.come.fetch_add(1, Ordering::SeqCst);
+        for _ in 0..LOOKS {
+            if self.come.load(Ordering::SeqCst) >= self.all {
+                return;
+            }
+            hint::spin_loop();
+        }
+    }
+}
+
+fn operate<R: Wait, S: Waiter>(rt: &R, start: &Start, mut seat: S, rounds: u32) -> bool {
+    start.wait();
     let gauge = seat.gauge();
     for round in 0..rounds {
         if !seat.register(rt, gauge, u64::from(round)) {
@@ -77,8 +109,9 @@ fn operations<R: Threads + Wait + Clock + Sync, S: Waiter>(
     rounds: u32,
 ) -> Result<Cost, Fault> {
     let steps = u64::from(rounds).saturating_mul(seats.len() as u64);
+    let start = Start::of(seats.len());
     time(rt, steps, || {
-        let all = map_vec(rt, seats, &|seat: S| operate(rt, seat, rounds))?;
+        let all = map_vec(rt, seats, &|seat: S| operate(rt, &start, seat, rounds))?;
         if all.iter().all(|went| *went) {
             Ok(steps)
         } else {
@@ -184,7 +217,7 @@ impl Deed {
 
     fn rounds(self, size: Size) -> u32 {
         size.steps(match self {
-            Deed::Operations { .. } => 50_000,
+            Deed::Operations { .. } => 200_000,
             Deed::Settles { .. } => 50_000,
             Deed::Wakes { .. } => 2_000,
         })
