@@ -17,8 +17,8 @@ use std::{hint, io, thread};
 /// cache.
 const APART: usize = 17;
 
-/// How often a thread looks whether all others have started: some 100 ms.
-const LOOKS: u32 = 2_000_000;
+/// How often a thread looks whether all others have come, before it begins without them: 55 ms on one machine.
+const LOOKS: u32 = 10_000_000;
 
 /// No gauge gets this far.
 const FAR: u64 = 1_000_000_000;
@@ -61,26 +61,27 @@ pub const DEEDS: [Deed; 9] = [
     },
 ];
 
-/// Where threads wait for one another before they operate, so that they do it at the same time.
+/// Where threads wait for one another before they operate, so that they do it at the same time. At std's `Barrier` they would wait forever for
+/// one that can't be started.
 #[derive(Drop)]
-struct Start {
-    come: AtomicUsize,
-    all: usize,
+struct StartLine {
+    arrived: AtomicUsize,
+    threads: usize,
 }
 
-impl Start {
-    fn of(all: usize) -> Start {
-        Start {
-            come: AtomicUsize::new(0),
-            all,
+impl StartLine {
+    fn new(threads: usize) -> StartLine {
+        StartLine {
+            arrived: AtomicUsize::new(0),
+            threads,
         }
     }
 
-    // Waits for the others, but not for one that never comes.
+    // Waits for the others, but not for long.
     fn wait(&self) {
-        self.come.fetch_add(1, Ordering::SeqCst);
+        self.arrived.fetch_add(1, Ordering::SeqCst);
         for _ in 0..LOOKS {
-            if self.come.load(Ordering::SeqCst) >= self.all {
+            if self.arrived.load(Ordering::SeqCst) >= self.threads {
                 return;
             }
             hint::spin_loop();
@@ -88,7 +89,7 @@ impl Start {
     }
 }
 
-fn operate<R: Wait, S: Waiter>(rt: &R, start: &Start, mut seat: S, rounds: u32) -> bool {
+fn operate<R: Wait, S: Waiter>(rt: &R, start: &StartLine, mut seat: S, rounds: u32) -> bool {
     start.wait();
     let gauge = seat.gauge();
     for round in 0..rounds {
@@ -109,7 +110,7 @@ fn operations<R: Threads + Wait + Clock + Sync, S: Waiter>(
     rounds: u32,
 ) -> Result<Cost, Fault> {
     let steps = u64::from(rounds).saturating_mul(seats.len() as u64);
-    let start = Start::of(seats.len());
+    let start = StartLine::new(seats.len());
     time(rt, steps, || {
         let all = map_vec(rt, seats, &|seat: S| operate(rt, &start, seat, rounds))?;
         if all.iter().all(|went| *went) {
