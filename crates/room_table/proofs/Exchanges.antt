@@ -1,5 +1,5 @@
 -- Session words as numbers, and the exchange of one.
-use Rattle.std.proofs.Common.{⊎_elim, ◌≡◌, ◌≢◌, ℕ, ◌+◌, ◌*◌, ◌%◌, ◌^◌, ◌<◌, true, false, sym, refl, ap, ◌∙◌, subst, arith}
+use Rattle.std.proofs.Common.{⊎_elim, ◌≡◌, ◌≢◌, ℕ, ◌%◌, ◌^◌, ◌<◌, true, false, sym, refl, ap, ◌∙◌, subst, arith}
 use Rattle.std.specs.Prelude.{◌==◌, ◌↔◌, IsTrue}
 use Rattle.std.proofs.lemmas.Bool.{eq-eqb, eqb-true, ne_eqb, false≢true}
 use prog.Atomic.{either}
@@ -13,7 +13,7 @@ use Rattle.room_core.specs.declared.parts.Stage.TheVariants.{Listing, Checking, 
 use Rattle.room_core.specs.Carried.{IsCarried}
 use Rattle.room_core.specs.Checks.{exchanged}
 use Rattle.room_core.specs.Meetings.{is_live}
-use Rattle.room_core.specs.Packing.{packed, unpacked, winner_number, phase_number, how_number}
+use Rattle.room_core.specs.Packing.{packed, unpacked, winner_number, how_number}
 use Rattle.room_core.specs.Sound.{Agree}
 use Rattle.room_core.specs.State.{State, Caller}
 use Rattle.room_core.proofs.Laws.{exchange_cases, open_is_live, packed_small, unpacks, winner_below}

@@ -18,12 +18,12 @@ pub met_with : (o : Option Meeting) (pass : ℕ) → IsMet o pass → o ≡ Some
 met_with None pass h = absurd h
 met_with (Some x) pass h = ap (λ p. Some (record { pass = p; generation = x.generation })) h
 
--- a look at a word leaves a meeting of its generation
-pub met_at : (w : Session) (pass : ℕ) (meeting : Meeting) → met w pass ≡ Some meeting → meeting.generation ≡ w.generation
+-- a look at the word of a pass leaves a meeting of its generation with that pass
+pub met_at : (w : Session) (pass : ℕ) (meeting : Meeting) → met w pass ≡ Some meeting → (meeting.generation ≡ w.generation) × (meeting.pass ≡ pass)
 unfolding met
 met_at w pass meeting = at (is_open w.phase) where
-  at : (b : Bool) → cond b (Some (record { pass = pass; generation = w.generation })) None ≡ Some meeting → meeting.generation ≡ w.generation
-  at true e = let is : record { pass = pass; generation = w.generation } ≡ meeting = cc in ap (λ m. m.generation) (sym is)
+  at : (b : Bool) → cond b (Some (record { pass = pass; generation = w.generation })) None ≡ Some meeting → (meeting.generation ≡ w.generation) × (meeting.pass ≡ pass)
+  at true e = let is : record { pass = pass; generation = w.generation } ≡ meeting = cc in (ap (λ m. m.generation) (sym is), ap (λ m. m.pass) (sym is))
   at false e = absurd (cc)
 
 -- who leaves a check keeps what it heard, and has its meeting or none

@@ -1,5 +1,5 @@
 -- The steps of a scanner.
-use Rattle.std.proofs.Common.{⊎_elim, ◌≡◌, ℕ, ◌<◌, ◌≤◌, List, [], ◌∷◌, Option, Some, None, max, sym, refl, ap, ◌∙◌, subst, arith}
+use Rattle.std.proofs.Common.{⊎_elim, ◌≡◌, ℕ, ◌<◌, ◌≤◌, List, [], ◌∷◌, max, sym, refl, ap, ◌∙◌, subst, arith}
 use Rattle.std.specs.Prelude.{◌==◌}
 use mathlib.Core.Option.{none}
 use prog.Atomic.{either}
@@ -8,7 +8,6 @@ use Rattle.room_core.specs.declared.event.CoreEvent.{CoreEvent}
 use Rattle.room_core.specs.declared.event.CoreEvent.TheVariants.{Hear, Begin, Meet, Learn, Read, Leave, Win}
 use Rattle.room_core.specs.declared.event.How.{How}
 use Rattle.room_core.specs.declared.event.Party.{Party}
-use Rattle.room_core.specs.declared.parts.Heard.{Heard}
 use Rattle.room_core.specs.declared.parts.Phase.TheVariants.{Open, Won}
 use Rattle.room_core.specs.declared.shape.Shape.{Shape}
 use Rattle.room_core.specs.declared.word.Word.{Word}

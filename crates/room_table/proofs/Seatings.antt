@@ -1,5 +1,5 @@
 -- A seat of one part, before a step and after it.
-use Rattle.std.proofs.Common.{◌≡◌, ℕ, ◌<◌, List, [], ◌∷◌, sym, ap, ◌∙◌, subst, arith}
+use Rattle.std.proofs.Common.{◌≡◌, ℕ, ◌^◌, ◌<◌, List, [], ◌∷◌, sym, ap, ◌∙◌, subst, arith}
 use Rattle.atomic_table.specs.Seated.{TableId}
 use Rattle.std.specs.Prelude.{Some}
 use Rattle.room_core.specs.declared.parts.Meeting.{Meeting}
@@ -162,6 +162,10 @@ module _ {key shape : Shape} {board own : TableId} {pass : ℕ} {m : Sat} {table
   pub caller_on_mark : (to at : ℕ) → at ≡ place_of shape (Word.Mark pass to) → at ≡ place_of (shape_in m.0) (Word.Mark (pass_in m.0) to)
   caller_on_mark to at place = place ∙ (λ i. place_of (caller_shape i) (Word.Mark (sym (ap (λ (z : Sat). pass_in z.0) c.has) i) to))
 
+  -- the place that a seat keeps is the table's
+  pub caller_placed : (w : ℕ → Word) (at : ℕ) → at ≡ place_of seat.table.shape (w seat.pass) → at ≡ place_of shape (w pass)
+  caller_placed w at is = is ∙ (λ i. place_of (ap (λ t. t.shape) (c.of_table ∙ sym c.self_is) i) (w (sym (ap (λ v. v.pass) c.seat_is) i)))
+
   -- what it knows is what the call's seat knows
   pub caller_knows : caller_in m.0 ≡ caller_now seat
   caller_knows = ap (λ (z : Sat). caller_in z.0) c.has ∙ ap caller_now c.seat_is
@@ -172,6 +176,9 @@ module _ {key shape : Shape} {board own : TableId} {k : ℕ} {m : Sat} {table : 
 
   pub scanner_on : (w : Word) (at : ℕ) → at ≡ place_of shape w → at ≡ place_of (shape_in m.0) w
   scanner_on w at place = place ∙ ap (λ s. place_of s w) scanner_shape
+
+  pub scanner_placed : (w : ℕ → Word) (pass at : ℕ) → IsMet (scanner_now seat).meeting pass → ((q : ℕ) → IsMet (scanner_now seat).meeting q → at ≡ place_of seat.table.shape (w q)) → at ≡ place_of shape (w pass)
+  scanner_placed w pass at met is = is pass met ∙ ap (λ s. place_of s (w pass)) (ap (λ t. t.shape) (c.of_table ∙ sym c.self_is))
 
   pub scanner_knows : scanner_in m.0 ≡ scanner_now seat
   scanner_knows = ap (λ (z : Sat). scanner_in z.0) c.has ∙ ap scanner_now c.seat_is
@@ -186,27 +193,53 @@ module _ {key shape : Shape} {board own : TableId} {k : ℕ} {m : Sat} {table : 
   scanner_on_mark pass to at met place = place ∙ (λ i. place_of (scanner_shape i) (Word.Mark (scanner_met pass met i) to))
 
 -- what a seat keeps beside its part, after a step
-pub caller_is_after : (pass g g' : ℕ) (m m' : Sat) (step : CallerStep) → CallerIs pass g m → m' ≡ (caller_made step m.0, m.1)
-    → ((caller_of (shape_in m.0) pass (caller_steps m.0)).generation ≡ g → (caller_after (shape_in m.0) pass step (caller_of (shape_in m.0) pass (caller_steps m.0))).generation ≡ g') → CallerIs pass g' m'
-caller_is_after pass g g' m m' step was told next = record {
-  has = caller_kept pass m m' step was.has told;
-  generation_is = ap (λ (z : Sat). (caller_in z.0).generation) (caller_more pass m m' step was.has told) ∙ next (sym (ap (λ (z : Sat). (caller_in z.0).generation) was.has) ∙ was.generation_is);
-}
-
-pub scanner_is_after : (k heard heard' met met' : ℕ) (m m' : Sat) (step : ScannerStep) → ScannerIs k heard met m → m' ≡ (scanner_made step m.0, m.1)
-    → (number_heard (scanner_of (shape_in m.0) k (scanner_steps m.0)).heard ≡ heard → number_heard (scanner_after (shape_in m.0) k step (scanner_of (shape_in m.0) k (scanner_steps m.0))).heard ≡ heard')
-    → (((meeting : Meeting) → (scanner_of (shape_in m.0) k (scanner_steps m.0)).meeting ≡ Some meeting → meeting.generation ≡ met)
-    → (meeting : Meeting) → (scanner_after (shape_in m.0) k step (scanner_of (shape_in m.0) k (scanner_steps m.0))).meeting ≡ Some meeting → meeting.generation ≡ met')
-    → ScannerIs k heard' met' m'
-scanner_is_after k heard heard' met met' m m' step was told hears meets =
-    let same : scanner_in m.0 ≡ scanner_of (shape_in m.0) k (scanner_steps m.0) = ap (λ (z : Sat). scanner_in z.0) was.has in
-    let now : scanner_in m'.0 ≡ scanner_after (shape_in m.0) k step (scanner_of (shape_in m.0) k (scanner_steps m.0)) = ap (λ (z : Sat). scanner_in z.0) (scanner_more k m m' step was.has told) in
+pub caller_is_after : (pass g g' first : ℕ) (m m' : Sat) (step : CallerStep) → CallerIs pass g first m → m' ≡ (caller_made step m.0, m.1)
+    → ((caller_of (shape_in m.0) pass (caller_steps m.0)).generation ≡ g → (caller_after (shape_in m.0) pass step (caller_of (shape_in m.0) pass (caller_steps m.0))).generation ≡ g') → CallerIs pass g' first m'
+caller_is_after pass g g' first m m' step was told next =
+    let more = caller_more pass m m' step was.has told in
     record {
-      has = scanner_kept k m m' step was.has told;
-      heard_is = ap (λ x. number_heard x.heard) now ∙ hears (sym (ap (λ x. number_heard x.heard) same) ∙ was.heard_is);
-      met_is = λ meeting e. meets (λ x q. was.met_is x (ap (λ y. y.meeting) same ∙ q)) meeting (sym (ap (λ y. y.meeting) now) ∙ e);
+      has = caller_kept pass m m' step was.has told;
+      generation_is = ap (λ (z : Sat). (caller_in z.0).generation) more ∙ next (sym (ap (λ (z : Sat). (caller_in z.0).generation) was.has) ∙ was.generation_is);
+      first_is = was.first_is ∙ sym (ap (λ (z : Sat). place_of (shape_in z.0) (Word.Session pass)) more);
+      first_fits = was.first_fits;
     }
 
+module _ (k heard heard' met first : ℕ) (m m' : Sat) (step : ScannerStep) (was : ScannerIs k heard met first m) (told : m' ≡ (scanner_made step m.0, m.1)) where
+  abbrev before : Scanner
+  before = scanner_of (shape_in m.0) k (scanner_steps m.0)
+
+  abbrev after : Scanner
+  after = scanner_after (shape_in m.0) k step before
+
+  same : scanner_in m.0 ≡ before
+  same = ap (λ (z : Sat). scanner_in z.0) was.has
+
+  -- with a meeting of this generation, of the pass whose words begin there, or with none
+  pub scanner_is_after : (met' first' : ℕ) → (number_heard before.heard ≡ heard → number_heard after.heard ≡ heard')
+      → ((meeting : Meeting) → after.meeting ≡ Some meeting → (meeting.generation ≡ met') × (first' ≡ place_of (shape_in m.0) (Word.Session meeting.pass)))
+      → first' < 2 ^ 32 → ScannerIs k heard' met' first' m'
+  scanner_is_after met' first' hears meets fits =
+      let more = scanner_more k m m' step was.has told in
+      let now : scanner_in m'.0 ≡ after = ap (λ (z : Sat). scanner_in z.0) more in
+      record {
+        has = scanner_kept k m m' step was.has told;
+        heard_is = ap (λ x. number_heard x.heard) now ∙ hears (sym (ap (λ x. number_heard x.heard) same) ∙ was.heard_is);
+        met_is = λ meeting e. (meets meeting (sym (ap (λ y. y.meeting) now) ∙ e)).0;
+        first_is = λ meeting e. (meets meeting (sym (ap (λ y. y.meeting) now) ∙ e)).1 ∙ sym (ap (λ (z : Sat). place_of (shape_in z.0) (Word.Session meeting.pass)) more);
+        first_fits = fits;
+      }
+
+  -- with no other meeting than before
+  pub scanner_is_still : (number_heard before.heard ≡ heard → number_heard after.heard ≡ heard') → ((meeting : Meeting) → after.meeting ≡ Some meeting → before.meeting ≡ Some meeting) → ScannerIs k heard' met first m'
+  scanner_is_still hears keeps = scanner_is_after met first hears (λ meeting e. (was.met_is meeting (ap (λ y. y.meeting) same ∙ keeps meeting e), was.first_is meeting (ap (λ y. y.meeting) same ∙ keeps meeting e))) was.first_fits
+
 -- the generation of a meeting
-pub met_generation : (k heard met pass : ℕ) (m : Sat) → ScannerIs k heard met m → IsMet (scanner_in m.0).meeting pass → generation_met (scanner_in m.0).meeting ≡ met
-met_generation k heard met pass m was is = was.met_is (record { pass = pass; generation = generation_met (scanner_in m.0).meeting }) (met_with (scanner_in m.0).meeting pass is)
+pub met_generation : (k heard met first pass : ℕ) (m : Sat) → ScannerIs k heard met first m → IsMet (scanner_in m.0).meeting pass → generation_met (scanner_in m.0).meeting ≡ met
+met_generation k heard met first pass m was is = was.met_is (record { pass = pass; generation = generation_met (scanner_in m.0).meeting }) (met_with (scanner_in m.0).meeting pass is)
+
+-- where the words of the pass met begin
+pub scanner_first : (k heard met first pass : ℕ) (id : TableId) (m : Sat) (seat : ScanView) → ScannerIs k heard met first m → scan_view id k m.0 ≡ seat → IsMet (scanner_now seat).meeting pass → first ≡ place_of seat.table.shape (Word.Session pass)
+scanner_first k heard met first pass id m seat was seen is =
+    let knows : scanner_in m.0 ≡ scanner_now seat = ap (λ (z : Sat). scanner_in z.0) was.has ∙ ap scanner_now seen in
+    let here : IsMet (scanner_in m.0).meeting pass = subst (λ x. IsMet x.meeting pass) (sym knows) is in
+    was.first_is (record { pass = pass; generation = generation_met (scanner_in m.0).meeting }) (met_with (scanner_in m.0).meeting pass here) ∙ ap (λ v. place_of v.table.shape (Word.Session pass)) seen

@@ -1,15 +1,17 @@
 -- What a clause sees of the table and of its seats.
-use Rattle.std.specs.Prelude.{◌≡◌, ℕ, List, [], ◌∷◌, Some}
+use Rattle.std.specs.Prelude.{◌≡◌, ℕ, ◌^◌, ◌<◌, List, [], ◌∷◌, Some}
 use Rattle.atomic_table.specs.Seated.{TableId}
 use Rattle.room_core.specs.declared.shape.Shape.{Shape}
 use Rattle.room_core.specs.declared.parts.Meeting.{Meeting}
 use Rattle.room_core.specs.declared.parts.Source.{Source}
+use Rattle.room_core.specs.declared.word.Word.{Word}
 use Rattle.room_core.specs.Scans.{number_heard}
 use Rattle.room_core.specs.State.{Caller, Scanner}
 use Rattle.room_table.specs.declared.part.Part.{Part}
 use Rattle.room_table.specs.declared.part.SourceStep.{SourceStep}
 use Rattle.room_table.specs.declared.part.CallerStep.{CallerStep}
 use Rattle.room_table.specs.declared.part.ScannerStep.{ScannerStep}
+use Rattle.room_table.specs.Layout.{place_of}
 use Rattle.room_table.specs.Parts.{source_of, caller_of, scanner_of}
 use Rattle.room_table.specs.Tells.{Sat, shape_in, source_steps, caller_steps, scanner_steps, caller_in, scanner_in}
 
@@ -79,13 +81,17 @@ HasCaller pass m = m ≡ (Part.Caller (shape_in m.0) pass (caller_steps m.0) ∷
 abbrev pub HasScanner : ℕ → Sat → Type 0
 HasScanner k m = m ≡ (Part.Scanner (shape_in m.0) k (scanner_steps m.0) ∷ [], [])
 
--- and the generation is that of its operation
-pub record CallerIs (pass generation : ℕ) (m : Sat) : Type 0 where
+-- and the generation is that of its operation, and the place where the words of the pass begin
+pub record CallerIs (pass generation first : ℕ) (m : Sat) : Type 0 where
   pub has : HasCaller pass m
   pub generation_is : (caller_in m.0).generation ≡ generation
+  pub first_is : first ≡ place_of (shape_in m.0) (Word.Session pass)
+  pub first_fits : first < 2 ^ 32
 
--- and the numbers are what it heard last, and the generation of its meeting
-pub record ScannerIs (k heard met : ℕ) (m : Sat) : Type 0 where
+-- and the numbers are what it heard last, the generation of its meeting, and where the words of the pass met begin
+pub record ScannerIs (k heard met first : ℕ) (m : Sat) : Type 0 where
   pub has : HasScanner k m
   pub heard_is : number_heard (scanner_in m.0).heard ≡ heard
   pub met_is : (meeting : Meeting) → (scanner_in m.0).meeting ≡ Some meeting → meeting.generation ≡ met
+  pub first_is : (meeting : Meeting) → (scanner_in m.0).meeting ≡ Some meeting → first ≡ place_of (shape_in m.0) (Word.Session meeting.pass)
+  pub first_fits : first < 2 ^ 32

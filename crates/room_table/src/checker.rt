@@ -102,7 +102,7 @@ impl Checker for CallerSeat {
     }
 
     fn win_operation(&mut self, table: &RoomTable, pass: u32, how: How) -> bool {
-        let at = place(table.shape, Word::Session { pass });
+        let at = self.session_place();
         let generation = self.generation;
         let open = Session {
             generation,
@@ -164,7 +164,7 @@ impl Checker for ScanSeat {
     }
 
     fn win_operation(&mut self, table: &RoomTable, pass: u32, how: How) -> bool {
-        let at = place(table.shape, Word::Session { pass });
+        let at = self.session_place();
         let generation = self.met;
         let open = Session {
             generation,

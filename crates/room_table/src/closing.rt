@@ -39,6 +39,7 @@ impl RoomTable {
             scanner: _,
             heard: _,
             met: _,
+            first: _,
         } = first;
         Closing { table: self, seat }
     }
@@ -63,6 +64,7 @@ impl Closing {
             seat,
             pass: _,
             generation: _,
+            first: _,
         } = caller;
         self.table.take_back(&mut self.seat, seat);
     }
@@ -77,6 +79,7 @@ impl Closing {
             scanner: _,
             heard: _,
             met: _,
+            first: _,
         } = scan;
         self.table.take_back(&mut self.seat, seat);
     }

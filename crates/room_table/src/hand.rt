@@ -8,6 +8,7 @@ ghost use Rattle.room_table.specs.Seats.{HasScanner, scan_view, table_view};
 ghost use Rattle.room_table.specs.Tells.{scanner_steps};
 
 use crate::closing::Closing;
+use crate::layout::pass_place;
 use crate::plays::HandOut;
 use crate::rule::{Place, Top};
 use crate::seats::{CallerSeat, ScanSeat, SourceSeat};
@@ -41,6 +42,7 @@ pub(crate) fn hand_callers(
     shape: Shape,
     seat: &mut Place,
 ) -> Result<List<CallerSeat>, NoMemory>
+    requires shape { IsShape shape }
     requires table { (seat.old.table_id ≡ top.now.table_id) × (0 < top.now.table_id.words) }
     requires parts { seat.old.me ≡ (all_callers shape, []) }
     ensures seats { IfOk result (λ all. all ≡ fresh_callers (table_view top.now.table_id shape)) }
@@ -54,6 +56,7 @@ pub(crate) fn hand_callers(
             seat,
             pass,
             generation: 0,
+            first: pass_place(shape, pass),
         })?;
     }
     Ok(all)
@@ -68,6 +71,7 @@ fn fresh_scan(seat: Place, scanner: u32) -> ScanSeat
         scanner,
         heard: 0,
         met: 0,
+        first: 0,
     }
 }
 

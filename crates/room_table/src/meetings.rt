@@ -8,11 +8,11 @@ ghost use Rattle.room_table.specs.declared.part.ScannerStep.TheVariants.{Learned
 ghost use Rattle.room_table.specs.Seats.{scanner_did, scanner_now};
 ghost use Rattle.room_table.specs.Tells.{IsNewest, IsSessionWord};
 
-use crate::layout::place;
+use crate::layout::pass_place;
 use crate::plays::{Learns, Lists, Meets};
 use crate::seats::ScanSeat;
 use crate::table::RoomTable;
-use room_core::{Session, Word};
+use room_core::Session;
 
 impl RoomTable {
     /// The scanner looks at the session word of a pass. If that is open, the scanner has a meeting with the pass, and else none.
@@ -24,33 +24,34 @@ impl RoomTable {
         ensures word { IsSessionWord result }
         ensures newest { IsNewest (scanner_now scan.old) pass result }
     {
-        let at = place(self.shape, Word::Session { pass });
-        let found = self.board.shared.load::<Meets>(&mut scan.seat, at);
+        let first = pass_place(self.shape, pass);
+        let found = self.board.shared.load::<Meets>(&mut scan.seat, first);
         scan.met = Session::unpacked(found).generation;
+        scan.first = first;
         found
     }
 
-    /// The scanner reads a word of the description of the pass that it has met.
-    pub fn learn(&self, scan: &mut ScanSeat, pass: u32, at: u32) -> u64
+    /// The scanner reads a word of the description of `_pass`, which it has met: it keeps where the words of that pass begin.
+    pub fn learn(&self, scan: &mut ScanSeat, _pass: u32, at: u32) -> u64
         requires table { scan.old.table ≡ self.now }
-        requires may { MayLearn self.now.shape scan.old.scanner (scanner_now scan.old) pass at }
+        requires may { MayLearn self.now.shape scan.old.scanner (scanner_now scan.old) _pass at }
         ensures { scan.new ≡ scanner_did scan.old (Learned at result) }
     {
-        let place = place(self.shape, Word::Description { pass, at });
-        self.board.shared.load::<Learns>(&mut scan.seat, place)
+        let at = scan.description_place(at);
+        self.board.shared.load::<Learns>(&mut scan.seat, at)
     }
 
-    /// The scanner lists the operation that it has met under a need's gauge, or, at 64, under the clock, and marks that for the
-    /// generation met.
-    pub fn mark(&self, scan: &mut ScanSeat, pass: u32, at: u32, generation: u32)
+    /// The scanner lists the operation of `_pass`, which it has met, under a need's gauge, or, at 64, under the clock, and marks
+    /// that for the generation met.
+    pub fn mark(&self, scan: &mut ScanSeat, _pass: u32, at: u32, generation: u32)
         requires table { scan.old.table ≡ self.now }
-        requires may { MayMark self.now.shape scan.old.scanner (scanner_now scan.old) pass at }
+        requires may { MayMark self.now.shape scan.old.scanner (scanner_now scan.old) _pass at }
         requires generation { generation ≡ generation_met (scanner_now scan.old).meeting }
-        ensures { scan.new ≡ scanner_did scan.old (Listed pass at) }
+        ensures { scan.new ≡ scanner_did scan.old (Listed _pass at) }
     {
-        let place = place(self.shape, Word::Mark { pass, at });
+        let at = scan.mark_place(at);
         self.board
             .shared
-            .store::<Lists>(&mut scan.seat, place, u64::from(generation));
+            .store::<Lists>(&mut scan.seat, at, u64::from(generation));
     }
 }

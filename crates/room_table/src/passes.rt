@@ -9,11 +9,10 @@ ghost use Rattle.room_table.specs.declared.part.CallerStep.TheVariants.{Describe
 ghost use Rattle.room_table.specs.Seats.{caller_did, caller_now};
 ghost use Rattle.room_table.specs.Tells.{IsOwnWord};
 
-use crate::layout::place;
 use crate::plays::{Describes, Idles, Opens, Peeks, Recalls, SeesMark};
 use crate::seats::CallerSeat;
 use crate::table::RoomTable;
-use room_core::{Phase, Session, Word};
+use room_core::{Phase, Session};
 
 impl RoomTable {
     /// The pass writes a word of its operation's description: 0 the least tally, 1 the deadline, 2 the number of needs, and from
@@ -23,8 +22,7 @@ impl RoomTable {
         requires may { MayDescribe self.now.shape caller.old.pass (caller_now caller.old) at }
         ensures { caller.new ≡ caller_did caller.old (Described at word) }
     {
-        let pass = caller.pass;
-        let at = place(self.shape, Word::Description { pass, at });
+        let at = caller.description_place(at);
         self.board
             .shared
             .store::<Describes>(&mut caller.seat, at, word);
@@ -37,9 +35,8 @@ impl RoomTable {
         ensures still { caller.new ≡ caller.old }
         ensures word { result ≡ (caller_now caller.old).description at }
     {
-        let pass = caller.pass;
-        let place = place(self.shape, Word::Description { pass, at });
-        self.board.shared.load::<Recalls>(&mut caller.seat, place)
+        let at = caller.description_place(at);
+        self.board.shared.load::<Recalls>(&mut caller.seat, at)
     }
 
     /// The pass opens the operation that it has described, at the next generation.
@@ -48,8 +45,7 @@ impl RoomTable {
         requires may { MayOpen self.now.shape caller.old.pass (caller_now caller.old) }
         ensures { caller.new ≡ caller_did caller.old Opened }
     {
-        let pass = caller.pass;
-        let at = place(self.shape, Word::Session { pass });
+        let at = caller.session_place();
         let generation = caller.generation + 1;
         let word = Session {
             generation,
@@ -68,9 +64,8 @@ impl RoomTable {
         ensures step { caller.new ≡ caller_did caller.old (SawMark at result) }
         ensures generation { result ≤ (caller_now caller.old).generation }
     {
-        let pass = caller.pass;
-        let place = place(self.shape, Word::Mark { pass, at });
-        self.board.shared.load::<SeesMark>(&mut caller.seat, place)
+        let at = caller.mark_place(at);
+        self.board.shared.load::<SeesMark>(&mut caller.seat, at)
     }
 
     /// The pass looks at its own session word, which has its generation and is open or won.
@@ -80,8 +75,7 @@ impl RoomTable {
         ensures step { caller.new ≡ caller_did caller.old (Peeked (unpacked result)) }
         ensures word { IsOwnWord (caller_now caller.old) result }
     {
-        let pass = caller.pass;
-        let at = place(self.shape, Word::Session { pass });
+        let at = caller.session_place();
         self.board.shared.load::<Peeks>(&mut caller.seat, at)
     }
 
@@ -91,8 +85,7 @@ impl RoomTable {
         requires may { MayIdle self.now.shape caller.old.pass (caller_now caller.old) }
         ensures { caller.new ≡ caller_did caller.old Idled }
     {
-        let pass = caller.pass;
-        let at = place(self.shape, Word::Session { pass });
+        let at = caller.session_place();
         let word = Session {
             generation: caller.generation,
             phase: Phase::Idle,

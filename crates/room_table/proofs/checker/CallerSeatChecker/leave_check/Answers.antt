@@ -23,7 +23,7 @@ invariant_of-self c =
     let stands : CallerStands board.key c.table.inside.shape board.table_id seat.table_id c.self.inside.pass seat.me c.args.table.now c.args.self.now =
     record { rule = c.table.invariant.1; words = c.table.invariant.2; self_is = c.table.view_is; seat_is = c.self.view_is; of_table = c.requires.table; has = c.self.invariant.has } in
     let told = (c.load.ensures.2 c.args.gauge (caller_on stands (Word.Value c.args.gauge) c.place-at.result c.place-at.ensures)).0 in
-    caller_is_after c.self.inside.pass c.self.inside.generation c.self.inside.generation seat.me c.load.new.seat.me (CallerStep.Left c.args.gauge c.load.result) c.self.invariant told (λ e. e)
+    caller_is_after c.self.inside.pass c.self.inside.generation c.self.inside.generation c.self.inside.first seat.me c.load.new.seat.me (CallerStep.Left c.args.gauge c.load.result) c.self.invariant told (λ e. e)
 
 pub returns-clause-step : goal.returns-clause-step
 returns-clause-step c =

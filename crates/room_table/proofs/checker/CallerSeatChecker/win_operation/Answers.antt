@@ -2,7 +2,7 @@ use Rattle.std.proofs.Common.{◌≡◌, ◌+◌, sym, ap, subst, ◌∙◌}
 use Rattle.room_core.specs.declared.word.Word.{Word}
 use Rattle.room_table.specs.declared.part.CallerStep.{CallerStep}
 use Rattle.room_table.specs.Seats.{CallerView, caller_did, caller_now}
-use Rattle.room_table.proofs.Seatings.{CallerStands, caller_knows, caller_is_after, caller_seen}
+use Rattle.room_table.proofs.Seatings.{CallerStands, caller_knows, caller_is_after, caller_seen, caller_placed}
 use Rattle.room_table.proofs.Ready.{caller_win_ready}
 use Rattle.room_table.specs.Seats.{TableView}
 use Rattle.room_core.specs.Checks.{OwnerMayWin}
@@ -12,7 +12,6 @@ use Rattle.room_core.specs.Packing.{unpacked}
 use Rattle.room_core.specs.Packing.{packed}
 use Rattle.room_table.proofs.Exchanges.{rest_is}
 use Rattle.room_table.proofs.Exchanges.{won_where}
-use Rattle.room_table.specs.Layout.{place_of}
 use Rattle.room_table.specs.Tells.{IsOwnWord}
 use Rattle.room_core.specs.declared.parts.Phase.TheVariants.{Open}
 use Rattle.room_core.specs.declared.parts.Phase.TheVariants.{Won}
@@ -24,7 +23,7 @@ compare_exchange-found-requires c =
     let seat = c.self.inside.seat in
     let stands : CallerStands board.key c.table.inside.shape board.table_id seat.table_id c.self.inside.pass seat.me c.args.table.now c.args.self.now =
     record { rule = c.table.invariant.1; words = c.table.invariant.2; self_is = c.table.view_is; seat_is = c.self.view_is; of_table = c.requires.table; has = c.self.invariant.has } in
-    caller_win_ready board.key c.table.inside.shape board.table_id seat.table_id board.table_id.slots seat.id c.self.inside.pass seat.me c.args.table.now c.args.self.now c.args.how c.place-at.result c.packed-open.result c.packed-won.result c.self.inside.generation stands (c.place-at.ensures ∙ ap (λ p. place_of c.table.inside.shape (Word.Session p)) (c.requires.may.0 ∙ sym (ap (λ v. v.pass) c.self.view_is))) c.self.invariant.generation_is c.packed-open.ensures (c.packed-won.ensures ∙ ap (λ p. packed (record { generation = c.self.inside.generation; phase = Won c.args.how (17 + p) })) (c.requires.may.0 ∙ sym (ap (λ v. v.pass) c.self.view_is))) (subst (λ (t : TableView). OwnerMayWin t.shape c.args.self.now.pass (caller_now c.args.self.now) c.args.how) c.requires.table c.requires.may.1)
+    caller_win_ready board.key c.table.inside.shape board.table_id seat.table_id board.table_id.slots seat.id c.self.inside.pass seat.me c.args.table.now c.args.self.now c.args.how c.session_place-at.result c.packed-open.result c.packed-won.result c.self.inside.generation stands (caller_placed stands Word.Session c.session_place-at.result c.session_place-at.ensures) c.self.invariant.generation_is c.packed-open.ensures (c.packed-won.ensures ∙ ap (λ p. packed (record { generation = c.self.inside.generation; phase = Won c.args.how (17 + p) })) (c.requires.may.0 ∙ sym (ap (λ v. v.pass) c.self.view_is))) (subst (λ (t : TableView). OwnerMayWin t.shape c.args.self.now.pass (caller_now c.args.self.now) c.args.how) c.requires.table c.requires.may.1)
 
 pub invariant_of-self : goal.invariant_of-self
 invariant_of-self c =
@@ -33,7 +32,7 @@ invariant_of-self c =
     let stands : CallerStands board.key c.table.inside.shape board.table_id seat.table_id c.self.inside.pass seat.me c.args.table.now c.args.self.now =
     record { rule = c.table.invariant.1; words = c.table.invariant.2; self_is = c.table.view_is; seat_is = c.self.view_is; of_table = c.requires.table; has = c.self.invariant.has } in
     let told = (c.compare_exchange-found.ensures.2 c.args.how (subst (λ n. n % 4 ≡ how_number c.args.how) (sym c.packed-won.ensures) (rest_is c.self.inside.generation c.args.how (17 + c.args.pass)))).0 in
-    caller_is_after c.self.inside.pass c.self.inside.generation c.self.inside.generation seat.me c.compare_exchange-found.new.seat.me (CallerStep.Won c.args.how (unpacked c.compare_exchange-found.result)) c.self.invariant told (λ e. e)
+    caller_is_after c.self.inside.pass c.self.inside.generation c.self.inside.generation c.self.inside.first seat.me c.compare_exchange-found.new.seat.me (CallerStep.Won c.args.how (unpacked c.compare_exchange-found.result)) c.self.invariant told (λ e. e)
 
 pub returns : goal.returns
 returns c =

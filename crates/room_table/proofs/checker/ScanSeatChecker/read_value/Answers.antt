@@ -2,7 +2,7 @@ use Rattle.std.proofs.Common.{ap, subst, ◌∙◌}
 use Rattle.room_core.specs.declared.word.Word.{Word}
 use Rattle.room_table.specs.declared.part.ScannerStep.{ScannerStep}
 use Rattle.room_table.specs.Seats.{ScanView, scanner_did}
-use Rattle.room_table.proofs.Seatings.{ScannerStands, scanner_on, scanner_is_after, scanner_seen}
+use Rattle.room_table.proofs.Seatings.{ScannerStands, scanner_on, scanner_is_still, scanner_seen}
 use Rattle.room_table.proofs.Ready.{scanner_read_ready}
 use Rattle.room_table.specs.Seats.{TableView}
 use Rattle.room_core.specs.Gauges.{IsGauge}
@@ -24,7 +24,7 @@ invariant_of-self c =
     let stands : ScannerStands board.key c.table.inside.shape board.table_id seat.table_id c.self.inside.scanner seat.me c.args.table.now c.args.self.now =
     record { rule = c.table.invariant.1; words = c.table.invariant.2; self_is = c.table.view_is; seat_is = c.self.view_is; of_table = c.requires.table; has = c.self.invariant.has } in
     let told = (c.load.ensures.2 c.args.gauge (scanner_on stands (Word.Value c.args.gauge) c.place-at.result c.place-at.ensures)).0 in
-    scanner_is_after c.self.inside.scanner c.self.inside.heard c.self.inside.heard c.self.inside.met c.self.inside.met seat.me c.load.new.seat.me (ScannerStep.Read c.args.gauge c.load.result) c.self.invariant told (λ e. e) (λ h. h)
+    scanner_is_still c.self.inside.scanner c.self.inside.heard c.self.inside.heard c.self.inside.met c.self.inside.first seat.me c.load.new.seat.me (ScannerStep.Read c.args.gauge c.load.result) c.self.invariant told (λ e. e) (λ meeting e. e)
 
 pub returns-clause-step : goal.returns-clause-step
 returns-clause-step c =

@@ -21,7 +21,7 @@ invariant_of-caller c =
     let stands : CallerStands board.key c.self.inside.shape board.table_id seat.table_id c.caller.inside.pass seat.me c.args.self.now c.args.caller.now =
     record { rule = c.self.invariant.1; words = c.self.invariant.2; self_is = c.self.view_is; seat_is = c.caller.view_is; of_table = c.requires.table; has = c.caller.invariant.has } in
     let told = c.fetch_max.ensures.2 c.args.gauge (caller_on stands (Word.Asked c.args.gauge) c.place-at.result c.place-at.ensures) in
-    caller_is_after c.caller.inside.pass c.caller.inside.generation c.caller.inside.generation seat.me c.fetch_max.new.seat.me (CallerStep.Asked c.args.gauge c.args.value) c.caller.invariant told (λ e. e)
+    caller_is_after c.caller.inside.pass c.caller.inside.generation c.caller.inside.generation c.caller.inside.first seat.me c.fetch_max.new.seat.me (CallerStep.Asked c.args.gauge c.args.value) c.caller.invariant told (λ e. e)
 
 pub returns : goal.returns
 returns c =

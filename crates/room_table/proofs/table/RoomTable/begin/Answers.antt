@@ -2,7 +2,7 @@ use Rattle.std.proofs.Common.{ap, ◌∙◌}
 use Rattle.room_core.specs.declared.word.Word.{Word}
 use Rattle.room_table.specs.declared.part.ScannerStep.{ScannerStep}
 use Rattle.room_table.specs.Seats.{scanner_did}
-use Rattle.room_table.proofs.Seatings.{ScannerStands, scanner_on, scanner_knows, scanner_is_after, scanner_seen}
+use Rattle.room_table.proofs.Seatings.{ScannerStands, scanner_on, scanner_knows, scanner_is_still, scanner_seen}
 use Rattle.room_table.proofs.Ready.{begin_ready}
 use Rattle.room_table.proofs.table.RoomTable.begin.Goals as goal
 
@@ -21,7 +21,7 @@ invariant_of-scan c =
     let stands : ScannerStands board.key c.self.inside.shape board.table_id seat.table_id c.scan.inside.scanner seat.me c.args.self.now c.args.scan.now =
     record { rule = c.self.invariant.1; words = c.self.invariant.2; self_is = c.self.view_is; seat_is = c.scan.view_is; of_table = c.requires.table; has = c.scan.invariant.has } in
     let told = (c.fetch_max.ensures.2 c.args.gauge (scanner_on stands (Word.Begun c.args.gauge) c.place-at.result c.place-at.ensures)).0 in
-    scanner_is_after c.scan.inside.scanner c.scan.inside.heard c.scan.inside.heard c.scan.inside.met c.scan.inside.met seat.me c.fetch_max.new.seat.me (ScannerStep.Began c.args.gauge c.fetch_max.result) c.scan.invariant told (λ e. e) (λ h meeting e. absurd (cc))
+    scanner_is_still c.scan.inside.scanner c.scan.inside.heard c.scan.inside.heard c.scan.inside.met c.scan.inside.first seat.me c.fetch_max.new.seat.me (ScannerStep.Began c.args.gauge c.fetch_max.result) c.scan.invariant told (λ e. e) (λ meeting e. absurd (cc))
 
 pub returns : goal.returns
 returns c =

@@ -1,5 +1,6 @@
 use Rattle.std.proofs.Common.{}
-use Rattle.room_table.proofs.Seatings.{CallerStands}
+use Rattle.room_core.specs.declared.word.Word.{Word}
+use Rattle.room_table.proofs.Seatings.{CallerStands, caller_placed}
 use Rattle.room_table.proofs.Ready.{peek_ready}
 use Rattle.room_table.proofs.table.RoomTable.peek_own.Goals as goal
 
@@ -9,4 +10,4 @@ load-requires c =
     let seat = c.caller.inside.seat in
     let stands : CallerStands board.key c.self.inside.shape board.table_id seat.table_id c.caller.inside.pass seat.me c.args.self.now c.args.caller.now =
     record { rule = c.self.invariant.1; words = c.self.invariant.2; self_is = c.self.view_is; seat_is = c.caller.view_is; of_table = c.requires.table; has = c.caller.invariant.has } in
-    peek_ready board.key c.self.inside.shape board.table_id seat.table_id board.table_id.slots seat.id c.caller.inside.pass seat.me c.args.self.now c.args.caller.now c.place-at.result stands c.place-at.ensures c.requires.may
+    peek_ready board.key c.self.inside.shape board.table_id seat.table_id board.table_id.slots seat.id c.caller.inside.pass seat.me c.args.self.now c.args.caller.now c.session_place-at.result stands (caller_placed stands Word.Session c.session_place-at.result c.session_place-at.ensures) c.requires.may
