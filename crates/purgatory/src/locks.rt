@@ -275,7 +275,7 @@ impl Locks {
         scan_shard(rt, &self.shards[k], &mut keys.shards[k], table, gauge);
     }
 
-    // Lists an operation in a turn of this shard's lock. Each registering does this, so it is put into what calls it.
+    // Lists an operation in a turn of this shard's lock. Each registration does this, so it is put into what calls it.
     #[inline(always)]
     fn list_behind(
         &self,
