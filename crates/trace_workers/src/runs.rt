@@ -1,6 +1,6 @@
 //! `run_lines` and `print_lines`, which the programs call: a broker is made and dealt to workers, their threads are started, and what they hand
 //! back is closed.
-ghost use Rattle.std.specs.Prelude.{◌≡◌, ◌≤◌, ◌∷◌, [], Bool, false, All, IfOk, length};
+ghost use Rattle.std.specs.Prelude.{◌≡◌, ◌≤◌, ◌∷◌, [], Bool, false, All, IfOk, length, max, min};
 ghost use Rattle.audit.specs.Printed.{IsPrintOf};
 ghost use Rattle.trace_file.specs.Contents.{sessions_of};
 ghost use Rattle.trace_workers.specs.Sessions.{HasLines};
@@ -133,6 +133,17 @@ impl<'a> LinesToPlay<'a> {
     }
 }
 
+// How many workers play that many sessions, where so many workers are asked for. Session S is worker S mod W's and the clock is the first worker's, so
+// one more than there are sessions would have nothing to play.
+fn with_sessions(worker_count: u32, sessions: u32) -> u32
+    requires { 1 ≤ worker_count }
+    ensures is { result ≡ max 1 (min worker_count sessions) }
+    ensures some { 1 ≤ result }
+    ensures few { result ≤ worker_count }
+{
+    worker_count.min(sessions).max(1)
+}
+
 // How lines are played: with which port in the replies to Metadata, on how many workers, whether the clock goes on after them, and whether each
 // session keeps the lines of its replies.
 #[derive(Clone, Copy)]
@@ -162,15 +173,17 @@ fn play<R: Threads + Wait + Sync, G: Gate + Sync>(
     let config = config_of(alloc, lines, manner.port)?;
     let count = sessions_of(lines);
     let (broker, passes) = Broker::make(alloc, config, count + 1)?;
-    let mut workers = deal(alloc, passes, manner.worker_count, manner.keeps_lines)?;
+    let worker_count = with_sessions(manner.worker_count, count);
+    let mut workers = deal(alloc, passes, worker_count, manner.keeps_lines)?;
     to_play.play_by(rt, &broker, gate, workers.as_mut_slice());
     let joined = gather(alloc, workers)?;
     joined.close(rt, alloc, broker, manner.drain)
 }
 
-/// Plays the lines on that many workers, from 1 to 16, with this port in the replies to Metadata, and answers the account of the run. If `drain` is
-/// true, the clock goes on by the second after the lines until no request waits; if one waits past the greatest moment, that is forever. Each worker
-/// passes the gate before each line that it plays. An error if memory ran out, here or in a session.
+/// Plays the lines on that many workers, from 1 to 16, with this port in the replies to Metadata, and answers the account of the run. A worker that
+/// would have neither a session nor the clock isn't started. If `drain` is true, the clock goes on by the second after the lines until no request
+/// waits; if one waits past the greatest moment, that is forever. Each worker passes the gate before each line that it plays. An error if memory ran
+/// out, here or in a session.
 pub fn run_lines<R: Threads + Wait + Sync, G: Gate + Sync>(
     rt: &R,
     alloc: Global,

@@ -36,8 +36,8 @@ gather-requires g c =
     let lines = lines_in c.args.to_play in
     let count = sessions_of lines in
     let size = (c.in_ok-workers.ensures.dealt broker c.sessions_of-count.result c.in_ok-broker.ensures.passes).size in
-    let worked = worked_again broker lines count c.args.manner.worker_count c.in_ok-workers.workers c.as_mut_slice.result.now c.play_by.new.workers size c.as_mut_slice.ensures.value c.play_by.auto.workers c.play_by.ensures.worked in
-    (broker, lines, count, c.args.manner.worker_count, c.requires.worker_count.0, worked)
+    let worked = worked_again broker lines count c.with_sessions-worker_count.result c.in_ok-workers.workers c.as_mut_slice.result.now c.play_by.new.workers size c.as_mut_slice.ensures.value c.play_by.auto.workers c.play_by.ensures.worked in
+    (broker, lines, count, c.with_sessions-worker_count.result, c.with_sessions-worker_count.ensures.some, worked)
 
 pub close-requires : goal.close-requires
 close-requires g c =
@@ -45,8 +45,8 @@ close-requires g c =
     let lines = lines_in c.args.to_play in
     let count = sessions_of lines in
     let size = (c.in_ok-workers.ensures.dealt broker c.sessions_of-count.result c.in_ok-broker.ensures.passes).size in
-    let worked = worked_again broker lines count c.args.manner.worker_count c.in_ok-workers.workers c.as_mut_slice.result.now c.play_by.new.workers size c.as_mut_slice.ensures.value c.play_by.auto.workers c.play_by.ensures.worked in
-    let run = begun broker lines count c.args.manner.drain c.in_ok-joined.joined (c.in_ok-joined.ensures.joined broker lines count c.args.manner.worker_count c.requires.worker_count.0 worked) in
+    let worked = worked_again broker lines count c.with_sessions-worker_count.result c.in_ok-workers.workers c.as_mut_slice.result.now c.play_by.new.workers size c.as_mut_slice.ensures.value c.play_by.auto.workers c.play_by.ensures.worked in
+    let run = begun broker lines count c.args.manner.drain c.in_ok-joined.joined (c.in_ok-joined.ensures.joined broker lines count c.with_sessions-worker_count.result c.with_sessions-worker_count.ensures.some worked) in
     let count_is = c.sessions_of-count.ensures ∙ ap sessions_of c.lines-lines.ensures in
     (lines, count, run, c.in_ok-broker.ensures.size ∙ ap (λ (n : ℕ). n + 1) count_is)
 
@@ -62,8 +62,8 @@ returns g c =
     let worked = c.play_by.new.workers in
     let lent_is = c.as_mut_slice.ensures.value in
     let size = (c.in_ok-workers.ensures.dealt broker c.sessions_of-count.result c.in_ok-broker.ensures.passes).size in
-    let done = worked_again broker lines count c.args.manner.worker_count workers c.as_mut_slice.result.now worked size lent_is c.play_by.auto.workers c.play_by.ensures.worked in
-    let run = begun broker lines count drain joined (c.in_ok-joined.ensures.joined broker lines count c.args.manner.worker_count c.requires.worker_count.0 done) in
+    let done = worked_again broker lines count c.with_sessions-worker_count.result workers c.as_mut_slice.result.now worked size lent_is c.play_by.auto.workers c.play_by.ensures.worked in
+    let run = begun broker lines count drain joined (c.in_ok-joined.ensures.joined broker lines count c.with_sessions-worker_count.result c.with_sessions-worker_count.ensures.some done) in
     let config = c.in_ok-broker.ensures.config ∙ c.in_ok-config.ensures ∙ ap (configuration_of c.args.manner.port) c.lines-lines.ensures in
     let all = c.play_by.ensures.kept keeps (subst (All (AllKeep keeps)) (sym lent_is) c.in_ok-workers.ensures.kept) in
     let again = subst (All (AllKeep keeps)) (sym (written workers worked (c.play_by.auto.workers ∙ ap length lent_is))) all in
