@@ -15,7 +15,7 @@ use crate::told_topics::{Answered, put_topics};
 use kbytes::{Bytes, NoMemory, put_array, put_i32};
 use kwire::{
     FETCHED_PART_BYTES, FetchPart, FetchTopicView, REPLY_HEAD_BYTES, TOLD_TOPIC_BYTES, begin_reply,
-    end_reply, put_fetched_part,
+    end_frame, put_fetched_part,
 };
 use std::alloc::Global;
 
@@ -132,6 +132,6 @@ pub fn fetched_frame(
     let room = room.saturating_add(REPLY_HEAD_BYTES);
     let mut frame = begin_reply(alloc, answered.correlation, room)?;
     put_told(&mut frame, answered, accepted, readings)?;
-    end_reply(&mut frame);
+    end_frame(&mut frame);
     Ok(frame)
 }

@@ -15,7 +15,7 @@ use crate::told_topics::{Answered, put_topics};
 use kbytes::{Bytes, NoMemory, put_array, put_i32};
 use kwire::{
     PRODUCED_PART_BYTES, ProducePartView, ProduceTopicView, REPLY_HEAD_BYTES, TOLD_TOPIC_BYTES,
-    begin_reply, end_reply, put_produced_part,
+    begin_reply, end_frame, put_produced_part,
 };
 use std::alloc::Global;
 
@@ -121,6 +121,6 @@ pub fn produced_frame(
 {
     let mut frame = begin_reply(alloc, answered.correlation, frame_room(answered.topics))?;
     put_told(&mut frame, answered, accepted, readings)?;
-    end_reply(&mut frame);
+    end_frame(&mut frame);
     Ok(frame)
 }

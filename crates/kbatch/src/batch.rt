@@ -70,6 +70,16 @@ impl Batch {
         self.view().bytes()
     }
 
+    /// The bytes of the batch, which aren't copied.
+    pub fn into_bytes(self) -> Bytes
+        ensures bytes { result ≡ self }
+        ensures batch { (records : List Record) × IsBatch self records }
+        ensures most { length self ≤ most_bytes }
+    {
+        let bytes = self.bytes;
+        bytes
+    }
+
     /// The records, each copied with all that it has. After `NoMemory` there are none.
     pub fn records(&self, alloc: Global) -> Result<Items<Record>, NoMemory>
         ensures records { IfOk result (λ records. IsBatch self.now records) }

@@ -152,8 +152,9 @@ fn unsigned(alloc: Global, records: &[Record]) -> Result<Bytes, Memory>
     requires most { written_size records.now ≤ most_bytes }
     ensures { IfOk result (λ bytes. bytes ≡ written_with 0 records.now) }
 {
-    let mut bytes = Bytes::new(alloc);
     let size = records_size(records) as u32;
+    let mut bytes = Bytes::new(alloc);
+    bytes.reserve(HEAD + size as usize)?;
     put_front(&mut bytes, size)?;
     put_back(&mut bytes, records.len() as u32, greatest_time(records))?;
     put_all(&mut bytes, records)?;

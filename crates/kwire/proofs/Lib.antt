@@ -36,6 +36,8 @@ pub mod Lookups
 pub mod FramesOnce
 -- fields that are written one after the other
 pub mod Spelled
+-- a frame that was begun, with its body
+pub mod BegunFrames
 -- a reply's frame that was begun, with its fields
 pub mod ReplyFrames
 -- fields of the numbers from 0 on

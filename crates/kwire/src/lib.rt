@@ -36,10 +36,11 @@ pub use framing::{MOST_FRAME_BYTES, next_frame};
 pub use inbox::Inbox;
 pub use promises::{frames_are_one, frames_in_pieces, layouts_are_one, requests_are_one};
 pub use put_fetched::put_fetched_part;
+pub use put_items::end_frame;
 pub use put_produced::put_produced_part;
 pub use put_reply::{
     FETCHED_PART_BYTES, PRODUCED_PART_BYTES, REPLY_HEAD_BYTES, TOLD_TOPIC_BYTES, begin_reply,
-    end_reply, reply_bytes,
+    reply_bytes,
 };
 pub use put_request::request_bytes;
 pub use reply::{

@@ -1,9 +1,9 @@
 //! What all `put_` modules share: items that are written one after the other, and the frame around a body.
 
-ghost use Rattle.std.specs.Prelude.{◌≡◌, ◌<◌, ◌^◌, ◌++◌, ℤ, List as Items, length, IfOk, OnOk};
+ghost use Rattle.std.specs.Prelude.{◌≡◌, ◌≤◌, ◌<◌, ◌+◌, ◌^◌, ◌++◌, ℤ, pos, List as Items, length, drop, IfOk, OnOk};
 ghost use Rattle.std.specs.Option.{option_copied};
 ghost use Rattle.std.specs.List.{flat_map};
-ghost use Rattle.kbytes.specs.Field.{Field, fields};
+ghost use Rattle.kbytes.specs.Field.{Field, Int32, field, fields};
 ghost use Rattle.kwire.specs.Frames.{framed};
 ghost use Rattle.kwire.specs.IsSpellable.{AreInRange};
 
@@ -40,13 +40,32 @@ pub fn slice_of(bytes: &Option<Bytes>) -> Option<&[u8]>
     }
 }
 
-/// The frame of a body, which has at most 2,147,483,647 bytes.
-pub fn frame(alloc: Global, body: &[u8]) -> Result<Bytes, NoMemory>
-    requires { length body.now < 2 ^ 31 }
-    ensures { IfOk result (λ frame. frame ≡ framed body.now) }
+/// The beginning of a frame, with memory reserved for so many bytes in all: 0 in place of the size. The body follows, and
+/// `end_frame` after it.
+pub fn begin_frame(alloc: Global, room: usize) -> Result<Bytes, NoMemory>
+    ensures { IfOk result (λ frame. frame ≡ field (Int32 (pos 0))) }
 {
     let mut frame = Bytes::new(alloc);
-    put_i32(&mut frame, body.len() as i32)?;
-    frame.extend(body)?;
+    frame.reserve(room)?;
+    put_i32(&mut frame, 0)?;
     Ok(frame)
+}
+
+// Writes the bytes over the first ones.
+fn put_front(bytes: &mut [u8], front: &[u8])
+    requires { length front.now ≤ length bytes.old }
+    ensures { bytes.new ≡ front.now ++ drop (length front.now) bytes.old }
+{
+    let count = front.len();
+    bytes[..count].copy_from_slice(front);
+}
+
+/// Writes the size of a whole frame over its first four bytes.
+pub fn end_frame(frame: &mut Bytes)
+    requires least { 4 ≤ length frame.old }
+    requires most { length frame.old < 2 ^ 31 + 4 }
+    ensures { frame.new ≡ framed (drop 4 frame.old) }
+{
+    let size = (frame.len() - 4) as i32;
+    put_front(frame.as_mut_slice(), &size.to_be_bytes());
 }

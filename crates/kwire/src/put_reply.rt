@@ -1,13 +1,13 @@
 //! Writing a reply as a frame: the last step of each answer. The fields of each kind are in the other `put_` modules.
 
-ghost use Rattle.std.specs.Prelude.{◌≡◌, ◌≤◌, ◌<◌, ◌+◌, ◌^◌, ◌++◌, ◌∷◌, [], pos, length, drop, IfOk, OnOk};
+ghost use Rattle.std.specs.Prelude.{◌≡◌, ◌++◌, ◌∷◌, [], pos, IfOk, OnOk};
 ghost use Rattle.kbytes.specs.Field.{fields, Int32};
 ghost use Rattle.kwire.specs.declared.reply.Told.TheVariants.{Produced, Fetched};
 ghost use Rattle.kwire.specs.IsSpellable.{AreInRange, IsSpellable};
-ghost use Rattle.kwire.specs.Frames.{framed};
 ghost use Rattle.kwire.specs.Spelling.{told_fields, spelling};
 
 use crate::put_fetched::put_fetched;
+use crate::put_items::{begin_frame, end_frame};
 use crate::put_metadata::{put_metadata, put_versions};
 use crate::put_produced::put_produced;
 use crate::reply::{FetchedPart, FetchedTopic, ProducedTopic, Reply, Told};
@@ -114,35 +114,14 @@ fn room_of(told: &Told) -> usize {
     }
 }
 
-// Writes the bytes over the first ones.
-fn put_front(bytes: &mut [u8], front: &[u8])
-    requires { length front.now ≤ length bytes.old }
-    ensures { bytes.new ≡ front.now ++ drop (length front.now) bytes.old }
-{
-    let count = front.len();
-    bytes[..count].copy_from_slice(front);
-}
-
 /// The beginning of a reply's frame, with memory reserved for so many bytes in all: 0 in place of the size, and the
-/// correlation id. The reply's fields follow, and `end_reply` after them.
+/// correlation id. The reply's fields follow, and `end_frame` after them.
 pub fn begin_reply(alloc: Global, correlation: i32, room: usize) -> Result<Bytes, NoMemory>
     ensures { IfOk result (λ frame. frame ≡ fields (Int32 (pos 0) ∷ Int32 correlation ∷ [])) }
 {
-    let mut frame = Bytes::new(alloc);
-    frame.reserve(room)?;
-    put_i32(&mut frame, 0)?;
+    let mut frame = begin_frame(alloc, room)?;
     put_i32(&mut frame, correlation)?;
     Ok(frame)
-}
-
-/// Writes the size of a whole frame over its first four bytes.
-pub fn end_reply(frame: &mut Bytes)
-    requires least { 4 ≤ length frame.old }
-    requires most { length frame.old < 2 ^ 31 + 4 }
-    ensures { frame.new ≡ framed (drop 4 frame.old) }
-{
-    let size = (frame.len() - 4) as i32;
-    put_front(frame.as_mut_slice(), &size.to_be_bytes());
 }
 
 /// The frame of a reply: the size, the correlation id and the fields.
@@ -152,6 +131,6 @@ pub fn reply_bytes(alloc: Global, reply: &Reply) -> Result<Bytes, NoMemory>
 {
     let mut frame = begin_reply(alloc, reply.correlation, room_of(&reply.told))?;
     put_told(&mut frame, &reply.told)?;
-    end_reply(&mut frame);
+    end_frame(&mut frame);
     Ok(frame)
 }

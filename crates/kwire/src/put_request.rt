@@ -6,8 +6,8 @@ ghost use Rattle.kwire.specs.Frames.{framed};
 ghost use Rattle.kwire.specs.IsRequest.{IsRequest, IsWhole, version_of as asked_version, produce_part_fields, produce_topic_fields, fetch_part_fields, fetch_topic_fields, name_fields, ask_fields, request_fields};
 ghost use Rattle.kwire.specs.IsSpellable.{AreInRange};
 
-use crate::api::{Api, asked_api, key_of, versions_of};
-use crate::put_items::{Written, frame, put_items, slice_of};
+use crate::api::{Api, asked_api, has_log_start, key_of, versions_of};
+use crate::put_items::{Written, begin_frame, end_frame, put_items, slice_of};
 use crate::put_produced::put_start;
 use crate::request::{Ask, FetchPart, FetchTopic, ProducePart, ProduceTopic, Request};
 use kbytes::{
@@ -15,6 +15,29 @@ use kbytes::{
     put_records, put_string,
 };
 use std::alloc::Global;
+
+/// The bytes before what a request asks: the size, the key, the version, the correlation id, and the length of the client's
+/// name.
+const REQUEST_HEAD_BYTES: usize = 14;
+
+/// The bytes before the topics of a produce: the length of the transaction's name, the acks, the timeout and the count.
+const PRODUCE_HEAD_BYTES: usize = 12;
+
+/// The bytes before the topics of a fetch: who asks, the longest wait, the least bytes, the most, the isolation and the
+/// count.
+const FETCH_HEAD_BYTES: usize = 21;
+
+/// The bytes of a topic beside its name and partitions: the name's length and the count.
+const TOPIC_BYTES: usize = 6;
+
+/// The bytes of a partition of a produce beside its records: the number and their length.
+const PRODUCE_PART_BYTES: usize = 8;
+
+/// The bytes of a partition of a fetch beside where the asker's log starts: the number, the offset and the most bytes.
+const FETCH_PART_BYTES: usize = 16;
+
+/// The bytes that say where the asker's log starts, in the versions that do.
+const LOG_START_BYTES: usize = 8;
 
 impl Written for ProducePart {
     ghost written = { λ _. produce_part_fields };
@@ -135,6 +158,63 @@ fn put_request(out: &mut Bytes, request: &Request) -> Result<(), NoMemory>
     put_ask(out, &request.ask)
 }
 
+// The bytes of the partitions' fields. Nothing but what is reserved rests on it.
+fn produce_parts_room(parts: &[ProducePart]) -> usize {
+    let mut room: usize = 0;
+    for part in parts {
+        room = room.saturating_add(PRODUCE_PART_BYTES);
+        if let Some(records) = &part.records {
+            room = room.saturating_add(records.len());
+        }
+    }
+    room
+}
+
+// The same of the topics' fields.
+fn produce_room(topics: &[ProduceTopic]) -> usize {
+    let mut room: usize = 0;
+    for topic in topics {
+        let parts = produce_parts_room(topic.parts.as_slice());
+        room = room.saturating_add(topic.name.len()).saturating_add(parts);
+        room = room.saturating_add(TOPIC_BYTES);
+    }
+    room
+}
+
+// The same for a fetch.
+fn fetch_room(version: i16, topics: &[FetchTopic]) -> usize {
+    let part_bytes = if has_log_start(version) {
+        FETCH_PART_BYTES + LOG_START_BYTES
+    } else {
+        FETCH_PART_BYTES
+    };
+    let mut room: usize = 0;
+    for topic in topics {
+        let parts = topic.parts.len().saturating_mul(part_bytes);
+        room = room.saturating_add(topic.name.len()).saturating_add(parts);
+        room = room.saturating_add(TOPIC_BYTES);
+    }
+    room
+}
+
+// The bytes of a frame that the request needs, without the names of a client and of a transaction, or none for a request
+// that is small or rare.
+fn room_of(ask: &Ask) -> usize {
+    match ask {
+        Ask::Produce { topics, .. } => produce_room(topics.as_slice()).saturating_add(
+            REQUEST_HEAD_BYTES + PRODUCE_HEAD_BYTES,
+        ),
+        Ask::Fetch {
+            version,
+            topics,
+            ..
+        } => fetch_room(*version, topics.as_slice()).saturating_add(
+            REQUEST_HEAD_BYTES + FETCH_HEAD_BYTES,
+        ),
+        Ask::Metadata { .. } | Ask::Versions { .. } => 0,
+    }
+}
+
 /// The frame of a request in a version that is read whole, which names at most 64 topics and partitions, and no
 /// partition twice. Its body is that request, so reading it gives the same request.
 pub fn request_bytes(alloc: Global, request: &Request) -> Result<Bytes, NoMemory>
@@ -143,7 +223,8 @@ pub fn request_bytes(alloc: Global, request: &Request) -> Result<Bytes, NoMemory
     ensures spelled { IfOk result (λ frame. frame ≡ framed (fields (request_fields request.now))) }
     ensures again { IfOk result (λ _. IsRequest (fields (request_fields request.now)) request.now) }
 {
-    let mut body = Bytes::new(alloc);
-    put_request(&mut body, request)?;
-    frame(alloc, body.as_slice())
+    let mut frame = begin_frame(alloc, room_of(&request.ask))?;
+    put_request(&mut frame, request)?;
+    end_frame(&mut frame);
+    Ok(frame)
 }

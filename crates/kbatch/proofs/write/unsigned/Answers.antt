@@ -20,7 +20,7 @@ returns c =
     let rs = c.args.records.now in
     let rest = records_from 0 rs in
     let size : c.records_size-size.result ≡ length rest = omega (arith, c.records_size-size.ensures.size, c.requires.most) in
-    let front = c.in_ok-put_front.ensures ∙ ap (λ out. out ++ take 21 (head_bytes (plain_head 0 c.records_size-size.result 0 (pos 0)))) c.new-bytes.ensures in
+    let front = c.in_ok-put_front.ensures ∙ ap (λ out. out ++ take 21 (head_bytes (plain_head 0 c.records_size-size.result 0 (pos 0)))) (c.reserve.ensures ∙ c.new-bytes.ensures) in
     let latest : FitsSigned w64 c.greatest_time.result = search rules in
     let back = c.in_ok-put_back.ensures ∙ ap (λ t. c.put_front.new.out ++ drop 21 (head_bytes (plain_head 0 0 (length rs) t))) (to_z-of_z w64 c.greatest_time.result latest) ∙ ap (λ out. out ++ drop 21 (head_bytes (plain_head 0 0 (length rs) c.greatest_time.result))) front in
     c.in_ok-put_all.ensures ∙ ap (λ out. out ++ rest) back

@@ -6,8 +6,8 @@ use Rattle.kbytes.specs.Field.{Int32, fields}
 use Rattle.kwire.proofs.ReplyFrames.{frame_short}
 use Rattle.kwire.proofs.put_reply.reply_bytes.Goals as goal
 
-pub end_reply-requires-clause-most : goal.end_reply-requires-clause-most
-end_reply-requires-clause-most c =
+pub end_frame-requires-clause-most : goal.end_frame-requires-clause-most
+end_frame-requires-clause-most c =
     let reply = c.args.reply.now in
     let fits : SFits w32 reply.correlation = search rules in
     let begun = c.in_ok-frame.ensures ∙ ap (λ (z : ℤ). fields (Int32 (pos 0) ∷ Int32 z ∷ [])) (to_z-of_z w32 reply.correlation fits) in

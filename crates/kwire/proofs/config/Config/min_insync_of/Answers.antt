@@ -1,4 +1,4 @@
-use Rattle.std.proofs.Common.{◌≡◌, ◌<◌, ◌≤◌, List, refl, sym, ap, ◌∙◌, arith}
+use Rattle.std.proofs.Common.{◌<◌, ◌≤◌, List, sym, ap, ◌∙◌, arith}
 use Rattle.kwire.specs.declared.config.Topic.{Topic}
 use Rattle.kwire.specs.Configuration.{Configuration, min_insync_at}
 use Rattle.kwire.proofs.Lookups.{min_insync_here, min_insync_next, min_insync_past}
