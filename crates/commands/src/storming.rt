@@ -20,8 +20,7 @@ use std::alloc::Global;
 use std::sync::Wait;
 use std::thread::Threads;
 use storm::{loads_are_traces, storm};
-use trace_file::REPLAY_PORT;
-use trace_workers::{Gate, run_lines};
+use trace_workers::{Gate, run_load};
 
 // Plays the load until nobody waits, and makes the text of the run.
 fn play<R: Threads + Wait + Sync, G: Gate + Sync>(
@@ -37,15 +36,7 @@ fn play<R: Threads + Wait + Sync, G: Gate + Sync>(
     // a law: it does nothing
     loads_are_traces();
     let lines = storm(alloc, load.seed, load.requests)?;
-    let account = run_lines(
-        rt,
-        alloc,
-        lines.as_slice(),
-        REPLAY_PORT,
-        load.workers,
-        true,
-        gate,
-    )?;
+    let account = run_load(rt, alloc, lines, load.workers, gate)?;
     let mut text = Bytes::new(alloc);
     print_storm(alloc, &account, &mut text)?;
     Ok((account, text))

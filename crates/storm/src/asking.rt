@@ -64,6 +64,7 @@ fn value(alloc: Global, i: u32) -> Result<Bytes, NoMemory>
     let mut buffer = Buffer::new();
     let digits = buffer.format(i).as_bytes();
     let mut value = Bytes::new(alloc);
+    value.reserve(DIGITS)?;
     value.extend(&ZEROS[digits.len()..])?;
     value.extend(digits)?;
     Ok(value)
@@ -82,7 +83,7 @@ fn batch(alloc: Global, i: u32) -> Result<Bytes, NoMemory>
     };
     let records = [record];
     match write_batch(alloc, &records) {
-        Ok(batch) => copied(alloc, batch.bytes()),
+        Ok(batch) => Ok(batch.into_bytes()),
         // One short record always fits a batch.
         Err(_) => Err(NoMemory),
     }

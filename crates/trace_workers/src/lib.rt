@@ -38,7 +38,7 @@ pub use gate::{Gate, NoGate};
 pub use giving_back::give_back;
 pub use print_part::PrintPart;
 pub use promises::{joined_accounts_are_runs, traces_have_runs};
-pub use runs::{print_lines, run_lines};
+pub use runs::{print_lines, run_lines, run_load};
 pub use session::TraceSession;
 pub use session_promises::resting_sessions_fit;
 pub use worker::Worker;

@@ -1,6 +1,6 @@
-//! `run_lines` and `print_lines`, which the programs call: a broker is made and dealt to workers, their threads are started, and what they hand
+//! `run_lines`, `run_load` and `print_lines`, which the programs call: a broker is made and dealt to workers, their threads are started, and what they hand
 //! back is closed.
-ghost use Rattle.std.specs.Prelude.{◌≡◌, ◌≤◌, ◌∷◌, [], Bool, false, All, IfOk, length, max, min};
+ghost use Rattle.std.specs.Prelude.{◌≡◌, ◌≤◌, ◌∷◌, [], Bool, true, false, All, IfOk, length, max, min};
 ghost use Rattle.audit.specs.Printed.{IsPrintOf};
 ghost use Rattle.trace_file.specs.Contents.{sessions_of};
 ghost use Rattle.trace_workers.specs.Sessions.{HasLines};
@@ -22,7 +22,7 @@ use std::alloc::Global;
 use std::sync::Wait;
 use std::thread;
 use std::thread::Threads;
-use trace_file::{Line, config_of};
+use trace_file::{Line, REPLAY_PORT, config_of};
 
 // One more than the session that the line names, or 0.
 fn session_past(line: &Line) -> u32
@@ -204,6 +204,29 @@ pub fn run_lines<R: Threads + Wait + Sync, G: Gate + Sync>(
         keeps_lines: false,
     };
     let to_play = LinesToPlay::Lent(lines);
+    let Played { account, .. } = play(rt, alloc, to_play, manner, gate)?;
+    Ok(account)
+}
+
+/// Plays the lines of a load as `run_lines` does, with a drain and with the port of a replay. They are given back as `print_lines` does.
+pub fn run_load<R: Threads + Wait + Sync, G: Gate + Sync>(
+    rt: &R,
+    alloc: Global,
+    lines: List<Line>,
+    worker_count: u32,
+    gate: &G,
+) -> Result<Account, NoMemory>
+    requires traced { AreTraced lines }
+    requires worker_count { (1 ≤ worker_count) × (worker_count ≤ 16) }
+    ensures { IfOk result (IsWorkerRun lines REPLAY_PORT true) }
+{
+    let manner = Manner {
+        port: REPLAY_PORT,
+        worker_count,
+        drain: true,
+        keeps_lines: false,
+    };
+    let to_play = LinesToPlay::Given(lines);
     let Played { account, .. } = play(rt, alloc, to_play, manner, gate)?;
     Ok(account)
 }
