@@ -63,7 +63,7 @@ module _ (config : Configuration) (seq : ℕ) (request : Request) (old mid new :
       (subst (λ (u : Underway). IsAccepting u request was.decisions h.0 h.1) (sym (amid_stepped mid new step config f t (record call { accept = points }))) h.2) was.cut)
 
   -- all was carried out
-  module _ (came : CameView) (accepted : (decisions : List Decision) → Decides config request.ask decisions → WasAccepted config seq request decisions old call.accept mid points came) where
+  module _ (is_sent : Bool) (came : CameView) (accepted : (decisions : List Decision) → Decides config request.ask decisions → WasAccepted is_sent config seq request decisions old call.accept mid points came) where
     abbrev noted_in : (front : List Transcript) (transcript : Transcript) → IsWritten config seq request old call front transcript → List Noted
     noted_in front transcript was = (accepted was.decisions was.accepting.decided).noted
 
@@ -83,7 +83,7 @@ module _ (config : Configuration) (seq : ℕ) (request : Request) (old mid new :
         record { number = was.number; decisions = was.decisions; noted = w.noted; accepting = whole front transcript was; results = w.results; delayed = delayed (shown_of w.noted) w.results w.numbers }
 
     module _ (front : List Transcript) (transcript : Transcript) (first : IsWritten config seq request old call front transcript) where
-      abbrev one : WasAccepted config seq request first.decisions old call.accept mid points came
+      abbrev one : WasAccepted is_sent config seq request first.decisions old call.accept mid points came
       one = accepted first.decisions first.accepting.decided
 
       pub accepted_on : HasGoneOn old new
@@ -108,9 +108,9 @@ module _ (config : Configuration) (seq : ℕ) (request : Request) (old mid new :
         come_at_once how is nobody =
             unwon_come config (IsWritten config seq request old call) old new call (record call { accept = points; how = how }) accepted_on accepted_kept idle paid nobody refl (at_once how is)
 
-        told_at_once : (is_sent : Bool) (bytes : List ℕ) → ((shown : List Shown) → AreReadings request.ask came.accepted came.readings shown → bytes ≡ frame_of is_sent (answer config request shown)) → (f : List Transcript) (t : Transcript)
+        told_at_once : (bytes : List ℕ) → ((shown : List Shown) → (is_sent ≡ true → AreReadings request.ask came.accepted came.readings shown) → bytes ≡ frame_of is_sent (answer config request shown)) → (f : List Transcript) (t : Transcript)
             → IsWritten config seq request old call f t → IsToldTo is_sent config new (record call { accept = points; how = AtOnce }) bytes
-        told_at_once is_sent bytes spelled f t was =
+        told_at_once bytes spelled f t was =
             let w = accepted was.decisions was.accepting.decided in
             let u = amid config f t new (record call { accept = points }) in
             record {
@@ -119,16 +119,16 @@ module _ (config : Configuration) (seq : ℕ) (request : Request) (old mid new :
               replied = answered_reply (with_end u AtOnce) request was.decisions w.noted (accepting_as u request was.decisions (length was.decisions) w.noted AtOnce (whole f t was)) (undelayed (shown_of w.noted) w.results w.numbers) refl;
             }
 
-        pub answered : (is_sent : Bool) {E : Type 0} (r : Result Became E) (after : Call) → IsAnswered is_sent config request came r (record call { accept = points }) after
+        pub answered : {E : Type 0} (r : Result Became E) (after : Call) → IsAnswered is_sent config request came r (record call { accept = points }) after
             → HasServed is_sent config seq request (IsWritten config seq request old call) r old new call after
-        answered is_sent {E = E} (Ok (Became.Answered bytes)) after h =
+        answered {E = E} (Ok (Became.Answered bytes)) after h =
             subst (λ (k : Call). HasServed {E = E} is_sent config seq request (IsWritten config seq request old call) (Ok (Became.Answered bytes)) old new call k) (sym h.1)
-            (come_at_once AtOnce (ap (λ (b : Bool). cond b Quiet AtOnce) (sym h.0)) (λ by. refl), h.0, inl refl, accepted_left, told_at_once is_sent bytes h.2)
-        answered is_sent {E = E} (Ok Became.Quiet) after h =
+            (come_at_once AtOnce (ap (λ (b : Bool). cond b Quiet AtOnce) (sym h.0)) (λ by. refl), h.0, inl refl, accepted_left, told_at_once bytes h.2)
+        answered {E = E} (Ok Became.Quiet) after h =
             subst (λ (k : Call). HasServed {E = E} is_sent config seq request (IsWritten config seq request old call) (Ok Became.Quiet) old new call k) (sym h.1)
             (come_at_once Quiet (ap (λ (b : Bool). cond b Quiet AtOnce) (sym h.0)) (λ by. refl), h.0, refl, accepted_left)
-        answered is_sent {E = E} (Ok (Became.Parked parked)) after h = absurd h
-        answered is_sent {E = E} (Err e) after h =
+        answered {E = E} (Ok (Became.Parked parked)) after h = absurd h
+        answered {E = E} (Err e) after h =
             subst (λ (k : Call). HasServed {E = E} is_sent config seq request (IsWritten config seq request old call) (Err e) old new call k) (sym h) (
               cut_come config (IsWritten config seq request old call) old new call (record call { accept = points }) accepted_on accepted_kept idle paid first.cut refl
                   (λ f t was. accepting_cut (amid config f t new (record call { accept = points })) request was.decisions (length was.decisions) (noted_in f t was) (whole f t was) was.cut),

@@ -140,7 +140,7 @@ module _ {E : Type 0} where
   abbrev pub IsAnswered : Bool → Configuration → Request → CameView → Result Became E → Call → Call → Type 0
   IsAnswered is_sent config request came (Ok (Became.Answered bytes)) before after =
       (is_quiet request.ask ≡ false) × (after ≡ record before { how = AtOnce })
-      × ((shown : List Shown) → AreReadings request.ask came.accepted came.readings shown → bytes ≡ frame_of is_sent (answer config request shown))
+      × ((shown : List Shown) → (is_sent ≡ true → AreReadings request.ask came.accepted came.readings shown) → bytes ≡ frame_of is_sent (answer config request shown))
   IsAnswered is_sent config request came (Ok Became.Quiet) before after = (is_quiet request.ask ≡ true) × (after ≡ record before { how = Quiet })
   IsAnswered is_sent config request came (Ok (Became.Parked parked)) before after = ⊥
   IsAnswered is_sent config request came (Err e) before after = after ≡ before

@@ -1,6 +1,6 @@
 //! `Broker::handle`, by which a session has a request answered: the call is recorded, its partitions are asked (`shared_calls::accept`), and it is
 //! answered here, waits, or is completed at once (completing.rt).
-ghost use Rattle.std.specs.Prelude.{◌≡◌, ◌<◌, ◌≤◌, ℕ, IfNone, IfSome, IsSome, List as Items, None, OnErr, OnOk, false, length, All};
+ghost use Rattle.std.specs.Prelude.{◌≡◌, ◌<◌, ◌≤◌, ℕ, IfNone, IfSome, IsSome, List as Items, None, OnErr, OnOk, true, false, length, All};
 ghost use Rattle.audit.specs.declared.account.CallHow.TheVariants.{Cut};
 ghost use Rattle.audit.specs.declared.account.TheConstants.{MOST_CALLS};
 ghost use Rattle.audit.specs.declared.account.Transcript.{Transcript as TheTranscript};
@@ -194,6 +194,7 @@ impl Broker {
         let asking = Asking {
             config: &self.config,
             by: &by,
+            is_read: current.is_sent,
         };
         let came = accept(&asking, logs, &mut call.accept, current.request);
         self.logs.settle(current.rt, logs);
@@ -214,7 +215,7 @@ impl Broker {
     ) -> Result<Became, NoMemory>
         requires results { AreResults current.now.request.now.ask came.now.accepted }
         requires readings { length came.now.readings ≡ length came.now.accepted }
-        requires read { (shown : Items Shown) × AreReadings current.now.request.now.ask came.now.accepted came.now.readings shown }
+        requires read { current.now.is_sent ≡ true → (shown : Items Shown) × AreReadings current.now.request.now.ask came.now.accepted came.now.readings shown }
         requires room { bytes_read came.now.readings ≤ most_left (budget_of current.now.request.now.ask) }
         requires asked { (body : Items ℕ) × IsRequest body current.now.request.now }
         ensures { IsAnswered current.now.is_sent self.now.config current.now.request.now came.now result call.old call.new }
@@ -229,7 +230,8 @@ impl Broker {
         Ok(Became::Answered(frame))
     }
 
-    // Looks at the clock, and makes an operation of the call from the moment there.
+    // Looks at the clock, and makes an operation of the call from the moment there. Most calls are answered at once, so this stands apart.
+    #[inline(never)]
     fn delay<W: Wait>(
         &self,
         current: &CurrentCall<'_, '_, '_, W>,
@@ -255,10 +257,8 @@ impl Broker {
         let looked = look_at_clock(&by, logs, &mut call.accept, 0);
         self.logs.settle(current.rt, logs);
         let op = op_of(self.alloc, current.request, came.accepted(), looked?)?;
-        let parked = Parked {
-            accepted: came.into_accepted(),
-            op,
-        };
+        let accepted = came.into_accepted(self.alloc)?;
+        let parked = Parked { accepted, op };
         self.enlist(current, logs, call, parked)
     }
 

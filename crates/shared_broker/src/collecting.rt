@@ -43,6 +43,7 @@ impl Broker {
     }
 
     /// As `collect`, where the reply is neither sent nor kept: a `Reply` has no bytes.
+    #[inline(always)]
     pub fn collect_unsent(&self, rt: &impl Wait, pass: &mut Pass) -> Collected
         requires made { made_with pass.old ≡ self.now }
         requires waits { IsSome pass.old.waits }

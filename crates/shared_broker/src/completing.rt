@@ -1,6 +1,6 @@
 //! The end of a call that was won, whether `handle` finds it won as it registers the operation or `collect` does later: the call looks at its
 //! partitions (`shared_calls::complete`), and the reply's frame is made of what it finds.
-ghost use Rattle.std.specs.Prelude.{◌≡◌, ◌≤◌, ℕ, All, List as Items, [], IfOk, length};
+ghost use Rattle.std.specs.Prelude.{◌≡◌, ◌≤◌, ℕ, true, All, List as Items, [], IfOk, length};
 ghost use Rattle.audit.specs.declared.account.Call.{Call as TheCall};
 ghost use Rattle.audit.specs.declared.account.Transcript.{Transcript as TheTranscript};
 ghost use Rattle.kanswer.specs.Answer.{answer};
@@ -47,10 +47,10 @@ impl Broker {
         requires readings { length readings.now ≡ length accepted.now }
         requires offsets { All IsCarriable accepted.now }
         requires numbers { All HasCarriable readings.now }
-        requires read { (shown : Items Shown) × AreReadings current.now.request.now.ask accepted.now readings.now shown }
+        requires read { current.now.is_sent ≡ true → (shown : Items Shown) × AreReadings current.now.request.now.ask accepted.now readings.now shown }
         requires room { bytes_read readings.now ≤ most_left (budget_of current.now.request.now.ask) }
         requires asked { (body : Items ℕ) × IsRequest body current.now.request.now }
-        ensures { IfOk result (λ frame. (shown : Items Shown) → AreReadings current.now.request.now.ask accepted.now readings.now shown
+        ensures { IfOk result (λ frame. (shown : Items Shown) → (current.now.is_sent ≡ true → AreReadings current.now.request.now.ask accepted.now readings.now shown)
             → frame ≡ frame_of current.now.is_sent (answer self.now.config current.now.request.now shown)) }
     {
         if !current.is_sent {

@@ -1,5 +1,5 @@
 -- A request is accepted whole: all that is decided of it is carried out.
-use Rattle.std.proofs.Common.{◌≡◌, ℕ, ℤ, List, [], ◌++◌, refl, sym, ap, subst, ◌∙◌, Option}
+use Rattle.std.proofs.Common.{◌≡◌, Bool, true, ℕ, ℤ, List, [], ◌++◌, refl, sym, ap, subst, ◌∙◌, Option}
 use Rattle.std.specs.List.{AllZip}
 use Rattle.std.specs.Prelude.{is_some, ⊤}
 use Rattle.audit.specs.declared.account.Point.{Point}
@@ -38,7 +38,7 @@ decided_produce config ask decisions version id acks timeout topics items terms 
     (subst (λ (v : ℤ). AllZip (ProduceDecides config v id terms.acks) (produce_parts topics) decisions) (sym in_version)
     (subst (λ (z : ℤ). AllZip (ProduceDecides config version id z) (produce_parts topics) decisions) (sym same) (subst (λ (a : Ask). Decides config a decisions) is decided))))
 
-module _ (config : Configuration) (seq : ℕ) (request : Request) (decisions : List Decision) (old : LogPassView) (before : List Point) (new : LogPassView) (after : List Point) (start came : CameView) (none : start ≡ nothing_came) where
+module _ (is_read : Bool) (config : Configuration) (seq : ℕ) (request : Request) (decisions : List Decision) (old : LogPassView) (before : List Point) (new : LogPassView) (after : List Point) (start came : CameView) (none : start ≡ nothing_came) where
   from_nothing : {X : Type 0} (f : CameView → List X) (xs ys : List X) → f nothing_came ≡ [] → xs ≡ f start ++ ys → xs ≡ ys
   from_nothing {X = X} f xs ys empty is = is ∙ ap (λ (zs : List X). zs ++ ys) (ap f none ∙ empty)
 
@@ -52,38 +52,38 @@ module _ (config : Configuration) (seq : ℕ) (request : Request) (decisions : L
     come_numbers : AreNumbers came.numbers (shown_of noted)
     come_numbers = subst (λ (ns : List Numbers). AreNumbers ns (shown_of noted)) (sym (from_nothing (λ (c : CameView). c.numbers) came.numbers come.numbers refl come.numbers_are)) come.numbered
 
-    come_accepted : AreReadings request.ask came.accepted came.readings (shown_of noted) → WasAccepted config seq request decisions old before new after came
+    come_accepted : (is_read ≡ true → AreReadings request.ask came.accepted came.readings (shown_of noted)) → WasAccepted is_read config seq request decisions old before new after came
     come_accepted read = record { noted = noted; carried = come.carried; results = sym accepted_is; numbers = come_numbers; readings = read }
 
   pub produce_accepted : (version : ℤ) (id : Option (List ℕ)) (acks timeout : ℤ) (topics : List ProduceTopic) → request.ask ≡ Produce version id acks timeout topics → HasProduced config seq decisions (stand old before start) (stand new after came)
-      → WasAccepted config seq request decisions old before new after came
+      → WasAccepted is_read config seq request decisions old before new after came
   produce_accepted version id acks timeout topics ask p =
       let shown = shown_of p.noted in
       let readings : came.readings ≡ p.readings = from_nothing (λ (c : CameView). c.readings) came.readings p.readings refl p.readings_are in
       come_accepted p.noted p.come
-      (subst (λ (a : Ask). AreReadings a came.accepted came.readings shown) (sym ask)
+      (λ read. subst (λ (a : Ask). AreReadings a came.accepted came.readings shown) (sym ask)
       (subst (λ (rs : List Accepted). ProduceReadings rs came.readings shown) (sym (accepted_is p.noted p.come))
       (subst (λ (rs : List Reading). ProduceReadings (results_of shown) rs shown) (sym readings) p.read)))
 
-  pub fetch_accepted : (version replica max_wait min_bytes max_bytes isolation : ℤ) (topics : List FetchTopic) (left behind : Budget) → request.ask ≡ Fetch version replica max_wait min_bytes max_bytes isolation topics → left ≡ budget_of request.ask
-      → HasFetched config seq decisions replica (asked_parts topics) (stand old before start) left (stand new after came) behind → WasAccepted config seq request decisions old before new after came
+  pub fetch_accepted : (version replica max_wait min_bytes max_bytes isolation : ℤ) (topics : List FetchTopic) (left behind : Budget) → request.ask ≡ Fetch version replica max_wait min_bytes max_bytes isolation topics → (is_read ≡ true → left ≡ budget_of request.ask)
+      → HasFetched config seq decisions replica (asked_parts topics) (stand old before start) left (stand new after came) behind → WasAccepted is_read config seq request decisions old before new after came
   fetch_accepted version replica max_wait min_bytes max_bytes isolation topics left behind ask first p =
       let shown = shown_of p.noted in
       let readings : came.readings ≡ p.readings = from_nothing (λ (c : CameView). c.readings) came.readings p.readings refl p.readings_are in
-      let budget : left ≡ first_budget max_bytes = first ∙ ap budget_of ask in
       come_accepted p.noted p.come
-      (subst (λ (a : Ask). AreReadings a came.accepted came.readings shown) (sym ask)
+      (λ read. let budget : left ≡ first_budget max_bytes = first read ∙ ap budget_of ask in
+      subst (λ (a : Ask). AreReadings a came.accepted came.readings shown) (sym ask)
       (subst (λ (rs : List Accepted). FetchReadings replica (asked_parts topics) rs came.readings shown (first_budget max_bytes)) (sym (accepted_is p.noted p.come))
       (subst (λ (rs : List Reading). FetchReadings replica (asked_parts topics) (results_of shown) rs shown (first_budget max_bytes)) (sym readings)
       (subst (FetchReadings replica (asked_parts topics) (results_of shown) p.readings shown) budget p.read))))
 
 -- a request that names no partition
-pub none_accepted : (config : Configuration) (seq : ℕ) (request : Request) (decisions : List Decision) (pass : LogPassView) (points : List Point) (came : CameView) → came ≡ nothing_came → decisions ≡ []
-    → AreReadings request.ask [] [] [] → WasAccepted config seq request decisions pass points pass points came
-none_accepted config seq request decisions pass points came none empty read =
-    subst (λ (c : CameView). WasAccepted config seq request decisions pass points pass points c) (sym none)
-    (subst (λ (ds : List Decision). WasAccepted config seq request ds pass points pass points nothing_came) (sym empty)
-    (record { noted = []; carried = none_carried config seq pass points; results = refl; numbers = tt; readings = read }))
+pub none_accepted : (is_read : Bool) (config : Configuration) (seq : ℕ) (request : Request) (decisions : List Decision) (pass : LogPassView) (points : List Point) (came : CameView) → came ≡ nothing_came → decisions ≡ []
+    → AreReadings request.ask [] [] [] → WasAccepted is_read config seq request decisions pass points pass points came
+none_accepted is_read config seq request decisions pass points came none empty read =
+    subst (λ (c : CameView). WasAccepted is_read config seq request decisions pass points pass points c) (sym none)
+    (subst (λ (ds : List Decision). WasAccepted is_read config seq request ds pass points pass points nothing_came) (sym empty)
+    (record { noted = []; carried = none_carried config seq pass points; results = refl; numbers = tt; readings = λ made. read }))
 
 pub none_results : (decisions : List Decision) (came : CameView) → came ≡ nothing_came → decisions ≡ [] → AllZip IsResultOf decisions came.accepted
 none_results decisions came none empty =

@@ -10,6 +10,8 @@ pub mod Accepted
 pub mod Finished
 -- ==== the words of private functions
 
+-- the items of a list that keeps the only one in place
+pub mod FewItems
 -- how far the acceptance has come
 pub mod Stand
 -- what became of each named partition, with a state of it

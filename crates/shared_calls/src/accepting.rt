@@ -1,6 +1,6 @@
 //! A request is accepted, for a call of a pass: by `producing` or `fetching`, partition by partition. The crate above answers from what
 //! came of that, or lets the request wait.
-ghost use Rattle.std.specs.Prelude.{◌≡◌, ◌≤◌, ℕ, [], List as Items, IfOk, OnErr, OnOk, length};
+ghost use Rattle.std.specs.Prelude.{◌≡◌, ◌≤◌, ℕ, true, [], List as Items, IfOk, OnErr, OnOk, length};
 ghost use Rattle.std.specs.List.{AllZip};
 ghost use Rattle.kanswer.specs.Decisions.{Decides, Decision};
 ghost use Rattle.kanswer.specs.LogReadings.{budget_of};
@@ -25,11 +25,24 @@ use shared_logs::LogPass;
 use shared_logs::call_turns::Caller;
 use std::sync::Wait;
 
-/// The call of a pass that asks, and of what topics.
+/// The call of a pass that asks, and of what topics, and whether a reply is made of what a fetch reads. Else it reads no records.
 #[derive(Drop)]
 pub struct Asking<'a, 'r, 'l, W> {
     pub config: &'a Config,
     pub by: &'a Caller<'r, 'l, W>,
+    pub is_read: bool,
+}
+
+// What the reply to a request may take, or nothing where none is made.
+fn reply_room(request: &RequestView<'_>, is_read: bool) -> Budget
+    ensures read { is_read ≡ true → result ≡ budget_of request.now.ask }
+    ensures least { most_left result ≤ most_left (budget_of request.now.ask) }
+{
+    if is_read {
+        return Budget::of(request);
+    }
+    // as of a reply that has a batch already, and may take no byte more
+    Budget { left: 0, any: true }
 }
 
 // What is decided of the request is carried out, and what comes of that is noted.
@@ -45,7 +58,7 @@ fn carry_out(
     requires nothing { came.old ≡ record { accepted = []; numbers = []; readings = [] } }
     ensures made { pass.new.made ≡ call.now.by.now.logs.now }
     ensures accepted { OnOk result ((decisions : Items Decision) → Decides call.now.config.now request.now.ask decisions
-        → WasAccepted call.now.config.now call.now.by.now.seq request.now decisions pass.old points.old pass.new points.new came.new) }
+        → WasAccepted call.now.is_read call.now.config.now call.now.by.now.seq request.now decisions pass.old points.old pass.new points.new came.new) }
     ensures results { OnOk result ((decisions : Items Decision) → Decides call.now.config.now request.now.ask decisions
         → AllZip IsResultOf decisions came.new.accepted) }
     ensures even { OnOk result (IsEven came.new) }
@@ -78,7 +91,7 @@ fn carry_out(
             topics,
             ..
         } => {
-            let mut budget = Budget::of(request);
+            let mut budget = reply_room(request, call.is_read);
             let fetching = Fetching {
                 config: call.config,
                 by: call.by,
@@ -105,7 +118,7 @@ pub fn accept(
     requires asked { (body : Items ℕ) × IsRequest body request.now }
     ensures made { pass.new.made ≡ call.now.by.now.logs.now }
     ensures accepted { IfOk result (λ came. (decisions : Items Decision) → Decides call.now.config.now request.now.ask decisions
-        → WasAccepted call.now.config.now call.now.by.now.seq request.now decisions pass.old points.old pass.new points.new came) }
+        → WasAccepted call.now.is_read call.now.config.now call.now.by.now.seq request.now decisions pass.old points.old pass.new points.new came) }
     ensures results { IfOk result (λ came. (decisions : Items Decision) → Decides call.now.config.now request.now.ask decisions
         → AreResults request.now.ask came.accepted) }
     ensures numbers { IfOk result (λ came. length came.numbers ≡ length came.accepted) }

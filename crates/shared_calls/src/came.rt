@@ -2,6 +2,7 @@
 ghost use Rattle.std.specs.Prelude.{◌≡◌, [], ◌∷◌, ◌++◌, ◌<◌, ◌^◌, All, IfOk, OnOk};
 ghost use Rattle.kanswer.specs.LogReadings.{HasCarriable, IsCarriable};
 
+use crate::few::Few;
 use kanswer::{Accepted, Reading};
 use kbytes::{List, NoMemory};
 use partlog::Numbers;
@@ -12,10 +13,9 @@ use std::marker::Model;
 /// memory runs out, it may only be dropped.
 #[derive(Drop)]
 pub struct Came {
-    alloc: Global,
-    accepted: List<Accepted>,
-    numbers: List<Numbers>,
-    readings: List<Reading>,
+    accepted: Few<Accepted>,
+    numbers: Few<Numbers>,
+    readings: Few<Reading>,
 }
 
 impl Model for Came {
@@ -36,10 +36,9 @@ impl Came {
         ensures { result ≡ record { accepted = []; numbers = []; readings = [] } }
     {
         Came {
-            alloc,
-            accepted: List::new(alloc),
-            numbers: List::new(alloc),
-            readings: List::new(alloc),
+            accepted: Few::new(alloc),
+            numbers: Few::new(alloc),
+            readings: Few::new(alloc),
         }
     }
 
@@ -81,10 +80,10 @@ impl Came {
         self.readings.as_slice()
     }
 
-    /// The results.
-    pub fn into_accepted(self) -> List<Accepted>
-        ensures { result ≡ self.accepted }
+    /// The results, in memory of their own.
+    pub fn into_accepted(self, alloc: Global) -> Result<List<Accepted>, NoMemory>
+        ensures { IfOk result (λ accepted. accepted ≡ self.accepted) }
     {
-        self.accepted
+        self.accepted.into_list(alloc)
     }
 }

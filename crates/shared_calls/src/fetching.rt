@@ -118,7 +118,8 @@ fn fetch_topic(
     Ok(())
 }
 
-/// Each partition that these topics name, in the order of the request.
+/// Each partition that these topics name, in the order of the request. It isn't put into its caller, which accepts produces too.
+#[inline(never)]
 pub(crate) fn fetch_topics(
     call: &Fetching<'_, '_, '_, impl Wait>,
     pass: &mut LogPass,

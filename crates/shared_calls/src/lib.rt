@@ -10,6 +10,7 @@ mod accepting;
 mod came;
 mod completing;
 mod fetching;
+mod few;
 mod looking;
 mod named;
 mod producing;

@@ -106,7 +106,8 @@ fn produce_topic(
     Ok(())
 }
 
-/// Each partition that these topics name, in the order of the request.
+/// Each partition that these topics name, in the order of the request. It isn't put into its caller, which accepts fetches too.
+#[inline(never)]
 pub(crate) fn produce_topics(
     call: &Producing<'_, '_, '_, impl Wait>,
     pass: &mut LogPass,

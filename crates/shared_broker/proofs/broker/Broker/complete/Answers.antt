@@ -24,7 +24,7 @@ frame-requires-clause-read g c =
     let f = subst (λ (xs : List Accepted). WasFinished a.current.now.seq a.current.now.request.now xs a.won.now.parked.now.op a.won.now.done.how a.logs.now c.complete-readings.new.pass c.complete-readings.new.points c.in_ok-readings.readings) c.as_slice-accepted.ensures c.in_ok-readings.ensures.finished in
     let was = c.requires.waits in
     let r = call_read a.self.now.config a.current.now.seq a.current.now.request.now a.won.now.parked.now a.logs.now c.complete-readings.new.pass c.settle.new.pass c.settle.ensures.stepped c.settle.ensures.kept c.settle.ensures.paid a.won.now.done c.complete-readings.new.points c.in_ok-readings.readings f was.0 was.1 was.2 was.3 in
-    (r.0, subst (λ (xs : List Accepted). AreReadings a.current.now.request.now.ask xs c.as_slice.result.now r.0) (sym c.as_slice-accepted.ensures) (subst (λ (rs : List Reading). AreReadings a.current.now.request.now.ask a.won.now.parked.now.accepted rs r.0) (sym c.as_slice.ensures) r.1))
+    λ sent. (r.0, subst (λ (xs : List Accepted). AreReadings a.current.now.request.now.ask xs c.as_slice.result.now r.0) (sym c.as_slice-accepted.ensures) (subst (λ (rs : List Reading). AreReadings a.current.now.request.now.ask a.won.now.parked.now.accepted rs r.0) (sym c.as_slice.ensures) r.1))
 
 pub returns-in_err-frame-clause-finished : goal.returns-in_err-frame-clause-finished
 returns-in_err-frame-clause-finished g c call =
@@ -46,5 +46,5 @@ returns-clause-finished g c call =
       call_left a.self.now.config a.current.now.seq a.current.now.request.now a.won.now.parked.now a.logs.now c.complete-readings.new.pass c.settle.new.pass c.settle.ensures.stepped c.settle.ensures.kept c.settle.ensures.paid a.won.now.done c.complete-readings.new.points c.in_ok-readings.readings f,
       λ front transcript was. subst (λ (how : CallHow). IsToldTo a.current.now.is_sent a.self.now.config c.settle.new.pass (finished_as call c.complete-readings.new.points how) c.in_ok-frame.frame) (sym told)
           (call_replied a.self.now.config a.current.now.seq a.current.now.request.now a.won.now.parked.now a.logs.now c.complete-readings.new.pass c.settle.new.pass c.settle.ensures.stepped c.settle.ensures.kept c.settle.ensures.paid a.won.now.done c.complete-readings.new.points c.in_ok-readings.readings f a.current.now.is_sent c.in_ok-frame.frame
-          (λ shown are. c.in_ok-frame.ensures shown (subst (λ (xs : List Accepted). AreReadings a.current.now.request.now.ask xs c.as_slice.result.now shown) (sym c.as_slice-accepted.ensures) (subst (λ (rs : List Reading). AreReadings a.current.now.request.now.ask a.won.now.parked.now.accepted rs shown) (sym c.as_slice.ensures) are))) call front transcript was),
+          (λ shown are. c.in_ok-frame.ensures shown (λ sent. subst (λ (xs : List Accepted). AreReadings a.current.now.request.now.ask xs c.as_slice.result.now shown) (sym c.as_slice-accepted.ensures) (subst (λ (rs : List Reading). AreReadings a.current.now.request.now.ask a.won.now.parked.now.accepted rs shown) (sym c.as_slice.ensures) are))) call front transcript was),
     )

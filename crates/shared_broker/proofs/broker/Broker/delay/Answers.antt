@@ -41,6 +41,20 @@ returns-in_err-op-clause-served g c =
       (None, c.requires.cut),
     ))
 
+pub returns-in_err-accepted-clause-served : goal.returns-in_err-accepted-clause-served
+returns-in_err-accepted-clause-served g c =
+    let a = c.args in
+    let made : followers_in c.settle.new.pass.made ≡ followers_of a.self.now.config.topics =
+    ap followers_in (c.settle.ensures.stepped.made ∙ c.look_at_clock-looked.ensures.made) ∙ c.self.invariant.1 ∙ ap (λ (b : BrokerView). followers_of b.config.topics) c.self.view_is in
+    let l = c.in_ok-looked.ensures.looked in
+    if_err (λ r. HasServed a.current.now.is_sent a.self.now.config a.current.now.seq a.current.now.request.now (WillWait a.self.now.config a.current.now.seq a.current.now.request.now a.came.accepted a.logs.now a.call.now) r a.logs.now c.settle.new.pass a.call.now
+    (record { frame = a.call.now.frame; accept = c.look_at_clock-looked.new.points; finish = a.call.now.finish; how = a.call.now.how })) c.from_residual-in_err-accepted.result c.from_residual-in_err-accepted.ensures.0
+    (λ e. (
+      look_cut a.self.now.config a.current.now.seq a.current.now.request.now a.came.accepted a.logs.now c.look_at_clock-looked.new.pass c.settle.new.pass a.call.now c.settle.ensures.stepped c.settle.ensures.kept c.settle.ensures.paid c.settle.ensures.seen.1 made
+          l.0 c.in_ok-looked.field-0 l.1 c.look_at_clock-looked.new.points l.2 c.requires.cut c.requires.free.idle,
+      (None, c.requires.cut),
+    ))
+
 pub enlist-requires-clause-there : goal.enlist-requires-clause-there
 enlist-requires-clause-there g c =
     let a = c.args in
@@ -51,7 +65,7 @@ enlist-requires-clause-there g c =
     was.2.accepting.underway.histories.followers ∙ sym (subst (λ (b : BrokerView). followers_in b.logs ≡ followers_of b.config.topics) c.self.view_is c.self.invariant.1) in
     let size : length a.logs.now.parts ≡ length a.self.now.logs.parts =
     sym (length-map a.logs.now.parts (λ (h : History). h.followers)) ∙ ap (λ (ns : List ℕ). length ns) same ∙ length-map a.self.now.logs.parts _ in
-    subst (λ (xs : List Accepted). AllBelow (length a.self.now.logs.parts) (parts_asked xs)) (sym c.into_accepted.ensures)
+    subst (λ (xs : List Accepted). AllBelow (length a.self.now.logs.parts) (parts_asked xs)) (sym c.in_ok-accepted.ensures)
     (accepted_there a.self.now.config a.current.now.seq a.current.now.request.now a.came.accepted a.logs.now c.look_at_clock-looked.new.pass c.settle.new.pass a.call.now c.settle.ensures.stepped c.settle.ensures.kept c.settle.ensures.paid c.settle.ensures.seen.1 made
     (length a.self.now.logs.parts) size was.0 was.1 was.2)
 
@@ -65,7 +79,7 @@ enlist-requires-clause-waits g c =
       was.0,
       was.1,
       look_sits a.self.now.config a.current.now.seq a.current.now.request.now a.came.accepted a.logs.now c.look_at_clock-looked.new.pass c.settle.new.pass a.call.now c.settle.ensures.stepped c.settle.ensures.kept c.settle.ensures.paid c.settle.ensures.seen.1 made
-          l.0 c.in_ok-looked.field-0 l.1 c.look_at_clock-looked.new.points l.2 (record { accepted = c.into_accepted.result; op = c.in_ok-op.op }) c.into_accepted.ensures (c.in_ok-op.ensures ∙ ap (λ (xs : List Accepted). operation_of a.current.now.request.now.ask xs c.in_ok-looked.field-0) c.accepted.ensures.results) was.0 was.1 was.2,
+          l.0 c.in_ok-looked.field-0 l.1 c.look_at_clock-looked.new.points l.2 (record { accepted = c.in_ok-accepted.accepted; op = c.in_ok-op.op }) c.in_ok-accepted.ensures (c.in_ok-op.ensures ∙ ap (λ (xs : List Accepted). operation_of a.current.now.request.now.ask xs c.in_ok-looked.field-0) c.accepted.ensures.results) was.0 was.1 was.2,
     )
 
 pub returns-clause-served : goal.returns-clause-served
@@ -84,5 +98,5 @@ returns-clause-served g c =
     l.0 c.in_ok-looked.field-0 l.1 c.look_at_clock-looked.new.points l.2)
     refl
     (λ front transcript was. look_sits a.self.now.config a.current.now.seq a.current.now.request.now a.came.accepted a.logs.now c.look_at_clock-looked.new.pass c.settle.new.pass a.call.now c.settle.ensures.stepped c.settle.ensures.kept c.settle.ensures.paid c.settle.ensures.seen.1 made
-    l.0 c.in_ok-looked.field-0 l.1 c.look_at_clock-looked.new.points l.2 (record { accepted = c.into_accepted.result; op = c.in_ok-op.op }) c.into_accepted.ensures op front transcript was)
+    l.0 c.in_ok-looked.field-0 l.1 c.look_at_clock-looked.new.points l.2 (record { accepted = c.in_ok-accepted.accepted; op = c.in_ok-op.op }) c.in_ok-accepted.ensures op front transcript was)
     a.current.now.is_sent c.enlist.result c.enlist.ensures.served
