@@ -6,7 +6,7 @@ ghost use Rattle.storm.specs.Lines.{topic_line, clock_lines, storm_lines};
 use crate::asking::{PARTITIONS, TOPIC};
 use crate::draws::Draws;
 use crate::kind::BLOCK;
-use crate::sending::feed_line;
+use crate::sending::{Forms, feed_line};
 use kbytes::{List, NoMemory, copied};
 use std::alloc::Global;
 use trace_file::Line;
@@ -54,10 +54,11 @@ pub fn storm(alloc: Global, seed: u64, n: u32) -> Result<List<Line>, NoMemory>
     ensures { IfOk result (λ lines. lines ≡ storm_lines seed n) }
 {
     let mut draws = Draws { state: seed };
+    let mut forms = Forms::new(alloc)?;
     let mut lines = List::new(alloc);
     lines.push(topic_line(alloc)?)?;
     for i in 0..n {
-        lines.push(feed_line(alloc, &mut draws, i)?)?;
+        lines.push(feed_line(alloc, &mut forms, &mut draws, i)?)?;
         put_clock(&mut lines, i, n)?;
     }
     lines.push(Line::End)?;
