@@ -6,8 +6,11 @@
 
 mod asking;
 mod draws;
+mod fetch_form;
+mod frame;
 mod kind;
 mod load;
+mod produce_form;
 mod promises;
 mod sending;
 

@@ -7,7 +7,7 @@ ghost use Rattle.storm.specs.Shares.{AreShares, share_lines, share_start};
 use crate::asking::{PARTITIONS, TOPIC};
 use crate::draws::Draws;
 use crate::kind::BLOCK;
-use crate::sending::feed_line;
+use crate::sending::{Forms, feed_line};
 use kbytes::{List, NoMemory, copied};
 use std::alloc::Global;
 use std::thread;
@@ -72,8 +72,9 @@ fn put_requests(
     ensures { OnOk result (lines.new ≡ lines.old ++ lines_from load.seed load.n first (end - first)) }
 {
     let mut draws = Draws::before(load.seed, first);
+    let mut forms = Forms::new(alloc)?;
     for i in first..end {
-        lines.push(feed_line(alloc, &mut draws, i)?)?;
+        lines.push(feed_line(alloc, &mut forms, &mut draws, i)?)?;
         put_clock(lines, i, load.n)?;
     }
     Ok(())
@@ -157,9 +158,9 @@ pub fn storm_on<R: Threads + Sync>(
     }
     let load = Load { seed, n };
     let size = n / shares + 1;
-    let make = |share: usize| -> Result<List<Line>, NoMemory>
-        requires { (share < n) × (n ≤ MOST_REQUESTS) × (load ≡ record { seed = seed; n = n }) }
-        ensures { IfOk result (λ lines. lines ≡ share_lines seed n size share) }
+    let make = move |share: usize| -> Result<List<Line>, NoMemory>
+        requires { (share < load.n) × (load.n ≤ MOST_REQUESTS) }
+        ensures { IfOk result (λ lines. lines ≡ share_lines load.seed load.n size share) }
     { share_lines(alloc, load, size, share as u32) };
     let made = thread::map_indices(rt, alloc, shares as usize, &make)?;
     let mut lines = List::new(alloc);
