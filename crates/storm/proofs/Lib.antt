@@ -16,5 +16,7 @@ pub mod Ordered
 pub mod Texts
 -- lines, one request after the other
 pub mod Fronts
+-- the lines of shares, one share after the other
+pub mod SharesJoined
 -- how long requests wait, and how late the moments are
 pub mod Drained

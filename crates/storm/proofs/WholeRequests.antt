@@ -1,8 +1,7 @@
 -- Requests of a load can be sent: their fields are those of their api's layout, and they are short.
-use Rattle.std.proofs.Common.{◌≡◌, ℕ, ◌<◌, ◌≤◌, ◌^◌, ℤ, pos, negsuc, List, [], ◌∷◌, length, codes, Some, None, Result, Ok, Err, IfOk, OnOk, refl, sym, subst, arith, FitsSigned}
+use Rattle.std.proofs.Common.{ℕ, ◌<◌, ◌≤◌, ◌^◌, ℤ, pos, negsuc, List, [], ◌∷◌, length, codes, Some, None, refl, arith, FitsSigned}
 use Rattle.std.specs.Int.{w16, w32}
 use Rattle.std.proofs.lemmas.List.{length-append}
-use Rattle.kbytes.specs.declared.no_memory.NoMemory.{NoMemory}
 use Rattle.kbatch.specs.Batch.{most_bytes}
 use Rattle.kbatch.specs.Written.{written}
 use Rattle.kwire.specs.declared.request.Ask.{Ask}
@@ -87,7 +86,3 @@ produce_sendable i acks timeout few acked timed most =
 pub fetch_sendable : (i : ℕ) (wish : Wish) → i < MOST_REQUESTS → FitsSigned w32 wish.replica → wish.wait < 2 ^ 31 → wish.least < 2 ^ 31 → wish.offset < 2 ^ 32 → IsSendable i (fetch_of i wish)
 fetch_sendable i wish few fits waits leasts from =
     any_fetch i (partition_of i) wish.replica wish.wait wish.least wish.offset (omega arith) (omega arith) fits waits leasts from
-
-pub sent : (i : ℕ) (result : Result Ask NoMemory) (a : Ask) → IfOk result (λ ask. ask ≡ a) → OnOk result (IsSendable i a) → IfOk result (λ ask. IsSendable i ask)
-sent i (Ok ask) a is all = subst (IsSendable i) (sym is) all
-sent i (Err refused) a is all = tt

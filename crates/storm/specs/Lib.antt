@@ -14,3 +14,5 @@ pub mod Waits
 
 -- a request that can be sent as a frame
 pub mod Sendable
+-- a load whose lines are made in shares
+pub mod Shares

@@ -35,6 +35,10 @@ clock_lines n i = if ends_block n i then Clock (BLOCK_TIME * (block_of i + 1)) �
 abbrev pub request_lines : ℕ → ℕ → ℕ → List Line
 request_lines seed n i = feed_line (state_after seed (draws_before i)) i ∷ clock_lines n i
 
+-- the lines of so many requests from this one on
+abbrev pub lines_from : ℕ → ℕ → ℕ → ℕ → List Line
+lines_from seed n first count = flat_map (request_lines seed n) (range_with_len first count)
+
 -- the lines before a request, of a load of n requests
 abbrev pub front_lines : ℕ → ℕ → ℕ → List Line
 front_lines seed n i = topic_line ∷ flat_map (request_lines seed n) (range_with_len 0 i)

@@ -2,6 +2,9 @@
 
 ghost use Rattle.std.specs.Prelude.{◌≡◌, ◌<◌};
 ghost use Rattle.storm.specs.Generator.{draw, state_after};
+ghost use Rattle.storm.specs.Places.{draws_before, draws_of};
+
+use crate::kind::{BLOCK, Kind, kind_of};
 
 /// The multiplier of the generator.
 pub const MULTIPLIER: u64 = 6_364_136_223_846_793_005;
@@ -16,15 +19,48 @@ pub(crate) struct Draws {
 }
 
 impl Draws {
-    /// The next number, below `most`.
+    /// The generator before the request with this number draws.
+    pub(crate) fn before(seed: u64, i: u32) -> Draws
+        ensures { result.state ≡ state_after seed (draws_before i) }
+    {
+        let mut draws = Draws { state: seed };
+        for earlier in 0..i {
+            draws.pass(earlier);
+        }
+        draws
+    }
+
+    // Goes on as if the request with this number drew.
     #[tactic(auto, unfolding(crate::specs::Generator::state_after))]
+    fn pass(&mut self, i: u32)
+        ensures { self.new.state ≡ state_after self.old.state (draws_of i) }
+    {
+        match kind_of(i / BLOCK) {
+            Kind::AwaitedProduce | Kind::FollowerFetch => self.step(),
+            Kind::PromptProduce => {}
+            Kind::ConsumerFetch => {
+                self.step();
+                self.step();
+                self.step();
+            }
+        }
+    }
+
+    #[tactic(auto, unfolding(crate::specs::Generator::state_after))]
+    fn step(&mut self)
+        ensures { self.new.state ≡ state_after self.old.state 1 }
+    {
+        self.state = self.state.wrapping_mul(MULTIPLIER).wrapping_add(INCREMENT);
+    }
+
+    /// The next number, below `most`.
     pub(crate) fn draw(&mut self, most: u32) -> u32
         requires { 0 < most }
         ensures state { self.new.state ≡ state_after self.old.state 1 }
         ensures drawn { result ≡ draw self.old.state 0 most }
         ensures below { result < most }
     {
-        self.state = self.state.wrapping_mul(MULTIPLIER).wrapping_add(INCREMENT);
+        self.step();
         ((self.state >> 33) % u64::from(most)) as u32
     }
 }

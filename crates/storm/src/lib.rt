@@ -6,12 +6,15 @@
 
 mod asking;
 mod draws;
+mod fetch_form;
+mod frame;
 mod kind;
 mod load;
+mod produce_form;
 mod promises;
 mod sending;
 
 pub use asking::{LONGEST_WAIT, Wish};
 pub use kind::Kind;
-pub use load::{MOST_REQUESTS, MOST_STEP, storm};
+pub use load::{MOST_REQUESTS, MOST_STEP, storm, storm_on};
 pub use promises::{each_block_is_counted, loads_are_traces, loads_can_be_drained};

@@ -1,5 +1,0 @@
-use Rattle.storm.proofs.Fronts.{IsBefore}
-use Rattle.storm.proofs.load.storm.Given as goal
-
-abbrev pub invariant-loop-i : goal.invariant-loop-i
-invariant-loop-i l = IsBefore l.fn.seed l.fn.n l.i l.lines l.draws.state
