@@ -19,7 +19,7 @@ use outside::Sink;
 use std::alloc::Global;
 use std::sync::Wait;
 use std::thread::Threads;
-use storm::{loads_are_traces, storm};
+use storm::{loads_are_traces, storm_on};
 use trace_workers::{Gate, run_load};
 
 // Plays the load until nobody waits, and makes the text of the run.
@@ -35,7 +35,7 @@ fn play<R: Threads + Wait + Sync, G: Gate + Sync>(
 {
     // a law: it does nothing
     loads_are_traces();
-    let lines = storm(alloc, load.seed, load.requests)?;
+    let lines = storm_on(rt, alloc, load.seed, load.requests, load.workers)?;
     let account = run_load(rt, alloc, lines, load.workers, gate)?;
     let mut text = Bytes::new(alloc);
     print_storm(alloc, &account, &mut text)?;
