@@ -14,6 +14,8 @@ pub mod Frames
 pub mod Ordered
 -- the text of a load
 pub mod Texts
+-- a batch that is written over another
+pub mod Formed
 -- lines, one request after the other
 pub mod Fronts
 -- the lines of shares, one share after the other

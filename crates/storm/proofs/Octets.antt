@@ -97,7 +97,7 @@ value_are i few = both_are (replicate (16 - length (decimal i)) 48) (decimal i) 
 zeros_long : (k : ℕ) → length {A = ℕ} (replicate k 48) ≡ k
 zeros_long k = length-replicate {A = ℕ} k 48
 
-value_long : (i : ℕ) → i < 200000 → length (value_of i) ≡ 16
+pub value_long : (i : ℕ) → i < 200000 → length (value_of i) ≡ 16
 value_long i few =
     let short : length (decimal i) ≤ 16 = length-decimal-le 16 i (omega arith) (omega (arith, few)) (omega (arith, few)) in
     omega (arith, short, length-append (replicate (16 - length (decimal i)) 48) (decimal i), zeros_long (16 - length (decimal i)))

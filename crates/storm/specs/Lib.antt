@@ -16,3 +16,5 @@ pub mod Waits
 pub mod Sendable
 -- a load whose lines are made in shares
 pub mod Shares
+-- a produce that another one is written over
+pub mod Formed
