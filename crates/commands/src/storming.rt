@@ -5,6 +5,7 @@ ghost use Rattle.std.specs.Prelude.{◌≡◌, ◌⊎◌, Some, true, IfOk, IfEr
 ghost use Rattle.outside.specs.Causes.{Rose};
 ghost use Rattle.audit.specs.Printed.{storm_summary_of};
 ghost use Rattle.storm.specs.Lines.{storm_lines};
+ghost use Rattle.trace_file.specs.declared.line.TheConstants.{REPLAY_PORT};
 ghost use Rattle.trace_workers.specs.WorkerRun.{IsWorkerRun};
 ghost use Rattle.commands.specs.Codes.{exit_code_of, stop_in, account_in};
 ghost use Rattle.commands.specs.Commands.{IsLoad};
