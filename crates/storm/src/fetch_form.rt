@@ -14,9 +14,10 @@ use kwire::{Ask, FetchPart, FetchTopic};
 use std::alloc::Global;
 use std::marker::Model;
 
-/// The bytes of each fetch's frame, and where the fields stand in it that differ.
+/// The bytes of each fetch's frame.
 const FRAME: usize = 62;
 
+// Where the fields stand in it that differ from fetch to fetch.
 const CORRELATION: usize = 8;
 
 const REPLICA: usize = 14;

@@ -17,9 +17,10 @@ use std::alloc::Global;
 use std::marker::Model;
 use std::slice;
 
-/// The bytes of each produce's frame, and where the fields stand in it that differ.
+/// The bytes of each produce's frame.
 const FRAME: usize = 129;
 
+// Where the fields stand in it that differ from produce to produce.
 const CORRELATION: usize = 8;
 
 const ACKS: usize = 16;
@@ -31,7 +32,7 @@ const PART: usize = 37;
 /// Where the batch stands, which has the rest of the bytes.
 const BATCH: usize = 45;
 
-/// Where the crc stands in a batch, where the bytes begin that it covers, and where the value of the one record stands.
+// Where the crc stands in a batch, where the bytes begin that it covers, and where the value of the one record stands.
 const CRC: usize = 17;
 
 const COVERED: usize = 21;
