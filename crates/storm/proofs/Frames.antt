@@ -15,7 +15,7 @@ use Rattle.storm.specs.Generator.{draw}
 use Rattle.storm.specs.Places.{partition_of, block_of, kind_of}
 use Rattle.storm.specs.Requests.{record_of, follower_wish, consumer_wish, ask_by, request_with}
 use Rattle.storm.specs.Lines.{frame_from}
-use Rattle.storm.proofs.WholeRequests.{produce_with, fetch_with}
+use Rattle.storm.specs.Formed.{produce_with, fetch_with}
 use Rattle.storm.proofs.Octets.{each_is, sized_is, fields_are, batch_long, batch_are}
 
 -- the frame of a produce is the longest

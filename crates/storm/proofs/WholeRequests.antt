@@ -1,31 +1,17 @@
 -- Requests of a load can be sent: their fields are those of their api's layout, and they are short.
-use Rattle.std.proofs.Common.{ℕ, ◌<◌, ◌≤◌, ◌^◌, ℤ, pos, negsuc, List, [], ◌∷◌, length, codes, Some, None, refl, arith, FitsSigned}
+use Rattle.std.proofs.Common.{ℕ, ◌<◌, ◌≤◌, ◌^◌, ℤ, pos, List, [], ◌∷◌, length, codes, Some, None, refl, arith, FitsSigned}
 use Rattle.std.specs.Int.{w16, w32}
 use Rattle.std.proofs.lemmas.List.{length-append}
 use Rattle.kbatch.specs.Batch.{most_bytes}
 use Rattle.kbatch.specs.Written.{written}
-use Rattle.kwire.specs.declared.request.Ask.{Ask}
-use Rattle.kwire.specs.declared.request.Ask.TheVariants.{Produce, Fetch}
 use Rattle.kwire.specs.Layouts.{times, followed_by}
 use Rattle.storm.specs.declared.asking.Wish.{Wish}
-use Rattle.storm.specs.declared.asking.TheConstants.{PRODUCE_VERSION, FETCH_VERSION, MOST_FETCHED, MOST_OF_PARTITION}
+use Rattle.storm.specs.declared.asking.TheConstants.{MOST_FETCHED, MOST_OF_PARTITION}
 use Rattle.storm.specs.declared.load.TheConstants.{MOST_REQUESTS}
+use Rattle.storm.specs.Formed.{produce_with, fetch_with}
 use Rattle.storm.specs.Places.{partition_of}
 use Rattle.storm.specs.Requests.{record_of, produce_of, fetch_of}
 use Rattle.storm.specs.Sendable.{IsSendable}
-
--- a produce with any bytes as its batch
-abbrev pub produce_with : List ℕ → ℕ → ℤ → ℕ → Ask
-produce_with bytes p acks timeout =
-    Produce PRODUCE_VERSION None acks (pos timeout) (record { name = codes "storm"; parts = record { index = pos p; records = Some bytes } ∷ [] } ∷ [])
-
--- a fetch with any numbers
-abbrev pub fetch_with : ℕ → ℤ → ℕ → ℕ → ℕ → Ask
-fetch_with p replica wait least offset =
-    Fetch FETCH_VERSION replica (pos wait) (pos least) MOST_FETCHED (pos 0) (record {
-      name = codes "storm";
-      parts = record { index = pos p; offset = pos offset; log_start = negsuc 0; most = MOST_OF_PARTITION } ∷ [];
-    } ∷ [])
 
 small : (n : ℕ) → n < 2 ^ 31 → FitsSigned w32 (pos n)
 small n lt = record { sfits = omega arith }
@@ -35,7 +21,7 @@ infixr 2 ◌▸◌
 abbrev ◌▸◌ : {A B : Type 0} → A → B → A × B
 ◌▸◌ one others = (one, others)
 
-any_produce : (bytes : List ℕ) (i p : ℕ) (acks : ℤ) (timeout : ℕ) → i < 2 ^ 31 → p < 2 ^ 31 → FitsSigned w16 acks → timeout < 2 ^ 31 → length bytes ≤ most_bytes → IsSendable i (produce_with bytes p acks timeout)
+pub any_produce : (bytes : List ℕ) (i p : ℕ) (acks : ℤ) (timeout : ℕ) → i < 2 ^ 31 → p < 2 ^ 31 → FitsSigned w16 acks → timeout < 2 ^ 31 → length bytes ≤ most_bytes → IsSendable i (produce_with bytes p acks timeout)
 unfolding times followed_by
 any_produce bytes i p acks timeout few index acked timed most = record {
   whole = record {
@@ -56,7 +42,7 @@ any_produce bytes i p acks timeout few index acked timed most = record {
   short = omega (arith, most, length-append bytes []);
 }
 
-any_fetch : (i p : ℕ) (replica : ℤ) (wait least offset : ℕ) → i < 2 ^ 31 → p < 2 ^ 31 → FitsSigned w32 replica → wait < 2 ^ 31 → least < 2 ^ 31 → offset < 2 ^ 32 → IsSendable i (fetch_with p replica wait least offset)
+pub any_fetch : (i p : ℕ) (replica : ℤ) (wait least offset : ℕ) → i < 2 ^ 31 → p < 2 ^ 31 → FitsSigned w32 replica → wait < 2 ^ 31 → least < 2 ^ 31 → offset < 2 ^ 32 → IsSendable i (fetch_with p replica wait least offset)
 unfolding times followed_by
 any_fetch i p replica wait least offset few index fits waits leasts from = record {
   whole = record {

@@ -1,83 +1,103 @@
-//! The fetches of the load. Their topics are made once, and each fetch is written over the last one.
+//! The fetches of the load. The frame of the first is made as that of any request, and each other one is written over the last.
 
-ghost use Rattle.std.specs.Prelude.{◌≡◌, ◌<◌, ◌^◌, [], ◌∷◌, codes, IfOk};
-ghost use Rattle.kbytes.specs.Field.{fields};
-ghost use Rattle.kwire.specs.declared.request.FetchPart.{FetchPart};
-ghost use Rattle.kwire.specs.Frames.{framed};
-ghost use Rattle.kwire.specs.IsRequest.{request_fields};
-ghost use Rattle.storm.specs.Requests.{fetch_of, request_with};
+ghost use Rattle.std.specs.Prelude.{◌≡◌, ◌<◌, ◌^◌, pos, length, IfOk, OnOk};
+ghost use Rattle.storm.specs.Formed.{IsFetchForm, fetch_with, frame_with};
+ghost use Rattle.storm.specs.Requests.{fetch_of};
 ghost use Rattle.storm.specs.Sendable.{IsSendable};
 
 use crate::asking::{FETCH_VERSION, MOST_FETCHED, MOST_OF_PARTITION, TOPIC, Wish, partition_of};
-use crate::frame::frame_of;
+use crate::frame::first_frame;
 use crate::load::MOST_REQUESTS;
+use crate::writing_over::{put_i32, put_i64};
 use kbytes::{Bytes, List, NoMemory, copied};
 use kwire::{Ask, FetchPart, FetchTopic};
 use std::alloc::Global;
 use std::marker::Model;
-use std::mem;
 
-/// The topics of the last fetch: one, of which it asks one partition.
+/// The bytes of each fetch's frame.
+const FRAME: usize = 62;
+
+// Where the fields stand in it that differ from fetch to fetch.
+const CORRELATION: usize = 8;
+
+const REPLICA: usize = 14;
+
+const WAIT: usize = 18;
+
+const LEAST: usize = 22;
+
+const PART: usize = 46;
+
+const OFFSET: usize = 50;
+
+/// The frame of the last fetch.
 #[derive(Drop)]
 pub(crate) struct FetchForm {
-    topics: List<FetchTopic>,
+    frame: Bytes,
 }
 
 /// A contract sees nothing of the last fetch.
 impl Model for FetchForm {
-    ghost use Rattle.std.specs.Prelude.{◌≡◌, [], ◌∷◌, codes};
-    ghost use Rattle.kwire.specs.declared.request.FetchPart.{FetchPart};
+    ghost use Rattle.storm.specs.Formed.{IsFetchForm};
 
     ghost Value = { Unit {0} };
 
     ghost view = { λ _. tt };
 
-    ghost invariant = { λ f. (part : FetchPart) × (f.topics ≡ record { name = codes "storm"; parts = part ∷ [] } ∷ []) };
+    ghost invariant = { λ f. IsFetchForm f.frame };
 }
 
-// The fetch with this number, over the topics of another.
-fn fetch(mut topics: List<FetchTopic>, i: u32, wish: Wish) -> Ask
+// Writes the fetch with this number over another one.
+fn write_over(frame: &mut [u8], i: u32, wish: Wish)
     requires place { i < MOST_REQUESTS }
     requires wait { wish.wait < 2 ^ 31 }
     requires least { wish.least < 2 ^ 31 }
-    requires form { (part : FetchPart) × (topics ≡ record { name = codes "storm"; parts = part ∷ [] } ∷ []) }
-    ensures is { result ≡ fetch_of i wish }
-    ensures sendable { IsSendable i (fetch_of i wish) }
+    requires size { length frame.old ≡ FRAME }
+    requires form { IsFetchForm frame.old }
+    ensures { frame.new ≡ frame_with i (fetch_of i wish) }
 {
-    let topic = &mut topics.as_mut_slice()[0];
-    topic.parts.as_mut_slice()[0] = FetchPart {
-        index: partition_of(i),
-        offset: i64::from(wish.offset),
+    put_i32(&mut *frame, CORRELATION, i as i32);
+    put_i32(&mut *frame, REPLICA, wish.replica);
+    put_i32(&mut *frame, WAIT, wish.wait as i32);
+    put_i32(&mut *frame, LEAST, wish.least as i32);
+    put_i32(&mut *frame, PART, partition_of(i));
+    put_i64(frame, OFFSET, i64::from(wish.offset));
+}
+
+// A fetch of nothing.
+fn first_ask(alloc: Global) -> Result<Ask, NoMemory>
+    ensures is { IfOk result (λ ask. ask ≡ fetch_with 0 (pos 0) 0 0 0) }
+    ensures sendable { OnOk result (IsSendable 0 (fetch_with 0 (pos 0) 0 0 0)) }
+{
+    let mut parts = List::new(alloc);
+    parts.push(FetchPart {
+        index: 0,
+        offset: 0,
         log_start: -1,
         most: MOST_OF_PARTITION,
-    };
-    Ask::Fetch {
+    })?;
+    let mut topics = List::new(alloc);
+    topics.push(FetchTopic {
+        name: copied(alloc, TOPIC)?,
+        parts,
+    })?;
+    Ok(Ask::Fetch {
         version: FETCH_VERSION,
-        replica: wish.replica,
-        max_wait: wish.wait as i32,
-        min_bytes: wish.least as i32,
+        replica: 0,
+        max_wait: 0,
+        min_bytes: 0,
         max_bytes: MOST_FETCHED,
         isolation: 0,
         topics,
-    }
+    })
 }
 
 impl FetchForm {
     /// The form before the first fetch.
     pub(crate) fn new(alloc: Global) -> Result<FetchForm, NoMemory> {
-        let mut parts = List::new(alloc);
-        parts.push(FetchPart {
-            index: 0,
-            offset: 0,
-            log_start: -1,
-            most: MOST_OF_PARTITION,
-        })?;
-        let mut topics = List::new(alloc);
-        topics.push(FetchTopic {
-            name: copied(alloc, TOPIC)?,
-            parts,
-        })?;
-        Ok(FetchForm { topics })
+        Ok(FetchForm {
+            frame: first_frame(alloc, first_ask(alloc)?)?,
+        })
     }
 
     /// The frame of the fetch with this number.
@@ -85,14 +105,9 @@ impl FetchForm {
         requires place { i < MOST_REQUESTS }
         requires wait { wish.wait < 2 ^ 31 }
         requires least { wish.least < 2 ^ 31 }
-        ensures { IfOk result (λ frame. frame ≡ framed (fields (request_fields (request_with i (fetch_of i wish))))) }
+        ensures { IfOk result (λ frame. frame ≡ frame_with i (fetch_of i wish)) }
     {
-        let topics = mem::replace(&mut self.topics, List::new(alloc));
-        let (frame, asked) = frame_of(alloc, i, fetch(topics, i, wish));
-        match asked {
-            Ask::Fetch { topics, .. } => self.topics = topics,
-            _ => unreachable!(),
-        }
-        frame
+        write_over(self.frame.as_mut_slice(), i, wish);
+        copied(alloc, self.frame.as_slice())
     }
 }

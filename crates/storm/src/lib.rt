@@ -13,6 +13,7 @@ mod load;
 mod produce_form;
 mod promises;
 mod sending;
+mod writing_over;
 
 pub use asking::{LONGEST_WAIT, Wish};
 pub use kind::Kind;
