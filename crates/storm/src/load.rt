@@ -15,7 +15,7 @@ use std::thread::Threads;
 use trace_file::Line;
 
 /// The least requests whose lines a thread makes, if several do.
-const LEAST_SHARE: u32 = 1_024;
+const LEAST_SHARE: u32 = 4_096;
 
 // A load, by its seed and the number of its requests.
 #[derive(Clone, Copy)]
