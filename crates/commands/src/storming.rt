@@ -20,7 +20,6 @@ use outside::Sink;
 use std::alloc::Global;
 use std::sync::Wait;
 use std::thread::Threads;
-use storm::{loads_are_traces, storm_on};
 use trace_workers::{Gate, run_load};
 
 // Plays the load until nobody waits, and makes the text of the run.
@@ -34,10 +33,11 @@ fn play<R: Threads + Wait + Sync, G: Gate + Sync>(
     ensures run { IfOk result (λ came. IsWorkerRun (storm_lines load.seed load.requests) REPLAY_PORT true came.0) }
     ensures told { IfOk result (λ came. came.1 ≡ storm_summary_of came.0) }
 {
-    // a law: it does nothing
-    loads_are_traces();
-    let lines = storm_on(rt, alloc, load.seed, load.requests, load.workers)?;
-    let account = run_load(rt, alloc, lines, load.workers, gate)?;
+    let made = storm::Load {
+        seed: load.seed,
+        requests: load.requests,
+    };
+    let account = run_load(rt, alloc, made, load.workers, gate)?;
     let mut text = Bytes::new(alloc);
     print_storm(alloc, &account, &mut text)?;
     Ok((account, text))

@@ -18,7 +18,9 @@ pub mod Texts
 pub mod Formed
 -- lines, one request after the other
 pub mod Fronts
--- the lines of shares, one share after the other
-pub mod SharesJoined
+-- what the lines of a load say
+pub mod Contents
 -- how long requests wait, and how late the moments are
 pub mod Drained
+-- laws for the crates that play a load
+pub mod Laws

@@ -8,13 +8,13 @@ pub mod Places
 pub mod Requests
 -- the lines of a load
 pub mod Lines
+-- the frames of its requests, one after the other
+pub mod RequestFrames
 -- how long a request may wait, and how far the clock can go until none does
 pub mod Waits
 -- ==== the words of private functions
 
 -- a request that can be sent as a frame
 pub mod Sendable
--- a load whose lines are made in shares
-pub mod Shares
 -- a produce that another one is written over
 pub mod Formed

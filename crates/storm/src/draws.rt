@@ -2,7 +2,7 @@
 
 ghost use Rattle.std.specs.Prelude.{◌≡◌, ◌<◌};
 ghost use Rattle.storm.specs.Generator.{draw, state_after};
-ghost use Rattle.storm.specs.Places.{draws_before, draws_of};
+ghost use Rattle.storm.specs.Places.{draws_of};
 
 use crate::kind::{BLOCK, Kind, kind_of};
 
@@ -19,20 +19,9 @@ pub(crate) struct Draws {
 }
 
 impl Draws {
-    /// The generator before the request with this number draws.
-    pub(crate) fn before(seed: u64, i: u32) -> Draws
-        ensures { result.state ≡ state_after seed (draws_before i) }
-    {
-        let mut draws = Draws { state: seed };
-        for earlier in 0..i {
-            draws.pass(earlier);
-        }
-        draws
-    }
-
-    // Goes on as if the request with this number drew.
+    /// Goes on as if the request with this number drew.
     #[tactic(auto, unfolding(crate::specs::Generator::state_after))]
-    fn pass(&mut self, i: u32)
+    pub(crate) fn pass(&mut self, i: u32)
         ensures { self.new.state ≡ state_after self.old.state (draws_of i) }
     {
         match kind_of(i / BLOCK) {

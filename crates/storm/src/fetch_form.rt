@@ -36,13 +36,13 @@ pub(crate) struct FetchForm {
     frame: Bytes,
 }
 
-/// A contract sees nothing of the last fetch.
 impl Model for FetchForm {
+    ghost use Rattle.std.specs.Prelude.{ℕ, List};
     ghost use Rattle.storm.specs.Formed.{IsFetchForm};
 
-    ghost Value = { Unit {0} };
+    ghost Value = { List ℕ };
 
-    ghost view = { λ _. tt };
+    ghost view = { λ f. f.frame };
 
     ghost invariant = { λ f. IsFetchForm f.frame };
 }
@@ -100,14 +100,20 @@ impl FetchForm {
         })
     }
 
-    /// The frame of the fetch with this number.
-    pub(crate) fn frame(&mut self, alloc: Global, i: u32, wish: Wish) -> Result<Bytes, NoMemory>
+    /// Writes the fetch with this number over the last one.
+    pub(crate) fn write(&mut self, i: u32, wish: Wish)
         requires place { i < MOST_REQUESTS }
         requires wait { wish.wait < 2 ^ 31 }
         requires least { wish.least < 2 ^ 31 }
-        ensures { IfOk result (λ frame. frame ≡ frame_with i (fetch_of i wish)) }
+        ensures { self.new ≡ frame_with i (fetch_of i wish) }
     {
         write_over(self.frame.as_mut_slice(), i, wish);
-        copied(alloc, self.frame.as_slice())
+    }
+
+    /// The frame of the last fetch.
+    pub(crate) fn frame(&self) -> &[u8]
+        ensures { result.now ≡ self.now }
+    {
+        self.frame.as_slice()
     }
 }

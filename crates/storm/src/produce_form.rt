@@ -47,13 +47,13 @@ pub(crate) struct ProduceForm {
     frame: Bytes,
 }
 
-/// A contract sees nothing of the last produce.
 impl Model for ProduceForm {
+    ghost use Rattle.std.specs.Prelude.{ℕ, List};
     ghost use Rattle.storm.specs.Formed.{IsProduceForm};
 
-    ghost Value = { Unit {0} };
+    ghost Value = { List ℕ };
 
-    ghost view = { λ _. tt };
+    ghost view = { λ f. f.frame };
 
     ghost invariant = { λ f. IsProduceForm f.frame };
 }
@@ -153,19 +153,19 @@ impl ProduceForm {
         })
     }
 
-    /// The frame of the produce with this number.
-    pub(crate) fn frame(
-        &mut self,
-        alloc: Global,
-        i: u32,
-        acks: i16,
-        timeout: u32,
-    ) -> Result<Bytes, NoMemory>
+    /// Writes the produce with this number over the last one.
+    pub(crate) fn write(&mut self, i: u32, acks: i16, timeout: u32)
         requires place { i < MOST_REQUESTS }
         requires timeout { timeout < 2 ^ 31 }
-        ensures { IfOk result (λ frame. frame ≡ frame_with i (produce_of i acks timeout)) }
+        ensures { self.new ≡ frame_with i (produce_of i acks timeout) }
     {
         write_over(self.frame.as_mut_slice(), i, acks, timeout);
-        copied(alloc, self.frame.as_slice())
+    }
+
+    /// The frame of the last produce.
+    pub(crate) fn frame(&self) -> &[u8]
+        ensures { result.now ≡ self.now }
+    {
+        self.frame.as_slice()
     }
 }

@@ -4,8 +4,7 @@ use kbatch::crc32c;
 use kbytes::{Bytes, NoMemory};
 use std::alloc::Global;
 use std::test::*;
-use std::thread::Threads;
-use storm::{MOST_REQUESTS, storm, storm_on};
+use storm::{MOST_REQUESTS, storm};
 use trace_file::put_line;
 
 // A seed, a number of requests, and the size and the CRC-32C of the text.
@@ -18,7 +17,7 @@ const LOADS: &[(u64, u32, usize, u32)] = &[
     (u64::MAX, 333, 67815, 0x6ED5BEF6),
 ];
 
-// The text of a load whose lines are made by one thread.
+// The text of a load.
 fn text(alloc: Global, seed: u64, n: u32) -> Result<Bytes, NoMemory> {
     let mut text = Bytes::new(alloc);
     if 1 <= n && n <= MOST_REQUESTS {
@@ -29,23 +28,10 @@ fn text(alloc: Global, seed: u64, n: u32) -> Result<Bytes, NoMemory> {
     Ok(text)
 }
 
-// The same, where three threads make them if there are enough.
-fn text_on<R: Threads + Sync>(rt: &R, alloc: Global, seed: u64, n: u32) -> Result<Bytes, NoMemory> {
-    let mut text = Bytes::new(alloc);
-    if 1 <= n && n <= MOST_REQUESTS {
-        for line in storm_on(rt, alloc, seed, n, 3)?.as_slice() {
-            put_line(&mut text, line)?;
-        }
-    }
-    Ok(text)
-}
-
 #[test]
 fn loads_are_those_of_the_model(rt: HostRuntime) {
     for (seed, n, size, crc) in LOADS {
         let text = text(rt.alloc(), *seed, *n).expect(&rt, "memory");
-        assert!(rt; (text.len(), crc32c(text.as_slice())) == (*size, *crc));
-        let text = text_on(&rt, rt.alloc(), *seed, *n).expect(&rt, "memory");
         assert!(rt; (text.len(), crc32c(text.as_slice())) == (*size, *crc));
     }
 }

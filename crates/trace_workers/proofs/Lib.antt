@@ -38,6 +38,8 @@ mod Working
 mod Gathering
 -- how many sessions lines name
 mod Counting
+-- the lines of a load as they are played
+mod LoadLines
 -- a run whose lines are all done
 mod Begun
 -- the moments by which a run is drained

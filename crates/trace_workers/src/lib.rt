@@ -22,6 +22,7 @@ mod desk;
 mod gate;
 mod giving_back;
 mod joined;
+mod loading;
 mod played;
 mod print_part;
 mod promises;

@@ -2,11 +2,13 @@
 //! back is closed.
 ghost use Rattle.std.specs.Prelude.{◌≡◌, ◌≤◌, ◌∷◌, [], Bool, true, false, All, IfOk, length, max, min};
 ghost use Rattle.audit.specs.Printed.{IsPrintOf};
-ghost use Rattle.trace_file.specs.Contents.{sessions_of};
+ghost use Rattle.storm.specs.Lines.{storm_lines};
+ghost use Rattle.storm.specs.declared.load.TheConstants.{MOST_REQUESTS};
+ghost use Rattle.trace_file.specs.Contents.{configuration_of, sessions_of};
 ghost use Rattle.trace_workers.specs.Sessions.{HasLines};
 ghost use Rattle.trace_workers.specs.Workers.{AllKeep, HasAll, HasDone, IsSameWorker};
 ghost use Rattle.trace_workers.specs.Playable.{AreTraced};
-ghost use Rattle.trace_workers.specs.ToPlay.{lines_in};
+ghost use Rattle.trace_workers.specs.ToPlay.{HasFew, lines_in};
 ghost use Rattle.trace_workers.specs.Dealt.{AreDealt, AreWorked};
 ghost use Rattle.trace_workers.specs.Telling.{HasKept, HaveDesks, joined};
 ghost use Rattle.trace_workers.specs.WorkerRun.{IsWorkerRun};
@@ -17,11 +19,13 @@ use crate::played::{Played, print_parts};
 use crate::{Gate, NoGate, PrintPart, Worker};
 use audit::Account;
 use kbytes::{List, NoMemory};
+use kwire::Config;
 use shared_broker::Broker;
 use std::alloc::Global;
 use std::sync::Wait;
 use std::thread;
 use std::thread::Threads;
+use storm::{Load, MOST_REQUESTS, load_config, loads_are_traces, sessions_in};
 use trace_file::{Line, REPLAY_PORT, config_of};
 
 // One more than the session that the line names, or 0.
@@ -95,20 +99,66 @@ fn work_given<R: Threads + Wait + Sync, G: Gate + Sync>(
     }
 }
 
-// The lines that are played: lent, or given away. A worker that plays alone gives the latter back line by line.
+// The same, of the lines of a load, which each worker makes as it comes to them.
+fn work_load<R: Threads + Wait + Sync, G: Gate + Sync>(
+    rt: &R,
+    alloc: Global,
+    broker: &Broker,
+    gate: &G,
+    load: Load,
+    workers: &mut [Worker],
+)
+    requires most { load.requests ≤ MOST_REQUESTS }
+    requires traced { AreTraced (storm_lines load.seed load.requests) }
+    requires some { 1 ≤ length workers.old }
+    requires dealt { AreDealt broker.now (sessions_of (storm_lines load.seed load.requests)) (length workers.old) workers.old }
+    ensures worked { AreWorked broker.now (storm_lines load.seed load.requests) (sessions_of (storm_lines load.seed load.requests)) (length workers.old) workers.new }
+    ensures kept { (keeps : Bool) → All (AllKeep keeps) workers.old → All (AllKeep keeps) workers.new }
+{
+    let threads = workers.len();
+    let work = |_at: usize, worker: &mut Worker|
+        requires most { load.requests ≤ MOST_REQUESTS }
+        requires traced { AreTraced (storm_lines load.seed load.requests) }
+        requires begun { HasDone broker.now [] worker.old }
+        requires all { HasAll (sessions_of (storm_lines load.seed load.requests)) worker.old }
+        requires running { worker.old.is_stopped ≡ false }
+        ensures same { IsSameWorker worker.old worker.new }
+        ensures done { worker.new.is_stopped ≡ false → HasDone broker.entry.now (storm_lines load.seed load.requests) worker.new }
+    { worker.work_load(rt, alloc, broker, gate, load) };
+    thread::for_each_mut(rt, workers, threads, &work);
+}
+
+// The lines that are played: lent, given away, or those of a load. A worker that plays alone gives back line by line what was given away. The
+// lines of a load are in no list: each worker makes its own.
 #[derive(Drop)]
 enum LinesToPlay<'a> {
     Lent(&'a [Line]),
     Given(List<Line>),
+    Made(Load),
 }
 
 impl<'a> LinesToPlay<'a> {
-    fn lines(&self) -> &[Line]
-        ensures { result.now ≡ lines_in self.now }
+    // The configuration that they declare.
+    fn config(&self, alloc: Global, port: u16) -> Result<Config, NoMemory>
+        requires { AreTraced (lines_in self.now) }
+        ensures { IfOk result (λ config. config ≡ configuration_of port (lines_in self.now)) }
     {
         match self {
-            LinesToPlay::Lent(lines) => lines,
-            LinesToPlay::Given(lines) => lines.as_slice(),
+            LinesToPlay::Lent(lines) => config_of(alloc, lines, port),
+            LinesToPlay::Given(lines) => config_of(alloc, lines.as_slice(), port),
+            LinesToPlay::Made(_) => load_config(alloc, port),
+        }
+    }
+
+    // One more than the greatest session that they name, or 0.
+    fn sessions(&self) -> u32
+        requires { AreTraced (lines_in self.now) }
+        ensures { result ≡ sessions_of (lines_in self.now) }
+    {
+        match self {
+            LinesToPlay::Lent(lines) => sessions_of(lines),
+            LinesToPlay::Given(lines) => sessions_of(lines.as_slice()),
+            LinesToPlay::Made(load) => sessions_in(load.requests),
         }
     }
 
@@ -116,10 +166,12 @@ impl<'a> LinesToPlay<'a> {
     fn play_by<R: Threads + Wait + Sync, G: Gate + Sync>(
         self,
         rt: &R,
+        alloc: Global,
         broker: &Broker,
         gate: &G,
         workers: &mut [Worker],
     )
+        requires most { HasFew self }
         requires traced { AreTraced (lines_in self) }
         requires some { 1 ≤ length workers.old }
         requires dealt { AreDealt broker.now (sessions_of (lines_in self)) (length workers.old) workers.old }
@@ -129,6 +181,7 @@ impl<'a> LinesToPlay<'a> {
         match self {
             LinesToPlay::Lent(lines) => work_all(rt, broker, gate, lines, workers),
             LinesToPlay::Given(lines) => work_given(rt, broker, gate, lines, workers),
+            LinesToPlay::Made(load) => work_load(rt, alloc, broker, gate, load, workers),
         }
     }
 }
@@ -162,6 +215,7 @@ fn play<R: Threads + Wait + Sync, G: Gate + Sync>(
     manner: Manner,
     gate: &G,
 ) -> Result<Played, NoMemory>
+    requires most { HasFew to_play }
     requires traced { AreTraced (lines_in to_play) }
     requires worker_count { (1 ≤ manner.worker_count) × (manner.worker_count ≤ 16) }
     ensures run { IfOk result (λ played. IsWorkerRun (lines_in to_play.entry) manner.port manner.drain played.account) }
@@ -169,13 +223,12 @@ fn play<R: Threads + Wait + Sync, G: Gate + Sync>(
     ensures lines { IfOk result (λ played. All (HasLines manner.keeps_lines) played.desks) }
     ensures desks { IfOk result (λ played. HaveDesks played.account played.desks) }
 {
-    let lines = to_play.lines();
-    let config = config_of(alloc, lines, manner.port)?;
-    let count = sessions_of(lines);
+    let config = to_play.config(alloc, manner.port)?;
+    let count = to_play.sessions();
     let (broker, passes) = Broker::make(alloc, config, count + 1)?;
     let worker_count = with_sessions(manner.worker_count, count);
     let mut workers = deal(alloc, passes, worker_count, manner.keeps_lines)?;
-    to_play.play_by(rt, &broker, gate, workers.as_mut_slice());
+    to_play.play_by(rt, alloc, &broker, gate, workers.as_mut_slice());
     let joined = gather(alloc, workers)?;
     joined.close(rt, alloc, broker, manner.drain)
 }
@@ -208,25 +261,28 @@ pub fn run_lines<R: Threads + Wait + Sync, G: Gate + Sync>(
     Ok(account)
 }
 
-/// Plays the lines of a load as `run_lines` does, with a drain and with the port of a replay. They are given back as `print_lines` does.
+/// Plays the lines of a load as `run_lines` does, with a drain and with the port of a replay. The lines are never in a list: each worker makes the
+/// frame of a request as it comes to it, over that of an earlier one.
 pub fn run_load<R: Threads + Wait + Sync, G: Gate + Sync>(
     rt: &R,
     alloc: Global,
-    lines: List<Line>,
+    load: Load,
     worker_count: u32,
     gate: &G,
 ) -> Result<Account, NoMemory>
-    requires traced { AreTraced lines }
+    requires most { load.requests ≤ MOST_REQUESTS }
     requires worker_count { (1 ≤ worker_count) × (worker_count ≤ 16) }
-    ensures { IfOk result (IsWorkerRun lines REPLAY_PORT true) }
+    ensures { IfOk result (IsWorkerRun (storm_lines load.seed load.requests) REPLAY_PORT true) }
 {
+    // a law: it does nothing
+    loads_are_traces();
     let manner = Manner {
         port: REPLAY_PORT,
         worker_count,
         drain: true,
         keeps_lines: false,
     };
-    let to_play = LinesToPlay::Given(lines);
+    let to_play = LinesToPlay::Made(load);
     let Played { account, .. } = play(rt, alloc, to_play, manner, gate)?;
     Ok(account)
 }

@@ -41,22 +41,33 @@ impl Model for Worker {
 }
 
 impl Worker {
+    /// Whether the session of this number is its own.
+    pub(crate) fn has_session(&self, session: u32) -> bool
+        ensures own { result ≡ is_own_session self.now session }
+        ensures below { self.now.number < self.now.worker_count }
+    {
+        session % self.worker_count == self.number
+    }
+
     // Whether the line is this worker's to do.
     fn has(&self, line: &Line) -> bool
         ensures own { result ≡ is_own self.now line.now }
         ensures below { self.now.number < self.now.worker_count }
     {
         match line {
-            Line::Feed { session, .. } | Line::Shut { session } => {
-                *session % self.worker_count == self.number
-            }
+            Line::Feed { session, .. } | Line::Shut { session } => self.has_session(*session),
             Line::Clock { .. } => self.clock.is_some(),
             Line::Topic { .. } | Line::End => false,
         }
     }
 
-    // A line brings one of its sessions these bytes.
-    fn feed(&mut self, broker: &Broker, session: u32, bytes: &[u8]) -> Result<(), NoMemory>
+    /// A line brings one of its sessions these bytes.
+    pub(crate) fn feed(
+        &mut self,
+        broker: &Broker,
+        session: u32,
+        bytes: &[u8],
+    ) -> Result<(), NoMemory>
         requires own { is_own_session self.old session ≡ true }
         requires there { session / self.old.worker_count < length self.old.sessions }
         requires done { (before : Items TheLine) × HasDone broker.now before self.old × (is_shut session before ≡ false) }
@@ -198,9 +209,9 @@ impl Worker {
         unreachable!()
     }
 
-    // Lets its sessions go on after a line. If the one that the line names did nothing, no other could go on by that, and a worker that plays
-    // alone asks none. Beside other workers all are asked, since another thread may have answered what one of them waits for.
-    fn go_on_after(
+    /// Lets its sessions go on after a line. If the one that the line names did nothing, no other could go on by that, and a worker that plays
+    /// alone asks none. Beside other workers all are asked, since another thread may have answered what one of them waits for.
+    pub(crate) fn go_on_after(
         &mut self,
         rt: &impl Wait,
         broker: &Broker,
@@ -223,8 +234,8 @@ impl Worker {
         self.go_on(rt, broker)
     }
 
-    // Plays one line of the list, if it is its own.
-    fn line<G: Gate>(
+    /// Plays one line, the one at this place among all, if it is its own.
+    pub(crate) fn line<G: Gate>(
         &mut self,
         rt: &impl Wait,
         broker: &Broker,

@@ -2,4 +2,4 @@ use Rattle.storm.proofs.Fronts.{IsBefore}
 use Rattle.storm.proofs.load.put_requests.Given as goal
 
 abbrev pub invariant-loop-i : goal.invariant-loop-i
-invariant-loop-i l = IsBefore l.fn.load.seed l.fn.load.n l.fn.first l.fn.lines l.i l.lines l.draws.state
+invariant-loop-i l = IsBefore l.fn.seed l.fn.n l.fn.lines l.i l.lines l.frames.state

@@ -2,7 +2,7 @@ use Rattle.std.proofs.Common.{◌∙◌, List, ℕ, ap, length, subst, sym}
 use Rattle.storm.specs.Formed.{IsFetchForm}
 use Rattle.storm.specs.Places.{partition_of}
 use Rattle.storm.proofs.Formed.{written_back}
-use Rattle.storm.proofs.fetch_form.FetchForm.frame.Goals as goal
+use Rattle.storm.proofs.fetch_form.FetchForm.write.Goals as goal
 
 pub write_over-requires-clause-form : goal.write_over-requires-clause-form
 write_over-requires-clause-form c = subst IsFetchForm (sym c.as_mut_slice.ensures.value) c.self.invariant

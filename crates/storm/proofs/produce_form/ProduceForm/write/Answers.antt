@@ -6,7 +6,7 @@ use Rattle.storm.specs.Formed.{IsProduceForm, frame_with}
 use Rattle.storm.specs.Places.{partition_of}
 use Rattle.storm.specs.Requests.{record_of, produce_of}
 use Rattle.storm.proofs.Formed.{produce_size, written_back, written_formed}
-use Rattle.storm.proofs.produce_form.ProduceForm.frame.Goals as goal
+use Rattle.storm.proofs.produce_form.ProduceForm.write.Goals as goal
 
 pub write_over-requires-clause-size : goal.write_over-requires-clause-size
 write_over-requires-clause-size c = ap (λ (bytes : List ℕ). length bytes) c.as_mut_slice.ensures.value ∙ produce_size c.self.inside.frame c.self.invariant
